@@ -1,0 +1,47 @@
+-- Filters in eight slots, of which those that hold none are blank, so that the slots follow from the list.
+use Rattle.std.specs.Prelude.{◌≡◌, ℕ, ◌+◌, ◌-◌, ◌<◌, ◌≤◌, List, ◌++◌, length, take, drop, replicate, slice_set}
+use Rattle.std.proofs.Common.{sym, ◌∙◌, ap, arith}
+use Rattle.std.proofs.lemmas.List.{length-take-le, length-set, take-append-drop, drop-drop, drop-set-lt, drop-replicate}
+use Rattle.pcp_base.specs.declared.leases.Filter.{Filter}
+use Rattle.pcp_base.specs.declared.leases.Filters.TheInside.{Inside}
+
+-- what stands where there is no filter
+abbrev pub blank : Filter
+blank = record { prefix = 0; port = 0; remote = record { 0 = replicate 16 0 } }
+
+-- n blank slots behind the filters
+abbrev pub padded : List Filter → ℕ → List Filter
+padded filters n = filters ++ replicate n blank
+
+-- the slots are eight, and blank behind the filters
+pub record IsPadded (a : Inside) : Type 0 where
+  pub few : a.count ≤ 8
+  pub eight : length a.slots ≡ 8
+  pub blank_behind : drop a.count a.slots ≡ replicate (8 - a.count) blank
+
+-- the slots that hold these filters
+abbrev pub slots_of : List Filter → Inside
+slots_of filters = record { slots = padded filters (8 - length filters); count = length filters }
+
+joined : (front slots : List Filter) (n count : ℕ) → n ≡ count → front ++ drop count slots ≡ slots → drop count slots ≡ replicate (8 - count) blank → padded front (8 - n) ≡ slots
+joined front slots n count same whole behind = rw (same, ← behind) whole
+
+pub slots_of-view : (a : Inside) → IsPadded a → slots_of (take a.count a.slots) ≡ a
+slots_of-view a h =
+    let few : a.count ≤ length a.slots = omega (arith, h.few, h.eight) in
+    let same : length (take a.count a.slots) ≡ a.count = length-take-le a.count a.slots few in
+    let slots = joined (take a.count a.slots) a.slots (length (take a.count a.slots)) a.count same (take-append-drop a.count a.slots) h.blank_behind in
+    ap (λ (s : List Filter). record { slots = s; count = length (take a.count a.slots) }) slots
+    ∙ ap (λ n. record { slots = a.slots; count = n }) same
+
+-- one more filter
+pub IsPadded-push : (a : Inside) (f : Filter) → IsPadded a → a.count < 8 → IsPadded (record { slots = slice_set a.slots a.count f; count = a.count + 1 })
+IsPadded-push a f h room =
+    let next : a.count < a.count + 1 = omega arith in
+    record {
+      few = omega arith;
+      eight = length-set a.slots a.count f ∙ h.eight;
+      blank_behind = drop-set-lt (a.count + 1) a.slots a.count f next ∙ sym (drop-drop 1 a.count a.slots)
+          ∙ ap (drop 1) h.blank_behind ∙ drop-replicate 1 (8 - a.count) blank
+          ∙ ap (λ n. replicate n blank) (let e : 8 - a.count - 1 ≡ 8 - (a.count + 1) = omega arith in e);
+    }

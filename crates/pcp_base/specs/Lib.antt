@@ -1,0 +1,13 @@
+pub mod AddressTexts
+pub mod Apply
+pub mod Asks
+pub mod Codes
+pub mod Epoch
+pub mod FilterSlots
+pub mod Fits
+pub mod Owners
+pub mod Pairing
+pub mod Records
+pub mod Sound
+pub mod States
+pub mod Tables

@@ -1,0 +1,81 @@
+-- The lease table (our own; a MAP lease is a mapping of RFC 6887, section 11, a PEER lease one of section 12).
+use Rattle.std.specs.Prelude.{◌≡◌, ◌≢◌, ℕ, ◌+◌, ◌<◌, ◌≤◌, ◌&&◌, ◌==◌, nat_le, nat_lt, Bool, true, false, bytes_eq, List, [], ◌∷◌, length, filter, IsTrue, ⊤}
+use Rattle.std.specs.List.{AllByRecursion}
+use Rattle.pcp_base.specs.declared.addresses.Address.{Address}
+use Rattle.pcp_base.specs.declared.leases.Protocol.{Protocol}
+use Rattle.pcp_base.specs.declared.leases.Protocol.TheVariants.{Tcp, Udp}
+use Rattle.pcp_base.specs.declared.leases.Endpoint.{Endpoint}
+use Rattle.pcp_base.specs.declared.leases.MapLease.{MapLease}
+use Rattle.pcp_base.specs.declared.leases.PeerLease.{PeerLease}
+
+-- two lists of leases, each in the order granted
+pub record Table : Type 0 where
+  pub maps : List MapLease
+  pub peers : List PeerLease
+
+abbrev pub empty_table : Table
+empty_table = record { maps = []; peers = [] }
+
+-- the leases that are live at m: those with a later expiry
+abbrev pub live : Table → ℕ → Table
+live t m = record {
+  maps = filter (λ l. nat_lt m l.expiry) t.maps;
+  peers = filter (λ l. nat_lt m l.expiry) t.peers;
+}
+
+-- whether both are one
+abbrev pub same_address : Address → Address → Bool
+same_address a b = bytes_eq a.0 b.0
+
+abbrev pub same_protocol : Protocol → Protocol → Bool
+same_protocol Tcp Tcp = true
+same_protocol Udp Udp = true
+same_protocol Tcp Udp = false
+same_protocol Udp Tcp = false
+
+abbrev pub same_endpoint : Endpoint → Endpoint → Bool
+same_endpoint a b = same_address a.address b.address && same_protocol a.protocol b.protocol && a.port == b.port
+
+-- whether the MAP lease covers the endpoint
+abbrev pub covers : MapLease → Endpoint → Bool
+covers l e = same_address l.address e.address && same_protocol l.protocol e.protocol
+    && nat_le l.internal e.port && nat_lt e.port (l.internal + l.count)
+
+-- the first endpoint that a MAP lease covers, which is its key
+abbrev pub first_endpoint : MapLease → Endpoint
+first_endpoint l = record { address = l.address; protocol = l.protocol; port = l.internal }
+
+-- whether the PEER lease has this key: its endpoint, remote address and remote port
+abbrev pub is_peer_of : Endpoint → Address → ℕ → PeerLease → Bool
+is_peer_of e remote port l = same_endpoint l.endpoint e && same_address l.remote remote && l.remote_port == port
+
+-- each two, the earlier one first
+abbrev pub EachTwo : {X : Type 0} → (X → X → Type 0) → List X → Type 0
+EachTwo R [] = ⊤
+EachTwo R (x ∷ xs) = AllByRecursion (R x) xs × EachTwo R xs
+
+-- a MAP lease that a table may have
+pub record IsMap (l : MapLease) : Type 0 where
+  pub internal : 0 < l.internal
+  pub external : 0 < l.external
+  pub some : 0 < l.count
+  pub few : l.count ≤ 4096
+  pub internal_end : l.internal + l.count ≤ 65536
+  pub external_end : l.external + l.count ≤ 65536
+  pub few_filters : length l.filters ≤ 8
+  pub different_filters : EachTwo (λ f g. f ≢ g) l.filters
+  pub prefixes : AllByRecursion (λ f. (0 < f.prefix) × (f.prefix ≤ 128)) l.filters
+
+-- a PEER lease that a table may have
+pub record IsPeer (l : PeerLease) : Type 0 where
+  pub internal : 0 < l.endpoint.port
+  pub external : 0 < l.external
+  pub remote : 0 < l.remote_port
+
+-- no endpoint is covered by both
+abbrev pub AreApart : MapLease → MapLease → Type 0
+AreApart a b = (e : Endpoint) → IsTrue (covers a e) → ¬ (IsTrue (covers b e))
+
+-- the keys differ
+abbrev pub HaveOtherKeys : PeerLease → PeerLease → Type 0
+HaveOtherKeys a b = is_peer_of b.endpoint b.remote b.remote_port a ≡ false

@@ -1,0 +1,27 @@
+//! Causes that every layer shares.
+ghost use Rattle.std.specs.Prelude.{◌≡◌};
+
+use std::alloc::{AllocError, AllocFailed};
+use thiserror::Error;
+
+/// No memory was found.
+#[derive(Clone, Copy, Debug, Error)]
+#[error("out of memory")]
+pub struct Memory;
+
+impl From<AllocError> for Memory {
+    fn from(_error: AllocError) -> Memory {
+        Memory
+    }
+}
+
+impl<T: Drop> From<AllocFailed<T>> for Memory {
+    fn from(_error: AllocFailed<T>) -> Memory {
+        Memory
+    }
+}
+
+/// Something outside failed; the object that was called counted it.
+#[derive(Clone, Copy, Debug, Error)]
+#[error("failed")]
+pub struct Failed;

@@ -1,0 +1,157 @@
+//! Leases, what they map and who owns a port (RFC 6887, section 11; PEER leases: section 12).
+
+use crate::addresses::{Address, Nonce};
+use crate::lists::Listed;
+use crate::moments::Moment;
+use std::marker::Model;
+
+/// A transport protocol that has ports.
+#[derive(Clone, Copy, Debug, PartialEq, Eq, PartialOrd, Ord, Hash)]
+pub enum Protocol {
+    /// Protocol number 6.
+    Tcp,
+    /// Protocol number 17.
+    Udp,
+}
+
+/// A port of an internal host.
+#[derive(Clone, Copy, Debug, PartialEq, Eq, PartialOrd, Ord, Hash)]
+pub struct Endpoint {
+    pub address: Address,
+    pub protocol: Protocol,
+    /// 1 to 65535.
+    pub port: u16,
+}
+
+/// Remote peers that may send to a mapping (RFC 6887, section 13.3).
+#[derive(Clone, Copy, Debug, PartialEq, Eq, Hash)]
+pub struct Filter {
+    /// How many leading bits of `remote` count, 0 to 128; in a request 0 empties the list.
+    pub prefix: u8,
+    /// The remote port, 0 for every one.
+    pub port: u16,
+    pub remote: Address,
+}
+
+impl Filter {
+    /// What stands in the places of [`Filters`] that hold no filter.
+    const BLANK: Filter = Filter {
+        prefix: 0,
+        port: 0,
+        remote: Address([0; 16]),
+    };
+}
+
+/// Filters of a request, in its order.
+pub type FilterList = Listed<Filter>;
+
+/// The filters of a lease: at most 8, in the order added. They take no memory of their own.
+#[derive(Clone, Copy, Debug, PartialEq, Eq, Hash)]
+pub struct Filters {
+    slots: [Filter; 8],
+    count: usize,
+}
+
+impl Model for Filters {
+    ghost use Rattle.std.specs.Prelude.{List, ◌≡◌, take};
+    ghost use Rattle.pcp_base.specs.declared.leases.Filter.{Filter};
+
+    ghost Value = { List Filter };
+
+    ghost use Rattle.pcp_base.specs.FilterSlots.{IsPadded, slots_of, slots_of-view};
+
+    ghost view = { λ f. take f.count f.slots };
+
+    ghost invariant = { IsPadded };
+
+    ghost inverse = { slots_of };
+
+    ghost inverse_ok = { slots_of-view };
+}
+
+impl Filters {
+    ghost use Rattle.std.specs.Bool.{OnTrue, OnFalse};
+    ghost use Rattle.std.specs.Prelude.{◌≡◌, ◌<◌, ◌≤◌, ◌↔◌, [], ◌∷◌, ◌++◌, length, IsTrue};
+
+    /// No filter.
+    pub fn none() -> Filters
+        ensures { result ≡ [] }
+    {
+        Filters {
+            slots: [Filter::BLANK; 8],
+            count: 0,
+        }
+    }
+
+    /// The filters, in the order added.
+    pub fn items(&self) -> &[Filter]
+        ensures value { result.now ≡ self.now }
+        ensures few { length self.now ≤ 8 }
+    {
+        &self.slots[..self.count]
+    }
+
+    /// Adds a filter at the end; false, and nothing changes, where there are 8.
+    pub fn push(&mut self, filter: Filter) -> bool
+        ensures room { IsTrue result ↔ (length self.old < 8) }
+        ensures added { OnTrue result (self.new ≡ self.old ++ filter ∷ []) }
+        ensures full { OnFalse result (self.new ≡ self.old) }
+    {
+        if self.count == 8 {
+            return false;
+        }
+        self.slots[self.count] = filter;
+        self.count += 1;
+        true
+    }
+}
+
+/// A mapping that a MAP request made (RFC 6887, section 11). It covers `count` internal ports from
+/// `internal` on, and owns `count` external ports from `external` on, one to one.
+#[derive(Clone, Copy, Debug, PartialEq, Eq, Hash)]
+pub struct MapLease {
+    /// The internal address.
+    pub address: Address,
+    pub protocol: Protocol,
+    /// The first internal port, at least 1.
+    pub internal: u16,
+    /// How many ports, 1 to 4096.
+    pub count: u16,
+    /// The first external port, at least 1.
+    pub external: u16,
+    /// The mapping nonce, which a renewal or a deletion must repeat.
+    pub nonce: Nonce,
+    /// When it was granted first.
+    pub granted: Moment,
+    /// It is live at each moment below this one, in seconds, below 2^41.
+    pub expiry: u64,
+    pub filters: Filters,
+}
+
+/// A mapping for one remote peer that a PEER request made (RFC 6887, section 12).
+#[derive(Clone, Copy, Debug, PartialEq, Eq, Hash)]
+pub struct PeerLease {
+    pub endpoint: Endpoint,
+    /// The external port, at least 1.
+    pub external: u16,
+    pub remote: Address,
+    /// The remote port, at least 1.
+    pub remote_port: u16,
+    /// The mapping nonce, which a renewal or a deletion must repeat.
+    pub nonce: Nonce,
+    /// When it was granted first.
+    pub granted: Moment,
+    /// It is live at each moment below this one, in seconds, below 2^41.
+    pub expiry: u64,
+}
+
+/// An external port and the endpoint that owns it.
+#[derive(Clone, Copy, Debug, PartialEq, Eq, PartialOrd, Ord, Hash)]
+pub struct Owner {
+    pub protocol: Protocol,
+    pub external: u16,
+    pub endpoint: Endpoint,
+}
+
+/// Owned ports.
+pub type OwnerList = Listed<Owner>;

@@ -1,0 +1,29 @@
+//! The types that every part of the Port Control Protocol server speaks of, and in `specs/` what they
+//! mean: prefixes and pairing, the lease table, owners of ports, the state that records make, the epoch.
+#![tactic(auto)]
+
+mod addresses;
+mod asks;
+mod codes;
+mod configs;
+mod datagrams;
+mod errors;
+mod leases;
+mod lists;
+mod moments;
+mod records;
+mod replays;
+
+pub use addresses::{Address, Nonce, NotAddress, NotPrefix, Prefix};
+pub use asks::{Answer, Ask, MapAsk, PeerAsk, PortSet, Refusal};
+pub use codes::Code;
+pub use configs::{Config, External, Externals, Prefixes, Subscriber, Subscribers, pair};
+pub use datagrams::{Datagram, Entry};
+pub use errors::{Failed, Memory};
+pub use leases::{
+    Endpoint, Filter, FilterList, Filters, MapLease, Owner, OwnerList, PeerLease, Protocol,
+};
+pub use lists::{Listed, Octets};
+pub use moments::{Moment, epoch};
+pub use records::{Change, Record};
+pub use replays::Replay;

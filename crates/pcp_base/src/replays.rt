@@ -1,0 +1,31 @@
+//! What a list of records stands for, as a value that takes them one by one.
+ghost use Rattle.std.specs.Prelude.{◌≡◌, Ok, true, false, OnOk};
+ghost use Rattle.pcp_base.specs.States.{State, empty_state};
+ghost use Rattle.pcp_base.specs.Apply.{apply};
+ghost use Rattle.pcp_base.specs.Fits.{Fits};
+
+use crate::errors::Memory;
+use crate::records::Record;
+use std::alloc::Global;
+
+/// A value that stands for the state that records have made.
+pub trait Replay {
+    /// The table, the base, the last moment, and whether a Start came.
+    ghost state: { Self → State };
+
+    /// It is new or was cleared, and nothing but `admit` changed it since.
+    ghost replaying: { Self → Type 0 };
+
+    /// Begins anew, without a record.
+    fn clear(&mut self)
+        ensures empty { state self.new ≡ empty_state }
+        ensures ready { replaying self.new };
+
+    /// Applies a record that fits; false, and nothing changes, exactly where it doesn't fit. After
+    /// `Memory` it is to be cleared.
+    fn admit(&mut self, alloc: Global, kept: &Record) -> Result<bool, Memory>
+        requires { replaying self.old }
+        ensures admitted { result ≡ Ok true → Fits (state self.old) kept.now × (state self.new ≡ apply (state self.old) kept.now) }
+        ensures refused { result ≡ Ok false → ¬ (Fits (state self.old) kept.now) × (state self.new ≡ state self.old) }
+        ensures ready { OnOk result (replaying self.new) };
+}
