@@ -1,0 +1,2 @@
+pub mod KnownOctets
+mod ReadLemmas

@@ -1,0 +1,14 @@
+//! The outside as traits: sources of octets and sinks, each with a count of its faults, with forms in
+//! memory and thin adapters over files and the standard streams.
+#![tactic(auto)]
+
+mod calls;
+mod memory_sinks;
+mod memory_sources;
+mod sinks;
+mod sources;
+
+pub use memory_sinks::MemorySink;
+pub use memory_sources::MemorySource;
+pub use sinks::{Sink, write_all};
+pub use sources::Source;
