@@ -5,10 +5,17 @@
 mod calls;
 mod memory_sinks;
 mod memory_sources;
+mod readers;
 mod sinks;
 mod sources;
+mod writers;
 
 pub use memory_sinks::MemorySink;
 pub use memory_sources::MemorySource;
+pub use readers::{FileSource, LateFile, ReadSource, StdSource};
 pub use sinks::{Sink, write_all};
 pub use sources::Source;
+pub use writers::{StdSink, WriteSink};
+
+#[cfg(test)]
+mod tests;
