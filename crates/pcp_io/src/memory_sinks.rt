@@ -83,10 +83,13 @@ impl Sink for MemorySink {
         ensures kept { OnErr result (self.new.held ≡ self.old.held) }
         ensures cause { HasCause self.old.calls.faults self.new.calls.faults result }
 
-        ensures room { self.new.room ≡ self.old.room }
-        ensures refused { IsRefused self.old piece.now → IsErr result × (self.new.calls ≡ with_fault self.old.calls) }
+        // It fails where the call is named and where the piece would pass the room, and else only for
+        // want of memory.
+        ensures refused { IsRefused self.old piece.now → IsErr result }
+        ensures fault { IsRefused self.old piece.now → self.new.calls ≡ with_fault self.old.calls }
+        ensures starved { OnErr result (IsRefused self.old piece.now ⊎ (self.new.calls ≡ with_starved self.old.calls)) }
         ensures call { OnOk result (self.new.calls ≡ with_call self.old.calls) }
-        ensures fault { OnErr result (IsRefused self.old piece.now ⊎ (self.new.calls ≡ with_starved self.old.calls)) }
+        ensures room { self.new.room ≡ self.old.room }
     {
         let named = self.calls.begin();
         let free = self.room - self.held.len() as u64;

@@ -75,6 +75,8 @@ impl Source for MemorySource {
         ensures kept { OnErr result (self.new.left ≡ self.old.left) }
         ensures piece { OnErr result (piece.new ≡ piece.old) }
         ensures cause { HasCause self.old.calls.faults self.new.calls.faults result }
+
+        // It fails where the call is named, and nowhere else.
         ensures fails { IsErr result ↔ IsNamed self.old.calls }
         ensures call { OnOk result (self.new.calls ≡ with_call self.old.calls) }
         ensures fault { OnErr result (self.new.calls ≡ with_fault self.old.calls) }
