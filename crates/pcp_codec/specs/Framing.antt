@@ -1,0 +1,48 @@
+-- The first five steps of the verdict on a datagram (RFC 6887, section 8.2; their order is our own).
+use Rattle.std.specs.Prelude.{ℕ, ◌+◌, ◌%◌, ◌==◌, ◌&&◌, ◌||◌, nat_lt, nat_le, not, Bool, false, bytes_eq, List, [], ◌∷◌, length, Option, Some, None, if◌then◌else◌}
+use Rattle.pcp_base.specs.declared.addresses.Address.{Address}
+use Rattle.pcp_base.specs.declared.codes.Code.{Code}
+use Rattle.pcp_base.specs.declared.codes.Code.TheVariants.{UnsuppVersion, MalformedRequest, UnsuppOpcode, AddressMismatch}
+use Rattle.pcp_base.specs.declared.asks.Refusal.{Refusal}
+use Rattle.pcp_base.specs.Codes.{lifetime_of}
+use Rattle.pcp_codec.specs.declared.requests.Framed.{Framed}
+use Rattle.pcp_codec.specs.declared.requests.Framed.TheVariants.{Silent, Refuse, Whole}
+use Rattle.pcp_codec.specs.Fields.{octet, octets_at}
+use Rattle.pcp_codec.specs.Requests.{opcode_of, data_length, frame_of}
+
+-- A datagram that gets no reply: it is too short, it is a response, or its head of version 2 isn't whole.
+abbrev pub is_silent : List ℕ → Bool
+is_silent message = nat_lt (length message) 2 || nat_le 128 (octet message 1)
+    || (octet message 0 == 2 && nat_lt (length message) 24)
+
+-- a step fails, and is then refused with this code
+pub record Step : Type 0 where
+  pub fails : Bool
+  pub code : Code
+
+-- the steps that need no options, in order
+abbrev pub frame_steps : List ℕ → Address → List Step
+frame_steps message source =
+    (record { fails = not (octet message 0 == 2); code = UnsuppVersion })
+    ∷ (record { fails = nat_lt 1100 (length message) || not (length message % 4 == 0); code = MalformedRequest })
+    ∷ (record { fails = nat_lt 2 (opcode_of message); code = UnsuppOpcode })
+    ∷ (record { fails = nat_lt (length message) (24 + data_length (opcode_of message)); code = MalformedRequest })
+    ∷ (record { fails = not (bytes_eq (octets_at message 8 16) source.0); code = AddressMismatch })
+    ∷ []
+
+-- the code of the first step that fails, which is the least of those that fail
+abbrev pub first_failing : List Step → Option Code
+first_failing [] = None
+first_failing (step ∷ steps) = if step.fails then Some step.code else first_failing steps
+
+-- a request that is refused before it is understood
+abbrev pub unparsed : Code → Refusal
+unparsed code = record { code = code; parsed = false; lifetime = lifetime_of code }
+
+abbrev pub framed_by : List ℕ → Option Code → Framed
+framed_by message None = Whole (frame_of message)
+framed_by message (Some code) = Refuse (unparsed code)
+
+abbrev pub framed_of : List ℕ → Address → Framed
+framed_of message source =
+    if is_silent message then Silent else framed_by message (first_failing (frame_steps message source))

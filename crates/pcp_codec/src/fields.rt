@@ -1,0 +1,47 @@
+//! Fields of a message, where what lies past its end reads as zero.
+ghost use Rattle.std.specs.Prelude.{◌≡◌, ◌+◌, ◌<◌, ◌^◌, length};
+ghost use Rattle.std.specs.Int.{from_be_bytes, w16, w32};
+ghost use Rattle.pcp_codec.specs.Fields.{octet, octets_at, u16_at, u32_at};
+
+/// The octet at a place.
+pub(crate) fn octet_of(message: &[u8], place: usize) -> u8
+    ensures { result ≡ octet message.now place }
+{
+    message.get(place).copied().unwrap_or(0)
+}
+
+/// The `N` octets from a place on.
+pub(crate) fn octets_of<const N: usize>(message: &[u8], place: usize) -> [u8; N]
+    requires { place + N < 2 ^ 64 }
+    ensures { result ≡ octets_at message.now place N }
+{
+    let mut octets = [0u8; N];
+    copy_octets(message, place, &mut octets);
+    octets
+}
+
+/// The number of two octets from a place on.
+pub(crate) fn u16_of(message: &[u8], place: usize) -> u16
+    requires { place + 2 < 2 ^ 64 }
+    ensures { result ≡ u16_at message.now place }
+{
+    u16::from_be_bytes(octets_of(message, place))
+}
+
+/// The number of four octets from a place on.
+pub(crate) fn u32_of(message: &[u8], place: usize) -> u32
+    requires { place + 4 < 2 ^ 64 }
+    ensures { result ≡ u32_at message.now place }
+{
+    u32::from_be_bytes(octets_of(message, place))
+}
+
+/// Copies the octets of a message from a place on over the whole piece.
+pub(crate) fn copy_octets(message: &[u8], place: usize, piece: &mut [u8])
+    requires { place + length piece.old < 2 ^ 64 }
+    ensures { piece.new ≡ octets_at message.now place (length piece.old) }
+{
+    for i in 0..piece.len() {
+        piece[i] = octet_of(message, place + i);
+    }
+}

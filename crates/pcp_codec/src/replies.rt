@@ -1,0 +1,106 @@
+//! Replies (RFC 6887, sections 7.2 and 8.2).
+ghost use Rattle.std.specs.Prelude.{◌≡◌, ◌≤◌, ◌++◌, length, OnOk, OnErr};
+ghost use Rattle.pcp_base.specs.Codes.{number_of};
+ghost use Rattle.pcp_codec.specs.Replies.{head, reply_length, refusal_text};
+
+use crate::fields::{copy_octets, octet_of, octets_of};
+use pcp_base::{Memory, Refusal};
+use std::alloc::Global;
+
+/// Writes the head of a reply: version 2, the opcode with the R bit set, the code, the lifetime and the
+/// epoch in seconds, and the last 12 octets.
+pub fn write_head(
+    out: &mut [u8; 24],
+    opcode: u8,
+    code: u8,
+    lifetime: u32,
+    epoch: u32,
+    last: &[u8; 12],
+)
+    ensures { out.new ≡ head opcode code lifetime epoch last.now }
+{
+    let [l0, l1, l2, l3] = lifetime.to_be_bytes();
+    let [e0, e1, e2, e3] = epoch.to_be_bytes();
+    let [r0, r1, r2, r3, r4, r5, r6, r7, r8, r9, r10, r11] = *last;
+    *out = [
+        2,
+        128 + opcode % 128,
+        0,
+        code,
+        l0,
+        l1,
+        l2,
+        l3,
+        e0,
+        e1,
+        e2,
+        e3,
+        r0,
+        r1,
+        r2,
+        r3,
+        r4,
+        r5,
+        r6,
+        r7,
+        r8,
+        r9,
+        r10,
+        r11,
+    ];
+}
+
+/// How many octets an error reply to the request has, 24 to 1100.
+fn reply_len(request: &[u8]) -> usize
+    ensures value { result ≡ reply_length request.now }
+    ensures least { 24 ≤ result }
+    ensures most { result ≤ 1100 }
+{
+    request.len().min(1100).next_multiple_of(4).max(24)
+}
+
+/// Appends the error reply to a request of at least 2 octets: the request with zeros past its end, cut at
+/// 1100 octets, under a new head (RFC 6887, section 8.2). `epoch` is in seconds. After `Memory` nothing
+/// was appended.
+pub fn write_refusal(
+    _alloc: Global,
+    out: &mut Vec<u8>,
+    request: &[u8],
+    refusal: Refusal,
+    epoch: u32,
+) -> Result<(), Memory>
+    requires { 2 ≤ length request.now }
+    ensures ok { OnOk result (out.new.items ≡ out.old.items ++ refusal_text request.now refusal epoch) }
+    ensures err { OnErr result (out.new.items ≡ out.old.items) }
+{
+    let mut reply = [0; 1100];
+    let length = reply_len(request);
+    refuse(request, refusal, epoch, &mut reply[..length]);
+    out.extend_from_slice(&reply[..length])?;
+    Ok(())
+}
+
+/// Writes the error reply to a request over a piece of its length.
+fn refuse(request: &[u8], refusal: Refusal, epoch: u32, reply: &mut [u8])
+    requires { length reply.old ≡ reply_length request.now }
+    ensures { reply.new ≡ refusal_text request.now refusal epoch }
+{
+    let last = if refusal.parsed {
+        [0; 12]
+    } else {
+        octets_of(request, 12)
+    };
+    let mut head = [0; 24];
+    let opcode = octet_of(request, 1) % 128;
+    write_head(
+        &mut head,
+        opcode,
+        refusal.code.number(),
+        refusal.lifetime,
+        epoch,
+        &last,
+    );
+    let (front, rest) = reply.split_at_mut(24);
+    front.copy_from_slice(&head);
+    copy_octets(request, 24, rest);
+}
