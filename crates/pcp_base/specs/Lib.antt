@@ -2,6 +2,7 @@ pub mod AddressTexts
 pub mod Apply
 pub mod Asks
 pub mod Codes
+pub mod Configs
 pub mod Epoch
 pub mod FilterSlots
 pub mod Fits

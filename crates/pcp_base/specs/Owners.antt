@@ -3,6 +3,7 @@ use Rattle.std.specs.Prelude.{◌≡◌, ℕ, ◌+◌, ◌&&◌, ◌==◌, Bool,
 use Rattle.std.specs.List.{list_any}
 use Rattle.std.specs.List.{range_with_len}
 use Rattle.pcp_base.specs.declared.addresses.Address.{Address}
+use Rattle.pcp_base.specs.declared.leases.Protocol.{Protocol}
 use Rattle.pcp_base.specs.declared.leases.MapLease.{MapLease}
 use Rattle.pcp_base.specs.declared.leases.PeerLease.{PeerLease}
 use Rattle.pcp_base.specs.declared.leases.Owner.{Owner}
@@ -37,14 +38,14 @@ OneOwner os = (p q : Owner) → Contains os p → Contains os q →
 abbrev pub OnePort : List Owner → Type 0
 OnePort os = (p q : Owner) → Contains os p → Contains os q → p.endpoint ≡ q.endpoint → p.external ≡ q.external
 
--- whether both are of one port
-abbrev pub same_port : Owner → Owner → Bool
-same_port p q = same_protocol p.protocol q.protocol && p.external == q.external
+-- whether it is of this port
+abbrev pub is_port : Protocol → ℕ → Owner → Bool
+is_port protocol port o = same_protocol o.protocol protocol && o.external == port
 
 -- of how many different ports they are
 abbrev pub different_ports : List Owner → ℕ
 different_ports [] = 0
-different_ports (o ∷ os) = (if list_any (same_port o) os then 0 else 1) + different_ports os
+different_ports (o ∷ os) = (if list_any (is_port o.protocol o.external) os then 0 else 1) + different_ports os
 
 -- how many different ports the leases of the address own that are live at m
 abbrev pub owned : Table → ℕ → Address → ℕ

@@ -2,15 +2,15 @@
 use Rattle.std.specs.Prelude.{◌+◌, ◌≤◌, length, count_by}
 use Rattle.std.specs.List.{AllByRecursion}
 use Rattle.pcp_base.specs.declared.leases.Endpoint.{Endpoint}
-use Rattle.pcp_base.specs.Tables.{Table, EachTwo, IsMap, IsPeer, AreApart, HaveOtherKeys, same_endpoint}
+use Rattle.pcp_base.specs.Tables.{Table, EachTwo, IsMapLease, IsPeerLease, AreApart, HaveOtherKeys, names}
 use Rattle.pcp_base.specs.Owners.{owners, OneOwner, OnePort}
 
 pub record Sound (t : Table) : Type 0 where
-  pub maps : AllByRecursion IsMap t.maps
-  pub peers : AllByRecursion IsPeer t.peers
+  pub maps : AllByRecursion IsMapLease t.maps
+  pub peers : AllByRecursion IsPeerLease t.peers
   pub apart : EachTwo AreApart t.maps
   pub different : EachTwo HaveOtherKeys t.peers
   pub one_owner : OneOwner (owners t)
   pub one_port : OnePort (owners t)
   pub few : length t.maps + length t.peers ≤ 32768
-  pub few_peers : (e : Endpoint) → count_by (λ l. same_endpoint l.endpoint e) t.peers ≤ 16
+  pub few_peers : (e : Endpoint) → count_by (λ l. names l e) t.peers ≤ 16

@@ -4,9 +4,9 @@ use Rattle.pcp_base.specs.Tables.{Table, empty_table}
 
 pub record State : Type 0 where
   pub table : Table
-  -- the moment of the last Start or Lose
+  -- the moment of the last Start or Lose, 0 before a Start
   pub base : ℕ
-  -- the moment of the last record
+  -- the moment of the last record, 0 before a Start
   pub last : ℕ
   -- whether a Start came
   pub started : Bool

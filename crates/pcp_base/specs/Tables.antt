@@ -1,5 +1,5 @@
 -- The lease table (our own; a MAP lease is a mapping of RFC 6887, section 11, a PEER lease one of section 12).
-use Rattle.std.specs.Prelude.{◌≡◌, ◌≢◌, ℕ, ◌+◌, ◌<◌, ◌≤◌, ◌&&◌, ◌==◌, nat_le, nat_lt, Bool, true, false, bytes_eq, List, [], ◌∷◌, length, filter, IsTrue, ⊤}
+use Rattle.std.specs.Prelude.{◌≡◌, ◌≢◌, ℕ, ◌+◌, ◌<◌, ◌≤◌, ◌&&◌, ◌==◌, nat_le, nat_lt, Bool, true, false, bytes_eq, List, [], ◌∷◌, length, filter, IsTrue, ⊤, if◌then◌else◌}
 use Rattle.std.specs.List.{AllByRecursion}
 use Rattle.pcp_base.specs.declared.addresses.Address.{Address}
 use Rattle.pcp_base.specs.declared.leases.Protocol.{Protocol}
@@ -23,7 +23,7 @@ live t m = record {
   peers = filter (λ l. nat_lt m l.expiry) t.peers;
 }
 
--- whether both are one
+-- whether the two are equal
 abbrev pub same_address : Address → Address → Bool
 same_address a b = bytes_eq a.0 b.0
 
@@ -45,17 +45,30 @@ covers l e = same_address l.address e.address && same_protocol l.protocol e.prot
 abbrev pub first_endpoint : MapLease → Endpoint
 first_endpoint l = record { address = l.address; protocol = l.protocol; port = l.internal }
 
+-- whether the MAP lease has this key: its first endpoint
+abbrev pub is_map_of : Endpoint → MapLease → Bool
+is_map_of e l = same_endpoint (first_endpoint l) e
+
+-- whether the PEER lease names the endpoint
+abbrev pub names : PeerLease → Endpoint → Bool
+names l e = same_endpoint l.endpoint e
+
+-- a lease in the place of the one with its key, or at the end
+abbrev pub put : {X : Type 0} → (X → Bool) → X → List X → List X
+put has_key l [] = l ∷ []
+put has_key l (x ∷ xs) = if has_key x then l ∷ xs else x ∷ put has_key l xs
+
 -- whether the PEER lease has this key: its endpoint, remote address and remote port
 abbrev pub is_peer_of : Endpoint → Address → ℕ → PeerLease → Bool
 is_peer_of e remote port l = same_endpoint l.endpoint e && same_address l.remote remote && l.remote_port == port
 
--- each two, the earlier one first
+-- R holds of each item and each later one
 abbrev pub EachTwo : {X : Type 0} → (X → X → Type 0) → List X → Type 0
 EachTwo R [] = ⊤
 EachTwo R (x ∷ xs) = AllByRecursion (R x) xs × EachTwo R xs
 
 -- a MAP lease that a table may have
-pub record IsMap (l : MapLease) : Type 0 where
+pub record IsMapLease (l : MapLease) : Type 0 where
   pub internal : 0 < l.internal
   pub external : 0 < l.external
   pub some : 0 < l.count
@@ -67,7 +80,7 @@ pub record IsMap (l : MapLease) : Type 0 where
   pub prefixes : AllByRecursion (λ f. (0 < f.prefix) × (f.prefix ≤ 128)) l.filters
 
 -- a PEER lease that a table may have
-pub record IsPeer (l : PeerLease) : Type 0 where
+pub record IsPeerLease (l : PeerLease) : Type 0 where
   pub internal : 0 < l.endpoint.port
   pub external : 0 < l.external
   pub remote : 0 < l.remote_port

@@ -47,6 +47,7 @@ pub struct PeerAsk {
     /// The suggested external address.
     pub address: Address,
     pub remote: Address,
+    /// The remote port, at least 1.
     pub remote_port: u16,
 }
 
@@ -54,7 +55,7 @@ pub struct PeerAsk {
 #[derive(Clone, Copy, Debug, PartialEq, Eq, Hash)]
 pub struct Refusal {
     pub code: Code,
-    /// Whether the request was understood up to its options; octets 12 to 23 of the reply are zero then.
+    /// Whether the request could be read, its options too; octets 12 to 23 of the reply are zero then.
     pub parsed: bool,
     /// The seconds that the error reply tells: those of the code, or, where the nonce of a live lease
     /// differs, what the lease still has.
@@ -92,7 +93,9 @@ pub enum Answer {
     Peered {
         /// Seconds granted.
         lifetime: u32,
+        /// The external port.
         external: u16,
+        /// The external address.
         address: Address,
     },
 }

@@ -17,7 +17,7 @@ pub struct External {
 #[derive(Clone, Copy, Debug, PartialEq, Eq, Hash)]
 pub struct Subscriber {
     pub prefix: Prefix,
-    /// The index of the external address.
+    /// The index of the external address, below their number.
     pub external: u32,
 }
 
@@ -35,18 +35,19 @@ pub type Subscribers = Listed<Subscriber>;
 pub struct Config {
     /// How many external ports an internal address may own, 1 to 65535.
     pub quota: u32,
-    /// The least lifetime that is granted, in seconds.
+    /// The least lifetime that is granted, in seconds, 1 to 86400.
     pub lifetime_min: u32,
-    /// The greatest lifetime that is granted, in seconds.
+    /// The greatest lifetime that is granted, in seconds, `lifetime_min` to 86400.
     pub lifetime_max: u32,
-    /// Hosts that may ask for others by THIRD_PARTY.
+    /// Hosts that may ask for others by THIRD_PARTY, at most 256 prefixes.
     pub third_party: Prefixes,
+    /// 1 to 16, with different addresses.
     pub externals: Externals,
+    /// At most 1024.
     pub subscribers: Subscribers,
 }
 
-/// The index of the external address that the first subscriber row with this address has, or none where
-/// no row has it.
+/// The external index of the first subscriber row whose prefix holds the address; none where none does.
 pub fn pair(config: &Config, address: &Address) -> Option<u32>
     ensures { result ≡ place_of config.now.subscribers address.now }
 {

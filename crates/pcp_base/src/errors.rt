@@ -5,7 +5,7 @@ use std::alloc::{AllocError, AllocFailed};
 use thiserror::Error;
 
 /// No memory was found.
-#[derive(Clone, Copy, Debug, Error)]
+#[derive(Clone, Copy, Debug, PartialEq, Eq, Error)]
 #[error("out of memory")]
 pub struct Memory;
 
@@ -22,6 +22,6 @@ impl<T: Drop> From<AllocFailed<T>> for Memory {
 }
 
 /// Something outside failed; the object that was called counted it.
-#[derive(Clone, Copy, Debug, Error)]
+#[derive(Clone, Copy, Debug, PartialEq, Eq, Error)]
 #[error("failed")]
 pub struct Failed;

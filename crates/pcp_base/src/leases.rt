@@ -113,11 +113,11 @@ pub struct MapLease {
     /// The internal address.
     pub address: Address,
     pub protocol: Protocol,
-    /// The first internal port, at least 1.
+    /// The first internal port, at least 1, and with `count` at most 65536.
     pub internal: u16,
     /// How many ports, 1 to 4096.
     pub count: u16,
-    /// The first external port, at least 1.
+    /// The first external port, at least 1, and with `count` at most 65536.
     pub external: u16,
     /// The mapping nonce, which a renewal or a deletion must repeat.
     pub nonce: Nonce,
@@ -149,6 +149,7 @@ pub struct PeerLease {
 #[derive(Clone, Copy, Debug, PartialEq, Eq, PartialOrd, Ord, Hash)]
 pub struct Owner {
     pub protocol: Protocol,
+    /// At least 1.
     pub external: u16,
     pub endpoint: Endpoint,
 }

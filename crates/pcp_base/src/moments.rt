@@ -43,8 +43,8 @@ impl Moment {
     }
 }
 
-/// The epoch that is told at `m` where the lease table is as old as `base`: the seconds between them,
-/// at most 2^32 - 1, and 0 where the base is later (RFC 6887, section 8.5).
+/// The epoch that is told at `m` with this base: the seconds between them, at most 2^32 - 1, and 0 where
+/// the base is later (RFC 6887, section 8.5).
 pub fn epoch(m: Moment, base: Moment) -> u32
     ensures { result ≡ epoch_of m base }
 {

@@ -25,7 +25,9 @@ pub trait Replay {
     /// `Memory` it is to be cleared.
     fn admit(&mut self, alloc: Global, kept: &Record) -> Result<bool, Memory>
         requires { replaying self.old }
-        ensures admitted { result ≡ Ok true → Fits (state self.old) kept.now × (state self.new ≡ apply (state self.old) kept.now) }
-        ensures refused { result ≡ Ok false → ¬ (Fits (state self.old) kept.now) × (state self.new ≡ state self.old) }
+        ensures fits { result ≡ Ok true → Fits (state self.old) kept.now }
+        ensures applied { result ≡ Ok true → state self.new ≡ apply (state self.old) kept.now }
+        ensures refused { result ≡ Ok false → ¬ (Fits (state self.old) kept.now) }
+        ensures unchanged { result ≡ Ok false → state self.new ≡ state self.old }
         ensures ready { OnOk result (replaying self.new) };
 }
