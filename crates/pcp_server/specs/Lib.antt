@@ -1,0 +1,9 @@
+pub mod Decisions
+pub mod Histories
+pub mod Lines
+pub mod Outputs
+pub mod Played
+pub mod Profile
+pub mod Replies
+pub mod Verdicts
+pub mod Words

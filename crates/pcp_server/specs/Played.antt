@@ -1,0 +1,92 @@
+-- What a run of `play` did with its script (our own).
+use Rattle.std.specs.Prelude.{◌≡◌, ◌≢◌, ℕ, ◌+◌, ◌-◌, ◌^◌, ◌<◌, ◌⊎◌, List, [], ◌∷◌, ◌++◌, length, flat_map, take, drop, slice_get, Some, true}
+use Rattle.std.specs.List.{AllByRecursion}
+use Rattle.pcp_base.specs.declared.configs.Config.{Config}
+use Rattle.pcp_base.specs.declared.configs.External.{External}
+use Rattle.pcp_base.specs.Tables.{empty_table}
+use Rattle.pcp_server.specs.declared.lines.Line.{Line}
+use Rattle.pcp_server.specs.declared.statuses.Status.{Status}
+use Rattle.pcp_server.specs.declared.statuses.Status.TheVariants.{Done, WordsRefused, ScriptRefused, ReadFault, WriteFault, Memory}
+use Rattle.pcp_server.specs.Histories.{Shard, IsLegal, IsSafe}
+use Rattle.pcp_server.specs.Lines.{AreFirst, AreLines, IsLine, IsUnbroken, ended}
+use Rattle.pcp_server.specs.Outputs.{history_of, out_of}
+
+-- where a history begins: one Start came, at this moment
+abbrev pub started : ℕ → Shard
+started start = record {
+  state = record { table = empty_table; base = start; last = start; started = true };
+  reached = start;
+}
+
+-- The texts are lines, and their results, written one after the other, are those of a legal history in
+-- which no port has two owners and only the matching nonce renews or deletes.
+pub record AreAnswered (config : Config) (external : External) (start : ℕ) (texts : List (List ℕ)) (written : List ℕ) : Type 0 where
+  pub lines : List Line
+  pub read : AreLines texts lines
+  pub results : written ≡ out_of config external (started start) lines
+  pub legal : IsLegal config external (started start) (history_of config external (started start) lines)
+  pub safe : IsSafe (started start) (history_of config external (started start) lines)
+
+-- The next line is no line of a script: it is too long, or the script is by its end, line feed included, or
+-- nothing is spelled so. The line is the text, whole: behind it stands its line feed, or the script's end.
+pub record IsRefused (script text tail : List ℕ) : Type 0 where
+  pub unbroken : IsUnbroken text
+  pub whole : (tail ≡ []) ⊎ (slice_get tail 0 ≡ Some 10)
+  pub some : (text ≢ []) ⊎ (tail ≢ [])
+  pub refused : (8192 < length text) ⊎ ((2 ^ 30 < length script - length (drop 1 tail)) ⊎ ((line : Line) → ¬ (IsLine text line)))
+
+-- every line is answered
+pub record EndsDone (config : Config) (external : External) (start : ℕ) (script left written : List ℕ) : Type 0 where
+  pub texts : List (List ℕ)
+  pub first : AreFirst script [] texts
+  pub read : left ≡ []
+  pub answered : AreAnswered config external start texts written
+
+-- the lines before the n-th are answered, and that one is refused
+pub record EndsRefused (config : Config) (external : External) (start n : ℕ) (script written : List ℕ) : Type 0 where
+  pub texts : List (List ℕ)
+  pub text : List ℕ
+  pub tail : List ℕ
+  pub first : AreFirst script (text ++ tail) texts
+  pub number : n ≡ length texts + 1
+  pub refused : IsRefused script text tail
+  pub answered : AreAnswered config external start texts written
+
+-- every line is answered whose line feed was read
+pub record EndsReading (config : Config) (external : External) (start : ℕ) (script left written : List ℕ) : Type 0 where
+  pub texts : List (List ℕ)
+  pub part : List ℕ
+  pub spelled : script ≡ flat_map ended texts ++ part ++ left
+  pub unbroken : AllByRecursion IsUnbroken texts
+  pub unended : IsUnbroken part
+  pub answered : AreAnswered config external start texts written
+
+-- the results of some first lines are written, but that of the last of these only in part
+pub record EndsWriting (config : Config) (external : External) (start : ℕ) (script written : List ℕ) : Type 0 where
+  pub texts : List (List ℕ)
+  pub text : List ℕ
+  pub rest : List ℕ
+  pub before : List ℕ
+  pub result : List ℕ
+  pub first : AreFirst script rest (texts ++ text ∷ [])
+  pub answered : AreAnswered config external start texts before
+  pub next : AreAnswered config external start (texts ++ text ∷ []) (before ++ result)
+  pub taken : ℕ
+  pub short : taken < length result
+  pub written_is : written ≡ before ++ take taken result
+
+-- some first lines are answered
+pub record EndsEarly (config : Config) (external : External) (start : ℕ) (script written : List ℕ) : Type 0 where
+  pub texts : List (List ℕ)
+  pub rest : List ℕ
+  pub first : AreFirst script rest texts
+  pub answered : AreAnswered config external start texts written
+
+-- What is written, and what is left of the script, by the status.
+abbrev pub IsPlayed : Config → External → ℕ → (script left written : List ℕ) → Status → Type 0
+IsPlayed config external start script left written Done = EndsDone config external start script left written
+IsPlayed config external start script left written (ScriptRefused n) = EndsRefused config external start n script written
+IsPlayed config external start script left written ReadFault = EndsReading config external start script left written
+IsPlayed config external start script left written WriteFault = EndsWriting config external start script written
+IsPlayed config external start script left written Memory = EndsEarly config external start script written
+IsPlayed config external start script left written WordsRefused = (left ≡ script) × (written ≡ [])

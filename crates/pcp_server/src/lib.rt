@@ -1,0 +1,9 @@
+//! The calls that the program makes: a script is read, its requests are answered from a lease table.
+#![tactic(auto)]
+
+mod decisions;
+mod lines;
+mod statuses;
+mod verdicts;
+
+pub use statuses::Status;
