@@ -7,4 +7,4 @@ mod replies;
 mod requests;
 
 pub use replies::{write_head, write_refusal};
-pub use requests::{Body, Common, Frame, Framed, read_request};
+pub use requests::{Body, Common, Frame, Framed, read_common, read_request};

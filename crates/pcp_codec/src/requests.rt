@@ -130,8 +130,9 @@ fn read_body(octets: &[u8]) -> Body
     }
 }
 
-/// The data that MAP and PEER share.
-fn read_common(octets: &[u8]) -> Common
+/// The data that MAP and PEER share, of a message with one of these opcodes. Octets past its end read as
+/// zero.
+pub fn read_common(octets: &[u8]) -> Common
     ensures { result ≡ common_of octets.now }
 {
     Common {

@@ -1,6 +1,6 @@
 -- What the lease table decides on a MAP request without options (RFC 6887, sections 11.3 and 15; the
 -- choice of ports and the order of the cases are our own).
-use Rattle.std.specs.Prelude.{ℕ, ◌+◌, ◌-◌, ◌^◌, ◌==◌, ◌&&◌, nat_le, min, max, not, Bool, true, bytes_eq, [], length, find, Option, Some, None, if◌then◌else◌}
+use Rattle.std.specs.Prelude.{ℕ, ◌+◌, ◌-◌, ◌^◌, ◌==◌, ◌&&◌, nat_le, min, max, not, Bool, true, bytes_eq, List, [], length, find, Option, Some, None, if◌then◌else◌}
 use Rattle.std.specs.List.{list_any, range_with_len}
 use Rattle.pcp_base.specs.declared.leases.Protocol.{Protocol}
 use Rattle.pcp_base.specs.declared.leases.Endpoint.{Endpoint}
@@ -18,6 +18,10 @@ use Rattle.pcp_base.specs.Tables.{Table, live, covers, first_endpoint}
 use Rattle.pcp_base.specs.Owners.{owners, is_port}
 use Rattle.pcp_server.specs.declared.decisions.Decided.{Decided}
 use Rattle.pcp_server.specs.Verdicts.{parsed}
+
+-- a table without PEER leases
+abbrev pub only_maps : List MapLease → Table
+only_maps leases = record { maps = leases; peers = [] }
 
 -- a port is free where it is given out of, and no live lease of the protocol owns it
 abbrev pub is_free : External → Table → ℕ → Protocol → ℕ → Bool

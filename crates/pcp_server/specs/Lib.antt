@@ -2,6 +2,7 @@ pub mod Decisions
 pub mod Histories
 pub mod Lines
 pub mod Outputs
+pub mod OwnedPorts
 pub mod Played
 pub mod Profile
 pub mod Replies

@@ -1,6 +1,15 @@
 //! The verdict on a datagram (RFC 6887, section 8.2).
+ghost use Rattle.std.specs.Prelude.{◌≡◌};
+ghost use Rattle.pcp_codec.specs.declared.requests.Framed.TheVariants.{Whole};
+ghost use Rattle.pcp_base.specs.Codes.{lifetime_of};
+ghost use Rattle.pcp_codec.specs.Framing.{first_failing};
+ghost use Rattle.pcp_server.specs.Verdicts.{ask_of, ask_steps, lacks_ports, option_steps, parsed, protocol_of, verdict_of, verdict_on};
 
-use pcp_base::{Ask, Refusal};
+use pcp_base::{
+    Address, Ask, Code, Config, Endpoint, FilterList, MapAsk, PeerAsk, Protocol, Refusal, pair,
+};
+use pcp_codec::{Body, Common, Frame, Framed, read_request};
+use std::alloc::Global;
 
 /// What a datagram is.
 #[derive(Debug, Drop)]
@@ -11,4 +20,141 @@ pub enum Verdict {
     Refuse(Refusal),
     /// A request to the lease table of an external address.
     Asked { shard: u32, ask: Ask },
+}
+
+/// The verdict on a datagram from `source`: the first of its steps that fails decides.
+#[tactic(auto, unfolding(crate::specs::Verdicts::verdict_of))]
+pub fn judge(alloc: Global, config: &Config, source: &Address, octets: &[u8]) -> Verdict
+    ensures { result ≡ verdict_of config.now source.now octets.now }
+{
+    match read_request(octets, source) {
+        Framed::Silent => Verdict::Silent,
+        Framed::Refuse(refusal) => Verdict::Refuse(refusal),
+        Framed::Whole(frame) => judge_frame(alloc, config, source, octets, &frame),
+    }
+}
+
+/// The verdict on a request whose frame is whole.
+fn judge_frame(
+    alloc: Global,
+    config: &Config,
+    source: &Address,
+    octets: &[u8],
+    frame: &Frame,
+) -> Verdict
+    ensures { result ≡ verdict_on config.now source.now octets.now (Whole frame.now) }
+{
+    if let Some(code) = fault_of_options(frame, octets) {
+        return Verdict::Refuse(refusal(code, false));
+    }
+    if let Some(code) = fault_of_ask(config, source, frame) {
+        return Verdict::Refuse(refusal(code, true));
+    }
+    Verdict::Asked {
+        shard: pair(config, source).unwrap_or(0),
+        ask: ask_for(alloc, *source, frame.lifetime, &frame.body),
+    }
+}
+
+/// A refusal with the lifetime of its code.
+pub fn refusal(code: Code, parsed: bool) -> Refusal
+    ensures { result ≡ record { code = code; parsed = parsed; lifetime = lifetime_of code } }
+{
+    Refusal {
+        code,
+        parsed,
+        lifetime: code.lifetime(),
+    }
+}
+
+/// The code of what isn't served: PEER, and options.
+fn fault_of_options(frame: &Frame, octets: &[u8]) -> Option<Code>
+    ensures { result ≡ first_failing (option_steps frame.now octets.now) }
+{
+    if frame.opcode == 2 {
+        Some(Code::UnsuppOpcode)
+    } else if frame.options < octets.len() {
+        Some(Code::UnsuppOption)
+    } else {
+        None
+    }
+}
+
+/// The code of what can't be asked for.
+fn fault_of_ask(config: &Config, source: &Address, frame: &Frame) -> Option<Code>
+    ensures { result ≡ first_failing (ask_steps config.now source.now frame.now) }
+{
+    if has_no_ports(&frame.body) {
+        Some(Code::UnsuppProtocol)
+    } else if pair(config, source).is_none() {
+        Some(Code::NotAuthorized)
+    } else {
+        None
+    }
+}
+
+/// Whether the protocol has no ports that are mapped, or the internal port is 0.
+fn has_no_ports(body: &Body) -> bool
+    ensures { result ≡ lacks_ports body.now }
+{
+    match body {
+        Body::Announce => false,
+        Body::Map(common) | Body::Peer { common, .. } => {
+            !(common.protocol == 6 || common.protocol == 17) || common.internal == 0
+        }
+    }
+}
+
+/// The protocol of a number that is 6 or 17.
+fn protocol(number: u8) -> Protocol
+    ensures { result ≡ protocol_of number }
+{
+    if number == 6 {
+        Protocol::Tcp
+    } else {
+        Protocol::Udp
+    }
+}
+
+/// The endpoint that a request names.
+fn endpoint(address: Address, common: &Common) -> Endpoint
+    ensures { result ≡ record { address = address; protocol = protocol_of common.now.protocol; port = common.now.internal } }
+{
+    Endpoint {
+        address,
+        protocol: protocol(common.protocol),
+        port: common.internal,
+    }
+}
+
+/// What a request without options asks for.
+fn ask_for(alloc: Global, source: Address, lifetime: u32, body: &Body) -> Ask
+    ensures { result ≡ ask_of source lifetime body.now }
+{
+    match body {
+        Body::Announce => Ask::Announce,
+        Body::Map(common) => Ask::Map(MapAsk {
+            endpoint: endpoint(source, common),
+            nonce: common.nonce,
+            lifetime,
+            port: common.external,
+            address: common.address,
+            prefer: false,
+            set: None,
+            filters: FilterList::of(Vec::new(alloc)),
+        }),
+        Body::Peer {
+            common,
+            remote_port,
+            remote,
+        } => Ask::Peer(PeerAsk {
+            endpoint: endpoint(source, common),
+            nonce: common.nonce,
+            lifetime,
+            port: common.external,
+            address: common.address,
+            remote: *remote,
+            remote_port: *remote_port,
+        }),
+    }
 }

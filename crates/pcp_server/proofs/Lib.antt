@@ -1,0 +1,3 @@
+pub mod OwnedPortLemmas
+pub mod RangeLemmas
+pub mod CoveringLemmas

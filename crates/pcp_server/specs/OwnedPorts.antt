@@ -1,0 +1,25 @@
+-- Which ports a MAP lease owns (our own).
+use Rattle.std.specs.Prelude.{ℕ, ◌+◌, ◌≤◌, ◌&&◌, nat_le, nat_lt, Bool, ⊤}
+use Rattle.pcp_base.specs.declared.leases.Protocol.{Protocol}
+use Rattle.pcp_base.specs.declared.leases.MapLease.{MapLease}
+use Rattle.pcp_base.specs.declared.records.Change.{Change}
+use Rattle.pcp_base.specs.declared.records.Change.TheVariants.{Start, Map, Peer, DropMap, DropPeer, Lose, Mark}
+use Rattle.pcp_base.specs.Tables.{same_protocol}
+
+-- whether the lease owns the port of the protocol
+abbrev pub owns : Protocol → ℕ → MapLease → Bool
+owns protocol port l = same_protocol l.protocol protocol && nat_le l.external port && nat_lt port (l.external + l.count)
+
+-- the ports of a lease are ports
+abbrev pub HasPorts : MapLease → Type 0
+HasPorts l = l.external + l.count ≤ 65536
+
+-- a change of MAP leases, by a lease whose ports are ports
+abbrev pub IsOfMaps : Change → Type 0
+IsOfMaps (Map l) = HasPorts l
+IsOfMaps (DropMap e) = ⊤
+IsOfMaps (Peer l) = ⊥
+IsOfMaps (DropPeer e remote port) = ⊥
+IsOfMaps Start = ⊥
+IsOfMaps Lose = ⊥
+IsOfMaps Mark = ⊥
