@@ -15,33 +15,33 @@ abbrev pub is_silent : List ℕ → Bool
 is_silent message = nat_lt (length message) 2 || nat_le 128 (octet message 1)
     || (octet message 0 == 2 && nat_lt (length message) 24)
 
--- a step fails, and is then refused with this code
-pub record Step : Type 0 where
-  pub fails : Bool
-  pub code : Code
-
--- the steps that need no options, in order
-abbrev pub frame_steps : List ℕ → Address → List Step
-frame_steps message source =
-    (record { fails = not (octet message 0 == 2); code = UnsuppVersion })
-    ∷ (record { fails = nat_lt 1100 (length message) || not (length message % 4 == 0); code = MalformedRequest })
-    ∷ (record { fails = nat_lt 2 (opcode_of message); code = UnsuppOpcode })
-    ∷ (record { fails = nat_lt (length message) (24 + data_length (opcode_of message)); code = MalformedRequest })
-    ∷ (record { fails = not (bytes_eq (octets_at message 8 16) source.0); code = AddressMismatch })
-    ∷ []
-
--- the code of the first step that fails, which is the least of those that fail
-abbrev pub first_failing : List Step → Option Code
-first_failing [] = None
-first_failing (step ∷ steps) = if step.fails then Some step.code else first_failing steps
-
 -- a request that is refused before it is understood
 abbrev pub unparsed : Code → Refusal
 unparsed code = record { code = code; parsed = false; lifetime = lifetime_of code }
 
-abbrev pub framed_by : List ℕ → Option Code → Framed
+-- a step of the verdict: whether it fails, and how the request is refused then
+pub record Step : Type 0 where
+  pub fails : Bool
+  pub refusal : Refusal
+
+-- the steps that need no options, in order
+abbrev pub frame_steps : List ℕ → Address → List Step
+frame_steps message source =
+    (record { fails = not (octet message 0 == 2); refusal = unparsed UnsuppVersion })
+    ∷ (record { fails = nat_lt 1100 (length message) || not (length message % 4 == 0); refusal = unparsed MalformedRequest })
+    ∷ (record { fails = nat_lt 2 (opcode_of message); refusal = unparsed UnsuppOpcode })
+    ∷ (record { fails = nat_lt (length message) (24 + data_length (opcode_of message)); refusal = unparsed MalformedRequest })
+    ∷ (record { fails = not (bytes_eq (octets_at message 8 16) source.0); refusal = unparsed AddressMismatch })
+    ∷ []
+
+-- the refusal of the first step that fails, which is the least of those that fail
+abbrev pub first_failing : List Step → Option Refusal
+first_failing [] = None
+first_failing (step ∷ steps) = if step.fails then Some step.refusal else first_failing steps
+
+abbrev pub framed_by : List ℕ → Option Refusal → Framed
 framed_by message None = Whole (frame_of message)
-framed_by message (Some code) = Refuse (unparsed code)
+framed_by message (Some refusal) = Refuse refusal
 
 abbrev pub framed_of : List ℕ → Address → Framed
 framed_of message source =

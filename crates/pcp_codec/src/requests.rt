@@ -1,7 +1,7 @@
 //! Requests (RFC 6887, sections 7.1, 8.2, 11.1, 12.1 and 14.1).
 ghost use Rattle.std.specs.Prelude.{◌≡◌, ◌≤◌};
 ghost use Rattle.pcp_codec.specs.Requests.{opcode_of, data_length, common_of, body_of};
-ghost use Rattle.pcp_codec.specs.Framing.{framed_of, first_failing, frame_steps};
+ghost use Rattle.pcp_codec.specs.Framing.{first_failing, frame_steps, framed_of, unparsed};
 
 use crate::fields::{octet_of, octets_of, u16_of, u32_of};
 use pcp_base::{Address, Code, Nonce, Refusal};
@@ -68,11 +68,7 @@ pub fn read_request(octets: &[u8], source: &Address) -> Framed
         return Framed::Silent;
     }
     match refused_with(octets, source) {
-        Some(code) => Framed::Refuse(Refusal {
-            code,
-            parsed: false,
-            lifetime: code.lifetime(),
-        }),
+        Some(refusal) => Framed::Refuse(refusal),
         None => Framed::Whole(Frame {
             opcode: octet_of(octets, 1) % 128,
             lifetime: u32_of(octets, 4),
@@ -82,22 +78,33 @@ pub fn read_request(octets: &[u8], source: &Address) -> Framed
     }
 }
 
-/// The code of the first of the five steps that fails.
-fn refused_with(octets: &[u8], source: &Address) -> Option<Code>
+/// A request that is refused before it is understood, with the lifetime of the code.
+fn refusal(code: Code) -> Refusal
+    ensures { result ≡ unparsed code }
+{
+    Refusal {
+        code,
+        parsed: false,
+        lifetime: code.lifetime(),
+    }
+}
+
+/// The refusal of the first of the five steps that fails.
+fn refused_with(octets: &[u8], source: &Address) -> Option<Refusal>
     ensures { result ≡ first_failing (frame_steps octets.now source.now) }
 {
     let opcode = octet_of(octets, 1) % 128;
     let client = Address(octets_of(octets, 8));
     if octet_of(octets, 0) != 2 {
-        Some(Code::UnsuppVersion)
+        Some(refusal(Code::UnsuppVersion))
     } else if octets.len() > 1100 || octets.len() % 4 != 0 {
-        Some(Code::MalformedRequest)
+        Some(refusal(Code::MalformedRequest))
     } else if opcode > 2 {
-        Some(Code::UnsuppOpcode)
+        Some(refusal(Code::UnsuppOpcode))
     } else if octets.len() < 24 + data_len(octets) {
-        Some(Code::MalformedRequest)
+        Some(refusal(Code::MalformedRequest))
     } else if client != *source {
-        Some(Code::AddressMismatch)
+        Some(refusal(Code::AddressMismatch))
     } else {
         None
     }

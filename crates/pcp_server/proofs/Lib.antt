@@ -1,3 +1,4 @@
 pub mod OwnedPortLemmas
 pub mod RangeLemmas
 pub mod CoveringLemmas
+pub mod VerdictLemmas

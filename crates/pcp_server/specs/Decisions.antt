@@ -1,6 +1,6 @@
 -- What the lease table decides on a MAP request without options (RFC 6887, sections 11.3 and 15; the
 -- choice of ports and the order of the cases are our own).
-use Rattle.std.specs.Prelude.{ℕ, ◌+◌, ◌-◌, ◌^◌, ◌==◌, ◌&&◌, nat_le, min, max, not, Bool, true, bytes_eq, List, [], length, find, Option, Some, None, if◌then◌else◌}
+use Rattle.std.specs.Prelude.{ℕ, ◌+◌, ◌-◌, ◌^◌, ◌==◌, ◌&&◌, nat_le, min, max, not, Bool, true, bytes_eq, List, [], ◌∷◌, length, find, Option, Some, None, is_none, unwrap_or, if◌then◌else◌}
 use Rattle.std.specs.List.{list_any, range_with_len}
 use Rattle.pcp_base.specs.declared.leases.Protocol.{Protocol}
 use Rattle.pcp_base.specs.declared.leases.Endpoint.{Endpoint}
@@ -17,6 +17,7 @@ use Rattle.pcp_base.specs.declared.configs.External.{External}
 use Rattle.pcp_base.specs.Tables.{Table, live, covers, first_endpoint}
 use Rattle.pcp_base.specs.Owners.{owners, is_port}
 use Rattle.pcp_server.specs.declared.decisions.Decided.{Decided}
+use Rattle.pcp_codec.specs.Framing.{unparsed}
 use Rattle.pcp_server.specs.Verdicts.{parsed}
 
 -- a table without PEER leases
@@ -67,26 +68,51 @@ new_lease config m ask port = record {
   filters = [];
 }
 
--- where no lease covers the endpoint: the pick, if there is one and room in the table
-abbrev pub decide_new : Config → External → Table → ℕ → MapAsk → Option ℕ → Decided
-decide_new config external t m ask None = answered (Refused (parsed NoResources))
-decide_new config external t m ask (Some port) =
-    if nat_le 32768 (length (live t m).maps + length (live t m).peers) then answered (Refused (parsed NoResources))
-    else mapped config external m ask (new_lease config m ask port)
+-- a case: where it applies, and what is decided then
+pub record Case : Type 0 where
+  pub applies : Bool
+  pub decided : Decided
 
--- by the live lease that covers the endpoint: another nonce is told how long it still lives
+-- the decision of the first case that applies, else the last one
+abbrev pub first_case : List Case → Decided → Decided
+first_case [] last = last
+first_case (c ∷ cs) last = if c.applies then c.decided else first_case cs last
+
+-- the seconds that a lease still has, as a reply tells them
+abbrev pub time_left : ℕ → MapLease → ℕ
+time_left m lease = min (lease.expiry - m) (2 ^ 32 - 1)
+
+-- a live lease covers the endpoint: it has another nonce, or is deleted
+abbrev pub held_cases : ℕ → MapAsk → MapLease → List Case
+held_cases m ask lease =
+    (record {
+      applies = not (bytes_eq lease.nonce.0 ask.nonce.0);
+      decided = answered (Refused (record { code = NotAuthorized; parsed = true; lifetime = time_left m lease }));
+    })
+    ∷ (record {
+      applies = ask.lifetime == 0;
+      decided = record { answer = Gone; kept = Some (record { moment = m; change = Changes.DropMap (first_endpoint lease) }) };
+    })
+    ∷ []
+
+-- none covers it: nothing is to be deleted, there is no port, or the table is full
+abbrev pub new_cases : Table → ℕ → MapAsk → Option ℕ → List Case
+new_cases t m ask picked =
+    (record { applies = ask.lifetime == 0; decided = answered Gone })
+    ∷ (record { applies = is_none picked; decided = answered (Refused (parsed NoResources)) })
+    ∷ (record {
+      applies = nat_le 32768 (length (live t m).maps + length (live t m).peers);
+      decided = answered (Refused (parsed NoResources));
+    })
+    ∷ []
+
+-- else the lease is renewed, or granted at the pick
 abbrev pub decide_by : Config → External → Table → ℕ → MapAsk → Option MapLease → Decided
-decide_by config external t m ask None =
-    if ask.lifetime == 0 then answered Gone
-    else decide_new config external t m ask (pick external t m ask)
 decide_by config external t m ask (Some lease) =
-    if not (bytes_eq lease.nonce.0 ask.nonce.0) then
-    answered (Refused (record { code = NotAuthorized; parsed = true; lifetime = min (lease.expiry - m) (2 ^ 32 - 1) }))
-    else if ask.lifetime == 0 then record {
-      answer = Gone;
-      kept = Some (record { moment = m; change = Changes.DropMap (first_endpoint lease) });
-    }
-    else mapped config external m ask (renewed config m ask lease)
+    first_case (held_cases m ask lease) (mapped config external m ask (renewed config m ask lease))
+decide_by config external t m ask None =
+    let picked = pick external t m ask in
+    first_case (new_cases t m ask picked) (mapped config external m ask (new_lease config m ask (unwrap_or picked 0)))
 
 -- the live MAP lease that covers the endpoint
 abbrev pub covering : Table → ℕ → Endpoint → Option MapLease
@@ -100,4 +126,4 @@ abbrev pub decide : Config → External → Table → ℕ → Ask → Decided
 decide config external t m (Asks.Known refusal) = answered (Refused refusal)
 decide config external t m Asks.Announce = answered Announced
 decide config external t m (Asks.Map ask) = decide_map config external t m ask
-decide config external t m (Asks.Peer ask) = answered (Refused (parsed UnsuppOpcode))
+decide config external t m (Asks.Peer ask) = answered (Refused (unparsed UnsuppOpcode))

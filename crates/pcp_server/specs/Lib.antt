@@ -6,5 +6,7 @@ pub mod OwnedPorts
 pub mod Played
 pub mod Profile
 pub mod Replies
+pub mod Runs
+pub mod ShardStates
 pub mod Verdicts
 pub mod Words

@@ -1,21 +1,24 @@
 -- What a run of `play` did with its script (our own).
-use Rattle.std.specs.Prelude.{◌≡◌, ◌≢◌, ℕ, ◌+◌, ◌-◌, ◌^◌, ◌<◌, ◌⊎◌, List, [], ◌∷◌, ◌++◌, length, flat_map, take, drop, slice_get, Some, true}
+use Rattle.std.specs.Prelude.{◌≡◌, ◌≢◌, ℕ, ◌+◌, ◌-◌, ◌^◌, ◌<◌, ◌≤◌, ◌⊎◌, List, [], ◌∷◌, ◌++◌, length, flat_map, take, drop, slice_get, Some, true}
 use Rattle.std.specs.List.{AllByRecursion}
 use Rattle.pcp_base.specs.declared.configs.Config.{Config}
 use Rattle.pcp_base.specs.declared.configs.External.{External}
+use Rattle.pcp_base.specs.declared.datagrams.Entry.{Entry}
 use Rattle.pcp_base.specs.Tables.{empty_table}
 use Rattle.pcp_server.specs.declared.lines.Line.{Line}
 use Rattle.pcp_server.specs.declared.statuses.Status.{Status}
 use Rattle.pcp_server.specs.declared.statuses.Status.TheVariants.{Done, WordsRefused, ScriptRefused, ReadFault, WriteFault, Memory}
-use Rattle.pcp_server.specs.Histories.{Shard, IsLegal, IsSafe}
+use Rattle.pcp_server.specs.Histories.{IsLegal, IsSafe}
+use Rattle.pcp_server.specs.ShardStates.{ShardState}
 use Rattle.pcp_server.specs.Lines.{AreFirst, AreLines, IsLine, IsUnbroken, ended}
-use Rattle.pcp_server.specs.Outputs.{history_of, out_of}
+use Rattle.pcp_server.specs.Outputs.{heard_of, AreEntriesOf, printed}
 
 -- where a history begins: one Start came, at this moment
-abbrev pub started : ℕ → Shard
+abbrev pub started : ℕ → ShardState
 started start = record {
   state = record { table = empty_table; base = start; last = start; started = true };
   reached = start;
+  told = start;
 }
 
 -- The texts are lines, and their results, written one after the other, are those of a legal history in
@@ -23,9 +26,11 @@ started start = record {
 pub record AreAnswered (config : Config) (external : External) (start : ℕ) (texts : List (List ℕ)) (written : List ℕ) : Type 0 where
   pub lines : List Line
   pub read : AreLines texts lines
-  pub results : written ≡ out_of config external (started start) lines
-  pub legal : IsLegal config external (started start) (history_of config external (started start) lines)
-  pub safe : IsSafe (started start) (history_of config external (started start) lines)
+  pub history : List Entry
+  pub entries : AreEntriesOf start start (heard_of lines) history
+  pub legal : IsLegal config external (started start) history
+  pub safe : IsSafe config (started start) history
+  pub results : written ≡ printed lines history
 
 -- The next line is no line of a script: it is too long, or the script is by its end, line feed included, or
 -- nothing is spelled so. The line is the text, whole: behind it stands its line feed, or the script's end.
@@ -59,6 +64,7 @@ pub record EndsReading (config : Config) (external : External) (start : ℕ) (sc
   pub spelled : script ≡ flat_map ended texts ++ part ++ left
   pub unbroken : AllByRecursion IsUnbroken texts
   pub unended : IsUnbroken part
+  pub few : length (flat_map ended texts) ≤ 2 ^ 30
   pub answered : AreAnswered config external start texts written
 
 -- the results of some first lines are written, but that of the last of these only in part
@@ -89,4 +95,5 @@ IsPlayed config external start script left written (ScriptRefused n) = EndsRefus
 IsPlayed config external start script left written ReadFault = EndsReading config external start script left written
 IsPlayed config external start script left written WriteFault = EndsWriting config external start script written
 IsPlayed config external start script left written Memory = EndsEarly config external start script written
-IsPlayed config external start script left written WordsRefused = (left ≡ script) × (written ≡ [])
+-- the words are those of a command
+IsPlayed config external start script left written WordsRefused = ⊥

@@ -6,7 +6,7 @@ ghost use Rattle.pcp_base.specs.Owners.{is_port, owners};
 ghost use Rattle.pcp_base.specs.declared.asks.Answer.TheVariants.{Gone};
 ghost use Rattle.pcp_base.specs.declared.records.Change.TheVariants.{DropMap};
 ghost use Rattle.pcp_server.specs.OwnedPorts.{HasPorts, IsOfMaps, owns};
-ghost use Rattle.pcp_server.specs.Decisions.{answered, covering, decide as decide_on, decide_by, decide_map, decide_new, granted_lifetime, is_free, mapped, new_lease, only_maps, pick};
+ghost use Rattle.pcp_server.specs.Decisions.{answered, covering, decide as decide_on, decide_by, decide_map, granted_lifetime, is_free, mapped, new_lease, only_maps, pick};
 
 use crate::verdicts::refusal;
 use pcp_base::{
@@ -175,9 +175,12 @@ fn decide_free(
     m: Moment,
     ask: &MapAsk,
 ) -> Decided
-    ensures value { result ≡ decide_new config.now external.now (only_maps maps.now) m ask.now (pick external.now (only_maps maps.now) m ask.now) }
+    ensures value { result ≡ decide_by config.now external.now (only_maps maps.now) m ask.now None }
     ensures kept { IfSome result.kept (λ r. IsOfMaps r.change) }
 {
+    if ask.lifetime == 0 {
+        return told(Answer::Gone);
+    }
     let Some(port) = pick_port(external, maps, m, ask) else {
         return told(Answer::Refused(refusal(Code::NoResources, true)));
     };
@@ -257,7 +260,6 @@ fn decide_mapping(
 {
     match lease_of(maps, m, &ask.endpoint) {
         Some(lease) => decide_held(config, external, m, ask, lease),
-        None if ask.lifetime == 0 => told(Answer::Gone),
         None => decide_free(config, external, maps, m, ask),
     }
 }
@@ -279,6 +281,6 @@ pub fn decide(
         Ask::Known(refusal) => told(Answer::Refused(*refusal)),
         Ask::Announce => told(Answer::Announced),
         Ask::Map(ask) => decide_mapping(config, external, maps, m, ask),
-        Ask::Peer(_) => told(Answer::Refused(refusal(Code::UnsuppOpcode, true))),
+        Ask::Peer(_) => told(Answer::Refused(refusal(Code::UnsuppOpcode, false))),
     }
 }

@@ -3,6 +3,8 @@
 
 mod decisions;
 mod lines;
+mod replies;
+mod shards;
 mod statuses;
 mod verdicts;
 

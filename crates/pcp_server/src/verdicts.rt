@@ -1,9 +1,9 @@
 //! The verdict on a datagram (RFC 6887, section 8.2).
-ghost use Rattle.std.specs.Prelude.{◌≡◌};
-ghost use Rattle.pcp_codec.specs.declared.requests.Framed.TheVariants.{Whole};
+ghost use Rattle.std.specs.Prelude.{◌≡◌, ◌++◌};
 ghost use Rattle.pcp_base.specs.Codes.{lifetime_of};
 ghost use Rattle.pcp_codec.specs.Framing.{first_failing};
-ghost use Rattle.pcp_server.specs.Verdicts.{ask_of, ask_steps, lacks_ports, option_steps, parsed, protocol_of, verdict_of, verdict_on};
+ghost use Rattle.pcp_codec.specs.Requests.{frame_of};
+ghost use Rattle.pcp_server.specs.Verdicts.{ask_of, ask_steps, lacks_ports, protocol_of, service_steps, verdict_of};
 
 use pcp_base::{
     Address, Ask, Code, Config, Endpoint, FilterList, MapAsk, PeerAsk, Protocol, Refusal, pair,
@@ -30,29 +30,13 @@ pub fn judge(alloc: Global, config: &Config, source: &Address, octets: &[u8]) ->
     match read_request(octets, source) {
         Framed::Silent => Verdict::Silent,
         Framed::Refuse(refusal) => Verdict::Refuse(refusal),
-        Framed::Whole(frame) => judge_frame(alloc, config, source, octets, &frame),
-    }
-}
-
-/// The verdict on a request whose frame is whole.
-fn judge_frame(
-    alloc: Global,
-    config: &Config,
-    source: &Address,
-    octets: &[u8],
-    frame: &Frame,
-) -> Verdict
-    ensures { result ≡ verdict_on config.now source.now octets.now (Whole frame.now) }
-{
-    if let Some(code) = fault_of_options(frame, octets) {
-        return Verdict::Refuse(refusal(code, false));
-    }
-    if let Some(code) = fault_of_ask(config, source, frame) {
-        return Verdict::Refuse(refusal(code, true));
-    }
-    Verdict::Asked {
-        shard: pair(config, source).unwrap_or(0),
-        ask: ask_for(alloc, *source, frame.lifetime, &frame.body),
+        Framed::Whole(frame) => match fault_of(config, source, octets, &frame) {
+            Some(refusal) => Verdict::Refuse(refusal),
+            None => Verdict::Asked {
+                shard: pair(config, source).unwrap_or(0),
+                ask: ask_for(alloc, *source, frame.lifetime, &frame.body),
+            },
+        },
     }
 }
 
@@ -67,27 +51,19 @@ pub fn refusal(code: Code, parsed: bool) -> Refusal
     }
 }
 
-/// The code of what isn't served: PEER, and options.
-fn fault_of_options(frame: &Frame, octets: &[u8]) -> Option<Code>
-    ensures { result ≡ first_failing (option_steps frame.now octets.now) }
+/// The refusal of a request whose frame is whole: what isn't served, or can't be asked for.
+fn fault_of(config: &Config, source: &Address, octets: &[u8], frame: &Frame) -> Option<Refusal>
+    requires { frame_of octets.now ≡ frame.now }
+    ensures { result ≡ first_failing (service_steps octets.now ++ ask_steps config.now source.now octets.now) }
 {
     if frame.opcode == 2 {
-        Some(Code::UnsuppOpcode)
+        Some(refusal(Code::UnsuppOpcode, false))
     } else if frame.options < octets.len() {
-        Some(Code::UnsuppOption)
-    } else {
-        None
-    }
-}
-
-/// The code of what can't be asked for.
-fn fault_of_ask(config: &Config, source: &Address, frame: &Frame) -> Option<Code>
-    ensures { result ≡ first_failing (ask_steps config.now source.now frame.now) }
-{
-    if has_no_ports(&frame.body) {
-        Some(Code::UnsuppProtocol)
+        Some(refusal(Code::UnsuppOption, false))
+    } else if has_no_ports(&frame.body) {
+        Some(refusal(Code::UnsuppProtocol, true))
     } else if pair(config, source).is_none() {
-        Some(Code::NotAuthorized)
+        Some(refusal(Code::NotAuthorized, true))
     } else {
         None
     }
