@@ -6,13 +6,8 @@ use Rattle.pcp_base.specs.declared.leases.Endpoint.{Endpoint}
 use Rattle.pcp_base.specs.declared.leases.MapLease.{MapLease}
 use Rattle.pcp_base.specs.Tables.{covers}
 use Rattle.pcp_server.specs.OwnedPorts.{HasPorts}
+use Rattle.pcp_server.proofs.PutLemmas.{filter_All}
 use Rattle.pcp_server.specs.Decisions.{covering, only_maps}
-
-filter_All : {X : Type 0} (P : X → Type 0) (test : X → Bool) (xs : List X) → AllByRecursion P xs → AllByRecursion P (filter test xs)
-filter_All P test [] all = tt
-filter_All P test (x ∷ xs) all =
-    elim (test x) as (λ b. AllByRecursion P (cond b (x ∷ filter test xs) (filter test xs)))
-    [ true ↦ (all.0, filter_All P test xs all.1) | false ↦ filter_All P test xs all.1 ]
 
 chosen : {X : Type 0} (P : X → Type 0) (test : X → Bool) (x y : X) (rest : Option X) (b : Bool) → test x ≡ b → P x → (rest ≡ Some y → P y × (test y ≡ true)) → cond b (Some x) rest ≡ Some y → P y × (test y ≡ true)
 chosen P test x y rest true e p later h = let same : x ≡ y = cc in (subst P same p, rw same at e)

@@ -1,5 +1,7 @@
 -- The one run of a script's lines that there is, as a function (our own): what the code computes line by line.
-use Rattle.std.specs.Prelude.{ℕ, max, List, [], ◌∷◌, ◌++◌, codes, if◌then◌else◌}
+use Rattle.std.specs.Prelude.{◌≡◌, ℕ, ◌≤◌, length, max, true, false, List, [], ◌∷◌, ◌++◌, codes, Option, Some, None, if◌then◌else◌}
+use Rattle.pcp_base.specs.declared.asks.Ask.{Ask}
+use Rattle.pcp_base.specs.declared.asks.Ask.TheVariants as Asks
 use Rattle.pcp_base.specs.declared.datagrams.Datagram.{Datagram}
 use Rattle.pcp_base.specs.declared.datagrams.Entry.{Entry}
 use Rattle.pcp_base.specs.declared.configs.Config.{Config}
@@ -8,16 +10,31 @@ use Rattle.pcp_base.specs.Epoch.{epoch_of}
 use Rattle.pcp_codec.specs.Framing.{is_silent}
 use Rattle.pcp_server.specs.declared.lines.Line.{Line}
 use Rattle.pcp_server.specs.declared.lines.Line.TheVariants.{Skip, Packet}
+use Rattle.pcp_server.specs.declared.verdicts.Verdict.{Verdict}
+use Rattle.pcp_server.specs.declared.verdicts.Verdict.TheVariants.{Silent, Refuse, Asked}
 use Rattle.pcp_server.specs.ShardStates.{ShardState}
-use Rattle.pcp_server.specs.Histories.{after, decided_on}
+use Rattle.pcp_server.specs.Histories.{after, asked}
+use Rattle.pcp_server.specs.Verdicts.{verdict_of}
+use Rattle.pcp_server.specs.Decisions.{decide}
 use Rattle.pcp_server.specs.Replies.{reply_text}
 use Rattle.pcp_server.specs.Outputs.{reply_line}
 
--- the entry of a datagram that comes at m, which is raised to the moment reached
-abbrev pub entry_of : Config → External → ShardState → ℕ → Datagram → Entry
-entry_of config external shard m from =
-    let now = max m shard.reached in
-    let decided = decided_on config external shard.state.table now from in
+-- what a verdict asks of the lease table, where it isn't silent
+abbrev pub heard_ask : Verdict → Option Ask
+heard_ask Silent = None
+heard_ask (Refuse refusal) = Some (Asks.Known refusal)
+heard_ask (Asked place ask) = Some ask
+
+-- the datagram is silent, or asks this of the lease table
+abbrev pub IsHeard : Config → Datagram → Option Ask → Type 0
+IsHeard config from None = is_silent from.octets ≡ true
+IsHeard config from (Some ask) = (is_silent from.octets ≡ false) × (2 ≤ length from.octets)
+    × (ask ≡ asked (verdict_of config from.peer from.octets))
+
+-- the entry of a datagram that asks this, at a moment that is reached
+abbrev pub answer_entry : Config → External → ShardState → ℕ → Datagram → Ask → Entry
+answer_entry config external shard now from ask =
+    let decided = decide config external shard.state.table now ask in
     record {
       moment = now;
       from = from;
@@ -25,6 +42,22 @@ entry_of config external shard m from =
       kept = decided.kept;
       base = shard.state.base;
     }
+
+-- the reply is that of its entry, which comes next
+abbrev pub IsAnswered : Config → External → ShardState → ℕ → Datagram → Ask → List ℕ → ShardState → Type 0
+IsAnswered config external old m from ask reply new =
+    (reply ≡ (answer_entry config external old m from ask).reply) × (new ≡ after old (answer_entry config external old m from ask))
+
+-- the entry of a datagram that comes at m, which is raised to the moment reached
+abbrev pub entry_of : Config → External → ShardState → ℕ → Datagram → Entry
+entry_of config external shard m from =
+    answer_entry config external shard (max m shard.reached) from (asked (verdict_of config from.peer from.octets))
+
+-- A datagram at m is silent and changes nothing, or has the reply of its entry, which comes next.
+abbrev pub IsStep : Config → External → ShardState → ℕ → Datagram → Option (List ℕ) → ShardState → Type 0
+IsStep config external old m from None new = (is_silent from.octets ≡ true) × (new ≡ old)
+IsStep config external old m from (Some reply) new = (is_silent from.octets ≡ false)
+    × (reply ≡ (entry_of config external old m from).reply) × (new ≡ after old (entry_of config external old m from))
 
 -- the entries that a line adds: a datagram that isn't silent adds one
 abbrev pub entries_of : Config → External → ShardState → Line → List Entry

@@ -134,7 +134,7 @@ fn told_of(
     requires told { lease.external + (ask.now.endpoint.port - lease.internal) < 2 ^ 16 }
     requires ports { HasPorts lease }
     ensures value { result ≡ mapped config.now external.now m ask.now lease }
-    ensures kept { IfSome result.kept (λ r. IsOfMaps r.change) }
+    ensures kept { IfSome result.kept (λ r. (r.moment ≡ m) × IsOfMaps r.change) }
 {
     Decided {
         answer: Answer::Mapped {
@@ -176,7 +176,7 @@ fn decide_free(
     ask: &MapAsk,
 ) -> Decided
     ensures value { result ≡ decide_by config.now external.now (only_maps maps.now) m ask.now None }
-    ensures kept { IfSome result.kept (λ r. IsOfMaps r.change) }
+    ensures kept { IfSome result.kept (λ r. (r.moment ≡ m) × IsOfMaps r.change) }
 {
     if ask.lifetime == 0 {
         return told(Answer::Gone);
@@ -209,7 +209,7 @@ fn decide_held(
     requires told { lease.now.external + (ask.now.endpoint.port - lease.now.internal) < 2 ^ 16 }
     requires ports { HasPorts lease.now }
     ensures value { (t : Table) → result ≡ decide_by config.now external.now t m ask.now (Some lease.now) }
-    ensures kept { IfSome result.kept (λ r. IsOfMaps r.change) }
+    ensures kept { IfSome result.kept (λ r. (r.moment ≡ m) × IsOfMaps r.change) }
 {
     if lease.nonce != ask.nonce {
         let left = lease.expiry.saturating_sub(m.get());
@@ -256,7 +256,7 @@ fn decide_mapping(
 ) -> Decided
     requires { AllByRecursion HasPorts maps.now }
     ensures value { result ≡ decide_map config.now external.now (only_maps maps.now) m ask.now }
-    ensures kept { IfSome result.kept (λ r. IsOfMaps r.change) }
+    ensures kept { IfSome result.kept (λ r. (r.moment ≡ m) × IsOfMaps r.change) }
 {
     match lease_of(maps, m, &ask.endpoint) {
         Some(lease) => decide_held(config, external, m, ask, lease),
@@ -275,7 +275,7 @@ pub fn decide(
     requires { AllByRecursion HasPorts maps.now }
     ensures value { result ≡ decide_on config.now external.now (only_maps maps.now) m ask.now }
     // What is kept is of a MAP lease whose ports are ports.
-    ensures kept { IfSome result.kept (λ r. IsOfMaps r.change) }
+    ensures kept { IfSome result.kept (λ r. (r.moment ≡ m) × IsOfMaps r.change) }
 {
     match ask {
         Ask::Known(refusal) => told(Answer::Refused(*refusal)),
