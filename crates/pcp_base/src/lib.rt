@@ -11,6 +11,7 @@ mod errors;
 mod leases;
 mod lists;
 mod moments;
+mod numbers;
 mod records;
 mod replays;
 
@@ -25,5 +26,6 @@ pub use leases::{
 };
 pub use lists::{Listed, Octets};
 pub use moments::{Moment, epoch};
+pub use numbers::read_number;
 pub use records::{Change, Record};
 pub use replays::Replay;
