@@ -1,9 +1,12 @@
 //! Addresses, nonces and prefixes, and their texts.
-ghost use Rattle.std.specs.Prelude.{◌≡◌, ℕ, ◌<◌, ◌↔◌, ◌++◌, List, IsTrue, IfOk, OnOk, OnErr};
+ghost use Rattle.std.specs.Prelude.{◌≡◌, ℕ, ◌==◌, false, List, ◌++◌, codes, All, IfSome, IfNone, IfOk, OnErr};
 ghost use Rattle.pcp_base.specs.Pairing.{holds, leading, v4_octets};
-ghost use Rattle.pcp_base.specs.AddressTexts.{IsAddressText, IsPrefixText, address_text};
+ghost use Rattle.pcp_base.specs.AddressTexts.{IsDottedText, IsLongText, IsAddressText, IsPrefixText, address_text};
+ghost use Rattle.pcp_base.specs.declared.addresses.Address.{Address};
+ghost use Rattle.pcp_base.specs.declared.addresses.Prefix.{Prefix};
 
 use crate::errors::Memory;
+use crate::numbers::read_number;
 use hex::FromHex;
 use std::alloc::Global;
 use std::net::Ipv4Addr;
@@ -44,6 +47,43 @@ impl Address {
         Address([0, 0, 0, 0, 0, 0, 0, 0, 0, 0, 255, 255, a, b, c, d])
     }
 
+    /// The address that the text writes: four decimal numbers of at most 255, without leading zeros and
+    /// with dots between them, or exactly 32 hexadecimal digits of either case. A text writes at most one.
+    pub fn read(text: &[u8]) -> Result<Address, NotAddress>
+        ensures text { IfOk result (IsAddressText text.now) }
+        ensures only { IfOk result (λ a. (b : Address) → IsAddressText text.now b → b ≡ a) }
+        ensures refused { OnErr result ((a : Address) → ¬ (IsAddressText text.now a)) }
+    {
+        if let Some(address) = Address::read_dotted(text) {
+            return Ok(address);
+        }
+        Address::read_long(text).ok_or(NotAddress)
+    }
+
+    fn read_dotted(text: &[u8]) -> Option<Address>
+        ensures text { IfSome result (IsDottedText text.now) }
+        ensures none { IfNone result ((a : Address) → ¬ (IsDottedText text.now a)) }
+    {
+        let Ok(plain) = std::str::from_utf8(text) else {
+            return None;
+        };
+        let Ok(dotted) = plain.parse::<Ipv4Addr>() else {
+            return None;
+        };
+        let [a, b, c, d] = dotted.octets();
+        Some(Address::v4(a, b, c, d))
+    }
+
+    fn read_long(text: &[u8]) -> Option<Address>
+        ensures text { IfSome result (IsLongText text.now) }
+        ensures none { IfNone result ((a : Address) → ¬ (IsLongText text.now a)) }
+    {
+        match <[u8; 16] as FromHex>::from_hex(text) {
+            Ok(octets) => Some(Address(octets)),
+            Err(_) => None,
+        }
+    }
+
     /// The first `bits` bits, as a number.
     fn leading(&self, bits: u8) -> u128
         ensures { result ≡ leading bits self.now }
@@ -58,10 +98,47 @@ impl Address {
 }
 
 impl Prefix {
+    /// The prefix that the text writes: an address, `/` and a decimal number, which is at most 32 after a
+    /// dotted address, where it counts as 96 more, and at most 128 after a long one. A text writes at
+    /// most one.
+    pub fn read(text: &[u8]) -> Result<Prefix, NotPrefix>
+        ensures text { IfOk result (IsPrefixText text.now) }
+        ensures only { IfOk result (λ p. (q : Prefix) → IsPrefixText text.now q → q ≡ p) }
+        ensures refused { OnErr result ((p : Prefix) → ¬ (IsPrefixText text.now p)) }
+    {
+        let Some((front, back)) = around_slash(text) else {
+            return Err(NotPrefix);
+        };
+        let Some(bits) = read_number(back, 128) else {
+            return Err(NotPrefix);
+        };
+        match (Address::read_dotted(front), Address::read_long(front)) {
+            (Some(address), _) if bits <= 32 => Ok(Prefix {
+                bits: 96 + bits as u8,
+                address,
+            }),
+            (None, Some(address)) => Ok(Prefix {
+                bits: bits as u8,
+                address,
+            }),
+            _ => Err(NotPrefix),
+        }
+    }
+
     /// Whether the first bits of the address are those of the prefix.
     pub fn holds(&self, address: &Address) -> bool
         ensures { result ≡ holds self.now address.now }
     {
         self.address.leading(self.bits) == address.leading(self.bits)
     }
+}
+
+// What stands before and behind the first slash.
+fn around_slash(text: &[u8]) -> Option<(&[u8], &[u8])>
+    ensures parts { IfSome result (λ p. text.now ≡ p.0.now ++ codes "/" ++ p.1.now) }
+    ensures first { IfSome result (λ p. All (λ c. (c == 47) ≡ false) p.0.now) }
+    ensures none { IfNone result ((front back : List ℕ) → ¬ (text.now ≡ front ++ codes "/" ++ back)) }
+{
+    let slash = text.iter().position(|octet| *octet == b'/')?;
+    Some((&text[..slash], &text[slash + 1..]))
 }
