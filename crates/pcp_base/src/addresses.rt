@@ -1,5 +1,5 @@
 //! Addresses, nonces and prefixes, and their texts.
-ghost use Rattle.std.specs.Prelude.{◌≡◌, ℕ, ◌==◌, false, List, ◌++◌, codes, All, IfSome, IfNone, IfOk, OnErr};
+ghost use Rattle.std.specs.Prelude.{◌≡◌, ℕ, ◌==◌, false, List, ◌++◌, codes, All, IfSome, IfNone, IfOk, OnOk, OnErr, string_bytes};
 ghost use Rattle.pcp_base.specs.Pairing.{holds, leading, v4_octets};
 ghost use Rattle.pcp_base.specs.AddressTexts.{IsDottedText, IsLongText, IsAddressText, IsPrefixText, address_text};
 ghost use Rattle.pcp_base.specs.declared.addresses.Address.{Address};
@@ -8,7 +8,7 @@ ghost use Rattle.pcp_base.specs.declared.addresses.Prefix.{Prefix};
 use crate::errors::Memory;
 use crate::numbers::read_number;
 use hex::FromHex;
-use std::alloc::Global;
+use std::alloc::{AllocError, Global};
 use std::net::Ipv4Addr;
 use thiserror::Error;
 
@@ -40,6 +40,9 @@ pub struct NotAddress;
 pub struct NotPrefix;
 
 impl Address {
+    /// What an IPv4 address begins with (RFC 6887, section 5).
+    const V4_FRONT: [u8; 12] = [0, 0, 0, 0, 0, 0, 0, 0, 0, 0, 255, 255];
+
     /// The address of the IPv4 address `a.b.c.d` (RFC 6887, section 5).
     pub fn v4(a: u8, b: u8, c: u8, d: u8) -> Address
         ensures { result.0 ≡ v4_octets a b c d }
@@ -81,6 +84,28 @@ impl Address {
         match <[u8; 16] as FromHex>::from_hex(text) {
             Ok(octets) => Some(Address(octets)),
             Err(_) => None,
+        }
+    }
+
+    /// Appends the text of the address: dotted where it is an IPv4 address, else 32 lower-case
+    /// hexadecimal digits.
+    pub fn write(&self, alloc: Global, out: &mut Vec<u8>) -> Result<(), Memory>
+        ensures ok { OnOk result (out.new.items ≡ out.old.items ++ address_text self.now) }
+        ensures err { OnErr result (out.new.items ≡ out.old.items) }
+    {
+        let text = self.text(alloc)?;
+        out.extend_from_slice(text.as_bytes())?;
+        Ok(())
+    }
+
+    fn text(&self, alloc: Global) -> Result<String, AllocError>
+        ensures { IfOk result (λ text. string_bytes text ≡ address_text self.now) }
+    {
+        if self.0.starts_with(&Address::V4_FRONT) {
+            let [.., a, b, c, d] = self.0;
+            format!(in alloc; "{}", Ipv4Addr::new(a, b, c, d))
+        } else {
+            hex::encode(alloc, self.0)
         }
     }
 
