@@ -1,19 +1,23 @@
--- A text writes one address at most.
-use Rattle.std.proofs.Common.{◌≡◌, ℕ, ◌<◌, ◌≤◌, inl, inr, List, [], ◌++◌, codes, decimal, length, sym, ap, ◌∙◌, arith, lit≤, Ok}
+-- A text writes one address at most, and each address has a text.
+use Rattle.std.proofs.Common.{◌≡◌, ℕ, ◌+◌, ◌<◌, ◌≤◌, ◌^◌, true, get_or, drop, take, nat_eq, inl, inr, List, [], ◌++◌, codes, decimal, length, sym, ap, ◌∙◌, arith, lit≤, Ok}
 use Rattle.std.specs.Net.Grammar.{IsDotted}
 use Rattle.std.specs.Net.Text.{dotted_text}
 use Rattle.std.specs.Str.{IsAscii, IsUtf8}
 use Rattle.std.proofs.NetLemmas.Ipv4.{read_ipv4_complete}
 use Rattle.std.proofs.NetLemmas.Options.{same_parts}
 use Rattle.std.proofs.lemmas.Fmt.{IsAscii-decimal, length-decimal-le}
-use Rattle.std.proofs.lemmas.List.{length-append}
+use Rattle.std.proofs.lemmas.Bool.{cases_Bool}
+use Rattle.std.proofs.lemmas.List.{length-append, length-drop, get_or-drop, take-append-drop}
+use Rattle.std.proofs.NetLemmas.Texts.{IsDotted-ipv4_text}
+use Rattle.std.specs.Cmp.Lexicographic.{same_text}
+use Rattle.std.specs.List.{starts_with}
 use Rattle.std.proofs.lemmas.Str.{IsUtf8-from_ascii, IsAscii-append}
 use Rattle.std.proofs.lemmas.Str.Ascii.{IsAscii-nil, IsAscii-cons}
-use Rattle.hex.proofs.HexLemmas.{decode_sized-ok}
-use Rattle.hex.specs.Hex.{decode_sized}
+use Rattle.hex.proofs.HexLemmas.{decode_sized-ok, decode_sized-encode_lower}
+use Rattle.hex.specs.Hex.{IsBytes, decode_sized}
 use Rattle.std.specs.Prelude.{Option, Some, None, Result, IfSome, IfNone, IfOk, OnErr}
 use Rattle.std.specs.Option.{ok_or}
-use Rattle.pcp_base.specs.AddressTexts.{v4_front, IsDottedText, IsLongText, IsAddressText}
+use Rattle.pcp_base.specs.AddressTexts.{v4_front, IsDottedText, IsLongText, IsAddressText, address_text}
 use Rattle.pcp_base.specs.declared.addresses.Address.{Address}
 use Rattle.pcp_base.specs.declared.addresses.NotAddress.{NotAddress}
 
@@ -63,3 +67,17 @@ pub long_refused : (text : List ℕ) (o : Option Address) (e : NotAddress) (r : 
     → IfNone o ((a : Address) → ¬ (IsLongText text a)) → OnErr r ((a : Address) → ¬ (IsAddressText text a))
 long_refused text (Some a) e r same none h = rw same tt
 long_refused text None e r same none h = rw same (λ a k. elim k [ inl d ↦ none a d | inr l ↦ h a l ])
+
+front_is : (octets : List ℕ) → starts_with nat_eq octets v4_front ≡ true → octets ≡ v4_front ++ drop 12 octets
+front_is octets h = sym (take-append-drop 12 octets) ∙ ap (λ front. front ++ drop 12 octets) (sym (same_text v4_front (take 12 octets) (sym h)))
+
+-- each address has a text that writes it
+pub IsAddressText-address_text : (a : Address) → length a.0 ≡ 16 → IsBytes a.0 → IsAddressText (address_text a) a
+IsAddressText-address_text a sixteen bytes =
+    elim (cases_Bool (starts_with nat_eq a.0 v4_front)) [
+      | inl v4 ↦
+          let four : length (drop 12 a.0) ≡ 4 = omega (arith, length-drop 12 a.0) in
+          let fits : (k : ℕ) → get_or (drop 12 a.0) k 0 < 2 ^ 8 = λ k. rw (get_or-drop 12 a.0 k 0) (bytes (12 + k)) in
+          rw v4 (inl (drop 12 a.0, IsDotted-ipv4_text (drop 12 a.0) four fits, front_is a.0 v4))
+      | inr other ↦ rw other (inr (decode_sized-encode_lower a.0 16 sixteen bytes))
+    ]

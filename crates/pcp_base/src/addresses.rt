@@ -1,7 +1,8 @@
 //! Addresses, nonces and prefixes, and their texts.
-ghost use Rattle.std.specs.Prelude.{◌≡◌, ℕ, ◌==◌, false, List, ◌++◌, codes, All, IfSome, IfNone, IfOk, OnOk, OnErr, string_bytes};
+ghost use Rattle.std.specs.Prelude.{◌≡◌, ℕ, ◌==◌, false, nat_eq, List, ◌++◌, codes, All, IfSome, IfNone, IfOk, OnOk, OnErr, string_bytes};
+ghost use Rattle.std.specs.List.{starts_with};
 ghost use Rattle.pcp_base.specs.Pairing.{holds, leading, v4_octets};
-ghost use Rattle.pcp_base.specs.AddressTexts.{IsDottedText, IsLongText, IsAddressText, IsPrefixText, address_text};
+ghost use Rattle.pcp_base.specs.AddressTexts.{v4_front, IsDottedText, IsLongText, IsAddressText, IsPrefixText, address_text};
 ghost use Rattle.pcp_base.specs.declared.addresses.Address.{Address};
 ghost use Rattle.pcp_base.specs.declared.addresses.Prefix.{Prefix};
 
@@ -88,10 +89,11 @@ impl Address {
     }
 
     /// Appends the text of the address: dotted where it is an IPv4 address, else 32 lower-case
-    /// hexadecimal digits.
+    /// hexadecimal digits. `read` gives the address back.
     pub fn write(&self, alloc: Global, out: &mut Vec<u8>) -> Result<(), Memory>
         ensures ok { OnOk result (out.new.items ≡ out.old.items ++ address_text self.now) }
         ensures err { OnErr result (out.new.items ≡ out.old.items) }
+        ensures read_again { IsAddressText (address_text self.now) self.now }
     {
         let text = self.text(alloc)?;
         out.extend_from_slice(text.as_bytes())?;
@@ -99,9 +101,10 @@ impl Address {
     }
 
     fn text(&self, alloc: Global) -> Result<String, AllocError>
-        ensures { IfOk result (λ text. string_bytes text ≡ address_text self.now) }
+        ensures value { IfOk result (λ text. string_bytes text ≡ address_text self.now) }
+        ensures read_again { IsAddressText (address_text self.now) self.now }
     {
-        if self.0.starts_with(&Address::V4_FRONT) {
+        if is_v4(&self.0) {
             let [.., a, b, c, d] = self.0;
             format!(in alloc; "{}", Ipv4Addr::new(a, b, c, d))
         } else {
@@ -120,6 +123,14 @@ impl Address {
             _ => number,
         }
     }
+}
+
+// An address has a text that writes it, of either form.
+fn is_v4(octets: &[u8; 16]) -> bool
+    ensures value { result ≡ starts_with nat_eq octets.now v4_front }
+    ensures read_again { let a : Address = record { 0 = octets.now } in IsAddressText (address_text a) a }
+{
+    octets.starts_with(&Address::V4_FRONT)
 }
 
 impl Prefix {
