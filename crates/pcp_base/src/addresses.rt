@@ -125,7 +125,7 @@ impl Address {
     }
 }
 
-// An address has a text that writes it, of either form.
+// Whether this is an IPv4 address. Of either kind it is, its text writes it.
 fn is_v4(octets: &[u8; 16]) -> bool
     ensures value { result ≡ starts_with nat_eq octets.now v4_front }
     ensures read_again { let a : Address = record { 0 = octets.now } in IsAddressText (address_text a) a }
