@@ -1,0 +1,11 @@
+pub mod Ports
+pub mod Taken
+pub mod Free
+pub mod FreeRun
+pub mod InRun
+pub mod Fitting
+pub mod Shown
+pub mod Flags
+pub mod Marked
+pub mod Parity
+pub mod FlagsFit
