@@ -9,3 +9,6 @@ pub mod Flags
 pub mod Marked
 pub mod Parity
 pub mod FlagsFit
+pub mod Tree
+pub mod FirstOver
+pub mod Kept

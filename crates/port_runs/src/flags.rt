@@ -56,6 +56,14 @@ pub fn has_parity(number: usize, parity: Option<u8>) -> bool
     }
 }
 
+/// Whether `n` flags are set from `start` on, and `start` has the remainder by 2 that is asked.
+pub fn fits_at(flags: &[bool], start: usize, n: u32, parity: Option<u8>) -> bool
+    requires { start < 65536 }
+    ensures { IsTrue result ↔ FitsFlags flags.now n parity start }
+{
+    has_parity(start, parity) && run_at(flags, start, n) == n
+}
+
 /// The least place from which `n` flags are set and that has the remainder by 2 that is asked.
 pub fn first_run(flags: &[bool], n: u32, parity: Option<u8>) -> Option<u16>
     requires some { 1 ≤ n }
@@ -65,7 +73,7 @@ pub fn first_run(flags: &[bool], n: u32, parity: Option<u8>) -> Option<u16>
     ensures none { IfNone result ((other : ℕ) → ¬ FitsFlags flags.now n parity other) }
 {
     for start in 0..flags.len() {
-        if has_parity(start, parity) && run_at(flags, start, n) == n {
+        if fits_at(flags, start, n, parity) {
             return Some(start as u16);
         }
     }
