@@ -20,7 +20,7 @@ pub record RunIn (flags : List Bool) (a b remainder n : ℕ) : Type 0 where
   pub start : ℕ
   pub from : a ≤ start
   pub to : start + n ≤ b
-  pub even : start % 2 ≡ remainder
+  pub has : start % 2 ≡ remainder
   pub set : IsSetBetween flags start (start + n)
 
 -- n is the longest such run
@@ -89,7 +89,7 @@ module _ (flags : List Bool) (a m b : ℕ) where
   ]
 
   module _ (remainder left right q p first across : ℕ) (ordered : a ≤ m) (l : IsLongest flags a m remainder left) (r : IsLongest flags m b remainder right) (sl : IsSuffix flags a m q) (pr : IsPrefix flags m b p)
-      (first_even : first % 2 ≡ remainder) (first_low : m ≤ first + q) (first_high : first + q ≤ m + 1) (across_is : across ≡ m + p - first) where
+      (first_has : first % 2 ≡ remainder) (first_low : m ≤ first + q) (first_high : first + q ≤ m + 1) (across_is : across ≡ m + p - first) where
     longest_most : (s k : ℕ) → s % 2 ≡ remainder → a ≤ s → s + k ≤ b → IsSetBetween flags s (s + k) → (k ≤ left) ⊎ ((k ≤ right) ⊎ (k ≤ across))
     longest_most s k even from to set = elim (cases_lt m (s + k)) [
       | inr in_left ↦ inl (l.most s k even from in_left set)
@@ -107,15 +107,15 @@ module _ (flags : List Bool) (a m b : ℕ) where
       start = first;
       from = omega (arith, sl.within);
       to = omega (arith, pr.within);
-      even = first_even;
+      has = first_has;
       set = λ i low high. elim (cases_lt i m) [ inl in_left ↦ sl.set i (omega arith) in_left | inr in_right ↦ pr.set i in_right (omega arith) ];
     }
 
     wider_left : (n : ℕ) → m ≤ b → RunIn flags a m remainder n → RunIn flags a b remainder n
-    wider_left n h run = record { start = run.start; from = run.from; to = omega (arith, run.to); even = run.even; set = run.set }
+    wider_left n h run = record { start = run.start; from = run.from; to = omega (arith, run.to); has = run.has; set = run.set }
 
     wider_right : (n : ℕ) → RunIn flags m b remainder n → RunIn flags a b remainder n
-    wider_right n run = record { start = run.start; from = omega (arith, run.from); to = run.to; even = run.even; set = run.set }
+    wider_right n run = record { start = run.start; from = omega (arith, run.from); to = run.to; has = run.has; set = run.set }
 
     pub longest_joined : IsLongest flags a b remainder (max (max left right) across)
     longest_joined = record {

@@ -32,7 +32,7 @@ module _ (flags : List Bool) (n : ℕ) (parity : Option ℕ) (some : 1 ≤ n) (a
 
   module _ (none : (start : ℕ) → HasParity parity start → m ≤ start + left.suffix → m + right.prefix < start + n) (run : RunAsked flags a b n parity) where
     run_fits : FitsFlags flags n parity run.start
-    run_fits = record { run = run.set; remainder = run.even }
+    run_fits = record { run = run.set; remainder = run.has }
 
     not_before : (t : ℕ) → FitsFlags flags n parity t → t + n ≤ b → m ≤ t
     not_before t f to = elim (cases_lt t m) [
@@ -46,7 +46,7 @@ module _ (flags : List Bool) (n : ℕ) (parity : Option ℕ) (some : 1 ≤ n) (a
     run_right = not_before run.start run_fits run.to
 
     pub longest_right : n ≤ longest parity right
-    longest_right = longest_most flags m b right r parity run.start n run.even run_right run.to run.set
+    longest_right = longest_most flags m b right r parity run.start n run.has run_right run.to run.set
 
     pub low_right : (t : ℕ) → FitsFlags flags n parity t → m ≤ t
     low_right t f = elim (cases_lt t m) [
@@ -131,7 +131,7 @@ module _ (flags : List Bool) (nodes : List Node) (n : ℕ) (parity : Option ℕ)
     whole_run : RunAsked flags first (first + half + half) n parity
     whole_run =
         let run = longest_met flags first (first + width (suc k)) (node_at flags nodes place) (block flags clear nodes joined (suc k) place first spot.at spot.within) parity n some spot.some in
-        record { start = run.start; from = run.from; to = (let h = run.to in omega (arith, half_width)); even = run.even; set = run.set }
+        record { start = run.start; from = run.from; to = (let h = run.to in omega (arith, half_width)); has = run.has; set = run.set }
 
     pub go_left : n ≤ longest parity (node_at flags nodes (2 * place)) → Spot flags nodes n parity k (2 * place) first (half / 2)
     go_left h = record {
@@ -190,7 +190,7 @@ module _ (flags : List Bool) (nodes : List Node) (n : ℕ) (parity : Option ℕ)
     last_run = longest_met flags first (first + 2) (node_at flags nodes place) (block flags clear nodes joined 0 place first spot.at spot.within) parity n some spot.some
 
     last_fits : FitsFlags flags n parity last_run.start
-    last_fits = record { run = last_run.set; remainder = last_run.even }
+    last_fits = record { run = last_run.set; remainder = last_run.has }
 
     second_is : (FitsFlags flags n parity first → ⊥) → last_run.start ≡ first + 1
     second_is isnt = elim (cases_eq last_run.start first) [

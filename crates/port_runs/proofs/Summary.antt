@@ -89,15 +89,15 @@ module _ (flags : List Bool) (a : ℕ) (place : a % 2 ≡ 0) where
   pair_summary true true first second = record {
     prefix = record { within = omega arith; set = λ i low high. elim (cases_eq i a) [ inl e ↦ at i a true first e | inr ne ↦ at i (a + 1) true second (omega arith) ]; ends = λ i here small. absurd (omega arith) };
     suffix = record { within = omega arith; set = λ i low high. elim (cases_eq i a) [ inl e ↦ at i a true first e | inr ne ↦ at i (a + 1) true second (omega arith) ]; ends = λ i here large. absurd (omega arith) };
-    even = record { most = λ s k even from to set. omega arith; met = λ some. record { start = a; from = omega arith; to = omega arith; even = place; set = λ i low high. elim (cases_eq i a) [ inl e ↦ at i a true first e | inr ne ↦ at i (a + 1) true second (omega arith) ] } };
-    odd = record { most = λ s k even from to set. omega arith; met = λ some. record { start = a + 1; from = omega arith; to = omega arith; even = omega arith; set = λ i low high. at i (a + 1) true second (omega arith) } };
+    even = record { most = λ s k even from to set. omega arith; met = λ some. record { start = a; from = omega arith; to = omega arith; has = place; set = λ i low high. elim (cases_eq i a) [ inl e ↦ at i a true first e | inr ne ↦ at i (a + 1) true second (omega arith) ] } };
+    odd = record { most = λ s k even from to set. omega arith; met = λ some. record { start = a + 1; from = omega arith; to = omega arith; has = omega arith; set = λ i low high. at i (a + 1) true second (omega arith) } };
     filled = λ _. (refl, refl);
     open_ended = λ h. (cc);
   }
   pair_summary true false first second = record {
     prefix = record { within = omega arith; set = λ i low high. at i a true first (omega arith); ends = λ i here small. at i (a + 1) false second here };
     suffix = record { within = omega arith; set = λ i low high. absurd (omega arith); ends = λ i here large. at i (a + 1) false second (omega arith) };
-    even = record { most = λ s k even from to set. (let h : s ≤ a + 1 → s + k ≤ a + 1 = λ low. ends_before (a + 1) s k second low set in grind (arith, h)); met = λ some. record { start = a; from = omega arith; to = omega arith; even = place; set = λ i low high. at i a true first (omega arith) } };
+    even = record { most = λ s k even from to set. (let h : s ≤ a + 1 → s + k ≤ a + 1 = λ low. ends_before (a + 1) s k second low set in grind (arith, h)); met = λ some. record { start = a; from = omega arith; to = omega arith; has = place; set = λ i low high. at i a true first (omega arith) } };
     odd = record { most = λ s k even from to set. (let h : s ≤ a + 1 → s + k ≤ a + 1 = λ low. ends_before (a + 1) s k second low set in grind (arith, h)); met = λ some. absurd (omega arith) };
     filled = λ h. (cc);
     open_ended = λ _. (omega arith, omega arith);
@@ -106,7 +106,7 @@ module _ (flags : List Bool) (a : ℕ) (place : a % 2 ≡ 0) where
     prefix = record { within = omega arith; set = λ i low high. absurd (omega arith); ends = λ i here small. at i a false first (omega arith) };
     suffix = record { within = omega arith; set = λ i low high. at i (a + 1) true second (omega arith); ends = λ i here large. at i a false first (omega arith) };
     even = record { most = λ s k even from to set. (let h : s ≤ a → s + k ≤ a = λ low. ends_before a s k first low set in grind (arith, h)); met = λ some. absurd (omega arith) };
-    odd = record { most = λ s k even from to set. omega arith; met = λ some. record { start = a + 1; from = omega arith; to = omega arith; even = omega arith; set = λ i low high. at i (a + 1) true second (omega arith) } };
+    odd = record { most = λ s k even from to set. omega arith; met = λ some. record { start = a + 1; from = omega arith; to = omega arith; has = omega arith; set = λ i low high. at i (a + 1) true second (omega arith) } };
     filled = λ h. (cc);
     open_ended = λ _. (omega arith, omega arith);
   }
@@ -136,7 +136,7 @@ pub record RunAsked (flags : List Bool) (a b n : ℕ) (parity : Option ℕ) : Ty
   pub start : ℕ
   pub from : a ≤ start
   pub to : start + n ≤ b
-  pub even : HasParity parity start
+  pub has : HasParity parity start
   pub set : IsSetBetween flags start (start + n)
 
 asked_of_run : (flags : List Bool) (a b r k n : ℕ) (parity : Option ℕ) → ((s : ℕ) → s % 2 ≡ r → HasParity parity s) → n ≤ k → RunIn flags a b r k → RunAsked flags a b n parity
@@ -144,7 +144,7 @@ asked_of_run flags a b r k n parity allowed less run = record {
   start = run.start;
   from = run.from;
   to = omega (arith, run.to);
-  even = allowed run.start run.even;
+  has = allowed run.start run.has;
   set = λ i low high. run.set i low (omega arith);
 }
 

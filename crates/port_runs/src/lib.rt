@@ -7,3 +7,6 @@ mod runs;
 mod tree;
 
 pub use runs::Runs;
+
+#[cfg(test)]
+mod tests;

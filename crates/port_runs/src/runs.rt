@@ -67,7 +67,8 @@ impl Runs {
         requires low { self.old.low ≤ start }
         requires high { start + n ≤ self.old.high + 1 }
         ensures answer { IsTrue result ↔ IsFreeRun self.old start n }
-        ensures range { (self.new.low ≡ self.old.low) × (self.new.high ≡ self.old.high) }
+        ensures low { self.new.low ≡ self.old.low }
+        ensures high { self.new.high ≡ self.old.high }
         ensures taken { OnTrue result ((port : ℕ) → is_taken self.new port ≡ (is_taken self.old port || is_in_run start n port)) }
         ensures refused { OnFalse result (self.new ≡ self.old) }
         ensures ascending { IsStrictlyIncreasing self.new.taken }
@@ -91,7 +92,8 @@ impl Runs {
         requires some { 1 ≤ n }
         requires low { self.old.low ≤ start }
         requires high { start + n ≤ self.old.high + 1 }
-        ensures range { (self.new.low ≡ self.old.low) × (self.new.high ≡ self.old.high) }
+        ensures low { self.new.low ≡ self.old.low }
+        ensures high { self.new.high ≡ self.old.high }
         ensures taken { (port : ℕ) → is_taken self.new port ≡ (is_taken self.old port && not (is_in_run start n port)) }
         ensures ascending { IsStrictlyIncreasing self.new.taken }
     {
