@@ -5,7 +5,11 @@ use Rattle.std.proofs.lemmas.Bool.{cases_lt, cases_eq}
 use Rattle.std.proofs.lemmas.List.{length-set}
 use Rattle.port_runs.specs.declared.tree.Node.{Node}
 use Rattle.port_runs.specs.Marked.{IsMarked}
-use Rattle.port_runs.specs.Tree.{empty, pair_of, join, node_at, IsJoined, AreJoined, AreJoinedBut}
+use Rattle.port_runs.specs.Empty.{empty}
+use Rattle.port_runs.specs.PairOf.{pair_of}
+use Rattle.port_runs.specs.Join.{join}
+use Rattle.port_runs.specs.NodeAt.{node_at}
+use Rattle.port_runs.specs.Joined.{IsJoined, AreJoined, AreJoinedBut}
 
 -- a node does not change where another one is written
 node_at-set_other : (flags : List Bool) (nodes : List Node) (i : ℕ) (node : Node) (place : ℕ) → place ≢ i → node_at flags (slice_set nodes i node) place ≡ node_at flags nodes place

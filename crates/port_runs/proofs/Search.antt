@@ -6,7 +6,9 @@ use Rattle.port_runs.specs.declared.tree.Node.{Node}
 use Rattle.port_runs.specs.FlagsFit.{FitsFlags}
 use Rattle.port_runs.specs.FirstOver.{IsFirstOver}
 use Rattle.port_runs.specs.Parity.{HasParity}
-use Rattle.port_runs.specs.Tree.{longest, node_at, AreJoined}
+use Rattle.port_runs.specs.Longest.{longest}
+use Rattle.port_runs.specs.NodeAt.{node_at}
+use Rattle.port_runs.specs.Joined.{AreJoined}
 use Rattle.port_runs.proofs.Blocks.{begins_late, ends_early, set_and_not}
 use Rattle.port_runs.proofs.Summary.{IsSummary, RunAsked, longest_most, longest_met, width, width_some, width_even, block, left_place, right_place, place_small}
 

@@ -6,7 +6,8 @@ use Rattle.std.specs.List.{filter, list_any, range_with_len}
 use Rattle.port_runs.specs.Ports.{Ports}
 use Rattle.port_runs.specs.Taken.{is_taken}
 use Rattle.port_runs.specs.Free.{is_free}
-use Rattle.port_runs.specs.Flags.{AreOfRange, IsSetBetween}
+use Rattle.port_runs.specs.OfRange.{AreOfRange}
+use Rattle.port_runs.specs.SetBetween.{IsSetBetween}
 use Rattle.port_runs.specs.FreeRun.{IsFreeRun}
 use Rattle.port_runs.specs.Shown.{shown}
 use Rattle.std.specs.Prelude.{Vec}

@@ -4,9 +4,14 @@ use Rattle.std.proofs.lemmas.Bool.{cases_lt, cases_eq}
 use Rattle.std.proofs.lemmas.Bool.Decides.{nat_tests}
 use Rattle.std.proofs.Math.Nat.{mul-le-mul_right}
 use Rattle.port_runs.specs.declared.tree.Node.{Node}
-use Rattle.port_runs.specs.Flags.{IsSetBetween}
+use Rattle.port_runs.specs.SetBetween.{IsSetBetween}
 use Rattle.port_runs.specs.Parity.{HasParity}
-use Rattle.port_runs.specs.Tree.{empty, pair_of, join, add_up, extend, crossing, longest, node_at, AreJoined}
+use Rattle.port_runs.specs.Empty.{empty}
+use Rattle.port_runs.specs.PairOf.{pair_of}
+use Rattle.port_runs.specs.Join.{join, add_up, extend, crossing}
+use Rattle.port_runs.specs.Longest.{longest}
+use Rattle.port_runs.specs.NodeAt.{node_at}
+use Rattle.port_runs.specs.Joined.{AreJoined}
 use Rattle.port_runs.proofs.Blocks.{IsPrefix, IsSuffix, RunIn, IsLongest, prefix_on, prefix_stays, suffix_on, suffix_stays, longest_joined, set_and_not}
 
 -- what a node tells of the block from a up to b

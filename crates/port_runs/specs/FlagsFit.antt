@@ -1,6 +1,6 @@
 -- Where a run of set flags fits (our own).
 use Rattle.std.specs.Prelude.{ℕ, ◌+◌, Bool, List, Option}
-use Rattle.port_runs.specs.Flags.{IsSetBetween}
+use Rattle.port_runs.specs.SetBetween.{IsSetBetween}
 use Rattle.port_runs.specs.Parity.{HasParity}
 
 -- the n flags from start on are set, and start has the remainder by 2 that is asked

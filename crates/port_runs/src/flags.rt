@@ -1,7 +1,7 @@
 //! Flags of free ports, one for each of the 65,536 numbers of 16 bits.
 
 ghost use Rattle.std.specs.Prelude.{◌≡◌, ℕ, ◌+◌, ◌<◌, ◌≤◌, ◌↔◌, false, length, IsTrue, if◌then◌else◌, IfSome, IfNone, ◌%◌, nat_le, nat_lt, ◌&&◌, ◌-◌, replicate, IfOk, slice_index_or, vec_len};
-ghost use Rattle.port_runs.specs.Flags.{IsSetBetween};
+ghost use Rattle.port_runs.specs.SetBetween.{IsSetBetween};
 ghost use Rattle.port_runs.specs.Marked.{IsMarked};
 ghost use Rattle.port_runs.specs.Parity.{HasParity};
 ghost use Rattle.port_runs.specs.FlagsFit.{FitsFlags};

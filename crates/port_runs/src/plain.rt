@@ -20,7 +20,7 @@ pub struct PlainRuns {
 impl Model for PlainRuns {
     ghost use Rattle.port_runs.specs.Ports.{Ports};
     ghost use Rattle.port_runs.specs.Shown.{shown};
-    ghost use Rattle.port_runs.specs.Flags.{AreOfRange};
+    ghost use Rattle.port_runs.specs.OfRange.{AreOfRange};
 
     ghost Value = { Ports };
 

@@ -77,13 +77,8 @@ impl Runs {
         if flags::run_at(&self.free, from, n) < n {
             return false;
         }
-        tree::change(
-            &mut self.free,
-            &mut self.nodes,
-            from,
-            from + n as usize,
-            false,
-        );
+        let to = from + n as usize;
+        tree::change(&mut self.free, &mut self.nodes, from, to, false);
         true
     }
 
@@ -98,13 +93,8 @@ impl Runs {
         ensures ascending { IsStrictlyIncreasing self.new.taken }
     {
         let from = start as usize;
-        tree::change(
-            &mut self.free,
-            &mut self.nodes,
-            from,
-            from + n as usize,
-            true,
-        );
+        let to = from + n as usize;
+        tree::change(&mut self.free, &mut self.nodes, from, to, true);
     }
 
     /// How many ports are free from `start` on, up to `most`. It is 0 outside the range.

@@ -22,7 +22,14 @@ enum Call {
 use Call::{FirstRun, Give, RunAt, Take};
 
 /// Makes a call and compares its answer.
-fn check<L: Ledger>(rt: &impl Abort, runs: &mut Runs, call: &Call, steps: &mut Steps<L>, low: u16, high: u16)
+fn check<L: Ledger>(
+    rt: &impl Abort,
+    runs: &mut Runs,
+    call: &Call,
+    steps: &mut Steps<L>,
+    low: u16,
+    high: u16,
+)
     requires low { runs.old.low ≡ low }
     requires high { runs.old.high ≡ high }
     ensures low { runs.new.low ≡ low }
@@ -48,7 +55,14 @@ fn check<L: Ledger>(rt: &impl Abort, runs: &mut Runs, call: &Call, steps: &mut S
 }
 
 /// Makes a table's calls, one after another.
-fn check_all<L: Ledger>(rt: &impl Abort, alloc: Global, blank: Blank, low: u16, high: u16, calls: &[Call]) -> Result<(), AllocError>
+fn check_all<L: Ledger>(
+    rt: &impl Abort,
+    alloc: Global,
+    blank: Blank,
+    low: u16,
+    high: u16,
+    calls: &[Call],
+) -> Result<(), AllocError>
     requires name { blank.name ≡ L.name }
     requires parts { blank.parts ≡ L.parts }
     requires part { 0 < L.parts }
@@ -163,13 +177,22 @@ impl Numbers {
         requires { 0 < end }
         ensures { result < end }
     {
-        self.0 = self.0.wrapping_mul(6364136223846793005).wrapping_add(1442695040888963407);
+        self.0 = self
+            .0
+            .wrapping_mul(6364136223846793005)
+            .wrapping_add(1442695040888963407);
         (self.0 >> 33) as u32 % end
     }
 }
 
 /// Makes a call of both bodies, and compares the answers.
-fn call_both<L: Ledger>(rt: &impl Abort, tree: &mut Runs, plain: &mut PlainRuns, numbers: &mut Numbers, steps: &mut Steps<L>)
+fn call_both<L: Ledger>(
+    rt: &impl Abort,
+    tree: &mut Runs,
+    plain: &mut PlainRuns,
+    numbers: &mut Numbers,
+    steps: &mut Steps<L>,
+)
     requires tree_low { tree.old.low ≡ 1024 }
     requires tree_high { tree.old.high ≡ 65535 }
     requires plain_low { plain.old.low ≡ 1024 }

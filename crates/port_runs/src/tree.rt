@@ -5,7 +5,12 @@
 //! at 32,768 and on, are made of the flags when they are looked at. Place 0 is not used.
 
 ghost use Rattle.std.specs.Prelude.{true, false, ◌≡◌, ℕ, ◌+◌, ◌-◌, ◌/◌, ◌*◌, ◌<◌, ◌≤◌, ◌↔◌, length, IsTrue, IfOk, IfSome, IfNone, slice_index_or, vec_len};
-ghost use Rattle.port_runs.specs.Tree.{empty, pair_of, join, extend, crossing, longest, node_at, AreJoined, AreJoinedBut};
+ghost use Rattle.port_runs.specs.Empty.{empty};
+ghost use Rattle.port_runs.specs.PairOf.{pair_of};
+ghost use Rattle.port_runs.specs.Join.{join, extend, crossing};
+ghost use Rattle.port_runs.specs.Longest.{longest};
+ghost use Rattle.port_runs.specs.NodeAt.{node_at};
+ghost use Rattle.port_runs.specs.Joined.{AreJoined, AreJoinedBut};
 ghost use Rattle.port_runs.specs.Marked.{IsMarked};
 ghost use Rattle.port_runs.specs.FlagsFit.{FitsFlags};
 ghost use Rattle.port_runs.specs.FirstOver.{IsFirstOver};
@@ -61,7 +66,7 @@ pub fn cleared(alloc: Global, count: usize) -> Result<Vec<Node>, AllocError>
 }
 
 /// The node of two flags.
-#[tactic(auto, unfolding(crate::specs::Tree::pair_of, crate::specs::Tree::empty))]
+#[tactic(auto, unfolding(crate::specs::PairOf::pair_of, crate::specs::Empty::empty))]
 fn pair(first: bool, second: bool) -> Node
     ensures { result ≡ pair_of first second }
 {
@@ -113,7 +118,7 @@ fn extended(full: bool, own: u16, next: u16) -> u16
 }
 
 /// The node of two blocks side by side.
-#[tactic(auto, unfolding(crate::specs::Tree::join))]
+#[tactic(auto, unfolding(crate::specs::Join::join))]
 fn joined(left: Node, right: Node) -> Node
     ensures { result ≡ join left right }
 {
@@ -128,7 +133,7 @@ fn joined(left: Node, right: Node) -> Node
 }
 
 /// The node at a place.
-#[tactic(auto, unfolding(crate::specs::Tree::node_at))]
+#[tactic(auto, unfolding(crate::specs::NodeAt::node_at))]
 fn look(flags: &[bool], nodes: &[Node], place: usize) -> Node
     requires place { place < 65536 }
     requires flags { length flags.now ≡ 65536 }
@@ -197,12 +202,12 @@ fn visit<L: Ledger>(flags: &[bool], nodes: &[Node], place: usize, steps: &mut St
     ensures node { result ≡ node_at flags.now nodes.now place }
     ensures cost { steps.new ≡ steps.old + 1 }
 {
-    steps.tick();
+    steps.tick(); // this node
     look(flags, nodes, place)
 }
 
 /// The longest run of a block that begins with the remainder by 2 that is asked.
-#[tactic(auto, unfolding(crate::specs::Tree::longest))]
+#[tactic(auto, unfolding(crate::specs::Longest::longest))]
 fn longest_run(node: Node, parity: Option<u8>) -> u32
     ensures { result ≡ longest parity node }
 {
@@ -277,9 +282,8 @@ pub fn first_run<L: Ledger>(
         }
         half /= 2;
     }
-    // The last two nodes are flags.
-    steps.tick();
-    steps.tick();
+    steps.tick(); // the first of the last two flags
+    steps.tick(); // the second one
     let start = if fits_at(flags, first, n, parity) {
         first
     } else {

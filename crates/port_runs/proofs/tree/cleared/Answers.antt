@@ -2,7 +2,7 @@ use Rattle.std.proofs.Common.{◌≡◌, ℕ, slice_index_or, replicate, inl, in
 use Rattle.std.proofs.lemmas.Bool.{cases_lt}
 use Rattle.std.proofs.lemmas.List.{get_or_past, get_or-replicate, length-replicate}
 use Rattle.port_runs.specs.declared.tree.Node.{Node}
-use Rattle.port_runs.specs.Tree.{empty}
+use Rattle.port_runs.specs.Empty.{empty}
 use Rattle.port_runs.proofs.tree.cleared.Goals as goal
 
 all_alike : (n i : ℕ) (d : Node) → slice_index_or (replicate n d) i d ≡ d
