@@ -1,7 +1,7 @@
 //! Counted steps: a number that contracts see and that takes no bytes.
 #![tactic(auto)]
 
-ghost use Rattle.std.specs.Prelude.{◌≡◌, ◌+◌};
+ghost use Rattle.std.specs.Prelude.{◌≡◌, ◌+◌, ◌<◌};
 
 use std::marker::Model;
 use std::sync::ledger::{Blank, Book, Ledger, Share};
@@ -27,8 +27,6 @@ impl<L: Ledger> Model for Steps<L> {
 }
 
 impl<L: Ledger> Steps<L> {
-    ghost use Rattle.std.specs.Prelude.{◌<◌};
-
     /// A counter that stands at 0.
     pub fn begin(blank: Blank) -> Steps<L>
         requires name { blank.name ≡ L.name }
@@ -45,5 +43,35 @@ impl<L: Ledger> Steps<L> {
         ensures { self.new ≡ self.old + 1 }
     {
         self.book.add(&mut self.share, 1);
+    }
+}
+
+#[cfg(test)]
+mod tests {
+    use super::*;
+    use std::marker::Brand;
+
+    /// Takes three steps.
+    fn take_three<L: Ledger>(steps: &mut Steps<L>)
+        ensures { steps.new ≡ steps.old + 3 }
+    {
+        steps.tick();
+        steps.tick();
+        steps.tick();
+    }
+
+    /// Begins to count, and counts to three.
+    fn count_three<L: Ledger>(blank: Blank)
+        requires name { blank.name ≡ L.name }
+        requires parts { blank.parts ≡ L.parts }
+        requires some { 0 < L.parts }
+    {
+        let mut steps = Steps::<L>::begin(blank);
+        take_three(&mut steps);
+    }
+
+    #[test]
+    fn counts() {
+        count_three::<Brand>(Blank::new(1));
     }
 }

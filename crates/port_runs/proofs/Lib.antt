@@ -1,0 +1,5 @@
+pub mod ShownFlags
+pub mod Joins
+pub mod Blocks
+pub mod Summary
+pub mod Search

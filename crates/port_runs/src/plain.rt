@@ -1,0 +1,105 @@
+//! The plain body of free runs: the flags of the ports are searched from the lowest on.
+
+ghost use Rattle.std.specs.Prelude.{◌≡◌, ◌≤◌, ◌<◌, ◌+◌, ◌↔◌, ◌||◌, ◌&&◌, ℕ, false, [], not, IsTrue, IfOk, IfSome, IfNone};
+ghost use Rattle.std.specs.Bool.{OnTrue, OnFalse};
+
+use crate::flags;
+use std::alloc::{AllocError, Global};
+use std::marker::Model;
+
+const PORTS: usize = 65536;
+
+/// A range of ports and which of them are taken, kept as a flag for each port.
+#[derive(Drop)]
+pub struct PlainRuns {
+    low: u16,
+    high: u16,
+    free: Vec<bool>,
+}
+
+impl Model for PlainRuns {
+    ghost use Rattle.port_runs.specs.Ports.{Ports};
+    ghost use Rattle.port_runs.specs.Shown.{shown};
+    ghost use Rattle.port_runs.specs.OfRange.{AreOfRange};
+
+    ghost Value = { Ports };
+
+    ghost view = { λ a. shown a.low a.high a.free.items };
+
+    ghost invariant = { λ a. AreOfRange a.low a.high a.free.items };
+}
+
+impl PlainRuns {
+    ghost use Rattle.std.specs.List.Sorted.{IsStrictlyIncreasing};
+    ghost use Rattle.port_runs.specs.Ports.{Ports};
+    ghost use Rattle.port_runs.specs.Taken.{is_taken};
+    ghost use Rattle.port_runs.specs.Free.{is_free};
+    ghost use Rattle.port_runs.specs.InRun.{is_in_run};
+    ghost use Rattle.port_runs.specs.FreeRun.{IsFreeRun};
+    ghost use Rattle.port_runs.specs.Fitting.{Fits};
+
+    /// The range from `low` to `high`, with no port taken.
+    pub fn new(alloc: Global, low: u16, high: u16) -> Result<PlainRuns, AllocError>
+        requires some { 1 ≤ low }
+        requires ordered { low ≤ high }
+        ensures { IfOk result (λ runs. runs ≡ record { low = low; high = high; taken = [] }) }
+    {
+        let mut free = flags::cleared(alloc, PORTS)?;
+        flags::mark(&mut free, low as usize, high as usize + 1, true);
+        Ok(PlainRuns { low, high, free })
+    }
+
+    /// Takes the `n` ports from `start` on, where all of them are free; else nothing changes.
+    pub fn take(&mut self, start: u16, n: u32) -> bool
+        requires some { 1 ≤ n }
+        requires low { self.old.low ≤ start }
+        requires high { start + n ≤ self.old.high + 1 }
+        ensures answer { IsTrue result ↔ IsFreeRun self.old start n }
+        ensures low { self.new.low ≡ self.old.low }
+        ensures high { self.new.high ≡ self.old.high }
+        ensures taken { OnTrue result ((port : ℕ) → is_taken self.new port ≡ (is_taken self.old port || is_in_run start n port)) }
+        ensures refused { OnFalse result (self.new ≡ self.old) }
+        ensures ascending { IsStrictlyIncreasing self.new.taken }
+    {
+        let from = start as usize;
+        if flags::run_at(&self.free, from, n) < n {
+            return false;
+        }
+        flags::mark(&mut self.free, from, from + n as usize, false);
+        true
+    }
+
+    /// Frees the `n` ports from `start` on.
+    pub fn give(&mut self, start: u16, n: u32)
+        requires some { 1 ≤ n }
+        requires low { self.old.low ≤ start }
+        requires high { start + n ≤ self.old.high + 1 }
+        ensures low { self.new.low ≡ self.old.low }
+        ensures high { self.new.high ≡ self.old.high }
+        ensures taken { (port : ℕ) → is_taken self.new port ≡ (is_taken self.old port && not (is_in_run start n port)) }
+        ensures ascending { IsStrictlyIncreasing self.new.taken }
+    {
+        let from = start as usize;
+        flags::mark(&mut self.free, from, from + n as usize, true);
+    }
+
+    /// How many ports are free from `start` on, up to `most`.
+    pub fn run_at(&self, start: u16, most: u32) -> u32
+        ensures most { result ≤ most }
+        ensures free { IsFreeRun self.now start result }
+        ensures stops { result < most → is_free self.now (start + result) ≡ false }
+    {
+        flags::run_at(&self.free, start as usize, most)
+    }
+
+    /// The least start of `n` free ports that has the remainder by 2 that `parity` asks, if it asks
+    /// one. None where there is none.
+    pub fn first_run(&self, n: u32, parity: Option<u8>) -> Option<u16>
+        requires { 1 ≤ n }
+        ensures fits { IfSome result (Fits self.now n parity) }
+        ensures least { IfSome result (λ start. (other : ℕ) → Fits self.now n parity other → start ≤ other) }
+        ensures none { IfNone result ((other : ℕ) → ¬ Fits self.now n parity other) }
+    {
+        flags::first_run(&self.free, n, parity)
+    }
+}

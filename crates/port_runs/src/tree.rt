@@ -1,0 +1,293 @@
+//! A tree over flags: each node tells of its block where the longest runs of set flags are.
+//!
+//! The nodes lie in one vector, level by level: the root at 1, and the children of `place` at
+//! `2 * place` and `2 * place + 1`. The flags stand at 65,536 and on, and the nodes of two flags,
+//! at 32,768 and on, are made of the flags when they are looked at. Place 0 is not used.
+
+ghost use Rattle.std.specs.Prelude.{true, false, ◌≡◌, ℕ, ◌+◌, ◌-◌, ◌/◌, ◌*◌, ◌<◌, ◌≤◌, ◌↔◌, length, IsTrue, IfOk, IfSome, IfNone, slice_index_or, vec_len};
+ghost use Rattle.port_runs.specs.Empty.{empty};
+ghost use Rattle.port_runs.specs.PairOf.{pair_of};
+ghost use Rattle.port_runs.specs.Join.{join, extend, crossing};
+ghost use Rattle.port_runs.specs.Longest.{longest};
+ghost use Rattle.port_runs.specs.NodeAt.{node_at};
+ghost use Rattle.port_runs.specs.Joined.{AreJoined, AreJoinedBut};
+ghost use Rattle.port_runs.specs.Marked.{IsMarked};
+ghost use Rattle.port_runs.specs.FlagsFit.{FitsFlags};
+ghost use Rattle.port_runs.specs.FirstOver.{IsFirstOver};
+ghost use Rattle.port_runs.specs.Parity.{HasParity};
+
+use crate::flags::{fits_at, has_parity, mark};
+use std::alloc::{AllocError, Global};
+use std::sync::ledger::Ledger;
+use step_count::Steps;
+
+/// How many flags there are.
+pub const FLAGS: usize = 65536;
+
+/// How many places the nodes have that are kept.
+pub const NODES: usize = 32768;
+
+/// How many levels there are from the root down to the nodes of two flags.
+const LEVELS: usize = 15;
+
+/// What the runs of a block are, a block being two or more flags from an even place on.
+///
+/// No run has more than 65,535 flags, since the first of all flags is never set.
+#[derive(Clone, Copy)]
+pub struct Node {
+    /// How many flags are set from the block's first on.
+    pub prefix: u16,
+    /// How many flags are set up to the block's last.
+    pub suffix: u16,
+    /// The longest run that begins at an even place.
+    pub even: u16,
+    /// The longest run that begins at an odd place.
+    pub odd: u16,
+    /// Whether all flags are set.
+    pub full: bool,
+}
+
+/// The node of a block with no flag set.
+const EMPTY: Node = Node {
+    prefix: 0,
+    suffix: 0,
+    even: 0,
+    odd: 0,
+    full: false,
+};
+
+/// `count` places of nodes with no flag set.
+pub fn cleared(alloc: Global, count: usize) -> Result<Vec<Node>, AllocError>
+    ensures all { IfOk result (λ nodes. vec_len nodes ≡ count) }
+    ensures clear { IfOk result (λ nodes. (i : ℕ) → slice_index_or nodes.items i empty ≡ empty) }
+{
+    let nodes = vec![in alloc; EMPTY; count]?;
+    Ok(nodes)
+}
+
+/// The node of two flags.
+#[tactic(auto, unfolding(crate::specs::PairOf::pair_of, crate::specs::Empty::empty))]
+fn pair(first: bool, second: bool) -> Node
+    ensures { result ≡ pair_of first second }
+{
+    match (first, second) {
+        (true, true) => Node {
+            prefix: 2,
+            suffix: 2,
+            even: 2,
+            odd: 1,
+            full: true,
+        },
+        (true, false) => Node {
+            prefix: 1,
+            suffix: 0,
+            even: 1,
+            odd: 0,
+            full: false,
+        },
+        (false, true) => Node {
+            prefix: 0,
+            suffix: 1,
+            even: 0,
+            odd: 1,
+            full: false,
+        },
+        (false, false) => EMPTY,
+    }
+}
+
+/// The longest runs across the middle of two blocks, from an even place and from an odd one.
+fn crossings(left: Node, right: Node) -> (u16, u16)
+    ensures even { result.0 ≡ crossing true left right }
+    ensures odd { result.1 ≡ crossing false left right }
+{
+    let across = left.suffix.saturating_add(right.prefix);
+    let shorter = across.saturating_sub(1);
+    if left.suffix % 2 == 0 {
+        (across, shorter)
+    } else {
+        (shorter, across)
+    }
+}
+
+/// A block's run of `own` flags at an end, with the `next` flags beside it where the block is full.
+fn extended(full: bool, own: u16, next: u16) -> u16
+    ensures { result ≡ extend full own next }
+{
+    if full { own.saturating_add(next) } else { own }
+}
+
+/// The node of two blocks side by side.
+#[tactic(auto, unfolding(crate::specs::Join::join))]
+fn joined(left: Node, right: Node) -> Node
+    ensures { result ≡ join left right }
+{
+    let (even, odd) = crossings(left, right);
+    Node {
+        prefix: extended(left.full, left.prefix, right.prefix),
+        suffix: extended(right.full, right.suffix, left.suffix),
+        even: left.even.max(right.even).max(even),
+        odd: left.odd.max(right.odd).max(odd),
+        full: left.full && right.full,
+    }
+}
+
+/// The node at a place.
+#[tactic(auto, unfolding(crate::specs::NodeAt::node_at))]
+fn look(flags: &[bool], nodes: &[Node], place: usize) -> Node
+    requires place { place < 65536 }
+    requires flags { length flags.now ≡ 65536 }
+    requires nodes { length nodes.now ≡ 32768 }
+    ensures { result ≡ node_at flags.now nodes.now place }
+{
+    if place < nodes.len() {
+        nodes[place]
+    } else {
+        let first = 2 * place - FLAGS;
+        pair(flags[first], flags[first + 1])
+    }
+}
+
+/// Makes the nodes from `low` to `high` anew, and leaves their parents to be made anew.
+fn rejoin(flags: &[bool], nodes: &mut [Node], low: usize, high: usize)
+    requires high { high < 32768 }
+    requires flags { length flags.now ≡ 65536 }
+    requires joined { AreJoinedBut low high flags.now nodes.old }
+    ensures { AreJoinedBut (low / 2) (high / 2) flags.now nodes.new }
+{
+    for place in low..high + 1 {
+        nodes[place] = joined(
+            look(flags, nodes, 2 * place),
+            look(flags, nodes, 2 * place + 1),
+        );
+    }
+}
+
+/// Makes all nodes anew of whose flags some from `from` up to `to`, which isn't among them, changed.
+pub fn refresh(flags: &[bool], nodes: &mut [Node], from: usize, to: usize)
+    requires ordered { from < to }
+    requires within { to ≤ 65536 }
+    requires flags { length flags.now ≡ 65536 }
+    requires joined { AreJoinedBut ((65536 + from) / 4) ((65536 + to - 1) / 4) flags.now nodes.old }
+    ensures { AreJoined flags.now nodes.new }
+{
+    let mut low = (FLAGS + from) / 4;
+    let mut high = (FLAGS + to - 1) / 4;
+    while high > 0 {
+        rejoin(flags, nodes, low, high);
+        low /= 2;
+        high /= 2;
+    }
+}
+
+/// Sets or clears the flags from `from` up to `to`, which isn't among them, and makes their nodes
+/// anew.
+pub fn change(flags: &mut [bool], nodes: &mut [Node], from: usize, to: usize, value: bool)
+    requires ordered { from < to }
+    requires within { to ≤ 65536 }
+    requires flags { length flags.old ≡ 65536 }
+    requires joined { AreJoined flags.old nodes.old }
+    ensures marked { IsMarked from to value flags.old flags.new }
+    ensures joined { AreJoined flags.new nodes.new }
+{
+    mark(flags, from, to, value);
+    refresh(flags, nodes, from, to);
+}
+
+/// The node at a place, which takes a step.
+fn visit<L: Ledger>(flags: &[bool], nodes: &[Node], place: usize, steps: &mut Steps<L>) -> Node
+    requires place { place < 65536 }
+    requires flags { length flags.now ≡ 65536 }
+    requires nodes { length nodes.now ≡ 32768 }
+    ensures node { result ≡ node_at flags.now nodes.now place }
+    ensures cost { steps.new ≡ steps.old + 1 }
+{
+    steps.tick(); // this node
+    look(flags, nodes, place)
+}
+
+/// The longest run of a block that begins with the remainder by 2 that is asked.
+#[tactic(auto, unfolding(crate::specs::Longest::longest))]
+fn longest_run(node: Node, parity: Option<u8>) -> u32
+    ensures { result ≡ longest parity node }
+{
+    let run = match parity {
+        None => node.even.max(node.odd),
+        Some(0) => node.even,
+        Some(1) => node.odd,
+        Some(_) => 0,
+    };
+    u32::from(run)
+}
+
+/// The first place from which `n` flags are set in the left block's suffix and the right one's
+/// prefix. None where there is none.
+fn over_middle(left: Node, right: Node, middle: usize, n: u32, parity: Option<u8>) -> Option<u16>
+    requires some { 1 ≤ n }
+    requires parity { IfSome parity (λ remainder. remainder < 2) }
+    requires begins { left.suffix ≤ middle }
+    requires ends { middle + right.prefix ≤ 65536 }
+    ensures found { IfSome result (IsFirstOver (middle - left.suffix) (middle + right.prefix) n parity) }
+    ensures none { IfNone result ((start : ℕ) → HasParity parity start → middle ≤ start + left.suffix → middle + right.prefix < start + n) }
+{
+    let begins = middle - left.suffix as usize;
+    let start = if has_parity(begins, parity) {
+        begins
+    } else {
+        begins + 1
+    };
+    if start + n as usize <= middle + right.prefix as usize {
+        Some(start as u16)
+    } else {
+        None
+    }
+}
+
+/// The least place from which `n` flags are set and that has the remainder by 2 that is asked, in
+/// at most 4 steps for each of the 17 levels. A step is one node looked at.
+pub fn first_run<L: Ledger>(
+    flags: &[bool],
+    nodes: &[Node],
+    n: u32,
+    parity: Option<u8>,
+    steps: &mut Steps<L>,
+) -> Option<u16>
+    requires some { 1 ≤ n }
+    requires flags { length flags.now ≡ 65536 }
+    requires clear { slice_index_or flags.now 0 false ≡ false }
+    requires joined { AreJoined flags.now nodes.now }
+    ensures fits { IfSome result (FitsFlags flags.now n parity) }
+    ensures least { IfSome result (λ start. (other : ℕ) → FitsFlags flags.now n parity other → start ≤ other) }
+    ensures none { IfNone result ((other : ℕ) → ¬ FitsFlags flags.now n parity other) }
+    ensures cost { steps.new ≤ steps.old + 68 }
+{
+    if longest_run(visit(flags, nodes, 1, steps), parity) < n {
+        return None;
+    }
+    let mut place = 1;
+    let mut first = 0;
+    let mut half = FLAGS / 2;
+    for level in 0..LEVELS {
+        let left = visit(flags, nodes, 2 * place, steps);
+        if longest_run(left, parity) >= n {
+            place = 2 * place;
+        } else {
+            let right = visit(flags, nodes, 2 * place + 1, steps);
+            let found = over_middle(left, right, first + half, n, parity);
+            if found.is_some() {
+                return found;
+            }
+            place = 2 * place + 1;
+            first += half;
+        }
+        half /= 2;
+    }
+    steps.tick(); // the first of the last two flags
+    steps.tick(); // the second one
+    let start = if fits_at(flags, first, n, parity) {
+        first
+    } else {
+        first + 1
+    };
+    Some(start as u16)
+}
