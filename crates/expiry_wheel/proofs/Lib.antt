@@ -1,0 +1,4 @@
+pub mod Order
+pub mod Maps
+pub mod Pairs
+pub mod Next

@@ -1,0 +1,5 @@
+pub mod IsNextDue
+pub mod IsNoLater
+pub mod Sooner
+pub mod Expiries
+pub mod IdsDiffer

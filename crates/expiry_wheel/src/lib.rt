@@ -1,0 +1,5 @@
+//! Ids with the moments at which they expire, and which falls due next.
+#![tactic(auto)]
+
+mod pair;
+pub mod plain;
