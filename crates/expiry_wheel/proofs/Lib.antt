@@ -2,3 +2,5 @@ pub mod Order
 pub mod Maps
 pub mod Pairs
 pub mod Next
+pub mod Trees
+pub mod Root

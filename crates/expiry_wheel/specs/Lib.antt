@@ -3,3 +3,4 @@ pub mod IsNoLater
 pub mod Sooner
 pub mod Expiries
 pub mod IdsDiffer
+pub mod IsTree

@@ -3,3 +3,4 @@
 
 mod pair;
 pub mod plain;
+mod tree;
