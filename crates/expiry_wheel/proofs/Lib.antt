@@ -4,3 +4,5 @@ pub mod Pairs
 pub mod Next
 pub mod Trees
 pub mod Root
+pub mod Slots
+pub mod Wheels

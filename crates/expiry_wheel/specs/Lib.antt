@@ -4,3 +4,5 @@ pub mod Sooner
 pub mod Expiries
 pub mod IdsDiffer
 pub mod IsTree
+pub mod AreSlots
+pub mod IsWheel

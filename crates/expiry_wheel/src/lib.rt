@@ -4,3 +4,6 @@
 mod pair;
 pub mod plain;
 mod tree;
+mod wheel;
+
+pub use wheel::Wheel;

@@ -157,12 +157,11 @@ impl Tree {
         self.nodes.len() / 2
     }
 
-    /// Makes more slots, which are free, up to twice as many. What the slots keep stays.
+    /// Makes more slots, which are free, up to twice as many. What the slots keep stays, also where memory is wanting.
     pub fn grow(&mut self, alloc: Global) -> Result<(), AllocError>
         requires { length self.old < 262144 }
         ensures more { OnOk result (length self.old < length self.new) }
-        ensures kept { OnOk result ((slot : ℕ) → node_at self.new slot ≡ node_at self.old slot) }
-        ensures err { OnErr result (self.new ≡ self.old) }
+        ensures kept { (slot : ℕ) → node_at self.new slot ≡ node_at self.old slot }
     {
         let slots = self.nodes.len() / 2;
         let more = MOST_SLOTS.min(2 * slots);
