@@ -1,9 +1,10 @@
 //! The fast body: slots by their ids, and a tree over the slots.
 
-ghost use Rattle.std.specs.Prelude.{◌≡◌, ℕ, ◌+◌, ◌-◌, ◌<◌, ◌≤◌, Some, None, length, IfOk, OnOk, OnErr, IfSome, IfNone, slice_set, unwrap_or};
+ghost use Rattle.std.specs.Prelude.{◌≡◌, ℕ, ◌+◌, ◌-◌, ◌<◌, ◌≤◌, Some, None, length, IfOk, OnOk, OnErr, IfSome, IfNone, slice_set, unwrap_or, IsSome, ◌==◌, if◌then◌else◌};
 ghost use Rattle.std.specs.Ordering.{nat_cmp};
 ghost use Rattle.std.specs.BTreeMap.{get, btree_map_len};
 ghost use Rattle.std.specs.FinMap as map;
+ghost use Rattle.expiry_wheel.specs.AreSlots.{expiries_in};
 ghost use Rattle.expiry_wheel.specs.IsNextDue.{IsNextDue};
 ghost use Rattle.expiry_wheel.specs.IsTree.{node_at};
 ghost use Rattle.expiry_wheel.specs.IsWheel.{IsWheel};
@@ -89,6 +90,41 @@ fn set<L: Ledger>(tree: &mut Tree, slot: usize, node: Node, blank: Blank)
     tree.set(slot, node, &mut steps);
 }
 
+/// Gives an id that has a slot another one.
+fn relocate(slots: &mut BTreeMap<u32, usize>, id: u32, slot: usize)
+    requires { IsSome (get nat_cmp slots.old id) }
+    ensures moved { (q : ℕ) → get nat_cmp slots.new q ≡ (if q == id then Some slot else get nat_cmp slots.old q) }
+    ensures len { btree_map_len slots.new ≡ btree_map_len slots.old }
+{
+    if let Some(place) = slots.get_mut(&id) {
+        *place = slot;
+    }
+}
+
+/// Takes out the pair in a slot. The pair of the last taken slot moves there, so that the free ones stay last.
+fn vacate<L: Ledger>(
+    slots: &mut BTreeMap<u32, usize>,
+    tree: &mut Tree,
+    id: u32,
+    slot: usize,
+    steps: &mut Steps<L>,
+)
+    requires wheel { IsWheel slots.old tree.old }
+    requires slot { get nat_cmp slots.old id ≡ Some slot }
+    ensures wheel { IsWheel slots.new tree.new }
+    ensures removed { expiries_in slots.new.entries (node_at tree.new) ≡ map.remove (expiries_in slots.old.entries (node_at tree.old)) id }
+    ensures steps { steps.new ≤ steps.old + 37 }
+{
+    let last = slots.len() - 1;
+    let moved = tree.slot(last, steps);
+    tree.set(slot, moved, steps);
+    tree.set(last, None, steps);
+    if let Some(pair) = moved {
+        relocate(slots, pair.id, slot);
+    }
+    slots.remove(&id);
+}
+
 impl Wheel {
     /// A wheel with no pair.
     pub fn new(alloc: Global) -> Result<Wheel, AllocError>
@@ -115,5 +151,58 @@ impl Wheel {
             Blank::new(1),
         );
         Ok(())
+    }
+
+    /// Takes out the pair of an id, and tells whether there was one.
+    pub fn remove(&mut self, id: u32) -> bool
+        ensures found { result ≡ map.contains_key self.old id }
+        ensures removed { self.new ≡ map.remove self.old id }
+    {
+        self.remove_from::<Brand>(id, Blank::new(1))
+    }
+
+    /// Removes for a caller that counts no steps.
+    fn remove_from<L: Ledger>(&mut self, id: u32, blank: Blank) -> bool
+        requires name { blank.name ≡ L.name }
+        requires parts { blank.parts ≡ L.parts }
+        requires some { 0 < L.parts }
+        ensures found { result ≡ map.contains_key self.old id }
+        ensures removed { self.new ≡ map.remove self.old id }
+    {
+        let mut steps = Steps::<L>::begin(blank);
+        self.take_out(id, &mut steps)
+    }
+
+    /// Removes, and counts the nodes that are looked at.
+    fn take_out<L: Ledger>(&mut self, id: u32, steps: &mut Steps<L>) -> bool
+        ensures found { result ≡ map.contains_key self.old id }
+        ensures removed { self.new ≡ map.remove self.old id }
+        ensures steps { steps.new ≤ steps.old + 37 }
+    {
+        let Some(slot) = self.slots.get(&id).copied() else {
+            return false;
+        };
+        vacate(&mut self.slots, &mut self.tree, id, slot, steps);
+        true
+    }
+
+    /// Takes out the pair with the least expiry, then the least id, if that expiry is at most `m`.
+    ///
+    /// A step is a node of the tree that is looked at.
+    pub fn due<L: Ledger>(&mut self, m: u64, steps: &mut Steps<L>) -> Option<u32>
+        ensures next { IfSome result (IsNextDue self.old m) }
+        ensures taken { IfSome result (λ id. self.new ≡ map.remove self.old id) }
+        ensures none { IfNone result ((id expiry : ℕ) → map.get self.old id ≡ Some expiry → m < expiry) }
+        ensures kept { IfNone result (self.new ≡ self.old) }
+        ensures steps { steps.new ≤ steps.old + 64 }
+    {
+        let Some(next) = self.tree.soonest(steps) else {
+            return None;
+        };
+        if m < next.expiry {
+            return None;
+        }
+        self.take_out(next.id, steps);
+        Some(next.id)
     }
 }
