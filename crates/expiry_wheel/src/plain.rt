@@ -26,12 +26,10 @@ ghost use Rattle.std.specs.FinMap as map;
 ghost use Rattle.expiry_wheel.specs.IsNextDue.{IsNextDue};
 ghost use Rattle.expiry_wheel.specs.IsNoLater.{IsNoLater};
 
+use crate::MOST_PAIRS;
 use crate::pair::{Pair, sooner};
 use std::alloc::{AllocError, Global};
 use std::marker::Model;
-
-/// The most pairs that a wheel may keep.
-pub const MOST_PAIRS: usize = 262_144;
 
 /// Pairs of an id and an expiry, ids distinct, in the order in which they came.
 #[derive(Drop)]
@@ -94,14 +92,15 @@ impl PlainWheel {
 
     /// Sets the expiry of an id.
     pub fn put(&mut self, id: u32, expiry: u64) -> Result<(), AllocError>
-        requires { map.len (map.insert self.old id expiry) ≤ 262144 }
+        requires { map.len (map.insert self.old id expiry) ≤ MOST_PAIRS }
         ensures ok { OnOk result (self.new ≡ map.insert self.old id expiry) }
         ensures err { OnErr result (self.new ≡ self.old) }
     {
-        match place_of(&self.pairs, id) {
-            Some(i) => self.pairs[i] = Pair { expiry, id },
-            None => self.pairs.push(Pair { expiry, id })?,
-        }
+        let Some(i) = place_of(&self.pairs, id) else {
+            self.pairs.push(Pair { expiry, id })?;
+            return Ok(());
+        };
+        self.pairs[i] = Pair { expiry, id };
         Ok(())
     }
 

@@ -30,14 +30,12 @@ ghost use Rattle.expiry_wheel.specs.IsNoLater.{IsNoLater};
 ghost use Rattle.expiry_wheel.specs.IsTree.{IsTree, HasSlots, node_at, slots_of};
 ghost use Rattle.expiry_wheel.specs.Sooner.{sooner};
 
+use crate::MOST_PAIRS;
 use crate::pair::{Pair, sooner};
 use std::alloc::{AllocError, Global};
 use std::marker::Model;
 use std::sync::ledger::Ledger;
 use step_count::Steps;
-
-/// The most slots that a tree has.
-pub const MOST_SLOTS: usize = 262_144;
 
 /// What a slot or a node keeps.
 pub type Node = Option<Pair>;
@@ -128,7 +126,7 @@ fn add_free(nodes: &mut Vec<Node>, count: usize) -> Result<(), AllocError>
 fn widened(alloc: Global, nodes: &[Node], slots: usize) -> Result<Vec<Node>, AllocError>
     requires slots { HasSlots nodes.now }
     requires more { length nodes.now / 2 ≤ slots }
-    requires few { slots ≤ 262144 }
+    requires few { slots ≤ MOST_PAIRS }
     ensures len { IfOk result (λ wider. length wider.items ≡ 2 * slots) }
     ensures tree { IfOk result (λ wider. IsTree wider.items) }
     ensures kept { IfOk result (λ wider. (slot : ℕ) → node_at (slots_of wider.items) slot ≡ node_at (slots_of nodes.now) slot) }
@@ -159,12 +157,12 @@ impl Tree {
 
     /// Makes more slots, which are free, up to twice as many. What the slots keep stays, also where memory is wanting.
     pub fn grow(&mut self, alloc: Global) -> Result<(), AllocError>
-        requires { length self.old < 262144 }
+        requires { length self.old < MOST_PAIRS }
         ensures more { OnOk result (length self.old < length self.new) }
         ensures kept { (slot : ℕ) → node_at self.new slot ≡ node_at self.old slot }
     {
         let slots = self.nodes.len() / 2;
-        let more = MOST_SLOTS.min(2 * slots);
+        let more = MOST_PAIRS.min(2 * slots);
         self.nodes = widened(alloc, &self.nodes, more)?;
         Ok(())
     }

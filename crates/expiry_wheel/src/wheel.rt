@@ -9,6 +9,7 @@ ghost use Rattle.expiry_wheel.specs.IsNextDue.{IsNextDue};
 ghost use Rattle.expiry_wheel.specs.IsTree.{node_at};
 ghost use Rattle.expiry_wheel.specs.IsWheel.{IsWheel};
 
+use crate::MOST_PAIRS;
 use crate::pair::Pair;
 use crate::tree::{Node, Tree};
 use std::alloc::{AllocError, Global};
@@ -48,7 +49,7 @@ impl Model for Wheel {
 /// The first free slot, for which the tree grows if it has none.
 fn free_slot(tree: &mut Tree, alloc: Global, taken: usize) -> Result<usize, AllocError>
     requires within { taken ≤ length tree.old }
-    requires few { taken < 262144 }
+    requires few { taken < MOST_PAIRS }
     ensures slot { IfOk result (λ slot. slot ≡ taken) }
     ensures room { OnOk result (taken < length tree.new) }
     ensures kept { (slot : ℕ) → node_at tree.new slot ≡ node_at tree.old slot }
@@ -67,7 +68,7 @@ fn slot_for(
     id: u32,
 ) -> Result<usize, AllocError>
     requires wheel { IsWheel slots.now tree.old }
-    requires few { get nat_cmp slots.now id ≡ None → btree_map_len slots.now < 262144 }
+    requires few { get nat_cmp slots.now id ≡ None → btree_map_len slots.now < MOST_PAIRS }
     ensures slot { IfOk result (λ slot. slot ≡ unwrap_or (get nat_cmp slots.now id) (btree_map_len slots.now)) }
     ensures room { IfOk result (λ slot. slot < length tree.new) }
     ensures kept { (slot : ℕ) → node_at tree.new slot ≡ node_at tree.old slot }
@@ -79,7 +80,7 @@ fn slot_for(
 }
 
 /// Sets what a slot keeps, for a caller that counts no steps.
-fn set<L: Ledger>(tree: &mut Tree, slot: usize, node: Node, blank: Blank)
+fn set_uncounted<L: Ledger>(tree: &mut Tree, slot: usize, node: Node, blank: Blank)
     requires name { blank.name ≡ L.name }
     requires parts { blank.parts ≡ L.parts }
     requires some { 0 < L.parts }
@@ -138,13 +139,13 @@ impl Wheel {
 
     /// Sets the expiry of an id, of which the wheel keeps at most 262,144. An `Err` is want of memory, and changes nothing.
     pub fn put(&mut self, alloc: Global, id: u32, expiry: u64) -> Result<(), AllocError>
-        requires { map.len (map.insert self.old id expiry) ≤ 262144 }
+        requires { map.len (map.insert self.old id expiry) ≤ MOST_PAIRS }
         ensures ok { OnOk result (self.new ≡ map.insert self.old id expiry) }
         ensures err { OnErr result (self.new ≡ self.old) }
     {
         let slot = slot_for(&self.slots, &mut self.tree, alloc, id)?;
         self.slots.insert(id, slot)?;
-        set::<Brand>(
+        set_uncounted::<Brand>(
             &mut self.tree,
             slot,
             Some(Pair { expiry, id }),
@@ -158,11 +159,11 @@ impl Wheel {
         ensures found { result ≡ map.contains_key self.old id }
         ensures removed { self.new ≡ map.remove self.old id }
     {
-        self.remove_from::<Brand>(id, Blank::new(1))
+        self.remove_uncounted::<Brand>(id, Blank::new(1))
     }
 
     /// Removes for a caller that counts no steps.
-    fn remove_from<L: Ledger>(&mut self, id: u32, blank: Blank) -> bool
+    fn remove_uncounted<L: Ledger>(&mut self, id: u32, blank: Blank) -> bool
         requires name { blank.name ≡ L.name }
         requires parts { blank.parts ≡ L.parts }
         requires some { 0 < L.parts }
