@@ -4,23 +4,16 @@ ghost use Rattle.std.specs.Prelude.{
   ◌≡◌,
   ◌≢◌,
   ℕ,
-  ◌+◌,
   ◌<◌,
   ◌≤◌,
-  ◌↔◌,
-  ◌∷◌,
-  ◌++◌,
-  [],
-  length,
-  Some,
   slice_get,
   Contains,
-  IsTrue,
+  Some,
+  IfSome,
+  IfNone,
   IfOk,
   OnOk,
   OnErr,
-  IfSome,
-  IfNone,
 };
 ghost use Rattle.std.specs.FinMap as map;
 ghost use Rattle.expiry_wheel.specs.IsNextDue.{IsNextDue};
@@ -57,7 +50,8 @@ impl Model for PlainWheel {
 
 /// The index of the pair of an id.
 fn place_of(pairs: &[Pair], id: u32) -> Option<usize>
-    ensures found { IfSome result (λ i. (expiry : ℕ) × (slice_get pairs.now i ≡ Some (record { expiry = expiry; id = id }))) }
+    ensures found { IfSome result (λ i.
+        (e : ℕ) × (slice_get pairs.now i ≡ Some (record { expiry = e; id = id }))) }
     ensures none { IfNone result ((i : ℕ) (p : Pair) → slice_get pairs.now i ≡ Some p → p.id ≢ id) }
 {
     for (i, pair) in pairs.iter().enumerate() {
@@ -90,7 +84,7 @@ impl PlainWheel {
         })
     }
 
-    /// Sets the expiry of an id.
+    /// Sets the expiry of an id. An `Err` is want of memory, and changes nothing.
     pub fn put(&mut self, id: u32, expiry: u64) -> Result<(), AllocError>
         requires { map.len (map.insert self.old id expiry) ≤ MOST_PAIRS }
         ensures ok { OnOk result (self.new ≡ map.insert self.old id expiry) }
@@ -119,6 +113,7 @@ impl PlainWheel {
     }
 
     /// Takes out the pair with the least expiry, then the least id, if that expiry is at most `m`.
+    /// Else it answers `None`, and changes nothing. There are no nodes, and so no steps.
     pub fn due(&mut self, m: u64) -> Option<u32>
         ensures next { IfSome result (IsNextDue self.old m) }
         ensures taken { IfSome result (λ id. self.new ≡ map.remove self.old id) }

@@ -2,7 +2,6 @@
 
 ghost use Rattle.std.specs.Prelude.{
   ◌≡◌,
-  ◌≢◌,
   ℕ,
   ◌+◌,
   ◌-◌,
@@ -10,21 +9,17 @@ ghost use Rattle.std.specs.Prelude.{
   ◌/◌,
   ◌<◌,
   ◌≤◌,
-  ◌^◌,
   ◌∷◌,
   ◌++◌,
   [],
-  None,
-  drop,
   length,
-  slice_index_or,
-  slice_set,
-  Contains,
-  IfOk,
-  OnOk,
-  OnErr,
   vec_len,
   replicate,
+  slice_set,
+  Contains,
+  None,
+  IfOk,
+  OnOk,
 };
 ghost use Rattle.expiry_wheel.specs.IsNoLater.{IsNoLater};
 ghost use Rattle.expiry_wheel.specs.IsTree.{IsTree, HasSlots, node_at, slots_of};
@@ -117,7 +112,8 @@ fn fill(nodes: &mut [Node])
 /// Adds free nodes until there are `count`.
 fn add_free(nodes: &mut Vec<Node>, count: usize) -> Result<(), AllocError>
     requires { vec_len nodes.old ≤ count }
-    ensures { OnOk result (nodes.new.items ≡ nodes.old.items ++ replicate (count - vec_len nodes.old) None) }
+    ensures { OnOk result
+        (nodes.new.items ≡ nodes.old.items ++ replicate (count - vec_len nodes.old) None) }
 {
     nodes.resize(count, None)
 }
@@ -129,7 +125,8 @@ fn widened(alloc: Global, nodes: &[Node], slots: usize) -> Result<Vec<Node>, All
     requires few { slots ≤ MOST_PAIRS }
     ensures len { IfOk result (λ wider. length wider.items ≡ 2 * slots) }
     ensures tree { IfOk result (λ wider. IsTree wider.items) }
-    ensures kept { IfOk result (λ wider. (slot : ℕ) → node_at (slots_of wider.items) slot ≡ node_at (slots_of nodes.now) slot) }
+    ensures kept { IfOk result (λ wider.
+        (slot : ℕ) → node_at (slots_of wider.items) slot ≡ node_at (slots_of nodes.now) slot) }
 {
     let mut wider = Vec::with_capacity(alloc, 2 * slots)?;
     add_free(&mut wider, slots)?;
@@ -155,7 +152,8 @@ impl Tree {
         self.nodes.len() / 2
     }
 
-    /// Makes more slots, which are free, up to twice as many. What the slots keep stays, also where memory is wanting.
+    /// Makes more slots, which are free, up to twice as many. What the slots keep stays, also where
+    /// memory is wanting.
     pub fn grow(&mut self, alloc: Global) -> Result<(), AllocError>
         requires { length self.old < MOST_PAIRS }
         ensures more { OnOk result (length self.old < length self.new) }

@@ -1,6 +1,25 @@
 //! The fast body: slots by their ids, and a tree over the slots.
 
-ghost use Rattle.std.specs.Prelude.{◌≡◌, ℕ, ◌+◌, ◌-◌, ◌<◌, ◌≤◌, Some, None, length, IfOk, OnOk, OnErr, IfSome, IfNone, slice_set, unwrap_or, IsSome, ◌==◌, if◌then◌else◌};
+ghost use Rattle.std.specs.Prelude.{
+  ◌≡◌,
+  ◌==◌,
+  ℕ,
+  ◌+◌,
+  ◌<◌,
+  ◌≤◌,
+  if◌then◌else◌,
+  length,
+  slice_set,
+  unwrap_or,
+  Some,
+  None,
+  IsSome,
+  IfSome,
+  IfNone,
+  IfOk,
+  OnOk,
+  OnErr,
+};
 ghost use Rattle.std.specs.Ordering.{nat_cmp};
 ghost use Rattle.std.specs.BTreeMap.{get, btree_map_len};
 ghost use Rattle.std.specs.FinMap as map;
@@ -18,9 +37,10 @@ use std::marker::{Brand, Model};
 use std::sync::ledger::{Blank, Ledger};
 use step_count::Steps;
 
-/// Ids with the moments at which they expire.
+/// Ids with the moments at which they expire, at most `MOST_PAIRS` of them.
 ///
-/// It is seen as a finite map from ids to expiries: a list of pairs, ids distinct.
+/// It is seen as a finite map from ids to expiries: a list of pairs of an id and an expiry, ids
+/// distinct.
 #[derive(Drop)]
 pub struct Wheel {
     slots: BTreeMap<u32, usize>,
@@ -94,7 +114,8 @@ fn set_uncounted<L: Ledger>(tree: &mut Tree, slot: usize, node: Node, blank: Bla
 /// Gives an id that has a slot another one.
 fn relocate(slots: &mut BTreeMap<u32, usize>, id: u32, slot: usize)
     requires { IsSome (get nat_cmp slots.old id) }
-    ensures moved { (q : ℕ) → get nat_cmp slots.new q ≡ (if q == id then Some slot else get nat_cmp slots.old q) }
+    ensures moved { (q : ℕ) →
+        get nat_cmp slots.new q ≡ (if q == id then Some slot else get nat_cmp slots.old q) }
     ensures len { btree_map_len slots.new ≡ btree_map_len slots.old }
 {
     if let Some(place) = slots.get_mut(&id) {
@@ -113,7 +134,8 @@ fn vacate<L: Ledger>(
     requires wheel { IsWheel slots.old tree.old }
     requires slot { get nat_cmp slots.old id ≡ Some slot }
     ensures wheel { IsWheel slots.new tree.new }
-    ensures removed { expiries_in slots.new.entries (node_at tree.new) ≡ map.remove (expiries_in slots.old.entries (node_at tree.old)) id }
+    ensures removed { expiries_in slots.new.entries (node_at tree.new)
+        ≡ map.remove (expiries_in slots.old.entries (node_at tree.old)) id }
     ensures steps { steps.new ≤ steps.old + 37 }
 {
     let last = slots.len() - 1;
@@ -137,7 +159,7 @@ impl Wheel {
         })
     }
 
-    /// Sets the expiry of an id, of which the wheel keeps at most 262,144. An `Err` is want of memory, and changes nothing.
+    /// Sets the expiry of an id. An `Err` is want of memory, and changes nothing.
     pub fn put(&mut self, alloc: Global, id: u32, expiry: u64) -> Result<(), AllocError>
         requires { map.len (map.insert self.old id expiry) ≤ MOST_PAIRS }
         ensures ok { OnOk result (self.new ≡ map.insert self.old id expiry) }
@@ -188,8 +210,9 @@ impl Wheel {
     }
 
     /// Takes out the pair with the least expiry, then the least id, if that expiry is at most `m`.
+    /// Else it answers `None`, and changes nothing.
     ///
-    /// A step is a node of the tree that is looked at.
+    /// A step is one node of the tree that is looked at.
     pub fn due<L: Ledger>(&mut self, m: u64, steps: &mut Steps<L>) -> Option<u32>
         ensures next { IfSome result (IsNextDue self.old m) }
         ensures taken { IfSome result (λ id. self.new ≡ map.remove self.old id) }
