@@ -1,0 +1,132 @@
+//! The plain body: a list that is searched. It stands beside the fast one to compare with.
+
+ghost use Rattle.std.specs.Prelude.{
+  ◌≡◌,
+  ◌≢◌,
+  ℕ,
+  ◌<◌,
+  ◌≤◌,
+  slice_get,
+  Contains,
+  Some,
+  IfSome,
+  IfNone,
+  IfOk,
+  OnOk,
+  OnErr,
+};
+ghost use Rattle.std.specs.FinMap as map;
+ghost use Rattle.expiry_wheel.specs.IsNextDue.{IsNextDue};
+ghost use Rattle.expiry_wheel.specs.IsNoLater.{IsNoLater};
+
+use crate::MOST_PAIRS;
+use crate::pair::{Pair, sooner};
+use std::alloc::{AllocError, Global};
+use std::marker::Model;
+
+/// Pairs of an id and an expiry, ids distinct, in the order in which they came.
+#[derive(Drop)]
+pub struct PlainWheel {
+    pairs: Vec<Pair>,
+}
+
+impl Model for PlainWheel {
+    ghost use Rattle.std.specs.Prelude.{ℕ};
+    ghost use Rattle.std.specs.Ordering.{nat_cmp};
+    ghost use Rattle.std.specs.Coded.{coded_ℕ};
+    ghost use Rattle.std.specs.FinMap as map;
+
+    ghost Value = { map.FinMap nat_cmp ℕ };
+
+    ghost coded = { map.code coded_ℕ coded_ℕ };
+
+    ghost use Rattle.expiry_wheel.specs.Expiries.{expiries_of};
+    ghost use Rattle.expiry_wheel.specs.IdsDiffer.{IdsDiffer};
+
+    ghost view = { λ a. expiries_of a.pairs.items };
+
+    ghost invariant = { λ a. IdsDiffer a.pairs.items };
+}
+
+/// The index of the pair of an id.
+fn place_of(pairs: &[Pair], id: u32) -> Option<usize>
+    ensures found { IfSome result (λ i.
+        (e : ℕ) × (slice_get pairs.now i ≡ Some (record { expiry = e; id = id }))) }
+    ensures none { IfNone result ((i : ℕ) (p : Pair) → slice_get pairs.now i ≡ Some p → p.id ≢ id) }
+{
+    for (i, pair) in pairs.iter().enumerate() {
+        if pair.id == id {
+            return Some(i);
+        }
+    }
+    None
+}
+
+/// The pair that falls due first.
+fn soonest(pairs: &[Pair]) -> Option<Pair>
+    ensures present { IfSome result (λ p. Contains pairs.now p) }
+    ensures first { (i : ℕ) → IsNoLater result (slice_get pairs.now i) }
+{
+    let mut best = None;
+    for pair in pairs {
+        best = sooner(best, Some(*pair));
+    }
+    best
+}
+
+impl PlainWheel {
+    /// A wheel with no pair.
+    pub fn new(alloc: Global) -> Result<PlainWheel, AllocError>
+        ensures { IfOk result (λ wheel. wheel ≡ map.empty) }
+    {
+        Ok(PlainWheel {
+            pairs: Vec::new(alloc),
+        })
+    }
+
+    /// Sets the expiry of an id. An `Err` is want of memory, and changes nothing.
+    pub fn put(&mut self, id: u32, expiry: u64) -> Result<(), AllocError>
+        requires { map.len (map.insert self.old id expiry) ≤ MOST_PAIRS }
+        ensures ok { OnOk result (self.new ≡ map.insert self.old id expiry) }
+        ensures err { OnErr result (self.new ≡ self.old) }
+    {
+        let Some(i) = place_of(&self.pairs, id) else {
+            self.pairs.push(Pair { expiry, id })?;
+            return Ok(());
+        };
+        self.pairs[i] = Pair { expiry, id };
+        Ok(())
+    }
+
+    /// Takes out the pair of an id, and tells whether there was one.
+    pub fn remove(&mut self, id: u32) -> bool
+        ensures found { result ≡ map.contains_key self.old id }
+        ensures removed { self.new ≡ map.remove self.old id }
+    {
+        match place_of(&self.pairs, id) {
+            Some(i) => {
+                self.pairs.remove(i);
+                true
+            }
+            None => false,
+        }
+    }
+
+    /// Takes out the pair with the least expiry, then the least id, if that expiry is at most `m`.
+    /// Else it answers `None`, and changes nothing. There are no nodes, and so no steps.
+    pub fn due(&mut self, m: u64) -> Option<u32>
+        ensures next { IfSome result (IsNextDue self.old m) }
+        ensures taken { IfSome result (λ id. self.new ≡ map.remove self.old id) }
+        ensures none { IfNone result ((id expiry : ℕ) → map.get self.old id ≡ Some expiry → m < expiry) }
+        ensures kept { IfNone result (self.new ≡ self.old) }
+    {
+        let Some(next) = soonest(&self.pairs) else {
+            return None;
+        };
+        if m < next.expiry {
+            return None;
+        }
+        self.remove(next.id);
+        Some(next.id)
+    }
+}

@@ -1,0 +1,195 @@
+//! A tree over slots. Each of its nodes keeps the pair that falls due first among those of the slots below it.
+
+ghost use Rattle.std.specs.Prelude.{
+  ◌≡◌,
+  ℕ,
+  ◌+◌,
+  ◌-◌,
+  ◌*◌,
+  ◌/◌,
+  ◌<◌,
+  ◌≤◌,
+  ◌∷◌,
+  ◌++◌,
+  [],
+  length,
+  vec_len,
+  replicate,
+  slice_set,
+  Contains,
+  None,
+  IfOk,
+  OnOk,
+};
+ghost use Rattle.expiry_wheel.specs.IsNoLater.{IsNoLater};
+ghost use Rattle.expiry_wheel.specs.IsTree.{IsTree, HasSlots, node_at, slots_of};
+ghost use Rattle.expiry_wheel.specs.Sooner.{sooner};
+
+use crate::MOST_PAIRS;
+use crate::pair::{Pair, sooner};
+use std::alloc::{AllocError, Global};
+use std::marker::Model;
+use std::sync::ledger::Ledger;
+use step_count::Steps;
+
+/// What a slot or a node keeps.
+pub type Node = Option<Pair>;
+
+/// Slots, and above them the nodes.
+#[derive(Drop)]
+pub struct Tree {
+    nodes: Vec<Node>,
+}
+
+impl Model for Tree {
+    ghost use Rattle.std.specs.Prelude.{List, Option};
+    ghost use Rattle.expiry_wheel.specs.declared.pair.Pair.{Pair};
+    ghost use Rattle.expiry_wheel.specs.IsTree.{IsTree, HasSlots, slots_of};
+
+    ghost Value = { List (Option Pair) };
+
+    ghost view = { λ t. slots_of t.nodes.items };
+
+    ghost invariant = { λ t. HasSlots t.nodes.items × IsTree t.nodes.items };
+}
+
+/// Looks at a node, which is a step. Nothing else that counts steps reads one.
+fn look<L: Ledger>(nodes: &[Node], i: usize, steps: &mut Steps<L>) -> Node
+    requires { i < length nodes.now }
+    ensures value { result ≡ node_at nodes.now i }
+    ensures step { steps.new ≡ steps.old + 1 }
+{
+    steps.tick();
+    nodes[i]
+}
+
+/// What the parent of a node is to be: the sooner of `node`, which stands at `i`, and its sibling.
+fn parent_of<L: Ledger>(nodes: &[Node], i: usize, node: Node, steps: &mut Steps<L>) -> Node
+    requires inner { 1 < i }
+    requires within { 2 * (i / 2) + 1 < length nodes.now }
+    requires stands { node ≡ node_at nodes.now i }
+    ensures value { result ≡ sooner (node_at nodes.now (2 * (i / 2))) (node_at nodes.now (2 * (i / 2) + 1)) }
+    ensures step { steps.new ≡ steps.old + 1 }
+{
+    if i % 2 == 0 {
+        sooner(node, look(nodes, i + 1, steps))
+    } else {
+        sooner(look(nodes, i - 1, steps), node)
+    }
+}
+
+/// Writes a leaf, and the nodes above it.
+fn write<L: Ledger>(nodes: &mut [Node], leaf: usize, node: Node, steps: &mut Steps<L>)
+    requires slots { HasSlots nodes.old }
+    requires tree { IsTree nodes.old }
+    requires leaf { length nodes.old / 2 ≤ leaf }
+    requires within { leaf < length nodes.old }
+    ensures tree { IsTree nodes.new }
+    ensures slots { slots_of nodes.new ≡ slice_set (slots_of nodes.old) (leaf - length nodes.old / 2) node }
+    ensures steps { steps.new ≤ steps.old + 18 }
+{
+    nodes[leaf] = node;
+    let mut i = leaf;
+    let mut kept = node;
+    while i > 1 {
+        kept = parent_of(nodes, i, kept, steps);
+        i /= 2;
+        nodes[i] = kept;
+    }
+}
+
+/// Writes the nodes above the leaves, from the lowest to the root.
+fn fill(nodes: &mut [Node])
+    requires { HasSlots nodes.old }
+    ensures tree { IsTree nodes.new }
+    ensures slots { slots_of nodes.new ≡ slots_of nodes.old }
+{
+    for i in (1..nodes.len() / 2).rev() {
+        nodes[i] = sooner(nodes[2 * i], nodes[2 * i + 1]);
+    }
+}
+
+/// Adds free nodes until there are `count`.
+fn add_free(nodes: &mut Vec<Node>, count: usize) -> Result<(), AllocError>
+    requires { vec_len nodes.old ≤ count }
+    ensures { OnOk result
+        (nodes.new.items ≡ nodes.old.items ++ replicate (count - vec_len nodes.old) None) }
+{
+    nodes.resize(count, None)
+}
+
+/// The same slots and free ones, up to `slots`, with the nodes above them.
+fn widened(alloc: Global, nodes: &[Node], slots: usize) -> Result<Vec<Node>, AllocError>
+    requires slots { HasSlots nodes.now }
+    requires more { length nodes.now / 2 ≤ slots }
+    requires few { slots ≤ MOST_PAIRS }
+    ensures len { IfOk result (λ wider. length wider.items ≡ 2 * slots) }
+    ensures tree { IfOk result (λ wider. IsTree wider.items) }
+    ensures kept { IfOk result (λ wider.
+        (slot : ℕ) → node_at (slots_of wider.items) slot ≡ node_at (slots_of nodes.now) slot) }
+{
+    let mut wider = Vec::with_capacity(alloc, 2 * slots)?;
+    add_free(&mut wider, slots)?;
+    wider.extend_from_slice(&nodes[nodes.len() / 2..])?;
+    add_free(&mut wider, 2 * slots)?;
+    fill(&mut wider);
+    Ok(wider)
+}
+
+impl Tree {
+    /// A tree of one slot, which is free.
+    pub fn new(alloc: Global) -> Result<Tree, AllocError>
+        ensures { IfOk result (λ tree. tree ≡ None ∷ []) }
+    {
+        let nodes = vec![in alloc; None, None]?;
+        Ok(Tree { nodes })
+    }
+
+    /// How many slots there are.
+    pub fn len(&self) -> usize
+        ensures { result ≡ length self.now }
+    {
+        self.nodes.len() / 2
+    }
+
+    /// Makes more slots, which are free, up to twice as many. What the slots keep stays, also where
+    /// memory is wanting.
+    pub fn grow(&mut self, alloc: Global) -> Result<(), AllocError>
+        requires { length self.old < MOST_PAIRS }
+        ensures more { OnOk result (length self.old < length self.new) }
+        ensures kept { (slot : ℕ) → node_at self.new slot ≡ node_at self.old slot }
+    {
+        let slots = self.nodes.len() / 2;
+        let more = MOST_PAIRS.min(2 * slots);
+        self.nodes = widened(alloc, &self.nodes, more)?;
+        Ok(())
+    }
+
+    /// What a slot keeps. It is one step.
+    pub fn slot<L: Ledger>(&self, slot: usize, steps: &mut Steps<L>) -> Node
+        requires { slot < length self.now }
+        ensures value { result ≡ node_at self.now slot }
+        ensures step { steps.new ≡ steps.old + 1 }
+    {
+        look(&self.nodes, self.nodes.len() / 2 + slot, steps)
+    }
+
+    /// Sets what a slot keeps.
+    pub fn set<L: Ledger>(&mut self, slot: usize, node: Node, steps: &mut Steps<L>)
+        requires { slot < length self.old }
+        ensures value { self.new ≡ slice_set self.old slot node }
+        ensures steps { steps.new ≤ steps.old + 18 }
+    {
+        let slots = self.nodes.len() / 2;
+        write(&mut self.nodes, slots + slot, node, steps);
+    }
+
+    /// The pair that falls due first. It is one step.
+    pub fn soonest<L: Ledger>(&self, steps: &mut Steps<L>) -> Node
+        ensures present { Contains self.now result }
+        ensures first { (slot : ℕ) → IsNoLater result (node_at self.now slot) }
+        ensures step { steps.new ≡ steps.old + 1 }
+    {
+        look(&self.nodes, 1, steps)
+    }
+}

@@ -1,0 +1,232 @@
+//! The fast body: slots by their ids, and a tree over the slots.
+
+ghost use Rattle.std.specs.Prelude.{
+  ◌≡◌,
+  ◌==◌,
+  ℕ,
+  ◌+◌,
+  ◌<◌,
+  ◌≤◌,
+  if◌then◌else◌,
+  length,
+  slice_set,
+  unwrap_or,
+  Some,
+  None,
+  IsSome,
+  IfSome,
+  IfNone,
+  IfOk,
+  OnOk,
+  OnErr,
+};
+ghost use Rattle.std.specs.Ordering.{nat_cmp};
+ghost use Rattle.std.specs.BTreeMap.{get, btree_map_len};
+ghost use Rattle.std.specs.FinMap as map;
+ghost use Rattle.expiry_wheel.specs.AreSlots.{expiries_in};
+ghost use Rattle.expiry_wheel.specs.IsNextDue.{IsNextDue};
+ghost use Rattle.expiry_wheel.specs.IsTree.{node_at};
+ghost use Rattle.expiry_wheel.specs.IsWheel.{IsWheel};
+
+use crate::MOST_PAIRS;
+use crate::pair::Pair;
+use crate::tree::{Node, Tree};
+use std::alloc::{AllocError, Global};
+use std::collections::BTreeMap;
+use std::marker::{Brand, Model};
+use std::sync::ledger::{Blank, Ledger};
+use step_count::Steps;
+
+/// Ids with the moments at which they expire, at most `MOST_PAIRS` of them.
+///
+/// It is seen as a finite map from ids to expiries: a list of pairs of an id and an expiry, ids
+/// distinct.
+#[derive(Drop)]
+pub struct Wheel {
+    slots: BTreeMap<u32, usize>,
+    tree: Tree,
+}
+
+impl Model for Wheel {
+    ghost use Rattle.std.specs.Prelude.{ℕ};
+    ghost use Rattle.std.specs.Ordering.{nat_cmp};
+    ghost use Rattle.std.specs.Coded.{coded_ℕ};
+    ghost use Rattle.std.specs.FinMap as map;
+
+    ghost Value = { map.FinMap nat_cmp ℕ };
+
+    ghost coded = { map.code coded_ℕ coded_ℕ };
+
+    ghost use Rattle.expiry_wheel.specs.AreSlots.{expiries_in};
+    ghost use Rattle.expiry_wheel.specs.IsTree.{node_at};
+    ghost use Rattle.expiry_wheel.specs.IsWheel.{IsWheel};
+
+    ghost view = { λ w. expiries_in w.slots.entries (node_at w.tree) };
+
+    ghost invariant = { λ w. IsWheel w.slots w.tree };
+}
+
+/// The first free slot, for which the tree grows if it has none.
+fn free_slot(tree: &mut Tree, alloc: Global, taken: usize) -> Result<usize, AllocError>
+    requires within { taken ≤ length tree.old }
+    requires few { taken < MOST_PAIRS }
+    ensures slot { IfOk result (λ slot. slot ≡ taken) }
+    ensures room { OnOk result (taken < length tree.new) }
+    ensures kept { (slot : ℕ) → node_at tree.new slot ≡ node_at tree.old slot }
+{
+    if taken == tree.len() {
+        tree.grow(alloc)?;
+    }
+    Ok(taken)
+}
+
+/// The slot of an id: its own, or else the first free one.
+fn slot_for(
+    slots: &BTreeMap<u32, usize>,
+    tree: &mut Tree,
+    alloc: Global,
+    id: u32,
+) -> Result<usize, AllocError>
+    requires wheel { IsWheel slots.now tree.old }
+    requires few { get nat_cmp slots.now id ≡ None → btree_map_len slots.now < MOST_PAIRS }
+    ensures slot { IfOk result (λ slot. slot ≡ unwrap_or (get nat_cmp slots.now id) (btree_map_len slots.now)) }
+    ensures room { IfOk result (λ slot. slot < length tree.new) }
+    ensures kept { (slot : ℕ) → node_at tree.new slot ≡ node_at tree.old slot }
+{
+    match slots.get(&id).copied() {
+        Some(slot) => Ok(slot),
+        None => free_slot(tree, alloc, slots.len()),
+    }
+}
+
+/// Sets what a slot keeps, for a caller that counts no steps.
+fn set_uncounted<L: Ledger>(tree: &mut Tree, slot: usize, node: Node, blank: Blank)
+    requires name { blank.name ≡ L.name }
+    requires parts { blank.parts ≡ L.parts }
+    requires some { 0 < L.parts }
+    requires slot { slot < length tree.old }
+    ensures { tree.new ≡ slice_set tree.old slot node }
+{
+    let mut steps = Steps::<L>::begin(blank);
+    tree.set(slot, node, &mut steps);
+}
+
+/// Gives an id that has a slot another one.
+fn relocate(slots: &mut BTreeMap<u32, usize>, id: u32, slot: usize)
+    requires { IsSome (get nat_cmp slots.old id) }
+    ensures moved { (q : ℕ) →
+        get nat_cmp slots.new q ≡ (if q == id then Some slot else get nat_cmp slots.old q) }
+    ensures len { btree_map_len slots.new ≡ btree_map_len slots.old }
+{
+    if let Some(place) = slots.get_mut(&id) {
+        *place = slot;
+    }
+}
+
+/// Takes out the pair in a slot. The pair of the last taken slot moves there, so that the free ones stay last.
+fn vacate<L: Ledger>(
+    slots: &mut BTreeMap<u32, usize>,
+    tree: &mut Tree,
+    id: u32,
+    slot: usize,
+    steps: &mut Steps<L>,
+)
+    requires wheel { IsWheel slots.old tree.old }
+    requires slot { get nat_cmp slots.old id ≡ Some slot }
+    ensures wheel { IsWheel slots.new tree.new }
+    ensures removed { expiries_in slots.new.entries (node_at tree.new)
+        ≡ map.remove (expiries_in slots.old.entries (node_at tree.old)) id }
+    ensures steps { steps.new ≤ steps.old + 37 }
+{
+    let last = slots.len() - 1;
+    let moved = tree.slot(last, steps);
+    tree.set(slot, moved, steps);
+    tree.set(last, None, steps);
+    if let Some(pair) = moved {
+        relocate(slots, pair.id, slot);
+    }
+    slots.remove(&id);
+}
+
+impl Wheel {
+    /// A wheel with no pair.
+    pub fn new(alloc: Global) -> Result<Wheel, AllocError>
+        ensures { IfOk result (λ wheel. wheel ≡ map.empty) }
+    {
+        Ok(Wheel {
+            slots: BTreeMap::new(alloc),
+            tree: Tree::new(alloc)?,
+        })
+    }
+
+    /// Sets the expiry of an id. An `Err` is want of memory, and changes nothing.
+    pub fn put(&mut self, alloc: Global, id: u32, expiry: u64) -> Result<(), AllocError>
+        requires { map.len (map.insert self.old id expiry) ≤ MOST_PAIRS }
+        ensures ok { OnOk result (self.new ≡ map.insert self.old id expiry) }
+        ensures err { OnErr result (self.new ≡ self.old) }
+    {
+        let slot = slot_for(&self.slots, &mut self.tree, alloc, id)?;
+        self.slots.insert(id, slot)?;
+        set_uncounted::<Brand>(
+            &mut self.tree,
+            slot,
+            Some(Pair { expiry, id }),
+            Blank::new(1),
+        );
+        Ok(())
+    }
+
+    /// Takes out the pair of an id, and tells whether there was one.
+    pub fn remove(&mut self, id: u32) -> bool
+        ensures found { result ≡ map.contains_key self.old id }
+        ensures removed { self.new ≡ map.remove self.old id }
+    {
+        self.remove_uncounted::<Brand>(id, Blank::new(1))
+    }
+
+    /// Removes for a caller that counts no steps.
+    fn remove_uncounted<L: Ledger>(&mut self, id: u32, blank: Blank) -> bool
+        requires name { blank.name ≡ L.name }
+        requires parts { blank.parts ≡ L.parts }
+        requires some { 0 < L.parts }
+        ensures found { result ≡ map.contains_key self.old id }
+        ensures removed { self.new ≡ map.remove self.old id }
+    {
+        let mut steps = Steps::<L>::begin(blank);
+        self.take_out(id, &mut steps)
+    }
+
+    /// Removes, and counts the nodes that are looked at.
+    fn take_out<L: Ledger>(&mut self, id: u32, steps: &mut Steps<L>) -> bool
+        ensures found { result ≡ map.contains_key self.old id }
+        ensures removed { self.new ≡ map.remove self.old id }
+        ensures steps { steps.new ≤ steps.old + 37 }
+    {
+        let Some(slot) = self.slots.get(&id).copied() else {
+            return false;
+        };
+        vacate(&mut self.slots, &mut self.tree, id, slot, steps);
+        true
+    }
+
+    /// Takes out the pair with the least expiry, then the least id, if that expiry is at most `m`.
+    /// Else it answers `None`, and changes nothing.
+    ///
+    /// A step is one node of the tree that is looked at.
+    pub fn due<L: Ledger>(&mut self, m: u64, steps: &mut Steps<L>) -> Option<u32>
+        ensures next { IfSome result (IsNextDue self.old m) }
+        ensures taken { IfSome result (λ id. self.new ≡ map.remove self.old id) }
+        ensures none { IfNone result ((id expiry : ℕ) → map.get self.old id ≡ Some expiry → m < expiry) }
+        ensures kept { IfNone result (self.new ≡ self.old) }
+        ensures steps { steps.new ≤ steps.old + 64 }
+    {
+        let Some(next) = self.tree.soonest(steps) else {
+            return None;
+        };
+        if m < next.expiry {
+            return None;
+        }
+        self.take_out(next.id, steps);
+        Some(next.id)
+    }
+}
