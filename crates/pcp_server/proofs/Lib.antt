@@ -3,3 +3,6 @@ pub mod RangeLemmas
 pub mod CoveringLemmas
 pub mod VerdictLemmas
 pub mod PutLemmas
+pub mod FeedLemmas
+pub mod ReadingLemmas
+pub mod WordLemmas

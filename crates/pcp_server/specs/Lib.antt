@@ -1,10 +1,12 @@
 pub mod Decisions
 pub mod Histories
+pub mod LineOctets
 pub mod Lines
 pub mod Outputs
 pub mod OwnedPorts
 pub mod Played
 pub mod Profile
+pub mod Reading
 pub mod Replies
 pub mod Runs
 pub mod ShardStates

@@ -3,9 +3,11 @@
 
 mod decisions;
 mod lines;
+mod readers;
 mod replies;
 mod shards;
 mod statuses;
 mod verdicts;
+mod words;
 
 pub use statuses::Status;
