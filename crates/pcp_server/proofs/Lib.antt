@@ -4,5 +4,6 @@ pub mod CoveringLemmas
 pub mod VerdictLemmas
 pub mod PutLemmas
 pub mod FeedLemmas
+pub mod FieldLemmas
 pub mod ReadingLemmas
 pub mod WordLemmas

@@ -1,6 +1,17 @@
 //! Lines of a script.
+ghost use Rattle.std.specs.Prelude.{◌≡◌, ℕ, ◌<◌, ◌^◌, List, ◌∷◌, ◌++◌, decimal, IfSome, IfNone, IfOk, Err};
+ghost use Rattle.std.specs.List.{AllByRecursion};
+ghost use Rattle.pcp_base.specs.declared.datagrams.Datagram.{Datagram};
+ghost use Rattle.pcp_server.specs.Fields.{IsWord, AreFields};
+ghost use Rattle.pcp_server.specs.LineOctets.{HasOctets};
+ghost use Rattle.pcp_server.specs.Lines.{IsLine, IsPacket, IsHexField};
+ghost use Rattle.pcp_server.specs.declared.lines.Line.{Line};
 
-use pcp_base::{Datagram, Moment};
+use crate::words::read_moment;
+use hex::FromHexError;
+use pcp_base::{Address, Datagram, Moment, Octets, read_number};
+use std::alloc::Global;
+use thiserror::Error;
 
 /// A line of a script.
 #[derive(Debug, Drop)]
@@ -9,4 +20,114 @@ pub enum Line {
     Skip,
     /// A datagram that comes at a moment.
     Packet(Moment, Datagram),
+}
+
+/// Why no line was read.
+#[derive(Clone, Copy, Debug, PartialEq, Eq, Error)]
+pub(crate) enum LineRefused {
+    /// The text stands for no line.
+    #[error("not a line")]
+    NotLine,
+    /// No memory was found.
+    #[error("out of memory")]
+    Memory,
+}
+
+// What stands between the spaces of a packet's line, behind its first word.
+#[derive(Clone, Copy)]
+struct Fields<'a> {
+    moment: &'a [u8],
+    peer: &'a [u8],
+    port: &'a [u8],
+    hex: &'a [u8],
+}
+
+// A field of hexadecimal digits has at most these, two for each octet.
+const MOST_DIGITS: usize = 4096;
+
+/// The line that the text stands for, without its line feed.
+pub(crate) fn read_line(alloc: Global, text: &[u8]) -> Result<Line, LineRefused>
+    ensures line { IfOk result (IsLine text.now) }
+    ensures octets { IfOk result HasOctets }
+    ensures refused { result ≡ Err LineRefused.NotLine → (line : Line) → ¬ (IsLine text.now line) }
+{
+    match text {
+        [] | [b'#', ..] => Ok(Line::Skip),
+        _ => {
+            let (moment, from) = read_packet(alloc, text)?;
+            Ok(Line::Packet(moment, from))
+        }
+    }
+}
+
+fn read_packet(alloc: Global, text: &[u8]) -> Result<(Moment, Datagram), LineRefused>
+    ensures packet { IfOk result (λ p. IsPacket text.now p.0 p.1) }
+    ensures octets { IfOk result (λ p. AllByRecursion (λ x. x < 256) p.1.octets) }
+    ensures refused { result ≡ Err LineRefused.NotLine → (moment : ℕ) (from : Datagram) → ¬ (IsPacket text.now moment from) }
+{
+    let Some(fields) = fields_of(text) else {
+        return Err(LineRefused::NotLine);
+    };
+    let Some(moment) = read_moment(fields.moment) else {
+        return Err(LineRefused::NotLine);
+    };
+    let Ok(peer) = Address::read(fields.peer) else {
+        return Err(LineRefused::NotLine);
+    };
+    let Some(port) = read_port(fields.port) else {
+        return Err(LineRefused::NotLine);
+    };
+    let octets = read_octets(alloc, fields.hex)?;
+    Ok((moment, Datagram { peer, port, octets }))
+}
+
+fn fields_of(text: &[u8]) -> Option<Fields<'_>>
+    ensures fields { IfSome result (λ f. AreFields text.now f.moment.now f.peer.now f.port.now f.hex.now) }
+    ensures none { IfNone result ((moment peer port hex : List ℕ) → ¬ (AreFields text.now moment peer port hex)) }
+{
+    let rest = text.strip_prefix(b"packet ")?;
+    let (moment, rest) = split_at_space(rest)?;
+    let (peer, rest) = split_at_space(rest)?;
+    let (port, hex) = split_at_space(rest)?;
+    Some(Fields {
+        moment,
+        peer,
+        port,
+        hex,
+    })
+}
+
+// What stands before the first space, and what behind it.
+fn split_at_space(text: &[u8]) -> Option<(&[u8], &[u8])>
+    ensures parts { IfSome result (λ parts. (text.now ≡ parts.0.now ++ 32 ∷ parts.1.now) × IsWord parts.0.now) }
+    ensures none { IfNone result (IsWord text.now) }
+{
+    let at = text.iter().position(|c| *c == b' ')?;
+    Some((&text[..at], &text[at + 1..]))
+}
+
+fn read_port(text: &[u8]) -> Option<u16>
+    ensures value { IfSome result (λ port. (text.now ≡ decimal port) × (port < 2 ^ 16)) }
+    ensures none { IfNone result ((port : ℕ) → port < 2 ^ 16 → ¬ (text.now ≡ decimal port)) }
+{
+    let port = read_number(text, u64::from(u16::MAX))?;
+    Some(port as u16)
+}
+
+fn read_octets(alloc: Global, text: &[u8]) -> Result<Octets, LineRefused>
+    ensures field { IfOk result (IsHexField text.now) }
+    ensures octets { IfOk result (AllByRecursion (λ x. x < 256)) }
+    ensures refused { result ≡ Err LineRefused.NotLine → (octets : List ℕ) → ¬ (IsHexField text.now octets) }
+{
+    if matches!(text, [b'-']) {
+        return Ok(Octets::of(Vec::new(alloc)));
+    }
+    if text.is_empty() || text.len() > MOST_DIGITS {
+        return Err(LineRefused::NotLine);
+    }
+    match hex::decode(alloc, text) {
+        Ok(octets) => Ok(Octets::of(octets)),
+        Err(FromHexError::OutOfMemory) => Err(LineRefused::Memory),
+        Err(_) => Err(LineRefused::NotLine),
+    }
 }

@@ -1,5 +1,5 @@
 //! The words of a command.
-ghost use Rattle.std.specs.Prelude.{ℕ, IfSome, IfNone, map, string_bytes};
+ghost use Rattle.std.specs.Prelude.{◌≡◌, ℕ, ◌<◌, ◌^◌, decimal, IfSome, IfNone, map, string_bytes};
 ghost use Rattle.pcp_server.specs.Words.{IsPlay};
 
 use pcp_base::{Moment, read_number};
@@ -18,5 +18,13 @@ pub(crate) fn start_of(words: &[String]) -> Option<Moment>
     if play.as_str() != "play" || config.is_empty() || script.is_empty() || journals.is_empty() {
         return None;
     }
-    Moment::of(read_number(start.as_bytes(), LAST)?)
+    read_moment(start.as_bytes())
+}
+
+/// The moment that the text writes in decimal, without a leading zero.
+pub(crate) fn read_moment(text: &[u8]) -> Option<Moment>
+    ensures value { IfSome result (λ moment. (text.now ≡ decimal moment) × (moment < 2 ^ 40)) }
+    ensures none { IfNone result ((moment : ℕ) → moment < 2 ^ 40 → ¬ (text.now ≡ decimal moment)) }
+{
+    Moment::of(read_number(text, LAST)?)
 }

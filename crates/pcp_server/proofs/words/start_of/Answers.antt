@@ -1,14 +1,8 @@
 use Rattle.std.proofs.Common.{◌≢◌, sym, ap, ◌∙◌, arith, [], codes, length, string_bytes}
 use Rattle.std.proofs.lemmas.Bool.{eqb-false}
 use Rattle.std.proofs.lemmas.Slice.Eq.{bytes_eq-Decides}
-use Rattle.pcp_server.proofs.WordLemmas.{same_true, five-texts, last-text, IsPlay-found}
+use Rattle.pcp_server.proofs.WordLemmas.{same_true, five-texts, IsPlay-found, IsPlay-missed}
 use Rattle.pcp_server.proofs.words.start_of.Goals as goal
-
-pub returns-in_err-read_number-clause-none : goal.returns-in_err-read_number-clause-none
-returns-in_err-read_number-clause-none c =
-    let texts = five-texts string_bytes c.args.words.now c.play-item.result c.config-item.result c.script-item.result c.journals-item.result c.start-item.result (omega arith) c.play-item.is c.config-item.is c.script-item.is c.journals-item.is c.start-item.is in
-    rw c.from_residual.ensures (λ start h.
-    c.in_err-read_number.ensures.none start (omega (arith, h.start_end)) (c.as_bytes.ensures.value ∙ last-text _ _ _ _ _ _ start texts h))
 
 pub returns-clause-value : goal.returns-clause-value
 returns-clause-value c =
@@ -17,5 +11,11 @@ returns-clause-value c =
     let config : string_bytes c.config-item.result ≢ [] = λ e. eqb-false _ 0 (sym c.is_empty.ensures ∙ c.if-is_empty.false) (c.config-item.result.bytes.ok.0 ∙ ap length e) in
     let script : string_bytes c.script-item.result ≢ [] = λ e. eqb-false _ 0 (sym c.is_empty-else-is_empty.ensures ∙ c.if-is_empty-2.false) (c.script-item.result.bytes.ok.0 ∙ ap length e) in
     let journals : string_bytes c.journals-item.result ≢ [] = λ e. eqb-false _ 0 (sym c.is_empty-else-is_empty-2.ensures ∙ c.if-is_empty-3.false) (c.journals-item.result.bytes.ok.0 ∙ ap length e) in
-    let number = sym c.as_bytes.ensures.value ∙ c.in_ok-read_number.ensures.value.0 in
-    IsPlay-found _ _ _ _ c.in_ok-read_number.field-0 c.of.result c.of.ensures (rw (sym c.as_str.ensures.value ∙ play, number) at texts) config script journals
+    let found = rw c.as_bytes.ensures.value at c.read_moment.ensures.value in
+    IsPlay-found _ _ _ _ _ c.read_moment.result found (rw (sym c.as_str.ensures.value ∙ play) at texts) config script journals
+
+pub returns-clause-none : goal.returns-clause-none
+returns-clause-none c =
+    let texts = five-texts string_bytes c.args.words.now c.play-item.result c.config-item.result c.script-item.result c.journals-item.result c.start-item.result (omega arith) c.play-item.is c.config-item.is c.script-item.is c.journals-item.is c.start-item.is in
+    let missed = rw c.as_bytes.ensures.value at c.read_moment.ensures.none in
+    IsPlay-missed _ _ _ _ _ _ c.read_moment.result missed texts
