@@ -1,5 +1,7 @@
 pub mod Decimals
+pub mod Members
 pub mod Same
 pub mod AddressLemmas
 pub mod Decimals
 pub mod PrefixLemmas
+pub mod TableLemmas
