@@ -313,7 +313,7 @@ Sound-pushed t l h formed r = record {
 }
 
 -- a lease that doesn't cover an endpoint hasn't it as its key
-other_key : (x : MapLease) (e : Endpoint) → 0 < x.count → covers x e ≡ false → is_map_of e x ≡ false
+pub other_key : (x : MapLease) (e : Endpoint) → 0 < x.count → covers x e ≡ false → is_map_of e x ≡ false
 other_key x e some h = false_from_ne_true (is_map_of e x) (λ yes.
     let covered : covers x e ≡ true = subst (λ (z : Endpoint). covers x z ≡ true) ((same_endpoint-Decides (first_endpoint x) e).0 yes) (covers-first x some) in
     absurd cc)
@@ -324,3 +324,33 @@ Sound-put_new t l h formed r =
     let keys : AllByRecursion (λ x. is_map_of (first_endpoint l) x ≡ false) t.maps = All-from_IsIn (λ x. is_map_of (first_endpoint l) x ≡ false) t.maps
     (λ x a. other_key x (first_endpoint l) (All-IsIn IsMapLease t.maps x h.maps a).some (All-IsIn (λ y. covers y (first_endpoint l) ≡ false) t.maps x r.uncovered a)) in
     subst (λ (maps : List MapLease). Sound (record t { maps = maps })) (sym (put-end t.maps l keys)) (Sound-pushed t l h formed r)
+
+-- two leases with one key are one lease
+pub same_key : (maps : List MapLease) (a b : MapLease) → EachTwo AreApart maps → AllByRecursion IsMapLease maps → IsIn a maps → IsIn b maps →
+    first_endpoint a ≡ first_endpoint b → a ≡ b
+same_key [] a b apart formed h k same = absurd h
+same_key (x ∷ xs) a b apart formed (inl e) (inl f) same = sym e ∙ f
+same_key (x ∷ xs) a b apart formed (inr h) (inr k) same = same_key xs a b apart.1 formed.1 h k same
+same_key (x ∷ xs) a b apart formed (inl e) (inr k) same =
+    let formed_b = All-IsIn IsMapLease xs b formed.1 k in
+    let at : first_endpoint x ≡ first_endpoint b = ap first_endpoint e ∙ same in
+    absurd (All-IsIn (AreApart x) xs b apart.0 k (first_endpoint b)
+    (subst (λ (z : Endpoint). covers x z ≡ true) at (covers-first x formed.0.some)) (covers-first b formed_b.some))
+same_key (x ∷ xs) a b apart formed (inr h) (inl f) same =
+    let formed_a = All-IsIn IsMapLease xs a formed.1 h in
+    let at : first_endpoint x ≡ first_endpoint a = ap first_endpoint f ∙ sym same in
+    absurd (All-IsIn (AreApart x) xs a apart.0 h (first_endpoint a)
+    (subst (λ (z : Endpoint). covers x z ≡ true) at (covers-first x formed.0.some)) (covers-first a formed_a.some))
+
+-- a lease stays where another is put, but where it has the key
+pub put-keeps : (has_key : MapLease → Bool) (l new : MapLease) (maps : List MapLease) → IsIn l maps → IsIn l (put has_key new maps) ⊎ (has_key l ≡ true)
+put-keeps has_key l new [] h = absurd h
+put-keeps has_key l new (x ∷ xs) (inl e) =
+    cond_both (has_key x) (new ∷ xs) (x ∷ put has_key new xs) (λ ys. IsIn l ys ⊎ (has_key l ≡ true)) (λ yes. inr (rw e at yes)) (λ _. inl (inl e))
+put-keeps has_key l new (x ∷ xs) (inr h) =
+    cond_both (has_key x) (new ∷ xs) (x ∷ put has_key new xs) (λ ys. IsIn l ys ⊎ (has_key l ≡ true)) (λ _. inl (inr h))
+    (λ _. elim (put-keeps has_key l new xs h) [ inl a ↦ inl (inr a) | inr k ↦ inr k ])
+
+-- the key of a lease
+pub key-same : (a b : MapLease) → is_map_of (first_endpoint b) a ≡ true → first_endpoint a ≡ first_endpoint b
+key-same a b h = (same_endpoint-Decides (first_endpoint a) (first_endpoint b)).0 h

@@ -7,3 +7,9 @@ pub mod FeedLemmas
 pub mod FieldLemmas
 pub mod ReadingLemmas
 pub mod WordLemmas
+pub mod AskLemmas
+pub mod Deeds
+pub mod HistoryLaws
+pub mod LineOctets
+pub mod ProfileLemmas
+pub mod Steps
