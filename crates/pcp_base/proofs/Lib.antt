@@ -1,4 +1,5 @@
 pub mod Decimals
+pub mod FitLemmas
 pub mod Members
 pub mod Same
 pub mod AddressLemmas

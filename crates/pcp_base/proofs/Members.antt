@@ -1,5 +1,5 @@
 -- Members of a list, by recursion on it, and what holds of each two of them.
-use Rattle.std.specs.Prelude.{◌≡◌, refl, ℕ, ◌+◌, ◌<◌, ◌≤◌, ◌⊎◌, zero, suc, Bool, true, false, List, [], ◌∷◌, ◌++◌, map, flat_map, filter, find, Contains, Some, None}
+use Rattle.std.specs.Prelude.{◌≡◌, refl, ℕ, ◌+◌, ◌<◌, ◌≤◌, ◌⊎◌, zero, suc, Bool, true, false, List, [], ◌∷◌, ◌++◌, map, flat_map, filter, find, Contains, Some, None, IsSome}
 use Rattle.std.specs.List.{AllByRecursion, AllZip, list_any, range_with_len}
 use Rattle.std.proofs.Common.{inl, inr, ap, arith}
 use Rattle.std.proofs.lemmas.Bool.{cond_both, or_parts}
@@ -158,3 +158,10 @@ AllZip-IsIn R [] (v ∷ ys) z y h = absurd z
 AllZip-IsIn R (x ∷ xs) [] z y h = absurd z
 AllZip-IsIn R (x ∷ xs) (v ∷ ys) z y (inl e) = (x, inl refl, rw e at z.0)
 AllZip-IsIn R (x ∷ xs) (v ∷ ys) z y (inr h) = let r = AllZip-IsIn R xs ys z.1 y h in (r.0, inr r.1, r.2)
+
+-- a look-up gives some where one passes
+pub find-IsIn : {X : Type 0} (p : X → Bool) (xs : List X) (x : X) → IsIn x xs → p x ≡ true → IsSome (find p xs)
+find-IsIn p [] x h e = absurd h
+find-IsIn p (y ∷ ys) x (inl same) e =
+    cond_both (p y) (Some y) (find p ys) (λ o. IsSome o) (λ _. refl) (λ no. absurd (let yes : p y ≡ true = rw (← same) at e in cc))
+find-IsIn p (y ∷ ys) x (inr h) e = cond_both (p y) (Some y) (find p ys) (λ o. IsSome o) (λ _. refl) (λ _. find-IsIn p ys x h e)

@@ -354,3 +354,6 @@ put-keeps has_key l new (x ∷ xs) (inr h) =
 -- the key of a lease
 pub key-same : (a b : MapLease) → is_map_of (first_endpoint b) a ≡ true → first_endpoint a ≡ first_endpoint b
 key-same a b h = (same_endpoint-Decides (first_endpoint a) (first_endpoint b)).0 h
+
+pub key-own : (l : MapLease) → is_map_of (first_endpoint l) l ≡ true
+key-own l = (same_endpoint-Decides (first_endpoint l) (first_endpoint l)).1 refl

@@ -8,6 +8,7 @@ pub mod FieldLemmas
 pub mod ReadingLemmas
 pub mod WordLemmas
 pub mod AskLemmas
+pub mod DecisionLemmas
 pub mod Deeds
 pub mod HistoryLaws
 pub mod LineOctets

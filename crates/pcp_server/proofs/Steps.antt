@@ -43,7 +43,7 @@ nonce_of_key t m nonce lease l sound there own h key =
     let same = same_key (live t m).maps l lease s.apart s.maps h there (key-same l lease key) in
     sym own ∙ ap (λ (x : MapLease). x.nonce) (sym same)
 
-new-IsMapLease : (config : Config) (external : External) (t : Table) (m : ℕ) (ask : MapAsk) (port : ℕ) → IsExternal external → external.high < 65536 →
+pub new-IsMapLease : (config : Config) (external : External) (t : Table) (m : ℕ) (ask : MapAsk) (port : ℕ) → IsExternal external → external.high < 65536 →
     IsMapAsk ask → ask.endpoint.port < 65536 → IsFreePort external t m ask.endpoint.protocol port → IsMapLease (new_lease config m ask port)
 new-IsMapLease config external t m ask port x high formed fits free = record {
   internal = formed.internal;
