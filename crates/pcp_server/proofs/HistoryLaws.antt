@@ -23,10 +23,11 @@ use Rattle.pcp_server.specs.declared.lines.Line.{Line}
 use Rattle.pcp_server.specs.declared.lines.Line.TheVariants.{Skip, Packet}
 use Rattle.pcp_server.specs.Verdicts.{verdict_of}
 use Rattle.pcp_server.specs.Histories.{Shard, asked, decided_on, kept_in, after, IsAnswer, IsLegal, HasOneOwner, HasItsNonce, IsSafe, entry_of}
-use Rattle.pcp_server.specs.Outputs.{after_all, history_of}
-use Rattle.pcp_server.specs.Played.{started}
+use Rattle.pcp_server.specs.Outputs.{after_all, history_of, out_of}
+use Rattle.pcp_server.specs.Lines.{AreLines}
+use Rattle.pcp_server.specs.Played.{AreAnswered, started}
 use Rattle.pcp_server.proofs.AskLemmas.{IsAskOf-asked}
-use Rattle.pcp_server.proofs.LineOctets.{HasOctets}
+use Rattle.pcp_server.proofs.LineOctets.{HasOctets, HasOctets-lines}
 use Rattle.pcp_server.proofs.Steps.{IsStep, IsStep-decide}
 
 -- what holds of a shard between two entries
@@ -141,3 +142,17 @@ history_IsLegal config external start lines x high octets = legal_from config ex
 pub history_IsSafe : (config : Config) (external : External) (start : ℕ) (lines : List Line) → IsExternal external → external.high < 65536 →
     AllByRecursion HasOctets lines → IsSafe (started start) (history_of config external (started start) lines)
 history_IsSafe config external start lines x high octets = safe_from config external x high (started start) lines (IsKeptShard-started start) octets
+
+-- Lines that are read and whose results are written are answered.
+pub AreAnswered-lines : (config : Config) (external : External) (start : ℕ) (texts : List (List ℕ)) (lines : List Line) (written : List ℕ) →
+    IsExternal external → external.high < 65536 → AreLines texts lines → written ≡ out_of config external (started start) lines →
+    AreAnswered config external start texts written
+AreAnswered-lines config external start texts lines written x high read results =
+    let octets = HasOctets-lines texts lines read in
+    record {
+      lines = lines;
+      read = read;
+      results = results;
+      legal = history_IsLegal config external start lines x high octets;
+      safe = history_IsSafe config external start lines x high octets;
+    }
