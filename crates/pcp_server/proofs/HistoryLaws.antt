@@ -133,6 +133,21 @@ module _ (config : Config) (external : External) (x : IsExternal external) (high
       (λ heard. let lawful = IsLawful-entry shard m from h octets.0 heard in
       (lawful.one_owner, lawful.nonce, safe_from (after shard (entry_of config external shard m from)) lines lawful.kept octets.1))
 
+  kept_from : (shard : Shard) (lines : List Line) → IsKeptShard shard → AllByRecursion HasOctets lines →
+      IsKeptShard (after_all shard (history_of config external shard lines))
+  kept_from shard [] h octets = h
+  kept_from shard (Skip ∷ lines) h octets = kept_from shard lines h octets.1
+  kept_from shard (Packet m from ∷ lines) h octets =
+      cond_both (is_silent from.octets) [] (entry_of config external shard m from ∷ [])
+      (λ es. IsKeptShard (after_all shard (es ++ history_of config external (after_all shard es) lines)))
+      (λ _. kept_from shard lines h octets.1)
+      (λ heard. kept_from (after shard (entry_of config external shard m from)) lines (IsLawful-entry shard m from h octets.0 heard).kept octets.1)
+
+-- The table behind the lines is sound.
+pub history_IsKept : (config : Config) (external : External) (start : ℕ) (lines : List Line) → IsExternal external → external.high < 65536 →
+    AllByRecursion HasOctets lines → IsKeptShard (after_all (started start) (history_of config external (started start) lines))
+history_IsKept config external start lines x high octets = kept_from config external x high (started start) lines (IsKeptShard-started start) octets
+
 -- The history of a script's lines is the lease table's.
 pub history_IsLegal : (config : Config) (external : External) (start : ℕ) (lines : List Line) → IsExternal external → external.high < 65536 →
     AllByRecursion HasOctets lines → IsLegal config external (started start) (history_of config external (started start) lines)

@@ -11,6 +11,7 @@ pub mod AskLemmas
 pub mod DecisionLemmas
 pub mod Deeds
 pub mod HistoryLaws
+pub mod HistorySteps
 pub mod LineOctets
 pub mod ProfileLemmas
 pub mod Steps
