@@ -1,8 +1,7 @@
+pub mod AddressLemmas
 pub mod Decimals
 pub mod FitLemmas
 pub mod Members
-pub mod Same
-pub mod AddressLemmas
-pub mod Decimals
 pub mod PrefixLemmas
+pub mod Same
 pub mod TableLemmas
