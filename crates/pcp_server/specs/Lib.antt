@@ -6,6 +6,7 @@ pub mod Lines
 pub mod Outputs
 pub mod OwnedPorts
 pub mod Played
+pub mod Playing
 pub mod Profile
 pub mod Reading
 pub mod Replies

@@ -3,8 +3,11 @@
 
 mod decisions;
 mod lines;
+mod outputs;
+mod profiles;
 mod readers;
 mod replies;
+mod run;
 mod shards;
 mod statuses;
 mod verdicts;

@@ -1,0 +1,78 @@
+-- A run of `play` in the middle of its script (our own): what was read and answered so far.
+use Rattle.std.specs.Prelude.{◌≡◌, ℕ, ◌+◌, ◌<◌, ◌≤◌, List, [], ◌∷◌, ◌++◌, length, flat_map, Option, Some, Result, Ok, Err}
+use Rattle.std.specs.List.{AllByRecursion}
+use Rattle.std.specs.Io.KnownBytes.{prepend_known, append_known}
+use Rattle.pcp_io.specs.Faults.{HasRisen}
+use Rattle.pcp_io.specs.Writes.{WritesPart}
+use Rattle.pcp_base.specs.declared.configs.Config.{Config}
+use Rattle.pcp_base.specs.declared.configs.External.{External}
+use Rattle.pcp_server.specs.declared.lines.Line.{Line}
+use Rattle.pcp_server.specs.declared.lines.LineRefused.{LineRefused}
+use Rattle.pcp_server.specs.declared.lines.LineRefused.TheVariants as Refused
+use Rattle.pcp_server.specs.declared.statuses.Status.{Status}
+use Rattle.pcp_server.specs.declared.run.Turn.{Turn}
+use Rattle.pcp_server.specs.declared.run.Turn.TheVariants.{More, Over}
+use Rattle.pcp_server.specs.declared.run.TextFault.{TextFault}
+use Rattle.pcp_server.specs.declared.run.TextFault.TheVariants.{NotLine, Write, Memory}
+use Rattle.pcp_server.specs.ShardStates.{ShardState}
+use Rattle.pcp_server.specs.Reading.{Reading, rest_of}
+use Rattle.pcp_server.specs.Lines.{AreLines, IsLine, IsUnbroken, ended}
+use Rattle.pcp_server.specs.Runs.{after_all, entries_of, history_of, line_text, out_of}
+use Rattle.pcp_server.specs.Played.{IsPlayed, started}
+
+-- These lines were read, each with its line feed, and answered, before the one with this number.
+pub record IsUnderway (config : Config) (external : External) (start number : ℕ) (script before : List ℕ) (shard : ShardState) (reading : Reading) (left held : Option (List ℕ)) : Type 0 where
+  pub texts : List (List ℕ)
+  pub lines : List Line
+  pub read : AreLines texts lines
+  pub unbroken : AllByRecursion IsUnbroken texts
+  pub count : number ≡ length texts + 1
+  pub script_is : Some script ≡ prepend_known (flat_map ended texts) (rest_of reading left)
+  pub used : reading.used ≡ length (flat_map ended texts)
+  pub shard_is : shard ≡ after_all (started start) (history_of config external (started start) lines)
+  pub held_is : held ≡ Some (before ++ out_of config external (started start) lines)
+
+-- a run over: what it left of the script and wrote, by its status
+pub record IsOver (config : Config) (external : External) (start : ℕ) (script before : List ℕ) (left held : Option (List ℕ)) (status : Status) : Type 0 where
+  pub rest : List ℕ
+  pub written : List ℕ
+  pub left_is : left ≡ Some rest
+  pub held_is : held ≡ Some (before ++ written)
+  pub played : IsPlayed config external start script rest written status
+
+-- a turn goes on to the next line, or ends the run
+abbrev pub IsTurned : Config → External → (start number : ℕ) → (script before : List ℕ) → ShardState → Reading → (left held : Option (List ℕ)) → Turn → Type 0
+IsTurned config external start number script before shard reading left held More =
+    IsUnderway config external start (number + 1) script before shard reading left held
+IsTurned config external start number script before shard reading left held (Over status) =
+    IsOver config external start script before left held status
+
+-- what a line prints, and what it leaves of the shard
+pub record PrintsLine (config : Config) (external : External) (line : Line) (old new : ShardState) (text : List ℕ) : Type 0 where
+  pub text_is : text ≡ line_text line (entries_of config external old line)
+  pub shard_is : new ≡ after_all old (entries_of config external old line)
+
+-- a text that is no line, and want of memory, are told as they are
+abbrev pub fault_of_line : LineRefused → TextFault
+fault_of_line Refused.NotLine = NotLine
+fault_of_line Refused.Memory = Memory
+
+-- the text is a line, and its result is written
+pub record Answers (config : Config) (external : External) (text : List ℕ) (old new : ShardState) (before now : Option (List ℕ)) : Type 0 where
+  pub line : Line
+  pub read : IsLine text line
+  pub shard_is : new ≡ after_all old (entries_of config external old line)
+  pub held_is : now ≡ append_known before (line_text line (entries_of config external old line))
+
+-- the text is a line, and its result is written in part
+pub record AnswersPart (config : Config) (external : External) (text : List ℕ) (old : ShardState) (before now : Option (List ℕ)) : Type 0 where
+  pub line : Line
+  pub read : IsLine text line
+  pub part : WritesPart before now (line_text line (entries_of config external old line))
+
+-- what a fault at a text leaves
+abbrev pub Fails : Config → External → List ℕ → ShardState → (before now : Option (List ℕ)) → (faults faults_now : ℕ) → TextFault → Type 0
+Fails config external text old before now faults faults_now NotLine = ((line : Line) → ¬ (IsLine text line)) × (now ≡ before)
+Fails config external text old before now faults faults_now Write =
+    AnswersPart config external text old before now × HasRisen faults faults_now
+Fails config external text old before now faults faults_now Memory = now ≡ before
