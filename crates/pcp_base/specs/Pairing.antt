@@ -5,10 +5,11 @@ use Rattle.std.specs.Int.{from_be_bytes, w128}
 use Rattle.pcp_base.specs.declared.addresses.Address.{Address}
 use Rattle.pcp_base.specs.declared.addresses.Prefix.{Prefix}
 use Rattle.pcp_base.specs.declared.configs.Subscriber.{Subscriber}
+use Rattle.pcp_base.specs.AddressTexts.{v4_front}
 
 -- the 16 octets of the IPv4 address a.b.c.d (RFC 6887, section 5)
 abbrev pub v4_octets : ℕ → ℕ → ℕ → ℕ → List ℕ
-v4_octets a b c d = replicate 10 0 ++ 255 ∷ 255 ∷ a ∷ b ∷ c ∷ d ∷ []
+v4_octets a b c d = v4_front ++ a ∷ b ∷ c ∷ d ∷ []
 
 -- the first bits of an address, as a number
 abbrev pub leading : ℕ → Address → ℕ
