@@ -3,6 +3,8 @@ pub mod RangeLemmas
 pub mod CoveringLemmas
 pub mod VerdictLemmas
 pub mod PutLemmas
+pub mod PlayGiven
+pub mod PlayLemmas
 pub mod FeedLemmas
 pub mod FieldLemmas
 pub mod ReadingLemmas

@@ -1,5 +1,5 @@
 -- A run of `play` in the middle of its script (our own): what was read and answered so far.
-use Rattle.std.specs.Prelude.{◌≡◌, ℕ, ◌+◌, ◌<◌, ◌≤◌, List, [], ◌∷◌, ◌++◌, length, flat_map, Option, Some, Result, Ok, Err}
+use Rattle.std.specs.Prelude.{◌≡◌, ℕ, ◌+◌, ◌<◌, ◌≤◌, ◌⊎◌, List, [], ◌∷◌, ◌++◌, length, flat_map, Option, Some, Result, Ok, Err}
 use Rattle.std.specs.List.{AllByRecursion}
 use Rattle.std.specs.Io.KnownBytes.{prepend_known, append_known}
 use Rattle.pcp_io.specs.Faults.{HasRisen}
@@ -10,10 +10,14 @@ use Rattle.pcp_server.specs.declared.lines.Line.{Line}
 use Rattle.pcp_server.specs.declared.lines.LineRefused.{LineRefused}
 use Rattle.pcp_server.specs.declared.lines.LineRefused.TheVariants as Refused
 use Rattle.pcp_server.specs.declared.statuses.Status.{Status}
+use Rattle.pcp_server.specs.declared.statuses.Status.TheVariants as Statuses
 use Rattle.pcp_server.specs.declared.run.Turn.{Turn}
 use Rattle.pcp_server.specs.declared.run.Turn.TheVariants.{More, Over}
 use Rattle.pcp_server.specs.declared.run.TextFault.{TextFault}
 use Rattle.pcp_server.specs.declared.run.TextFault.TheVariants.{NotLine, Write, Memory}
+use Rattle.pcp_server.specs.declared.readers.Ending.{Ending}
+use Rattle.pcp_server.specs.declared.readers.Ending.TheVariants as Endings
+use Rattle.pcp_base.specs.Configs.{IsExternal}
 use Rattle.pcp_server.specs.ShardStates.{ShardState}
 use Rattle.pcp_server.specs.Reading.{Reading, rest_of}
 use Rattle.pcp_server.specs.Lines.{AreLines, IsLine, IsUnbroken, ended}
@@ -22,6 +26,7 @@ use Rattle.pcp_server.specs.Played.{IsPlayed, started}
 
 -- These lines were read, each with its line feed, and answered, before the one with this number.
 pub record IsUnderway (config : Config) (external : External) (start number : ℕ) (script before : List ℕ) (shard : ShardState) (reading : Reading) (left held : Option (List ℕ)) : Type 0 where
+  pub ports : IsExternal external × (external.high < 65536)
   pub texts : List (List ℕ)
   pub lines : List Line
   pub read : AreLines texts lines
@@ -76,3 +81,24 @@ Fails config external text old before now faults faults_now NotLine = ((line : L
 Fails config external text old before now faults faults_now Write =
     AnswersPart config external text old before now × HasRisen faults faults_now
 Fails config external text old before now faults faults_now Memory = now ≡ before
+
+-- the status of a fault at the line with this number
+abbrev pub status_at : ℕ → TextFault → Status
+status_at number NotLine = Statuses.ScriptRefused number
+status_at number Write = Statuses.WriteFault
+status_at number Memory = Statuses.Memory
+
+-- a line's text is answered and the run goes on so, or the run ends by a fault
+abbrev pub AnswersOrFails : Config → External → (number : ℕ) → (text : List ℕ) → (next : Turn) → (old new : ShardState) → (before now : Option (List ℕ)) → (faults faults_now : ℕ) → Turn → Type 0
+AnswersOrFails config external number text next old new before now faults faults_now turn =
+    ((turn ≡ next) × Answers config external text old new before now)
+    ⊎ ((fault : TextFault) × (turn ≡ Over (status_at number fault)) × Fails config external text old before now faults faults_now fault)
+
+-- the turn of a line that ended so
+abbrev pub EndsTurn : Config → External → (number : ℕ) → (text : List ℕ) → Ending → (old new : ShardState) → (before now : Option (List ℕ)) → (faults faults_now : ℕ) → Turn → Type 0
+EndsTurn config external number text Endings.End old new before now faults faults_now turn = (turn ≡ Over Statuses.Done) × (now ≡ before)
+EndsTurn config external number text Endings.Refused old new before now faults faults_now turn = (turn ≡ Over (Statuses.ScriptRefused number)) × (now ≡ before)
+EndsTurn config external number text Endings.Feed old new before now faults faults_now turn =
+    AnswersOrFails config external number text More old new before now faults faults_now turn
+EndsTurn config external number text Endings.Last old new before now faults faults_now turn =
+    AnswersOrFails config external number text (Over Statuses.Done) old new before now faults faults_now turn

@@ -1,14 +1,15 @@
 //! A script is played: line by line its requests are answered from a lease table.
-ghost use Rattle.std.specs.Prelude.{◌≡◌, ℕ, ◌+◌, ◌<◌, ◌≤◌, ◌^◌, ◌++◌, List, Some, map, IfOk, IfErr, OnErr, MatchResult, string_bytes};
+ghost use Rattle.std.specs.Prelude.{◌≡◌, ℕ, ◌+◌, ◌<◌, ◌≤◌, ◌^◌, ◌++◌, List, Some, map, IfOk, IfErr, OnOk, string_bytes};
 ghost use Rattle.pcp_io.specs.Faults.{HasCause, HasRisen};
 ghost use Rattle.pcp_server.specs.declared.lines.Line.{Line};
 ghost use Rattle.pcp_server.specs.declared.statuses.Status.TheVariants.{ReadFault, WordsRefused, WriteFault};
+ghost use Rattle.pcp_server.specs.declared.run.Turn.TheVariants.{More, Over};
 ghost use Rattle.pcp_server.specs.Lines.{IsLine};
 ghost use Rattle.pcp_server.specs.Words.{IsPlay};
 ghost use Rattle.pcp_server.specs.Profile.{external, profile};
 ghost use Rattle.pcp_server.specs.Runs.{after_all, entries_of, line_text};
 ghost use Rattle.pcp_server.specs.Played.{IsPlayed};
-ghost use Rattle.pcp_server.specs.Playing.{Answers, Fails, IsOver, IsTurned, IsUnderway, PrintsLine};
+ghost use Rattle.pcp_server.specs.Playing.{Answers, AnswersOrFails, EndsTurn, Fails, IsOver, IsTurned, IsUnderway, PrintsLine, status_at};
 
 use crate::lines::{Line, LineRefused, read_line};
 use crate::outputs::push_reply;
@@ -71,4 +72,120 @@ fn print_line(
         }
     }
     Ok(text)
+}
+
+/// Answers a line's text, and writes the result whole before it returns.
+fn answer_text<W: Sink>(
+    alloc: Global,
+    config: &Config,
+    external: &External,
+    shard: &mut Shard,
+    text: &[u8],
+    out: &mut W,
+) -> Result<(), TextFault>
+    ensures ok { OnOk result (Answers config.now external.now text.now shard.old shard.new (W.held out.old) (W.held out.new)) }
+    ensures err { IfErr result (Fails config.now external.now text.now shard.old (W.held out.old) (W.held out.new) (W.faults out.old) (W.faults out.new)) }
+    ensures faults { W.faults out.old ≤ W.faults out.new }
+{
+    let line = read_line(alloc, text)?;
+    let Ok(printed) = print_line(alloc, config, external, shard, &line) else {
+        return Err(TextFault::Memory);
+    };
+    match write_all(out, &printed) {
+        Ok(()) => Ok(()),
+        Err(_) => Err(TextFault::Write),
+    }
+}
+
+/// How a run ends at a fault of a line's text.
+fn status_of(fault: TextFault, number: u64) -> Status
+    ensures { result ≡ status_at number fault }
+{
+    match fault {
+        TextFault::NotLine => Status::ScriptRefused(number),
+        TextFault::Write => Status::WriteFault,
+        TextFault::Memory => Status::Memory,
+    }
+}
+
+/// A run: what it serves, its lease table, and what it has read of its script.
+pub(crate) struct Player {
+    config: Config,
+    external: External,
+    shard: Shard,
+    reader: LineReader,
+}
+
+impl Player {
+    /// Reads and answers the next line, which has this number.
+    fn turn<S: Source, W: Sink>(
+        &mut self,
+        alloc: Global,
+        number: u64,
+        input: &mut S,
+        out: &mut W,
+    ) -> Turn
+        ensures turned { (start : ℕ) (script before : List ℕ) →
+            IsUnderway self.old.config self.old.external start number script before self.old.shard self.old.reader (S.left input.old) (W.held out.old) →
+            IsTurned self.old.config self.old.external start number script before self.new.shard self.new.reader (S.left input.new) (W.held out.new) result }
+        ensures config { self.new.config ≡ self.old.config }
+        ensures external { self.new.external ≡ self.old.external }
+        ensures used { result ≡ More → (self.old.reader.used < self.new.reader.used) × (self.new.reader.used ≤ 2 ^ 30) }
+        ensures read_fault { result ≡ Over ReadFault → HasRisen (S.faults input.old) (S.faults input.new) }
+        ensures write_fault { result ≡ Over WriteFault → HasRisen (W.faults out.old) (W.faults out.new) }
+        ensures reads { S.faults input.old ≤ S.faults input.new }
+        ensures writes { W.faults out.old ≤ W.faults out.new }
+        ensures words { ¬ (result ≡ Over WordsRefused) }
+    {
+        let mut text = Vec::new(alloc);
+        match self.reader.next_line(input, &mut text) {
+            Ok(ending) => self.after_line(alloc, number, ending, &text, out),
+            Err(LineFault::Read) => Turn::Over(Status::ReadFault),
+            Err(LineFault::Memory) => Turn::Over(Status::Memory),
+        }
+    }
+
+    /// Answers a line that ended so.
+    fn after_line<W: Sink>(
+        &mut self,
+        alloc: Global,
+        number: u64,
+        ending: Ending,
+        text: &[u8],
+        out: &mut W,
+    ) -> Turn
+        ensures turn { EndsTurn self.old.config self.old.external number text.now ending self.old.shard self.new.shard (W.held out.old) (W.held out.new) (W.faults out.old) (W.faults out.new) result }
+        ensures config { self.new.config ≡ self.old.config }
+        ensures external { self.new.external ≡ self.old.external }
+        ensures reader { self.new.reader ≡ self.old.reader }
+        ensures faults { W.faults out.old ≤ W.faults out.new }
+    {
+        match ending {
+            Ending::End => Turn::Over(Status::Done),
+            Ending::Refused => Turn::Over(Status::ScriptRefused(number)),
+            Ending::Feed => self.answer(alloc, number, text, out, Turn::More),
+            Ending::Last => self.answer(alloc, number, text, out, Turn::Over(Status::Done)),
+        }
+    }
+
+    /// Answers a line's text, and goes on so where its result is written whole.
+    fn answer<W: Sink>(
+        &mut self,
+        alloc: Global,
+        number: u64,
+        text: &[u8],
+        out: &mut W,
+        next: Turn,
+    ) -> Turn
+        ensures turn { AnswersOrFails self.old.config self.old.external number text.now next self.old.shard self.new.shard (W.held out.old) (W.held out.new) (W.faults out.old) (W.faults out.new) result }
+        ensures config { self.new.config ≡ self.old.config }
+        ensures external { self.new.external ≡ self.old.external }
+        ensures reader { self.new.reader ≡ self.old.reader }
+        ensures faults { W.faults out.old ≤ W.faults out.new }
+    {
+        match answer_text(alloc, &self.config, &self.external, &mut self.shard, text, out) {
+            Ok(()) => next,
+            Err(fault) => Turn::Over(status_of(fault, number)),
+        }
+    }
 }
