@@ -1,25 +1,24 @@
 -- What the verdict lets through is well formed.
-use Rattle.std.specs.Prelude.{◌≡◌, refl, ℕ, zero, suc, ◌+◌, ◌<◌, ◌≤◌, ◌==◌, ◌||◌, not, false, List, [], ◌∷◌, Option, Some, None}
+use Rattle.std.specs.Prelude.{◌≡◌, refl, ℕ, zero, suc, ◌+◌, ◌<◌, ◌≤◌, ◌==◌, ◌||◌, not, false, List, [], ◌∷◌, ◌++◌, Option, Some, None}
 use Rattle.std.specs.List.{AllByRecursion}
-use Rattle.std.proofs.Common.{sym, ap, subst, arith}
+use Rattle.std.proofs.Common.{sym, subst, arith}
 use Rattle.std.proofs.lemmas.Bool.{cond_both, or_parts, eqb-false, ltb-false}
 use Rattle.pcp_base.specs.declared.addresses.Address.{Address}
-use Rattle.pcp_base.specs.declared.codes.Code.{Code}
+use Rattle.pcp_base.specs.declared.asks.Refusal.{Refusal}
 use Rattle.pcp_base.specs.declared.asks.Ask.{Ask}
 use Rattle.pcp_base.specs.declared.configs.Config.{Config}
 use Rattle.pcp_base.specs.Asks.{IsWellFormedAsk}
 use Rattle.pcp_codec.specs.declared.requests.Common.{Common}
 use Rattle.pcp_codec.specs.declared.requests.Body.{Body}
 use Rattle.pcp_codec.specs.declared.requests.Body.TheVariants as Bodies
-use Rattle.pcp_codec.specs.declared.requests.Frame.{Frame}
-use Rattle.pcp_codec.specs.declared.requests.Framed.{Framed}
-use Rattle.pcp_codec.specs.declared.requests.Framed.TheVariants as Frames
 use Rattle.pcp_codec.specs.Fields.{octet, u16_at}
-use Rattle.pcp_codec.specs.Framing.{Step, first_failing, frame_steps, framed_by, is_silent}
+use Rattle.pcp_codec.specs.Framing.{Step, first_failing, frame_steps, is_silent}
 use Rattle.pcp_codec.specs.Requests.{opcode_of, common_of, body_of, frame_of}
-use Rattle.pcp_server.specs.Verdicts.{option_steps, lacks_ports, ask_steps, ask_of, judged, verdict_on, verdict_of}
+use Rattle.pcp_server.specs.declared.verdicts.Verdict.{Verdict}
+use Rattle.pcp_server.specs.declared.verdicts.Verdict.TheVariants.{Silent}
+use Rattle.pcp_server.specs.Verdicts.{lacks_ports, service_steps, ask_steps, ask_of, verdict_by, verdict_of}
 use Rattle.pcp_server.specs.Histories.{asked}
-use Rattle.pcp_server.proofs.Steps.{HasNonce, HasPort}
+use Rattle.pcp_server.proofs.Steps.{HasPort}
 
 octet-lt : (message : List ℕ) (place : ℕ) → AllByRecursion (λ x. x < 256) message → octet message place < 256
 octet-lt [] place h = omega arith
@@ -29,62 +28,55 @@ octet-lt (x ∷ xs) (suc place) h = octet-lt xs place h.1
 pub u16_at-lt : (message : List ℕ) (place : ℕ) → AllByRecursion (λ x. x < 256) message → u16_at message place < 65536
 u16_at-lt message place h = omega (arith, octet-lt message place h, octet-lt message (place + 1) h)
 
--- what the lease table may rely on of the ask of a message
-pub record IsAskOf (message : List ℕ) (ask : Ask) : Type 0 where
+-- what the lease table may rely on of an ask
+pub record IsReadAsk (ask : Ask) : Type 0 where
   pub formed : IsWellFormedAsk ask
   pub port : HasPort ask
-  pub nonce : HasNonce ask (common_of message).nonce
 
 -- where none is the first that fails, none fails
 none-fails : (steps : List Step) → first_failing steps ≡ None → AllByRecursion (λ step. step.fails ≡ false) steps
 none-fails [] h = tt
 none-fails (step ∷ steps) h =
-    cond_both step.fails (Some step.code) (first_failing steps) (λ o. o ≡ None → AllByRecursion (λ (s : Step). s.fails ≡ false) (step ∷ steps))
+    cond_both step.fails (Some step.refusal) (first_failing steps) (λ o. o ≡ None → AllByRecursion (λ (s : Step). s.fails ≡ false) (step ∷ steps))
     (λ _ e. absurd cc) (λ no e. (no, none-fails steps e)) h
 
-few_opcodes : (message : List ℕ) (source : Address) → first_failing (frame_steps message source) ≡ None → opcode_of message ≤ 2
-few_opcodes message source h = ltb-false 2 (opcode_of message) (none-fails (frame_steps message source) h).1.1.0
-
-IsAskOf-common : (message : List ℕ) (source : Address) (lifetime : ℕ) (c : Common) → c ≡ common_of message → AllByRecursion (λ x. x < 256) message →
-    lacks_ports (Bodies.Map c) ≡ false → IsAskOf message (ask_of source lifetime (Bodies.Map c))
-IsAskOf-common message source lifetime c same octets h =
+IsReadAsk-common : (message : List ℕ) (source : Address) (lifetime : ℕ) (c : Common) → c ≡ common_of message → AllByRecursion (λ x. x < 256) message →
+    lacks_ports (Bodies.Map c) ≡ false → IsReadAsk (ask_of source lifetime (Bodies.Map c))
+IsReadAsk-common message source lifetime c same octets h =
     let internal : c.internal < 65536 = subst (λ (d : Common). d.internal < 65536) (sym same) (u16_at-lt message 40 octets) in
     let parts = or_parts (not (c.protocol == 6 || c.protocol == 17)) (c.internal == 0) h in
     let some : c.internal ≡ 0 → ⊥ = eqb-false c.internal 0 parts.1 in
     record {
       formed = record { internal = omega (arith, some); set = tt; prefixes = tt; deletion = λ _. refl };
       port = internal;
-      nonce = ap (λ (d : Common). d.nonce) (sym same);
     }
 
-IsAskOf-body : (message : List ℕ) (source : Address) (lifetime : ℕ) → opcode_of message ≤ 2 → (opcode_of message == 2) ≡ false → AllByRecursion (λ x. x < 256) message →
-    lacks_ports (body_of message) ≡ false → IsAskOf message (ask_of source lifetime (body_of message))
-IsAskOf-body message source lifetime low not_peer octets =
-    cond_both (opcode_of message == 0) Bodies.Announce _ (λ (b : Body). lacks_ports b ≡ false → IsAskOf message (ask_of source lifetime b))
-    (λ _ _. record { formed = tt; port = tt; nonce = tt })
-    (λ not_announce. cond_both (opcode_of message == 1) (Bodies.Map (common_of message)) _ (λ (b : Body). lacks_ports b ≡ false → IsAskOf message (ask_of source lifetime b))
-    (λ _ h. IsAskOf-common message source lifetime (common_of message) refl octets h)
+IsReadAsk-body : (message : List ℕ) (source : Address) (lifetime : ℕ) → opcode_of message ≤ 2 → (opcode_of message == 2) ≡ false → AllByRecursion (λ x. x < 256) message →
+    lacks_ports (body_of message) ≡ false → IsReadAsk (ask_of source lifetime (body_of message))
+IsReadAsk-body message source lifetime low not_peer octets =
+    cond_both (opcode_of message == 0) Bodies.Announce _ (λ (b : Body). lacks_ports b ≡ false → IsReadAsk (ask_of source lifetime b))
+    (λ _ _. record { formed = tt; port = tt })
+    (λ not_announce. cond_both (opcode_of message == 1) (Bodies.Map (common_of message)) _ (λ (b : Body). lacks_ports b ≡ false → IsReadAsk (ask_of source lifetime b))
+    (λ _ h. IsReadAsk-common message source lifetime (common_of message) refl octets h)
     (λ not_map h. absurd (omega (arith, eqb-false _ _ not_announce, eqb-false _ _ not_map, eqb-false _ _ not_peer))))
 
--- what is known to be refused, and nothing, are asks of any message
-IsAskOf-judged : (message : List ℕ) (config : Config) (source : Address) (frame : Frame) (on_options on_ask : Option Code) →
-    (on_options ≡ None → on_ask ≡ None → IsAskOf message (ask_of source frame.lifetime frame.body)) → IsAskOf message (asked (judged config source frame on_options on_ask))
-IsAskOf-judged message config source frame (Some code) on_ask f = record { formed = tt; port = tt; nonce = tt }
-IsAskOf-judged message config source frame None (Some code) f = record { formed = tt; port = tt; nonce = tt }
-IsAskOf-judged message config source frame None None f = f refl refl
+abbrev steps_of : Config → Address → List ℕ → List Step
+steps_of config source message = frame_steps message source ++ service_steps message ++ ask_steps config source message
 
-IsAskOf-framed : (message : List ℕ) (config : Config) (source : Address) (failing : Option Code) → first_failing (frame_steps message source) ≡ failing →
-    AllByRecursion (λ x. x < 256) message → IsAskOf message (asked (verdict_on config source message (framed_by message failing)))
-IsAskOf-framed message config source (Some code) h octets = record { formed = tt; port = tt; nonce = tt }
-IsAskOf-framed message config source None h octets =
-    IsAskOf-judged message config source (frame_of message) (first_failing (option_steps (frame_of message) message)) (first_failing (ask_steps config source (frame_of message)))
-    (λ on_options on_ask. IsAskOf-body message source (frame_of message).lifetime (few_opcodes message source h) (none-fails (option_steps (frame_of message) message) on_options).0 octets (none-fails (ask_steps config source (frame_of message)) on_ask).0)
+-- Where no step fails it is a request that is served; what is known to be refused is no request of the table's.
+IsReadAsk-by : (config : Config) (source : Address) (message : List ℕ) (first : Option Refusal) → first_failing (steps_of config source message) ≡ first →
+    AllByRecursion (λ x. x < 256) message → IsReadAsk (asked (verdict_by config source message first))
+IsReadAsk-by config source message (Some refusal) h octets = record { formed = tt; port = tt }
+IsReadAsk-by config source message None h octets =
+    let none = none-fails (steps_of config source message) h in
+    let served = none.1.1.1.1.1 in
+    IsReadAsk-body message source (frame_of message).lifetime (ltb-false 2 (opcode_of message) none.1.1.0) served.0 octets served.1.1.0
 
 -- the ask of a datagram
-pub IsAskOf-asked : (config : Config) (source : Address) (message : List ℕ) → AllByRecursion (λ x. x < 256) message → IsAskOf message (asked (verdict_of config source message))
+pub IsReadAsk-asked : (config : Config) (source : Address) (message : List ℕ) → AllByRecursion (λ x. x < 256) message → IsReadAsk (asked (verdict_of config source message))
 unfolding verdict_of
-IsAskOf-asked config source message octets =
-    cond_both (is_silent message) Frames.Silent (framed_by message (first_failing (frame_steps message source)))
-    (λ (f : Framed). IsAskOf message (asked (verdict_on config source message f)))
-    (λ _. record { formed = tt; port = tt; nonce = tt })
-    (λ _. IsAskOf-framed message config source (first_failing (frame_steps message source)) refl octets)
+IsReadAsk-asked config source message octets =
+    cond_both (is_silent message) Silent (verdict_by config source message (first_failing (steps_of config source message)))
+    (λ (v : Verdict). IsReadAsk (asked v))
+    (λ _. record { formed = tt; port = tt })
+    (λ _. IsReadAsk-by config source message (first_failing (steps_of config source message)) refl octets)

@@ -22,7 +22,7 @@ use Rattle.pcp_base.proofs.TableLemmas.{Sound-live, same_key, key-same, key-own,
 use Rattle.pcp_base.proofs.FitLemmas.{IsGrantedBy, IsGrantedBy-live}
 use Rattle.pcp_server.specs.Decisions.{decide, granted_lifetime, renewed, new_lease}
 use Rattle.pcp_server.proofs.Deeds.{Deed, Deed-decide_map}
-use Rattle.pcp_server.proofs.Steps.{HasPort, IsStep, IsStep-from_Deed, new-IsMapLease}
+use Rattle.pcp_server.proofs.Steps.{HasPort, IsSoundStep, IsSoundStep-from_Deed, new-IsMapLease}
 
 -- What a record of the moment m makes of a state: the table is sound, the base stays, a started state is started.
 pub record IsKept (s : State) (m : ℕ) (r : Record) : Type 0 where
@@ -33,7 +33,7 @@ pub record IsKept (s : State) (m : ℕ) (r : Record) : Type 0 where
   pub last : (apply s r).last ≡ m
   pub started : (apply s r).started ≡ s.started
 
-IsKept-from_step : (s : State) (m : ℕ) (ask : MapAsk) (r : Record) → IsStep s.table m ask.nonce r → IsKept s m r
+IsKept-from_step : (s : State) (m : ℕ) (ask : MapAsk) (r : Record) → IsSoundStep s.table m (Asks.Map ask) r → IsKept s m r
 IsKept-from_step s m ask r h = record {
   moment = h.moment;
   sound = rw (← h.moment) at h.sound;
@@ -78,7 +78,7 @@ module _ (config : Config) (external : External) (s : State) (m : ℕ) (ask : Ma
     (high : external.high < 65536) (formed : IsMapAsk ask) (fits : ask.endpoint.port < 65536) (sound : Sound s.table) (granted : IsGrantedBy s.last s.table)
     (later : s.last ≤ m) (near : m < 2 ^ 40) where
   formed_change : (r : Record) → Deed config external s.table m ask (Some r) → IsChange m r.change
-  formed_change r (Deed.renews lease there own) =
+  formed_change r (Deed.renews lease there own covered) =
       let l = Sound-live s.table m sound in
       let old = All-IsIn IsMapLease (live s.table m).maps lease l.maps there in (
         record {
@@ -95,16 +95,16 @@ module _ (config : Config) (external : External) (s : State) (m : ℕ) (ask : Ma
         IsLiveAt-granted config ask.lifetime m lease.granted c near
             (All-IsIn (λ k. k.granted ≤ m) (live s.table m).maps lease (IsGrantedBy-live s.table s.last m later granted).maps there),
       )
-  formed_change r (Deed.drops lease there own) = (All-IsIn IsMapLease (live s.table m).maps lease (Sound-live s.table m sound).maps there).internal
+  formed_change r (Deed.drops lease there own covered) = (All-IsIn IsMapLease (live s.table m).maps lease (Sound-live s.table m sound).maps there).internal
   formed_change r (Deed.adds port uncovered free room) = (
     new-IsMapLease config external s.table m ask port x high formed fits free,
     IsLiveAt-granted config ask.lifetime m m c near (omega arith),
   )
 
   allowed_change : (r : Record) → Deed config external s.table m ask (Some r) → IsAllowed (live s.table m) r.change
-  allowed_change r (Deed.renews lease there own) =
+  allowed_change r (Deed.renews lease there own covered) =
       allowed-renewed config m ask (live s.table m) lease (find (is_map_of (first_endpoint lease)) (live s.table m).maps) (Sound-live s.table m sound) there refl
-  allowed_change r (Deed.drops lease there own) =
+  allowed_change r (Deed.drops lease there own covered) =
       find-IsIn (is_map_of (first_endpoint lease)) (live s.table m).maps lease there (key-own lease)
   allowed_change r (Deed.adds port uncovered free room) =
       allowed-new (live s.table m) (new_lease config m ask port) (find (is_map_of ask.endpoint) (live s.table m).maps) (Sound-live s.table m sound) uncovered refl
@@ -112,7 +112,7 @@ module _ (config : Config) (external : External) (s : State) (m : ℕ) (ask : Ma
   Fits-from_Deed : (kept : Option Record) → s.started ≡ true → s.table.peers ≡ [] → Deed config external s.table m ask kept → IfSome kept (Fits s)
   Fits-from_Deed None on none d = tt
   Fits-from_Deed (Some r) on none d =
-      let step : IsStep s.table m ask.nonce r = IsStep-from_Deed config external s.table m ask x high formed fits sound none (Some r) d in
+      let step : IsSoundStep s.table m (Asks.Map ask) r = IsSoundStep-from_Deed config external s.table m ask x high formed fits sound none (Some r) d in
       record {
         formed = record { moment = omega (arith, step.moment); change = rw (← step.moment) at (formed_change r d) };
         first = step.no_start ∙ ap not (sym on);
@@ -129,9 +129,9 @@ decided_Sound config external s m Asks.Announce x high formed fits sound none = 
 decided_Sound config external s m (Asks.Peer ask) x high formed fits sound none = tt
 decided_Sound config external s m (Asks.Map ask) x high formed fits sound none =
     kept (decide config external s.table m (Asks.Map ask)).kept
-    (IsStep-from_Deed config external s.table m ask x high formed fits sound none _ (Deed-decide_map config external s.table m ask))
+    (IsSoundStep-from_Deed config external s.table m ask x high formed fits sound none _ (Deed-decide_map config external s.table m ask))
   where
-    kept : (r : Option Record) → IfSome r (IsStep s.table m ask.nonce) → IfSome r (IsKept s m)
+    kept : (r : Option Record) → IfSome r (IsSoundStep s.table m (Asks.Map ask)) → IfSome r (IsKept s m)
     kept None h = tt
     kept (Some r) h = IsKept-from_step s m ask r h
 

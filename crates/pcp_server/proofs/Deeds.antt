@@ -1,5 +1,5 @@
 -- What the lease table keeps of a MAP request: nothing, a lease with a later expiry, one less, or one more.
-use Rattle.std.specs.Prelude.{◌≡◌, refl, ℕ, ◌+◌, ◌-◌, ◌<◌, ◌≤◌, ◌==◌, ◌&&◌, nat_le, not, true, false, bytes_eq, List, length, find, Option, Some, None}
+use Rattle.std.specs.Prelude.{◌≡◌, refl, ℕ, ◌+◌, ◌-◌, ◌<◌, ◌≤◌, ◌==◌, ◌&&◌, nat_le, not, true, false, bytes_eq, List, length, find, Option, Some, None, unwrap_or}
 use Rattle.std.specs.List.{AllByRecursion, range_with_len}
 use Rattle.std.proofs.Common.{ap, subst}
 use Rattle.std.proofs.lemmas.Bool.{cond_both, and_parts, not-true, not-false, leb-true, leb-false}
@@ -19,7 +19,7 @@ use Rattle.pcp_base.specs.Owners.{owners, is_port}
 use Rattle.pcp_base.proofs.Members.{IsIn, find-some, find-none, any-none}
 use Rattle.pcp_server.specs.declared.decisions.Decided.{Decided}
 use Rattle.pcp_server.specs.Verdicts.{parsed}
-use Rattle.pcp_server.specs.Decisions.{is_free, pick, answered, mapped, renewed, new_lease, decide_new, decide_by, covering, decide_map}
+use Rattle.pcp_server.specs.Decisions.{is_free, pick, answered, mapped, renewed, new_lease, first_case, new_cases, decide_by, covering, decide_map}
 
 -- a port that may be given: within the range, and no live lease's
 pub record IsFreePort (external : External) (t : Table) (m : ℕ) (protocol : Protocol) (port : ℕ) : Type 0 where
@@ -51,9 +51,9 @@ pick-free external t m ask port h =
 -- what may be kept of a request at m
 pub data Deed (config : Config) (external : External) (t : Table) (m : ℕ) (ask : MapAsk) : Option Record → Type 0 where
   nothing : Deed config external t m ask None
-  renews : (lease : MapLease) → IsIn lease (live t m).maps → lease.nonce ≡ ask.nonce →
+  renews : (lease : MapLease) → IsIn lease (live t m).maps → lease.nonce ≡ ask.nonce → covers lease ask.endpoint ≡ true →
       Deed config external t m ask (Some (record { moment = m; change = Changes.Map (renewed config m ask lease) }))
-  drops : (lease : MapLease) → IsIn lease (live t m).maps → lease.nonce ≡ ask.nonce →
+  drops : (lease : MapLease) → IsIn lease (live t m).maps → lease.nonce ≡ ask.nonce → covers lease ask.endpoint ≡ true →
       Deed config external t m ask (Some (record { moment = m; change = Changes.DropMap (first_endpoint lease) }))
   adds : (port : ℕ) → AllByRecursion (λ x. covers x ask.endpoint ≡ false) (live t m).maps → IsFreePort external t m ask.endpoint.protocol port →
       length (live t m).maps + length (live t m).peers < 32768 →
@@ -61,12 +61,16 @@ pub data Deed (config : Config) (external : External) (t : Table) (m : ℕ) (ask
 
 Deed-new : (config : Config) (external : External) (t : Table) (m : ℕ) (ask : MapAsk) (picked : Option ℕ) →
     AllByRecursion (λ x. covers x ask.endpoint ≡ false) (live t m).maps → pick external t m ask ≡ picked →
-    Deed config external t m ask (decide_new config external t m ask picked).kept
-Deed-new config external t m ask None uncovered h = nothing
+    Deed config external t m ask (first_case (new_cases t m ask picked) (mapped config external m ask (new_lease config m ask (unwrap_or picked 0)))).kept
+Deed-new config external t m ask None uncovered h =
+    cond_both (ask.lifetime == 0) (answered Gone) (answered (Refused (parsed NoResources))) (λ (d : Decided). Deed config external t m ask d.kept)
+    (λ _. nothing) (λ _. nothing)
 Deed-new config external t m ask (Some port) uncovered h =
-    cond_both (nat_le 32768 (length (live t m).maps + length (live t m).peers)) (answered (Refused (parsed NoResources)))
+    cond_both (ask.lifetime == 0) (answered Gone) _ (λ (d : Decided). Deed config external t m ask d.kept)
+    (λ _. nothing)
+    (λ _. cond_both (nat_le 32768 (length (live t m).maps + length (live t m).peers)) (answered (Refused (parsed NoResources)))
     (mapped config external m ask (new_lease config m ask port)) (λ (d : Decided). Deed config external t m ask d.kept)
-    (λ _. nothing) (λ no. adds port uncovered (pick-free external t m ask port h) (leb-false 32768 _ no))
+    (λ _. nothing) (λ no. adds port uncovered (pick-free external t m ask port h) (leb-false 32768 _ no)))
 
 nonce-same : (a b : Nonce) → bytes_eq a.0 b.0 ≡ true → a ≡ b
 nonce-same a b h = ap (λ (o : List ℕ). record { 0 = o }) ((bytes_eq-Decides a.0 b.0).0 h)
@@ -74,15 +78,14 @@ nonce-same a b h = ap (λ (o : List ℕ). record { 0 = o }) ((bytes_eq-Decides a
 Deed-by : (config : Config) (external : External) (t : Table) (m : ℕ) (ask : MapAsk) (lease : Option MapLease) → covering t m ask.endpoint ≡ lease →
     Deed config external t m ask (decide_by config external t m ask lease).kept
 Deed-by config external t m ask None h =
-    cond_both (ask.lifetime == 0) (answered Gone) (decide_new config external t m ask (pick external t m ask)) (λ (d : Decided). Deed config external t m ask d.kept)
-    (λ _. nothing) (λ _. Deed-new config external t m ask (pick external t m ask) (find-none (λ l. covers l ask.endpoint) (live t m).maps h) refl)
+    Deed-new config external t m ask (pick external t m ask) (find-none (λ l. covers l ask.endpoint) (live t m).maps h) refl
 Deed-by config external t m ask (Some lease) h =
     let there = find-some (λ l. covers l ask.endpoint) (live t m).maps lease h in
     cond_both (not (bytes_eq lease.nonce.0 ask.nonce.0)) _ _ (λ (d : Decided). Deed config external t m ask d.kept)
     (λ _. nothing)
     (λ own. let same = nonce-same lease.nonce ask.nonce (not-false _ own) in
     cond_both (ask.lifetime == 0) _ (mapped config external m ask (renewed config m ask lease)) (λ (d : Decided). Deed config external t m ask d.kept)
-    (λ _. drops lease there.0 same) (λ _. renews lease there.0 same))
+    (λ _. drops lease there.0 same there.1) (λ _. renews lease there.0 same there.1))
 
 pub Deed-decide_map : (config : Config) (external : External) (t : Table) (m : ℕ) (ask : MapAsk) → Deed config external t m ask (decide_map config external t m ask).kept
 unfolding decide_map

@@ -15,5 +15,6 @@ pub mod Deeds
 pub mod HistoryLaws
 pub mod HistorySteps
 pub mod LineOctets
+pub mod OutputLemmas
 pub mod ProfileLemmas
 pub mod Steps

@@ -5,12 +5,12 @@ use Rattle.std.proofs.Common.{arith}
 use Rattle.pcp_base.specs.Configs.{IsConfig, IsExternal}
 use Rattle.pcp_server.specs.declared.lines.Line.{Line}
 use Rattle.pcp_server.specs.Histories.{IsLegal, IsSafe}
+use Rattle.pcp_server.specs.LineOctets.{HasOctets}
 use Rattle.pcp_server.specs.Lines.{AreLines}
-use Rattle.pcp_server.specs.Outputs.{history_of, out_of}
+use Rattle.pcp_server.specs.Runs.{history_of, out_of}
 use Rattle.pcp_server.specs.Played.{AreAnswered, started}
 use Rattle.pcp_server.specs.Profile.{external, profile}
 use Rattle.pcp_server.proofs.HistoryLaws.{history_IsLegal, history_IsSafe, AreAnswered-lines}
-use Rattle.pcp_server.proofs.LineOctets.{HasOctets}
 
 pub IsExternal-external : IsExternal external
 unfolding external
@@ -39,7 +39,7 @@ IsConfig-profile = record {
 pub profile_IsLegal : (start : ℕ) (lines : List Line) → AllByRecursion HasOctets lines → IsLegal profile external (started start) (history_of profile external (started start) lines)
 profile_IsLegal start lines octets = history_IsLegal profile external start lines IsExternal-external external-high octets
 
-pub profile_IsSafe : (start : ℕ) (lines : List Line) → AllByRecursion HasOctets lines → IsSafe (started start) (history_of profile external (started start) lines)
+pub profile_IsSafe : (start : ℕ) (lines : List Line) → AllByRecursion HasOctets lines → IsSafe profile (started start) (history_of profile external (started start) lines)
 profile_IsSafe start lines octets = history_IsSafe profile external start lines IsExternal-external external-high octets
 
 pub profile_AreAnswered : (start : ℕ) (texts : List (List ℕ)) (lines : List Line) (written : List ℕ) → AreLines texts lines →

@@ -1,9 +1,8 @@
 -- What the lease table keeps of a request leaves a sound table.
 use Rattle.std.specs.Prelude.{◌≡◌, refl, ℕ, ◌+◌, ◌<◌, ◌⊎◌, not, true, false, List, [], length, Option, Some, None, IfSome, ⊤}
 use Rattle.std.specs.List.{AllByRecursion}
-use Rattle.std.proofs.Common.{inl, inr, sym, ap, ◌∙◌, subst, arith}
+use Rattle.std.proofs.Common.{inl, inr, sym, subst, arith}
 use Rattle.std.proofs.lemmas.Bool.{not_from_false, cases_Bool}
-use Rattle.pcp_base.specs.declared.addresses.Nonce.{Nonce}
 use Rattle.pcp_base.specs.declared.leases.MapLease.{MapLease}
 use Rattle.pcp_base.specs.declared.leases.PeerLease.{PeerLease}
 use Rattle.pcp_base.specs.declared.asks.MapAsk.{MapAsk}
@@ -22,26 +21,33 @@ use Rattle.pcp_base.proofs.TableLemmas.{IsRoomFor, Sound-live, Sound-filter_maps
 use Rattle.pcp_server.specs.Decisions.{decide, granted_lifetime, renewed, new_lease}
 use Rattle.pcp_server.proofs.Deeds.{IsFreePort, Deed, Deed-decide_map}
 
+-- it is a MAP request with the lease's nonce, for an endpoint that the lease covers
+pub record IsAskFor (ask : Ask) (l : MapLease) : Type 0 where
+  pub map : MapAsk
+  pub asks : ask ≡ Asks.Map map
+  pub nonce : map.nonce ≡ l.nonce
+  pub endpoint : covers l map.endpoint ≡ true
+
 -- A record of the moment m leaves a sound table without PEER leases, and the base as it was.
-pub record IsStep (t : Table) (m : ℕ) (nonce : Nonce) (r : Record) : Type 0 where
+pub record IsSoundStep (t : Table) (m : ℕ) (ask : Ask) (r : Record) : Type 0 where
   pub moment : r.moment ≡ m
   pub goes_on : begins r.change ≡ false
   pub no_start : is_start r.change ≡ false
   pub sound : Sound (changed r.change (live t m))
   pub no_peers : (changed r.change (live t m)).peers ≡ []
-  -- a live lease of another nonce stays
-  pub stays : (l : MapLease) → IsIn l (live t m).maps → IsIn l (changed r.change (live t m)).maps ⊎ (nonce ≡ l.nonce)
+  -- a live lease stays, or is asked for
+  pub stays : (l : MapLease) → IsIn l (live t m).maps → IsIn l (changed r.change (live t m)).maps ⊎ IsAskFor ask l
 
 no_peers-live : (t : Table) (m : ℕ) → t.peers ≡ [] → (live t m).peers ≡ []
 no_peers-live t m h = rw h refl
 
--- the nonce of the lease that the key means
-nonce_of_key : (t : Table) (m : ℕ) (nonce : Nonce) (lease l : MapLease) → Sound t → IsIn lease (live t m).maps → lease.nonce ≡ nonce →
-    IsIn l (live t m).maps → is_map_of (first_endpoint lease) l ≡ true → nonce ≡ l.nonce
-nonce_of_key t m nonce lease l sound there own h key =
+-- the lease that the key means is asked for
+asked_by_key : (t : Table) (m : ℕ) (ask : MapAsk) (lease l : MapLease) → Sound t → IsIn lease (live t m).maps → lease.nonce ≡ ask.nonce →
+    covers lease ask.endpoint ≡ true → IsIn l (live t m).maps → is_map_of (first_endpoint lease) l ≡ true → IsAskFor (Asks.Map ask) l
+asked_by_key t m ask lease l sound there own covered h key =
     let s = Sound-live t m sound in
     let same = same_key (live t m).maps l lease s.apart s.maps h there (key-same l lease key) in
-    sym own ∙ ap (λ (x : MapLease). x.nonce) (sym same)
+    subst (IsAskFor (Asks.Map ask)) (sym same) (record { map = ask; asks = refl; nonce = sym own; endpoint = covered })
 
 pub new-IsMapLease : (config : Config) (external : External) (t : Table) (m : ℕ) (ask : MapAsk) (port : ℕ) → IsExternal external → external.high < 65536 →
     IsMapAsk ask → ask.endpoint.port < 65536 → IsFreePort external t m ask.endpoint.protocol port → IsMapLease (new_lease config m ask port)
@@ -70,9 +76,9 @@ room-new config external t m ask port none uncovered free room = record {
 
 module _ (config : Config) (external : External) (t : Table) (m : ℕ) (ask : MapAsk) (x : IsExternal external) (high : external.high < 65536)
     (formed : IsMapAsk ask) (fits : ask.endpoint.port < 65536) (sound : Sound t) (none : t.peers ≡ []) where
-  pub IsStep-from_Deed : (kept : Option Record) → Deed config external t m ask kept → IfSome kept (IsStep t m ask.nonce)
-  IsStep-from_Deed None d = tt
-  IsStep-from_Deed (Some r) (Deed.renews lease there own) = record {
+  pub IsSoundStep-from_Deed : (kept : Option Record) → Deed config external t m ask kept → IfSome kept (IsSoundStep t m (Asks.Map ask))
+  IsSoundStep-from_Deed None d = tt
+  IsSoundStep-from_Deed (Some r) (Deed.renews lease there own covered) = record {
     moment = refl;
     goes_on = refl;
     no_start = refl;
@@ -80,21 +86,21 @@ module _ (config : Config) (external : External) (t : Table) (m : ℕ) (ask : Ma
     no_peers = no_peers-live t m none;
     stays = λ l h. elim (put-keeps (is_map_of (first_endpoint lease)) l (renewed config m ask lease) (live t m).maps h) [
       | inl a ↦ inl a
-      | inr key ↦ inr (nonce_of_key t m ask.nonce lease l sound there own h key)
+      | inr key ↦ inr (asked_by_key t m ask lease l sound there own covered h key)
     ];
   }
-  IsStep-from_Deed (Some r) (Deed.drops lease there own) = record {
+  IsSoundStep-from_Deed (Some r) (Deed.drops lease there own covered) = record {
     moment = refl;
     goes_on = refl;
     no_start = refl;
     sound = Sound-filter_maps (live t m) (λ l. not (is_map_of (first_endpoint lease) l)) (Sound-live t m sound);
     no_peers = no_peers-live t m none;
     stays = λ l h. elim (cases_Bool (is_map_of (first_endpoint lease) l)) [
-      | inl key ↦ inr (nonce_of_key t m ask.nonce lease l sound there own h key)
+      | inl key ↦ inr (asked_by_key t m ask lease l sound there own covered h key)
       | inr other ↦ inl (filter-IsIn (λ k. not (is_map_of (first_endpoint lease) k)) (live t m).maps l h (not_from_false _ other))
     ];
   }
-  IsStep-from_Deed (Some r) (Deed.adds port uncovered free room) =
+  IsSoundStep-from_Deed (Some r) (Deed.adds port uncovered free room) =
       let s = Sound-live t m sound in
       let lease = new_lease config m ask port in
       record {
@@ -115,22 +121,16 @@ module _ (config : Config) (external : External) (t : Table) (m : ℕ) (ask : Ma
         ];
       }
 
--- the nonce of a MAP request
-abbrev pub HasNonce : Ask → Nonce → Type 0
-HasNonce (Asks.Map ask) nonce = nonce ≡ ask.nonce
-HasNonce ask nonce = ⊤
-
 -- the internal port of a MAP request is one
 abbrev pub HasPort : Ask → Type 0
 HasPort (Asks.Map ask) = ask.endpoint.port < 65536
 HasPort ask = ⊤
 
-pub IsStep-decide : (config : Config) (external : External) (t : Table) (m : ℕ) (ask : Ask) (nonce : Nonce) →
-    IsExternal external → external.high < 65536 → IsWellFormedAsk ask → HasPort ask → HasNonce ask nonce → Sound t → t.peers ≡ [] →
-    IfSome (decide config external t m ask).kept (IsStep t m nonce)
-IsStep-decide config external t m (Asks.Known refusal) nonce x high formed fits own sound none = tt
-IsStep-decide config external t m Asks.Announce nonce x high formed fits own sound none = tt
-IsStep-decide config external t m (Asks.Peer ask) nonce x high formed fits own sound none = tt
-IsStep-decide config external t m (Asks.Map ask) nonce x high formed fits own sound none =
-    subst (λ (n : Nonce). IfSome (decide config external t m (Asks.Map ask)).kept (IsStep t m n)) (sym own)
-    (IsStep-from_Deed config external t m ask x high formed fits sound none _ (Deed-decide_map config external t m ask))
+pub IsSoundStep-decide : (config : Config) (external : External) (t : Table) (m : ℕ) (ask : Ask) →
+    IsExternal external → external.high < 65536 → IsWellFormedAsk ask → HasPort ask → Sound t → t.peers ≡ [] →
+    IfSome (decide config external t m ask).kept (IsSoundStep t m ask)
+IsSoundStep-decide config external t m (Asks.Known refusal) x high formed fits sound none = tt
+IsSoundStep-decide config external t m Asks.Announce x high formed fits sound none = tt
+IsSoundStep-decide config external t m (Asks.Peer ask) x high formed fits sound none = tt
+IsSoundStep-decide config external t m (Asks.Map ask) x high formed fits sound none =
+    IsSoundStep-from_Deed config external t m ask x high formed fits sound none _ (Deed-decide_map config external t m ask)
