@@ -131,3 +131,64 @@ fn read_octets(alloc: Global, text: &[u8]) -> Result<Octets, LineRefused>
         Err(_) => Err(LineRefused::NotLine),
     }
 }
+
+#[cfg(test)]
+mod tests {
+    use super::*;
+
+    // A request of 60 octets for a mapping of port 5000 over UDP.
+    const REQUEST: &[u8] =
+        b"packet 1010 10.0.0.5 40000 0201000000000e1000000000000000000000ffff0a000005000102030405060708090a0b110000001388000000000000000000000000ffff00000000";
+
+    // The moment, the peer, its port and how many octets came; none of a line that is skipped.
+    fn summary(line: &Line) -> Option<(u64, Address, u16, usize)> {
+        match line {
+            Line::Skip => None,
+            Line::Packet(moment, from) => Some((
+                moment.get(),
+                from.peer,
+                from.port,
+                from.octets.items().len(),
+            )),
+        }
+    }
+
+    #[test]
+    fn lines_of_a_script(rt: HostRuntime) {
+        let peer = Address::v4(10, 0, 0, 5);
+        let refused = Err(LineRefused::NotLine);
+        let cases: [(
+            &[u8],
+            Result<Option<(u64, Address, u16, usize)>, LineRefused>,
+        ); 16] = [
+            (REQUEST, Ok(Some((1010, peer, 40000, 60)))),
+            (b"", Ok(None)),
+            (b"# x", Ok(None)),
+            (b"packet 0 10.0.0.5 0 -", Ok(Some((0, peer, 0, 0)))),
+            (
+                b"packet 1099511627775 00000000000000000000FFFF0A000005 65535 aBCd",
+                Ok(Some((1099511627775, peer, 65535, 2))),
+            ),
+            (b"packet x", refused),
+            (b"packet 1010 10.0.0.5 40000", refused),
+            (b"packet 1010  10.0.0.5 40000 02", refused),
+            (b"packet 1010 10.0.0.5 40000 02 ", refused),
+            (b"packet 1099511627776 10.0.0.5 40000 02", refused),
+            (b"packet 01010 10.0.0.5 40000 02", refused),
+            (b"packet 1010 10.0.0.256 40000 02", refused),
+            (b"packet 1010 10.0.0.5 65536 02", refused),
+            (b"packet 1010 10.0.0.5 40000 ", refused),
+            (b"packet 1010 10.0.0.5 40000 020", refused),
+            (b"Packet 1010 10.0.0.5 40000 02", refused),
+        ];
+        for (text, want) in cases {
+            let line = read_line(rt.alloc(), text);
+            assert_eq!(rt;
+                line.as_ref().map(summary).map_err(|e| *e),
+                want,
+                "{}",
+                text.escape_ascii()
+            );
+        }
+    }
+}
