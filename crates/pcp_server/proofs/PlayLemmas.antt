@@ -1,5 +1,5 @@
 -- How a run of `play` goes on over one line, or ends at it.
-use Rattle.std.proofs.Common.{◌≡◌, ◌≢◌, ℕ, suc, zero, ◌+◌, ◌-◌, ◌<◌, ◌≤◌, ◌^◌, List, [], ◌∷◌, ◌++◌, length, take, drop, flat_map, Option, Some, None, refl, sym, ap, subst, ◌∙◌, inl, inr, ◌⊎◌, arith, append_assoc, append-nil, length-append}
+use Rattle.std.proofs.Common.{◌≡◌, ◌≢◌, ℕ, suc, zero, ◌+◌, ◌-◌, ◌<◌, ◌≤◌, ◌^◌, List, [], ◌∷◌, ◌++◌, length, take, drop, flat_map, slice_get, Option, Some, None, refl, sym, ap, subst, ◌∙◌, inl, inr, ◌⊎◌, arith, append_assoc, append-nil, length-append, length-drop}
 use Rattle.std.specs.List.{AllByRecursion}
 use Rattle.std.specs.Io.KnownBytes.{prepend_known, append_known, IsAtEnd}
 use Rattle.pcp_io.specs.Faults.{HasRisen}
@@ -17,13 +17,16 @@ use Rattle.pcp_server.specs.declared.run.Turn.TheVariants.{More, Over}
 use Rattle.pcp_server.specs.declared.run.TextFault.{TextFault}
 use Rattle.pcp_server.specs.declared.run.TextFault.TheVariants as Faults
 use Rattle.pcp_server.specs.ShardStates.{ShardState}
-use Rattle.pcp_server.specs.Reading.{Reading, rest_of, Uses, EndsByFeed, EndsLast, EndsScript, EndsRefusing, Ends, StopsReading}
+use Rattle.pcp_server.specs.Reading.{Reading, rest_of, Uses, EndsByFeed, EndsLast, EndsScript, EndsRefusing, Ends, Stops, StopsReading}
+use Rattle.pcp_server.specs.declared.readers.LineFault.{LineFault}
+use Rattle.pcp_server.specs.declared.readers.LineFault.TheVariants as LineFaults
 use Rattle.pcp_server.specs.Lines.{AreFirst, AreLines, LacksFeed, IsLine, IsUnbroken, ended}
 use Rattle.pcp_server.specs.Runs.{after_all, entries_of, history_of, line_text, out_of}
 use Rattle.pcp_server.specs.Played.{AreAnswered, EndsDone, EndsEarly, EndsReading, EndsRefused, EndsWriting, IsPlayed, IsRefused, started}
 use Rattle.pcp_server.specs.Playing.{IsUnderway, IsOver, IsTurned, Answers, AnswersPart, AnswersOrFails, EndsTurn, Fails, status_at}
 use Rattle.pcp_server.proofs.FeedLemmas.{AllUnbroken-push, flat_map-ended-push, IsUnbroken-append, Splits, splits}
-use Rattle.pcp_server.proofs.PlayGiven.{AreLines-push, out_of-push, after_lines-push, AreAnswered-lines}
+use Rattle.pcp_server.proofs.HistorySteps.{AreLines-push, out_of-push, after_lines-push}
+use Rattle.pcp_server.proofs.HistoryLaws.{AreAnswered-lines}
 
 -- what is known of the script is in front of what is known of its rest
 pub record Told (script front : List ℕ) (known : Option (List ℕ)) : Type 0 where
@@ -45,6 +48,40 @@ rest_left reading (Some left) rest none h = ap Some (some_same left rest (sym (a
 
 at_end : (left : Option (List ℕ)) (rest : List ℕ) → left ≡ Some rest → IsAtEnd left → rest ≡ []
 at_end left rest h ends = rw h at ends
+
+-- a line feed stands in front
+begins_feed : (known : Option (List ℕ)) (xs : List ℕ) → prepend_known (10 ∷ []) known ≡ Some xs → (slice_get xs 0 ≡ Some 10) × (xs ≢ [])
+begins_feed None xs h = absurd cc
+begins_feed (Some ys) xs h =
+    let same : 10 ∷ ys ≡ xs = some_same (10 ∷ ys) xs h in
+    (rw (← same) refl, λ none. let bad : 10 ∷ ys ≡ [] = same ∙ none in absurd cc)
+
+has_octets : (xs : List ℕ) → xs ≢ [] → 0 < length xs
+has_octets [] h = absurd (h refl)
+has_octets (x ∷ xs) h = omega arith
+
+not_empty : (xs : List ℕ) → 0 < length xs → xs ≢ []
+not_empty xs h none = let zero_long : length xs ≡ 0 = ap length none in absurd (omega arith)
+
+-- what is pending is left
+pending_left : (reading : Reading) (left : Option (List ℕ)) (rest : List ℕ) → rest_of reading left ≡ Some rest → reading.pending ≢ [] → 0 < length rest
+pending_left reading None rest h some = absurd cc
+pending_left reading (Some left) rest h some =
+    let same : reading.pending ++ left ≡ rest = some_same (reading.pending ++ left) rest h in
+    omega (arith, ap length same, length-append reading.pending left, has_octets reading.pending some)
+
+-- a line that is refused by its length, or by the script's, has an octet or its line feed
+too_long_some : (text front back : List ℕ) {rest : List ℕ} → (length text ≡ 8193) ⊎ (0 < length rest) → rest ≡ front ++ back → ((text ++ front) ≢ []) ⊎ (back ≢ [])
+too_long_some text front [] (inl long) e = inl (not_empty (text ++ front) (omega (arith, length-append text front)))
+too_long_some text front (y ∷ back) (inl long) e = inl (not_empty (text ++ front) (omega (arith, length-append text front)))
+too_long_some text front [] (inr past) e = inl (not_empty (text ++ front) (omega (arith, ap length e, length-append front [], length-append text front)))
+too_long_some text front (y ∷ back) (inr past) e = inr (not_empty (y ∷ back) (omega arith))
+
+too_long_refused : (script text front back rest : List ℕ) → rest ≡ front ++ back → (length text ≡ 8193) ⊎ ((0 < length rest) × (length script ≡ 2 ^ 30 + length rest))
+    → (8192 < length (text ++ front)) ⊎ ((2 ^ 30 < length script - length (drop 1 back)) ⊎ ((line : Line) → ¬ (IsLine (text ++ front) line)))
+too_long_refused script text front back rest e (inl long) = inl (omega (arith, length-append text front))
+too_long_refused script text front back rest e (inr past) =
+    inr (inl (omega (arith, past.0, past.1, ap length e, length-append front back, length-drop 1 back)))
 
 length-ended : (text : List ℕ) → length (ended text) ≡ length text + 1
 length-ended text = length-append text (10 ∷ [])
@@ -72,7 +109,7 @@ module _ (config : Config) (external : External) (start number : ℕ) (script be
       ∙ ap (λ known. append_known known result) u.held_is
       ∙ ap Some (append_assoc before lines_out result ∙ ap (λ xs. before ++ xs) (sym (out_of-push config external (started start) u.lines line)))
 
-  pub goes_on : (text : List ℕ) (shard' : ShardState) (reading' : Reading) (left' held' : Option (List ℕ)) → EndsByFeed reading reading' left left' text → Answers config external text shard shard' held held' → IsUnderway config external start (number + 1) script before shard' reading' left' held'
+  goes_on : (text : List ℕ) (shard' : ShardState) (reading' : Reading) (left' held' : Option (List ℕ)) → EndsByFeed reading reading' left left' text → Answers config external text shard shard' held held' → IsUnderway config external start (number + 1) script before shard' reading' left' held'
   goes_on text shard' reading' left' held' e a = record {
     ports = u.ports;
     texts = u.texts ++ text ∷ [];
@@ -90,7 +127,7 @@ module _ (config : Config) (external : External) (start number : ℕ) (script be
     held_is = written_more text a.line shard' held' a.held_is;
   }
 
-  pub ends_script : (text : List ℕ) (reading' : Reading) (left' held' : Option (List ℕ)) → EndsScript reading reading' left left' text → held' ≡ held → IsOver config external start script before left' held' Statuses.Done
+  ends_script : (text : List ℕ) (reading' : Reading) (left' held' : Option (List ℕ)) → EndsScript reading reading' left left' text → held' ≡ held → IsOver config external start script before left' held' Statuses.Done
   ends_script text reading' left' held' e same =
       let t = told_after text (rest_of reading' left') e.uses.octets in
       let none : left' ≡ Some t.rest = rest_left reading' left' t.rest e.none_pending t.known_is in
@@ -115,7 +152,7 @@ module _ (config : Config) (external : External) (start number : ℕ) (script be
       }
 
   -- the last line, which has no line feed, is answered
-  pub ends_last : (text : List ℕ) (shard' : ShardState) (reading' : Reading) (left' held' : Option (List ℕ)) → EndsLast reading reading' left left' text → Answers config external text shard shard' held held' → IsOver config external start script before left' held' Statuses.Done
+  ends_last : (text : List ℕ) (shard' : ShardState) (reading' : Reading) (left' held' : Option (List ℕ)) → EndsLast reading reading' left left' text → Answers config external text shard shard' held held' → IsOver config external start script before left' held' Statuses.Done
   ends_last text shard' reading' left' held' e a =
       let t = told_after text (rest_of reading' left') e.uses.octets in
       let none : left' ≡ Some t.rest = rest_left reading' left' t.rest e.none_pending t.known_is in
@@ -141,7 +178,7 @@ module _ (config : Config) (external : External) (start number : ℕ) (script be
       }
 
   -- the source fails, when all that was read was used
-  pub ends_reading : (text : List ℕ) (reading' : Reading) (left' : Option (List ℕ)) (faults faults' : ℕ) → StopsReading reading reading' left left' faults faults' text → IsOver config external start script before left' held Statuses.ReadFault
+  ends_reading : (text : List ℕ) (reading' : Reading) (left' : Option (List ℕ)) (faults faults' : ℕ) → StopsReading reading reading' left left' faults faults' text → IsOver config external start script before left' held Statuses.ReadFault
   ends_reading text reading' left' faults faults' e =
       let t = told_after text (rest_of reading' left') e.uses.octets in
       record {
@@ -152,7 +189,7 @@ module _ (config : Config) (external : External) (start number : ℕ) (script be
         played = record {
           texts = u.texts;
           part = text;
-          spelled = t.spelled ∙ append_assoc (flat_map ended u.texts) text t.rest;
+          spelled = t.spelled;
           unbroken = u.unbroken;
           unended = e.uses.unbroken;
           few = omega (arith, u.used, e.uses.used, e.uses.few);
@@ -175,10 +212,10 @@ module _ (config : Config) (external : External) (start number : ℕ) (script be
   left_of reading' None rest h = absurd cc
   left_of reading' (Some y) rest h = (y, refl)
 
-  -- no memory was found while a line was read
-  pub ends_early : (text : List ℕ) (reading' : Reading) (left' held' : Option (List ℕ)) → Uses reading reading' left left' text → held' ≡ held → IsOver config external start script before left' held' Statuses.Memory
-  ends_early text reading' left' held' e same =
-      let t = told_after text (rest_of reading' left') e.octets in
+  -- no memory was found for the line of which these octets were used
+  ends_early : (used : List ℕ) (n : ℕ) (reading' : Reading) (left' held' : Option (List ℕ)) → rest_of reading left ≡ prepend_known used (rest_of reading' left') → n ≡ reading.used + length used → n ≤ 2 ^ 30 → held' ≡ held → IsOver config external start script before left' held' Statuses.Memory
+  ends_early used n reading' left' held' h count few same =
+      let t = told_after used (rest_of reading' left') h in
       let l = left_of reading' left' t.rest t.known_is in
       record {
         rest = l.0;
@@ -187,8 +224,182 @@ module _ (config : Config) (external : External) (start number : ℕ) (script be
         held_is = same ∙ u.held_is;
         played = record {
           texts = u.texts;
-          rest = text ++ t.rest;
-          first = first_so_far text (rest_of reading' left') reading'.used e.octets e.used e.few t;
+          rest = used ++ t.rest;
+          first = first_so_far used (rest_of reading' left') n h count few t;
           answered = answered;
         };
       }
+
+  stops_early : (text : List ℕ) (reading' : Reading) (left' : Option (List ℕ)) → Uses reading reading' left left' text → IsOver config external start script before left' held Statuses.Memory
+  stops_early text reading' left' e = ends_early text reading'.used reading' left' held e.octets e.used e.few refl
+
+  -- a fault at the text of a line that was read to its end, whatever is left then
+  ends_fault : (text : List ℕ) (n : ℕ) (known : Option (List ℕ)) → rest_of reading left ≡ prepend_known text known → IsUnbroken text → n ≡ reading.used + length text → n ≤ 2 ^ 30
+      → (t : Told script (flat_map ended u.texts ++ text) known) → (t.rest ≡ []) ⊎ (slice_get t.rest 0 ≡ Some 10) → (text ≢ []) ⊎ (t.rest ≢ [])
+      → ((line : Line) → ¬ (IsLine text line)) → EndsRefused config external start number script (out_of config external (started start) u.lines)
+  ends_fault text n known h unbroken used few t whole some refused = record {
+    texts = u.texts;
+    text = text;
+    tail = t.rest;
+    first = first_so_far text known n h used few t;
+    number = u.count;
+    refused = record { unbroken = unbroken; whole = whole; some = some; refused = inr (inr refused) };
+    answered = answered;
+  }
+
+  -- the text, whole, is no line
+  ends_refused : (text : List ℕ) (n : ℕ) (reading' : Reading) (left' held' known : Option (List ℕ)) (rest : List ℕ) → rest_of reading' left' ≡ Some rest
+      → rest_of reading left ≡ prepend_known text known → IsUnbroken text → n ≡ reading.used + length text → n ≤ 2 ^ 30
+      → ((t : List ℕ) → known ≡ Some t → ((t ≡ []) ⊎ (slice_get t 0 ≡ Some 10)) × ((text ≢ []) ⊎ (t ≢ [])))
+      → ((line : Line) → ¬ (IsLine text line)) → held' ≡ held → IsOver config external start script before left' held' (Statuses.ScriptRefused number)
+  ends_refused text n reading' left' held' known rest e h unbroken used few whole refused same =
+      let t = told_after text known h in
+      let l = left_of reading' left' rest e in
+      let w = whole t.rest t.known_is in
+      record {
+        rest = l.0;
+        written = out_of config external (started start) u.lines;
+        left_is = l.1;
+        held_is = same ∙ u.held_is;
+        played = ends_fault text n known h unbroken used few t w.0 w.1 refused;
+      }
+
+  -- the result of the next line is written in part
+  ends_writing : (text rest : List ℕ) (reading' : Reading) (left' held' : Option (List ℕ)) → rest_of reading' left' ≡ Some rest → length text ≤ 8192 → AreFirst script rest (u.texts ++ text ∷ []) → AnswersPart config external text shard held held' → IsOver config external start script before left' held' Statuses.WriteFault
+  ends_writing text rest reading' left' held' e short first a =
+      let lines_out = out_of config external (started start) u.lines in
+      let after = after_all (started start) (history_of config external (started start) u.lines) in
+      let result = line_text a.line (entries_of config external after a.line) in
+      let part : WritesPart held held' result = subst (λ (s : ShardState). WritesPart held held' (line_text a.line (entries_of config external s a.line))) u.shard_is a.part in
+      let l = left_of reading' left' rest e in
+      record {
+        rest = l.0;
+        written = lines_out ++ take part.taken result;
+        left_is = l.1;
+        held_is = part.front ∙ ap (λ known. append_known known (take part.taken result)) u.held_is ∙ ap Some (append_assoc before lines_out (take part.taken result));
+        played = record {
+          texts = u.texts;
+          text = text;
+          rest = rest;
+          before = lines_out;
+          result = result;
+          first = first;
+          answered = answered;
+          next = AreAnswered-lines config external start (u.texts ++ text ∷ []) (u.lines ++ a.line ∷ []) (lines_out ++ result) u.ports.0 u.ports.1
+            (AreLines-push u.texts u.lines text a.line u.read short a.read) (sym (out_of-push config external (started start) u.lines a.line));
+          taken = part.taken;
+          short = part.short;
+          written_is = refl;
+        };
+      }
+
+  -- with its line feed the next line is one more of the first lines
+  first_by_feed : (text rest : List ℕ) (reading' : Reading) (left' : Option (List ℕ)) → EndsByFeed reading reading' left left' text → script ≡ (flat_map ended u.texts ++ ended text) ++ rest → AreFirst script rest (u.texts ++ text ∷ [])
+  first_by_feed text rest reading' left' e spelled = record {
+    unbroken = AllUnbroken-push u.texts text u.unbroken e.unbroken;
+    spelled = inl (spelled ∙ ap (λ front. front ++ rest) (sym (flat_map-ended-push u.texts text)));
+    few = omega (arith, ap length spelled, length-append (flat_map ended u.texts ++ ended text) rest, length-append (flat_map ended u.texts) (ended text), length-ended text, u.used, e.used, e.few);
+  }
+
+  -- a fault behind a line that ended by its line feed
+  fault_by_feed : (text : List ℕ) (reading' : Reading) (shard' : ShardState) (left' held' : Option (List ℕ)) (faults faults' : ℕ) (fault : TextFault) → EndsByFeed reading reading' left left' text → Fails config external text shard held held' faults faults' fault → IsOver config external start script before left' held' (status_at number fault)
+  fault_by_feed text reading' shard' left' held' faults faults' Faults.NotLine e h =
+      let known = prepend_known (10 ∷ []) (rest_of reading' left') in
+      let split : rest_of reading left ≡ prepend_known text known = e.octets ∙ sym (prepend_known-append text (10 ∷ []) (rest_of reading' left')) in
+      let t = told_after (ended text) (rest_of reading' left') e.octets in
+      ends_refused text (reading.used + length text) reading' left' held' known t.rest t.known_is split e.unbroken refl (omega (arith, e.used, e.few))
+      (λ xs k. let feed = begins_feed (rest_of reading' left') xs k in (inr feed.0, inr feed.1)) h.0 h.1
+  fault_by_feed text reading' shard' left' held' faults faults' Faults.Write e h =
+      let t = told_after (ended text) (rest_of reading' left') e.octets in
+      ends_writing text t.rest reading' left' held' t.known_is e.short (first_by_feed text t.rest reading' left' e t.spelled) h.0
+  fault_by_feed text reading' shard' left' held' faults faults' Faults.Memory e h =
+      ends_early (ended text) reading'.used reading' left' held' e.octets (omega (arith, e.used, length-ended text)) e.few h
+
+  -- a fault behind the last line, which has no line feed
+  fault_at_last : (text : List ℕ) (reading' : Reading) (shard' : ShardState) (left' held' : Option (List ℕ)) (faults faults' : ℕ) (fault : TextFault) → EndsLast reading reading' left left' text → Fails config external text shard held held' faults faults' fault → IsOver config external start script before left' held' (status_at number fault)
+  fault_at_last text reading' shard' left' held' faults faults' Faults.NotLine e h =
+      let t = told_after text (rest_of reading' left') e.uses.octets in
+      let none : left' ≡ Some t.rest = rest_left reading' left' t.rest e.none_pending t.known_is in
+      let nothing : t.rest ≡ [] = at_end left' t.rest none e.none_left in
+      ends_refused text reading'.used reading' left' held' (rest_of reading' left') t.rest t.known_is e.uses.octets e.uses.unbroken e.uses.used e.uses.few
+      (λ xs k. (inl (some_same xs t.rest (sym k ∙ t.known_is) ∙ nothing), inl e.some)) h.0 h.1
+  fault_at_last text reading' shard' left' held' faults faults' Faults.Write e h =
+      let t = told_after text (rest_of reading' left') e.uses.octets in
+      let none : left' ≡ Some t.rest = rest_left reading' left' t.rest e.none_pending t.known_is in
+      let nothing : t.rest ≡ [] = at_end left' t.rest none e.none_left in
+      let spelled : script ≡ flat_map ended u.texts ++ text = t.spelled ∙ ap (λ x. (flat_map ended u.texts ++ text) ++ x) nothing ∙ append-nil (flat_map ended u.texts ++ text) in
+      let first : AreFirst script t.rest (u.texts ++ text ∷ []) = record {
+        unbroken = AllUnbroken-push u.texts text u.unbroken e.uses.unbroken;
+        spelled = inr (record { front = u.texts; last = text; texts_are = refl; some = e.some; spelled = spelled; none_behind = nothing });
+        few = omega (arith, ap length spelled, length-append (flat_map ended u.texts) text, u.used, e.uses.used, e.uses.few);
+      } in
+      ends_writing text t.rest reading' left' held' t.known_is e.short first h.0
+  fault_at_last text reading' shard' left' held' faults faults' Faults.Memory e h =
+      ends_early text reading'.used reading' left' held' e.uses.octets e.uses.used e.uses.few h
+
+  -- the text is too long, or something is left behind it
+  long_or_past : {text : List ℕ} {reading' : Reading} {left' : Option (List ℕ)} → EndsRefusing reading reading' left left' text → (rest : List ℕ) → rest_of reading' left' ≡ Some rest → (length text ≡ 8193) ⊎ (0 < length rest)
+  long_or_past {text} {reading'} {left'} e rest h =
+      elim e.refused [ inl long ↦ inl long | inr past ↦ inr (pending_left reading' left' rest h past.1) ]
+
+  -- the text is too long, or the script has more than 2 ^ 30 octets, by what is left behind it
+  long_or_past_by : {text : List ℕ} {reading' : Reading} {left' : Option (List ℕ)} → (e : EndsRefusing reading reading' left left' text) → (t : Told script (flat_map ended u.texts ++ text) (rest_of reading' left')) → (length text ≡ 8193) ⊎ ((0 < length t.rest) × (length script ≡ 2 ^ 30 + length t.rest))
+  long_or_past_by {text} {reading'} {left'} e t =
+      let whole : length script ≡ reading'.used + length t.rest = omega (arith, ap length t.spelled, length-append (flat_map ended u.texts ++ text) t.rest, length-append (flat_map ended u.texts) text, u.used, e.uses.used) in
+      elim e.refused [ inl long ↦ inl long | inr past ↦ inr (pending_left reading' left' t.rest t.known_is past.1, whole ∙ ap (λ n. n + length t.rest) past.0) ]
+
+  -- the reader refuses a line that is too long, or by whose end the script is
+  ends_too_long : (text : List ℕ) (reading' : Reading) (left' held' : Option (List ℕ)) → EndsRefusing reading reading' left left' text → held' ≡ held → IsOver config external start script before left' held' (Statuses.ScriptRefused number)
+  ends_too_long text reading' left' held' e same =
+      let t = told_after text (rest_of reading' left') e.uses.octets in
+      let l = left_of reading' left' t.rest t.known_is in
+      let s = splits t.rest in
+      let first = first_so_far text (rest_of reading' left') reading'.used e.uses.octets e.uses.used e.uses.few t in
+      record {
+        rest = l.0;
+        written = out_of config external (started start) u.lines;
+        left_is = l.1;
+        held_is = same ∙ u.held_is;
+        played = record {
+          texts = u.texts;
+          text = text ++ s.front;
+          tail = s.back;
+          first = subst (λ xs. AreFirst script xs u.texts) (ap (λ xs. text ++ xs) s.spelled ∙ sym (append_assoc text s.front s.back)) first;
+          number = u.count;
+          refused = record {
+            unbroken = IsUnbroken-append text s.front e.uses.unbroken s.unbroken;
+            whole = s.whole;
+            some = too_long_some text s.front s.back (long_or_past e t.rest t.known_is) s.spelled;
+            refused = too_long_refused script text s.front s.back t.rest s.spelled (long_or_past_by e t);
+          };
+          answered = answered;
+        };
+      }
+
+  -- the turn of a line that ended so
+  turned : (text : List ℕ) (ending : Ending) (turn : Turn) (shard' : ShardState) (reading' : Reading) (left' held' : Option (List ℕ)) (faults faults' : ℕ) → Ends reading reading' left left' text ending → EndsTurn config external number text ending shard shard' held held' faults faults' turn → IsTurned config external start number script before shard' reading' left' held' turn
+  turned text Endings.End turn shard' reading' left' held' faults faults' e h = rw h.0 (ends_script text reading' left' held' e h.1)
+  turned text Endings.Refused turn shard' reading' left' held' faults faults' e h = rw h.0 (ends_too_long text reading' left' held' e h.1)
+  turned text Endings.Feed turn shard' reading' left' held' faults faults' e h =
+      elim h [
+        inl a ↦ rw a.0 (goes_on text shard' reading' left' held' e a.1)
+        | inr f ↦ rw f.1 (fault_by_feed text reading' shard' left' held' faults faults' f.0 e f.2)
+      ]
+  turned text Endings.Last turn shard' reading' left' held' faults faults' e h =
+      elim h [
+        inl a ↦ rw a.0 (ends_last text shard' reading' left' held' e a.1)
+        | inr f ↦ rw f.1 (fault_at_last text reading' shard' left' held' faults faults' f.0 e f.2)
+      ]
+
+  -- by the fault that the reader told
+  pub stops_reading_at : (text : List ℕ) (reading' : Reading) (left' : Option (List ℕ)) (faults faults' : ℕ) (fault : LineFault) → fault ≡ LineFaults.Read → Stops reading reading' left left' faults faults' text fault → IsOver config external start script before left' held Statuses.ReadFault
+  stops_reading_at text reading' left' faults faults' fault same h = ends_reading text reading' left' faults faults' (rw same at h)
+
+  pub stops_early_at : (text : List ℕ) (reading' : Reading) (left' : Option (List ℕ)) (faults faults' : ℕ) (fault : LineFault) → fault ≡ LineFaults.Memory → Stops reading reading' left left' faults faults' text fault → IsOver config external start script before left' held Statuses.Memory
+  stops_early_at text reading' left' faults faults' fault same h = stops_early text reading' left' (rw same at h)
+
+  -- where the text and the reader were passed on
+  pub turned_by : (text text' : List ℕ) (ending : Ending) (turn : Turn) (shard' : ShardState) (reading' reading'' : Reading) (left' held' : Option (List ℕ)) (faults faults' : ℕ) → text' ≡ text → reading'' ≡ reading' → Ends reading reading' left left' text ending → EndsTurn config external number text' ending shard shard' held held' faults faults' turn → IsTurned config external start number script before shard' reading'' left' held' turn
+  turned_by text text' ending turn shard' reading' reading'' left' held' faults faults' same_text same_reader e h =
+      let h' = subst (λ (xs : List ℕ). EndsTurn config external number xs ending shard shard' held held' faults faults' turn) same_text h in
+      subst (λ (r : Reading). IsTurned config external start number script before shard' r left' held' turn) (sym same_reader) (turned text ending turn shard' reading' left' held' faults faults' e h')

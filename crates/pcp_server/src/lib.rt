@@ -13,4 +13,5 @@ mod statuses;
 mod verdicts;
 mod words;
 
+pub use run::run_once;
 pub use statuses::Status;

@@ -1,5 +1,5 @@
 //! A script is played: line by line its requests are answered from a lease table.
-ghost use Rattle.std.specs.Prelude.{◌≡◌, ℕ, ◌+◌, ◌<◌, ◌≤◌, ◌^◌, ◌++◌, List, Some, map, IfOk, IfErr, OnOk, string_bytes};
+ghost use Rattle.std.specs.Prelude.{◌≡◌, ℕ, ◌+◌, ◌<◌, ◌≤◌, ◌^◌, ◌↔◌, List, Some, map, IfOk, IfErr, OnOk, string_bytes};
 ghost use Rattle.pcp_io.specs.Faults.{HasCause, HasRisen};
 ghost use Rattle.pcp_server.specs.declared.lines.Line.{Line};
 ghost use Rattle.pcp_server.specs.declared.statuses.Status.TheVariants.{ReadFault, WordsRefused, WriteFault};
@@ -13,10 +13,12 @@ ghost use Rattle.pcp_server.specs.Playing.{Answers, AnswersOrFails, EndsTurn, Fa
 
 use crate::lines::{Line, LineRefused, read_line};
 use crate::outputs::push_reply;
+use crate::profiles::{served_config, served_external};
 use crate::readers::{Ending, LineFault, LineReader};
 use crate::shards::Shard;
 use crate::statuses::Status;
-use pcp_base::{Config, External, Memory};
+use crate::words::start_of;
+use pcp_base::{Config, External, Memory, Moment};
 use pcp_io::{Sink, Source, write_all};
 use std::alloc::Global;
 
@@ -109,6 +111,7 @@ fn status_of(fault: TextFault, number: u64) -> Status
 }
 
 /// A run: what it serves, its lease table, and what it has read of its script.
+#[derive(Drop)]
 pub(crate) struct Player {
     config: Config,
     external: External,
@@ -187,5 +190,64 @@ impl Player {
             Ok(()) => next,
             Err(fault) => Turn::Over(status_of(fault, number)),
         }
+    }
+}
+
+/// Plays a script from a Start at this moment.
+fn play<S: Source, W: Sink>(alloc: Global, start: Moment, input: &mut S, out: &mut W) -> Status
+    ensures played { (script before : List ℕ) → S.left input.old ≡ Some script → W.held out.old ≡ Some before →
+        IsOver profile external start script before (S.left input.new) (W.held out.new) result }
+    ensures read_fault { result ≡ ReadFault → HasRisen (S.faults input.old) (S.faults input.new) }
+    ensures write_fault { result ≡ WriteFault → HasRisen (W.faults out.old) (W.faults out.new) }
+    ensures reads { S.faults input.old ≤ S.faults input.new }
+    ensures writes { W.faults out.old ≤ W.faults out.new }
+    ensures words { ¬ (result ≡ WordsRefused) }
+{
+    let Ok(config) = served_config(alloc) else {
+        return Status::Memory;
+    };
+    let mut player = Player {
+        config,
+        external: served_external(),
+        shard: Shard::start(alloc, start),
+        reader: LineReader::new(),
+    };
+    let mut number = 1;
+    loop {
+        match player.turn(alloc, number, input, out) {
+            Turn::More => number += 1,
+            Turn::Over(status) => return status,
+        }
+    }
+}
+
+/// Runs the command that the words are: `play CONFIG SCRIPT JOURNALS START` answers the script of `input`
+/// line by line, and writes each line's result to `out` before it reads the next. The script has at most
+/// 2^30 octets, and a line 8,192. `CONFIG`, `SCRIPT` and `JOURNALS` are the caller's to open; they aren't
+/// looked at here.
+pub fn run_once<S: Source, W: Sink>(
+    alloc: Global,
+    words: &[String],
+    input: &mut S,
+    out: &mut W,
+) -> Status
+    // The words alone decide whether they are a command; if not, nothing is read or written.
+    ensures words { (result ≡ WordsRefused) ↔ ((start : ℕ) → ¬ (IsPlay (map string_bytes words.now) start)) }
+    ensures untouched { result ≡ WordsRefused → (S.left input.new ≡ S.left input.old) × (W.held out.new ≡ W.held out.old) }
+
+    // What was read and written, by the status, for a source and a sink that tell it.
+    ensures played { (start : ℕ) (script before : List ℕ) → IsPlay (map string_bytes words.now) start →
+        S.left input.old ≡ Some script → W.held out.old ≡ Some before →
+        IsOver profile external start script before (S.left input.new) (W.held out.new) result }
+
+    // A fault is told only where a count of faults rose.
+    ensures read_fault { result ≡ ReadFault → HasRisen (S.faults input.old) (S.faults input.new) }
+    ensures write_fault { result ≡ WriteFault → HasRisen (W.faults out.old) (W.faults out.new) }
+    ensures reads { S.faults input.old ≤ S.faults input.new }
+    ensures writes { W.faults out.old ≤ W.faults out.new }
+{
+    match start_of(words) {
+        None => Status::WordsRefused,
+        Some(start) => play(alloc, start, input, out),
     }
 }
