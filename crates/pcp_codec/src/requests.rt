@@ -1,5 +1,6 @@
 //! Requests (RFC 6887, sections 7.1, 8.2, 11.1, 12.1 and 14.1).
-ghost use Rattle.std.specs.Prelude.{◌≡◌, ◌≤◌};
+ghost use Rattle.std.specs.Prelude.{◌≡◌, ℕ, ◌≤◌, List, drop};
+ghost use Rattle.pcp_codec.specs.Packets.{IsRequest};
 ghost use Rattle.pcp_codec.specs.Requests.{opcode_of, data_length, common_of, body_of};
 ghost use Rattle.pcp_codec.specs.Framing.{first_failing, frame_steps, framed_of, unparsed};
 
@@ -61,6 +62,15 @@ pub enum Framed {
 /// What a datagram from `source` is: the first five steps of the verdict, of which the first that fails
 /// decides (RFC 6887, section 8.2; the order is our own). Octets past the end read as zero.
 pub fn read_request(octets: &[u8], source: &Address) -> Framed
+    ensures exact { result ≡ framed_of octets.now source.now }
+    ensures grammar { (frame : Frame) → result ≡ Framed.Whole frame → IsRequest octets.now source.now frame (drop frame.options octets.now) }
+    ensures only { (frame : Frame) (options : List ℕ) → IsRequest octets.now source.now frame options → result ≡ Framed.Whole frame }
+{
+    first_steps(octets, source)
+}
+
+/// The answer of the first five steps.
+fn first_steps(octets: &[u8], source: &Address) -> Framed
     ensures { result ≡ framed_of octets.now source.now }
 {
     let version = octet_of(octets, 0);
