@@ -61,7 +61,7 @@ pub record Passes (message : List ℕ) (source : Address) : Type 0 where
   pub words : length message % 4 ≡ 0
   pub client : octets_at message 8 16 ≡ source.0
 
--- no step fails
+-- no step of a list fails
 abbrev AllPass : List Step → Type 0
 AllPass [] = Unit {0}
 AllPass (step ∷ steps) = (step.fails ≡ false) × AllPass steps
@@ -120,18 +120,11 @@ pub passes : (message : List ℕ) (source : Address) → Passes message source �
 passes message source p =
     let opcode = p.opcode in
     let room = p.room in
-    whole_by (is_silent message) (first_failing (frame_steps message source)) message
-    (heard_is message (omega arith) (omega arith))
-    (all-first_failing (frame_steps message source) (
-      ap not (eq-eqb (octet message 0) 2 p.version),
-      (
-        size_is (length message) p.most p.words,
-        (
-          le-ltb 2 (opcode_of message) (omega arith),
-          (
-            le-ltb (length message) (24 + data_length (opcode_of message)) room,
-            (ap not ((bytes_eq-Decides (octets_at message 8 16) source.0).1 p.client), tt),
-          ),
-        ),
-      ),
-    ))
+    let version = ap not (eq-eqb (octet message 0) 2 p.version) in
+    let size = size_is (length message) p.most p.words in
+    let known = le-ltb 2 (opcode_of message) (omega arith) in
+    let fits = le-ltb (length message) (24 + data_length (opcode_of message)) room in
+    let client = ap not ((bytes_eq-Decides (octets_at message 8 16) source.0).1 p.client) in
+    let heard = heard_is message (omega arith) (omega arith) in
+    let none = all-first_failing (frame_steps message source) (version, (size, (known, (fits, (client, tt))))) in
+    whole_by (is_silent message) (first_failing (frame_steps message source)) message heard none

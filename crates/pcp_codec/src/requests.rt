@@ -44,7 +44,7 @@ pub enum Body {
 pub struct Frame {
     /// 0 to 2, the number of the body's opcode.
     pub opcode: u8,
-    /// The requested lifetime in seconds, 0 to 2^32 - 1; 0 asks for deletion.
+    /// The requested lifetime in seconds, 0 to 2^32 - 1.
     pub lifetime: u32,
     pub body: Body,
     /// The place in the message where the options begin: 24, 60 or 80.

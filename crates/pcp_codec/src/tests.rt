@@ -56,7 +56,7 @@ fn requests(rt: HostRuntime) {
         (&REQUEST, other, refused(Code::AddressMismatch)),
         (&REQUEST, CLIENT, WHOLE),
     ] {
-        assert_eq!(rt; read_request(octets, &source), want, "of {octets:?}");
+        assert_eq!(rt; read_request(octets, &source), want, "for {octets:?}");
     }
     assert_eq!(rt; read_common(&REQUEST), COMMON);
 }
@@ -71,7 +71,7 @@ fn cut_requests(rt: HostRuntime) {
             24..=59 => refused(Code::MalformedRequest),
             _ => WHOLE,
         };
-        assert_eq!(rt; read_request(&REQUEST[..n], &CLIENT), want, "cut at {n}");
+        assert_eq!(rt; read_request(&REQUEST[..n], &CLIENT), want, "cut to {n}");
         let want = match n {
             0..=1 => Framed::Silent,
             _ => refused(Code::UnsuppVersion),
@@ -79,7 +79,7 @@ fn cut_requests(rt: HostRuntime) {
         assert_eq!(rt;
             read_request(&old[..n], &CLIENT),
             want,
-            "version 1, cut at {n}"
+            "version 1, cut to {n}"
         );
     }
 }
@@ -123,7 +123,7 @@ fn refusals(rt: HostRuntime) -> Result<(), Fail> {
         request.resize(length, 1)?;
         let mut out = Vec::new(alloc);
         write_refusal(alloc, &mut out, &request, refusal, 10)?;
-        assert_eq!(rt; out.len(), want, "of {length} octets");
+        assert_eq!(rt; out.len(), want, "for {length} octets");
     }
     Ok(())
 }
