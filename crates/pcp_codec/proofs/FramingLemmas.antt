@@ -1,11 +1,14 @@
 -- What each answer of the first five steps says of them.
-use Rattle.std.proofs.Common.{◌≡◌, ℕ, Bool, true, false, cond, List, [], ◌∷◌, ◌++◌, Option, Some, None, refl, ap}
+use Rattle.std.proofs.Common.{◌≡◌, ℕ, ◌+◌, ◌%◌, ◌<◌, ◌≤◌, ◌==◌, ◌||◌, nat_lt, Bool, true, false, cond, not, bytes_eq, List, [], ◌∷◌, ◌++◌, length, Option, Some, None, refl, ap, arith}
+use Rattle.std.proofs.lemmas.Bool.{not-false, eqb-true, ltb-false, le-ltb, eq-eqb}
+use Rattle.std.proofs.lemmas.Bool.Decides.{nat_tests}
+use Rattle.std.proofs.lemmas.Slice.Eq.{bytes_eq-Decides}
 use Rattle.pcp_base.specs.declared.addresses.Address.{Address}
 use Rattle.pcp_base.specs.declared.asks.Refusal.{Refusal}
 use Rattle.pcp_codec.specs.declared.requests.Frame.{Frame}
-use Rattle.pcp_codec.specs.declared.requests.Framed.{Framed}
 use Rattle.pcp_codec.specs.declared.requests.Framed.TheVariants.{Silent, Refuse, Whole}
-use Rattle.pcp_codec.specs.Requests.{frame_of}
+use Rattle.pcp_codec.specs.Fields.{octet, octets_at}
+use Rattle.pcp_codec.specs.Requests.{opcode_of, data_length, frame_of}
 use Rattle.pcp_codec.specs.Framing.{Step, is_silent, first_failing, frame_steps, framed_by, framed_of}
 
 silent_of : (b : Bool) (first : Option Refusal) (message : List ℕ) → cond b Silent (framed_by message first) ≡ Silent → b ≡ true
@@ -48,3 +51,80 @@ first_failing-Some (x ∷ xs) ys r h = some_then x.fails x.refusal r (first_fail
 pub first_failing-None : (xs ys : List Step) → first_failing xs ≡ None → first_failing (xs ++ ys) ≡ first_failing ys
 first_failing-None [] ys h = refl
 first_failing-None (x ∷ xs) ys h = none_then x.fails x.refusal (first_failing xs) (first_failing (xs ++ ys)) (first_failing ys) (first_failing-None xs ys) h
+
+-- what passing all steps says of the octets
+pub record Passes (message : List ℕ) (source : Address) : Type 0 where
+  pub version : octet message 0 ≡ 2
+  pub opcode : octet message 1 ≤ 2
+  pub room : 24 + data_length (opcode_of message) ≤ length message
+  pub most : length message ≤ 1100
+  pub words : length message % 4 ≡ 0
+  pub client : octets_at message 8 16 ≡ source.0
+
+-- no step of a list fails
+abbrev AllPass : List Step → Type 0
+AllPass [] = Unit {0}
+AllPass (step ∷ steps) = (step.fails ≡ false) × AllPass steps
+
+none_both : (b : Bool) (x : Refusal) (rest : Option Refusal) → cond b (Some x) rest ≡ None → (b ≡ false) × (rest ≡ None)
+none_both true x rest h = absurd cc
+none_both false x rest h = (refl, h)
+
+first_failing-all : (steps : List Step) → first_failing steps ≡ None → AllPass steps
+first_failing-all [] h = tt
+first_failing-all (step ∷ steps) h =
+    let both = none_both step.fails step.refusal (first_failing steps) h in
+    (both.0, first_failing-all steps both.1)
+
+all-first_failing : (steps : List Step) → AllPass steps → first_failing steps ≡ None
+all-first_failing [] h = refl
+all-first_failing (step ∷ steps) h = rw h.0 (all-first_failing steps h.1)
+
+size_of : (n : ℕ) → (nat_lt 1100 n || not (n % 4 == 0)) ≡ false → (n ≤ 1100) × (n % 4 ≡ 0)
+size_of n h = grind (arith, nat_tests)
+
+size_is : (n : ℕ) → n ≤ 1100 → n % 4 ≡ 0 → (nat_lt 1100 n || not (n % 4 == 0)) ≡ false
+size_is n h e = grind (arith, nat_tests)
+
+whole_by : (b : Bool) (first : Option Refusal) (message : List ℕ) → b ≡ false → first ≡ None → cond b Silent (framed_by message first) ≡ Whole (frame_of message)
+whole_by b first message h e = rw (h, e) refl
+
+heard_is : (message : List ℕ) → 24 ≤ length message → octet message 1 < 128 → is_silent message ≡ false
+heard_is message h o = grind (arith, nat_tests)
+
+heard_of : (message : List ℕ) → is_silent message ≡ false → octet message 1 < 128
+heard_of message h = grind (arith, nat_tests)
+
+same_octets : (xs ys : List ℕ) → not (bytes_eq xs ys) ≡ false → xs ≡ ys
+same_octets xs ys h = (bytes_eq-Decides xs ys).0 (not-false (bytes_eq xs ys) h)
+
+pub passed : (message : List ℕ) (source : Address) (frame : Frame) → framed_of message source ≡ Whole frame → Passes message source × (frame_of message ≡ frame)
+passed message source frame h =
+    let found = framed_whole message source frame h in
+    let heard = heard_of message found.0 in
+    let all = first_failing-all (frame_steps message source) found.1 in
+    let size = size_of (length message) all.1.0 in
+    let known = ltb-false 2 (opcode_of message) all.1.1.0 in (
+      record {
+        version = eqb-true (octet message 0) 2 (not-false (octet message 0 == 2) all.0);
+        opcode = omega arith;
+        room = ltb-false (length message) (24 + data_length (opcode_of message)) all.1.1.1.0;
+        most = size.0;
+        words = size.1;
+        client = same_octets (octets_at message 8 16) source.0 all.1.1.1.1.0;
+      },
+      found.2,
+    )
+
+pub passes : (message : List ℕ) (source : Address) → Passes message source → framed_of message source ≡ Whole (frame_of message)
+passes message source p =
+    let opcode = p.opcode in
+    let room = p.room in
+    let version = ap not (eq-eqb (octet message 0) 2 p.version) in
+    let size = size_is (length message) p.most p.words in
+    let known = le-ltb 2 (opcode_of message) (omega arith) in
+    let fits = le-ltb (length message) (24 + data_length (opcode_of message)) room in
+    let client = ap not ((bytes_eq-Decides (octets_at message 8 16) source.0).1 p.client) in
+    let heard = heard_is message (omega arith) (omega arith) in
+    let none = all-first_failing (frame_steps message source) (version, (size, (known, (fits, (client, tt))))) in
+    whole_by (is_silent message) (first_failing (frame_steps message source)) message heard none

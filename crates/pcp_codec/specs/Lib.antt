@@ -1,4 +1,5 @@
 pub mod Fields
 pub mod Framing
+pub mod Packets
 pub mod Replies
 pub mod Requests

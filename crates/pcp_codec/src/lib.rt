@@ -8,3 +8,6 @@ mod requests;
 
 pub use replies::{write_head, write_refusal};
 pub use requests::{Body, Common, Frame, Framed, read_common, read_request};
+
+#[cfg(test)]
+mod tests;

@@ -1,66 +1,81 @@
 //! Requests (RFC 6887, sections 7.1, 8.2, 11.1, 12.1 and 14.1).
-ghost use Rattle.std.specs.Prelude.{◌≡◌, ◌≤◌};
+ghost use Rattle.std.specs.Prelude.{◌≡◌, ℕ, ◌≤◌, List, drop};
+ghost use Rattle.pcp_codec.specs.Packets.{IsRequest};
 ghost use Rattle.pcp_codec.specs.Requests.{opcode_of, data_length, common_of, body_of};
 ghost use Rattle.pcp_codec.specs.Framing.{first_failing, frame_steps, framed_of, unparsed};
 
 use crate::fields::{octet_of, octets_of, u16_of, u32_of};
 use pcp_base::{Address, Code, Nonce, Refusal};
 
-/// The data that MAP and PEER share.
+/// The data that MAP and PEER share (RFC 6887, sections 11.1 and 12.1), in requests and in responses.
 #[derive(Clone, Copy, Debug, PartialEq, Eq)]
 pub struct Common {
+    /// The mapping nonce, 12 octets.
     pub nonce: Nonce,
-    /// The number of the transport protocol, 0 for all.
+    /// The number of the transport protocol, 0 to 255; 0 stands for all protocols.
     pub protocol: u8,
-    /// The internal port.
+    /// The internal port, 0 for all ports.
     pub internal: u16,
-    /// The external port, suggested in a request and assigned in a response.
+    /// The external port, suggested in a request, 0 for none, and assigned in a response.
     pub external: u16,
-    /// The external address, suggested or assigned.
+    /// The external address, suggested in a request and assigned in a response.
     pub address: Address,
 }
 
-/// What an opcode brings with it.
+/// The opcode of a message with its data (RFC 6887, section 7.1).
 #[derive(Clone, Copy, Debug, PartialEq, Eq)]
 pub enum Body {
-    /// Opcode 0: nothing.
+    /// Opcode 0, without data (section 14.1).
     Announce,
-    /// Opcode 1.
+    /// Opcode 1, 36 octets (section 11.1).
     Map(Common),
-    /// Opcode 2.
+    /// Opcode 2, 56 octets (section 12.1).
     Peer {
         common: Common,
+        /// The port of the remote peer, 0 to 65535.
         remote_port: u16,
+        /// The address of the remote peer.
         remote: Address,
     },
 }
 
-/// A request but for its options.
+/// A request but for its options (RFC 6887, section 7.1).
 #[derive(Clone, Copy, Debug, PartialEq, Eq)]
 pub struct Frame {
-    /// 0 to 2.
+    /// 0 to 2, the number of the body's opcode.
     pub opcode: u8,
-    /// The requested lifetime in seconds.
+    /// The requested lifetime in seconds, 0 to 2^32 - 1.
     pub lifetime: u32,
     pub body: Body,
-    /// The place where the options begin.
+    /// The place in the message where the options begin: 24, 60 or 80.
     pub options: usize,
 }
 
 /// What a datagram is, before its options are read.
 #[derive(Clone, Copy, Debug, PartialEq, Eq)]
 pub enum Framed {
-    /// Nothing that is answered.
+    /// It gets no answer: it has fewer than 2 octets, it is a response, or it is of version 2 and has
+    /// fewer than 24.
     Silent,
-    /// A request that is refused.
+    /// A request that is refused before it is understood, with code 1, 3, 4 or 12.
     Refuse(Refusal),
-    /// A request whose options are to be read.
+    /// A request whose options are still to be read.
     Whole(Frame),
 }
 
-/// What a datagram from `source` is: the first five steps of the verdict, of which the first that fails
-/// decides (RFC 6887, section 8.2; the order is our own). Octets past the end read as zero.
+/// What a datagram of any length from `source` is. The first that fails of five steps decides: version
+/// (code 1), length (3), opcode (4), room for the data (3) and client address (12). Octets past the end
+/// read as zero (RFC 6887, section 8.2; the order is our own).
 pub fn read_request(octets: &[u8], source: &Address) -> Framed
+    ensures exact { result ≡ framed_of octets.now source.now }
+    ensures grammar { (frame : Frame) → result ≡ Framed.Whole frame → IsRequest octets.now source.now frame (drop frame.options octets.now) }
+    ensures only { (frame : Frame) (options : List ℕ) → IsRequest octets.now source.now frame options → result ≡ Framed.Whole frame }
+{
+    first_steps(octets, source)
+}
+
+/// The answer of the first five steps.
+fn first_steps(octets: &[u8], source: &Address) -> Framed
     ensures { result ≡ framed_of octets.now source.now }
 {
     let version = octet_of(octets, 0);
@@ -137,8 +152,8 @@ fn read_body(octets: &[u8]) -> Body
     }
 }
 
-/// The data that MAP and PEER share, of a message with one of these opcodes. Octets past its end read as
-/// zero.
+/// The data that MAP and PEER share, at the octets 24 to 59 of a message with one of these opcodes
+/// (RFC 6887, sections 11.1 and 12.1). Octets past its end read as zero.
 pub fn read_common(octets: &[u8]) -> Common
     ensures { result ≡ common_of octets.now }
 {

@@ -1,0 +1,129 @@
+//! What the clauses don't say: that they mean these octets, and that calls succeed with ample memory.
+use super::*;
+use pcp_base::{Address, Code, Nonce, Refusal};
+use std::test::Fail;
+
+// A MAP request of 10.0.0.5 for UDP port 5000, for an hour.
+const REQUEST: [u8; 60] = [
+    2, 1, 0, 0, 0, 0, 0x0e, 0x10, 0, 0, 0, 0, 0, 0, 0, 0, 0, 0, 0xff, 0xff, 10, 0, 0, 5, 0, 1, 2,
+    3, 4, 5, 6, 7, 8, 9, 10, 11, 17, 0, 0, 0, 0x13, 0x88, 0, 0, 0, 0, 0, 0, 0, 0, 0, 0, 0, 0, 0xff,
+    0xff, 0, 0, 0, 0,
+];
+
+const CLIENT: Address = Address([0, 0, 0, 0, 0, 0, 0, 0, 0, 0, 255, 255, 10, 0, 0, 5]);
+
+const COMMON: Common = Common {
+    nonce: Nonce([0, 1, 2, 3, 4, 5, 6, 7, 8, 9, 10, 11]),
+    protocol: 17,
+    internal: 5000,
+    external: 0,
+    address: Address([0, 0, 0, 0, 0, 0, 0, 0, 0, 0, 255, 255, 0, 0, 0, 0]),
+};
+
+const WHOLE: Framed = Framed::Whole(Frame {
+    opcode: 1,
+    lifetime: 3600,
+    body: Body::Map(COMMON),
+    options: 60,
+});
+
+// A refusal before the request is understood, none of whose codes tells 30 seconds.
+fn unparsed(code: Code) -> Refusal {
+    Refusal {
+        code,
+        parsed: false,
+        lifetime: 1800,
+    }
+}
+
+fn refused(code: Code) -> Framed {
+    Framed::Refuse(unparsed(code))
+}
+
+#[test]
+fn requests(rt: HostRuntime) {
+    let mut old = REQUEST;
+    old[0] = 1;
+    let mut long = [0; 1104];
+    long[..60].copy_from_slice(&REQUEST);
+    let other = Address::v4(10, 0, 0, 6);
+    for (octets, source, want) in [
+        ([2].as_slice(), CLIENT, Framed::Silent),
+        (&[2, 1], CLIENT, Framed::Silent),
+        (&[1, 1], CLIENT, refused(Code::UnsuppVersion)),
+        (&long, CLIENT, refused(Code::MalformedRequest)),
+        (&old, CLIENT, refused(Code::UnsuppVersion)),
+        (&REQUEST, other, refused(Code::AddressMismatch)),
+        (&REQUEST, CLIENT, WHOLE),
+    ] {
+        assert_eq!(rt; read_request(octets, &source), want, "for {octets:?}");
+    }
+    assert_eq!(rt; read_common(&REQUEST), COMMON);
+}
+
+#[test]
+fn cut_requests(rt: HostRuntime) {
+    let mut old = REQUEST;
+    old[0] = 1;
+    for n in 0..=60 {
+        let want = match n {
+            0..=23 => Framed::Silent,
+            24..=59 => refused(Code::MalformedRequest),
+            _ => WHOLE,
+        };
+        assert_eq!(rt; read_request(&REQUEST[..n], &CLIENT), want, "cut to {n}");
+        let want = match n {
+            0..=1 => Framed::Silent,
+            _ => refused(Code::UnsuppVersion),
+        };
+        assert_eq!(rt;
+            read_request(&old[..n], &CLIENT),
+            want,
+            "version 1, cut to {n}"
+        );
+    }
+}
+
+#[test]
+fn heads(rt: HostRuntime) {
+    let mut head = [0; 24];
+    write_head(&mut head, 1, 0, 3600, 10, &[0; 12]);
+    assert_eq!(rt;
+        head,
+        [
+            2, 0x81, 0, 0, 0, 0, 0x0e, 0x10, 0, 0, 0, 10, 0, 0, 0, 0, 0, 0, 0, 0, 0, 0, 0, 0,
+        ]
+    );
+}
+
+#[test]
+fn refusals(rt: HostRuntime) -> Result<(), Fail> {
+    let alloc = rt.alloc();
+    let refusal = unparsed(Code::UnsuppVersion);
+    // a request of 2 octets of version 1
+    let short = [
+        2, 0x81, 0, 1, 0, 0, 7, 8, 0, 0, 0, 10, 0, 0, 0, 0, 0, 0, 0, 0, 0, 0, 0, 0,
+    ];
+    let mut out = Vec::new(alloc);
+    write_refusal(alloc, &mut out, &[1, 1], refusal, 10)?;
+    assert_eq!(rt; out.as_slice(), short.as_slice());
+    // a whole request of version 1, behind what was there
+    let mut old = REQUEST;
+    old[0] = 1;
+    write_refusal(alloc, &mut out, &old, refusal, 10)?;
+    let head = [
+        2, 0x81, 0, 1, 0, 0, 7, 8, 0, 0, 0, 10, 0, 0, 0, 0, 0, 0, 0xff, 0xff, 10, 0, 0, 5,
+    ];
+    let mut want = short.to_vec(alloc)?;
+    want.extend_from_slice(&head)?;
+    want.extend_from_slice(&REQUEST[24..])?;
+    assert_eq!(rt; out.as_slice(), want.as_slice());
+    for (length, want) in [(26, 28), (1102, 1100)] {
+        let mut request = Vec::new(alloc);
+        request.resize(length, 1)?;
+        let mut out = Vec::new(alloc);
+        write_refusal(alloc, &mut out, &request, refusal, 10)?;
+        assert_eq!(rt; out.len(), want, "for {length} octets");
+    }
+    Ok(())
+}
