@@ -17,3 +17,4 @@ pub mod ReadingLemmas
 pub mod Steps
 pub mod VerdictLemmas
 pub mod WordLemmas
+pub mod RunLemmas

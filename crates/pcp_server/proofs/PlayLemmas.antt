@@ -1,8 +1,6 @@
 -- How a run of `play` goes on over one line, or ends at it.
-use Rattle.std.proofs.Common.{◌≡◌, ◌≢◌, ℕ, suc, zero, ◌+◌, ◌-◌, ◌<◌, ◌≤◌, ◌^◌, List, [], ◌∷◌, ◌++◌, length, take, drop, flat_map, slice_get, Option, Some, None, refl, sym, ap, subst, ◌∙◌, inl, inr, ◌⊎◌, arith, append_assoc, append-nil, length-append, length-drop}
-use Rattle.std.specs.List.{AllByRecursion}
+use Rattle.std.proofs.Common.{◌≡◌, ◌≢◌, ℕ, ◌+◌, ◌-◌, ◌<◌, ◌≤◌, ◌^◌, List, [], ◌∷◌, ◌++◌, length, take, drop, flat_map, slice_get, Option, Some, None, refl, sym, ap, subst, ◌∙◌, inl, inr, ◌⊎◌, arith, append_assoc, append-nil, length-append, length-drop}
 use Rattle.std.specs.Io.KnownBytes.{prepend_known, append_known, IsAtEnd}
-use Rattle.pcp_io.specs.Faults.{HasRisen}
 use Rattle.pcp_io.specs.Writes.{WritesPart}
 use Rattle.pcp_io.proofs.KnownOctets.{prepend_known-append}
 use Rattle.pcp_base.specs.declared.configs.Config.{Config}
@@ -10,21 +8,19 @@ use Rattle.pcp_base.specs.declared.configs.External.{External}
 use Rattle.pcp_server.specs.declared.lines.Line.{Line}
 use Rattle.pcp_server.specs.declared.readers.Ending.{Ending}
 use Rattle.pcp_server.specs.declared.readers.Ending.TheVariants as Endings
-use Rattle.pcp_server.specs.declared.statuses.Status.{Status}
 use Rattle.pcp_server.specs.declared.statuses.Status.TheVariants as Statuses
 use Rattle.pcp_server.specs.declared.run.Turn.{Turn}
-use Rattle.pcp_server.specs.declared.run.Turn.TheVariants.{More, Over}
 use Rattle.pcp_server.specs.declared.run.TextFault.{TextFault}
 use Rattle.pcp_server.specs.declared.run.TextFault.TheVariants as Faults
 use Rattle.pcp_server.specs.ShardStates.{ShardState}
 use Rattle.pcp_server.specs.Reading.{Reading, rest_of, Uses, EndsByFeed, EndsLast, EndsScript, EndsRefusing, Ends, Stops, StopsReading}
 use Rattle.pcp_server.specs.declared.readers.LineFault.{LineFault}
 use Rattle.pcp_server.specs.declared.readers.LineFault.TheVariants as LineFaults
-use Rattle.pcp_server.specs.Lines.{AreFirst, AreLines, LacksFeed, IsLine, IsUnbroken, ended}
+use Rattle.pcp_server.specs.Lines.{AreFirst, IsLine, IsUnbroken, ended}
 use Rattle.pcp_server.specs.Runs.{after_all, entries_of, history_of, line_text, out_of}
-use Rattle.pcp_server.specs.Played.{AreAnswered, EndsDone, EndsEarly, EndsReading, EndsRefused, EndsWriting, IsPlayed, IsRefused, started}
-use Rattle.pcp_server.specs.Playing.{IsUnderway, IsOver, IsTurned, Answers, AnswersPart, AnswersOrFails, EndsTurn, Fails, status_at}
-use Rattle.pcp_server.proofs.FeedLemmas.{AllUnbroken-push, flat_map-ended-push, IsUnbroken-append, Splits, splits}
+use Rattle.pcp_server.specs.Played.{AreAnswered, EndsRefused, started}
+use Rattle.pcp_server.specs.Playing.{IsUnderway, IsOver, IsTurned, Answers, AnswersPart, EndsTurn, Fails, status_at}
+use Rattle.pcp_server.proofs.FeedLemmas.{AllUnbroken-push, flat_map-ended-push, IsUnbroken-append, splits}
 use Rattle.pcp_server.proofs.HistorySteps.{AreLines-push, out_of-push, after_lines-push}
 use Rattle.pcp_server.proofs.HistoryLaws.{AreAnswered-lines}
 
@@ -87,7 +83,6 @@ length-ended : (text : List ℕ) → length (ended text) ≡ length text + 1
 length-ended text = length-append text (10 ∷ [])
 
 module _ (config : Config) (external : External) (start number : ℕ) (script before : List ℕ) (shard : ShardState) (reading : Reading) (left held : Option (List ℕ)) (u : IsUnderway config external start number script before shard reading left held) where
-
   -- what is written so far is the results of the lines so far
   answered : AreAnswered config external start u.texts (out_of config external (started start) u.lines)
   answered = AreAnswered-lines config external start u.texts u.lines (out_of config external (started start) u.lines) u.ports.0 u.ports.1 u.read refl
@@ -118,11 +113,11 @@ module _ (config : Config) (external : External) (start number : ℕ) (script be
     unbroken = AllUnbroken-push u.texts text u.unbroken e.unbroken;
     count = omega (arith, u.count, length-append u.texts (text ∷ []));
     script_is = u.script_is ∙ ap (prepend_known (flat_map ended u.texts)) e.octets
-      ∙ prepend_known-append (flat_map ended u.texts) (ended text) (rest_of reading' left')
-      ∙ ap (λ front. prepend_known front (rest_of reading' left')) (sym (flat_map-ended-push u.texts text));
+        ∙ prepend_known-append (flat_map ended u.texts) (ended text) (rest_of reading' left')
+        ∙ ap (λ front. prepend_known front (rest_of reading' left')) (sym (flat_map-ended-push u.texts text));
     used = e.used ∙ ap (λ n. n + length text + 1) u.used
-      ∙ (let grown : length (flat_map ended u.texts) + length text + 1 ≡ length (flat_map ended u.texts ++ ended text) = omega (arith, length-append (flat_map ended u.texts) (ended text), length-ended text) in grown)
-      ∙ ap length (sym (flat_map-ended-push u.texts text));
+        ∙ (let grown : length (flat_map ended u.texts) + length text + 1 ≡ length (flat_map ended u.texts ++ ended text) = omega (arith, length-append (flat_map ended u.texts) (ended text), length-ended text) in grown)
+        ∙ ap length (sym (flat_map-ended-push u.texts text));
     shard_is = a.shard_is ∙ ap (λ (s : ShardState). after_all s (entries_of config external s a.line)) u.shard_is ∙ sym (after_lines-push config external (started start) u.lines a.line);
     held_is = written_more text a.line shard' held' a.held_is;
   }
@@ -173,7 +168,7 @@ module _ (config : Config) (external : External) (start number : ℕ) (script be
           };
           read = nothing;
           answered = AreAnswered-lines config external start (u.texts ++ text ∷ []) lines (out_of config external (started start) lines) u.ports.0 u.ports.1
-            (AreLines-push u.texts u.lines text a.line u.read e.short a.read) refl;
+              (AreLines-push u.texts u.lines text a.line u.read e.short a.read) refl;
         };
       }
 
@@ -286,7 +281,7 @@ module _ (config : Config) (external : External) (start number : ℕ) (script be
           first = first;
           answered = answered;
           next = AreAnswered-lines config external start (u.texts ++ text ∷ []) (u.lines ++ a.line ∷ []) (lines_out ++ result) u.ports.0 u.ports.1
-            (AreLines-push u.texts u.lines text a.line u.read short a.read) (sym (out_of-push config external (started start) u.lines a.line));
+              (AreLines-push u.texts u.lines text a.line u.read short a.read) (sym (out_of-push config external (started start) u.lines a.line));
           taken = part.taken;
           short = part.short;
           written_is = refl;
@@ -382,12 +377,12 @@ module _ (config : Config) (external : External) (start number : ℕ) (script be
   turned text Endings.Refused turn shard' reading' left' held' faults faults' e h = rw h.0 (ends_too_long text reading' left' held' e h.1)
   turned text Endings.Feed turn shard' reading' left' held' faults faults' e h =
       elim h [
-        inl a ↦ rw a.0 (goes_on text shard' reading' left' held' e a.1)
+        | inl a ↦ rw a.0 (goes_on text shard' reading' left' held' e a.1)
         | inr f ↦ rw f.1 (fault_by_feed text reading' shard' left' held' faults faults' f.0 e f.2)
       ]
   turned text Endings.Last turn shard' reading' left' held' faults faults' e h =
       elim h [
-        inl a ↦ rw a.0 (ends_last text shard' reading' left' held' e a.1)
+        | inl a ↦ rw a.0 (ends_last text shard' reading' left' held' e a.1)
         | inr f ↦ rw f.1 (fault_at_last text reading' shard' left' held' faults faults' f.0 e f.2)
       ]
 

@@ -1,5 +1,5 @@
 -- The first number of a range that passes a test.
-use Rattle.std.proofs.Common.{◌≡◌, ℕ, zero, suc, ◌+◌, ◌-◌, ◌<◌, Bool, true, false, find, cond, Option, Some, refl, ap, arith}
+use Rattle.std.proofs.Common.{◌≡◌, ℕ, zero, suc, ◌+◌, ◌<◌, Bool, true, false, find, Some, refl, arith}
 use Rattle.std.specs.List.{range_with_len}
 
 pub find_first : (test : ℕ → Bool) (a n : ℕ) → 0 < n → test a ≡ true → find test (range_with_len a n) ≡ Some a

@@ -1,19 +1,18 @@
 -- The verdict, by what its steps say.
-use Rattle.std.proofs.Common.{◌≡◌, ℕ, ◌≤◌, Bool, true, false, cond, ◌||◌, ◌&&◌, ◌==◌, nat_lt, nat_le, List, ◌++◌, length, Option, Some, None, MatchOption, unwrap_or, refl, ap, ◌∙◌, arith}
+use Rattle.std.proofs.Common.{◌≡◌, ℕ, ◌≤◌, Bool, true, false, cond, ◌||◌, ◌&&◌, ◌==◌, nat_lt, nat_le, List, ◌++◌, length, Option, Some, None, MatchOption, refl, ap, ◌∙◌, arith}
 use Rattle.std.proofs.lemmas.Bool.Decides.{nat_tests}
 use Rattle.pcp_base.specs.declared.addresses.Address.{Address}
 use Rattle.pcp_base.specs.declared.asks.Refusal.{Refusal}
 use Rattle.pcp_base.specs.declared.asks.Ask.{Ask}
 use Rattle.pcp_base.specs.declared.configs.Config.{Config}
 use Rattle.pcp_base.specs.declared.datagrams.Datagram.{Datagram}
-use Rattle.pcp_base.specs.Pairing.{place_of}
 use Rattle.pcp_codec.specs.Fields.{octet}
 use Rattle.pcp_codec.specs.Framing.{first_failing, frame_steps, is_silent}
 use Rattle.pcp_server.specs.declared.verdicts.Verdict.{Verdict}
-use Rattle.pcp_server.specs.declared.verdicts.Verdict.TheVariants.{Silent, Refuse, Asked}
+use Rattle.pcp_server.specs.declared.verdicts.Verdict.TheVariants.{Silent}
 use Rattle.pcp_server.specs.Histories.{asked}
 use Rattle.pcp_server.specs.Runs.{IsHeard, heard_ask}
-use Rattle.pcp_server.specs.Verdicts.{ask_of, ask_steps, service_steps, verdict_by, verdict_of}
+use Rattle.pcp_server.specs.Verdicts.{ask_steps, service_steps, verdict_by, verdict_of}
 
 when_silent : (b : Bool) (v : Verdict) → b ≡ true → cond b Silent v ≡ Silent
 when_silent b v h = rw h refl

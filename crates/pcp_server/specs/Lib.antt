@@ -1,4 +1,5 @@
 pub mod Decisions
+pub mod Exits
 pub mod Fields
 pub mod Histories
 pub mod LineOctets

@@ -78,4 +78,4 @@ unfoldable pub verdict_of : Config → Address → List ℕ → Verdict
 verdict_of config source message =
     if is_silent message then Silent
     else verdict_by config source message
-        (first_failing (frame_steps message source ++ service_steps message ++ ask_steps config source message))
+    (first_failing (frame_steps message source ++ service_steps message ++ ask_steps config source message))

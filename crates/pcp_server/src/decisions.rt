@@ -93,12 +93,7 @@ fn pick_port(external: &External, maps: &[MapLease], m: Moment, ask: &MapAsk) ->
 }
 
 /// The least free port.
-fn least_free(
-    external: &External,
-    maps: &[MapLease],
-    m: Moment,
-    protocol: Protocol,
-) -> Option<u16>
+fn least_free(external: &External, maps: &[MapLease], m: Moment, protocol: Protocol) -> Option<u16>
     ensures { result ≡ find (is_free external.now (only_maps maps.now) m protocol) (range_with_len external.now.low (external.now.high + 1 - external.now.low)) }
 {
     for port in external.low..=external.high {

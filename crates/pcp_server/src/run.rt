@@ -186,7 +186,14 @@ impl Player {
         ensures reader { self.new.reader ≡ self.old.reader }
         ensures faults { W.faults out.old ≤ W.faults out.new }
     {
-        match answer_text(alloc, &self.config, &self.external, &mut self.shard, text, out) {
+        match answer_text(
+            alloc,
+            &self.config,
+            &self.external,
+            &mut self.shard,
+            text,
+            out,
+        ) {
             Ok(()) => next,
             Err(fault) => Turn::Over(status_of(fault, number)),
         }

@@ -97,7 +97,12 @@ impl Shard {
         ensures { IfOk result (λ reply. IsAnswered config.now external.now self.old m from.now ask.now reply.items self.new) }
     {
         let decided = self.decided(config, external, m, ask);
-        let reply = reply_for(alloc, from.octets.items(), &decided.answer, self.epoch_at(m))?;
+        let reply = reply_for(
+            alloc,
+            from.octets.items(),
+            &decided.answer,
+            self.epoch_at(m),
+        )?;
         if let Some(kept) = &decided.kept {
             self.keep(kept)?;
         }

@@ -1,4 +1,8 @@
 //! How a call of the program ended.
+ghost use Rattle.std.specs.Prelude.{◌≡◌};
+ghost use Rattle.pcp_server.specs.Exits.{exit_of};
+
+use std::fmt;
 
 /// How a run ended.
 #[derive(Clone, Copy, Debug, PartialEq, Eq)]
@@ -16,4 +20,34 @@ pub enum Status {
     WriteFault,
     /// No memory was found.
     Memory,
+}
+
+impl Status {
+    /// The exit status of the program, 0 to 8.
+    pub fn exit(self) -> u8
+        ensures { result ≡ exit_of self }
+    {
+        match self {
+            Status::Done => 0,
+            Status::WordsRefused => 2,
+            Status::ScriptRefused(_) => 4,
+            Status::ReadFault => 5,
+            Status::WriteFault => 6,
+            Status::Memory => 8,
+        }
+    }
+}
+
+impl fmt::Display for Status {
+    /// What the program tells on standard error.
+    fn fmt<W: fmt::Write>(&self, f: &mut fmt::Formatter<W>) -> fmt::Result {
+        match self {
+            Status::Done => write!(f, "done"),
+            Status::WordsRefused => write!(f, "words refused"),
+            Status::ScriptRefused(line) => write!(f, "script refused at line {line}"),
+            Status::ReadFault => write!(f, "read failed"),
+            Status::WriteFault => write!(f, "write failed"),
+            Status::Memory => write!(f, "out of memory"),
+        }
+    }
 }

@@ -1,4 +1,4 @@
-use Rattle.std.proofs.Common.{◌∙◌, ap, sym, subst, nat_lt, not}
+use Rattle.std.proofs.Common.{sym, subst, nat_lt, not}
 use Rattle.std.specs.List.{AllByRecursion}
 use Rattle.pcp_base.specs.Tables.{first_endpoint, is_map_of}
 use Rattle.pcp_server.specs.OwnedPorts.{HasPorts, IsOfMaps}
