@@ -1,5 +1,5 @@
 -- Which external address an internal one is paired with (our own).
-use Rattle.std.specs.Prelude.{ℕ, ◌-◌, ◌^◌, ◌/◌, ◌==◌, Bool, List, [], ◌∷◌, ◌++◌, replicate, Option, find}
+use Rattle.std.specs.Prelude.{ℕ, ◌-◌, ◌^◌, ◌/◌, ◌==◌, Bool, List, [], ◌∷◌, ◌++◌, Option, find}
 use Rattle.std.specs.Option.{option_map}
 use Rattle.std.specs.Int.{from_be_bytes, w128}
 use Rattle.pcp_base.specs.declared.addresses.Address.{Address}
