@@ -2,7 +2,7 @@
 .PHONY: demo test
 
 demo:
-	cd crates/pcp && rt run -- play config ../../examples/first.script journals 1000
+	@cd crates/pcp && rt run -- play config ../../examples/first.script journals 1000
 
 test:
 	bash .ci/run

@@ -11,9 +11,12 @@ use std::process::ExitCode;
 const USAGE: &str = "usage: pcp play CONFIG SCRIPT JOURNALS START
 
 Answers the Port Control Protocol requests of SCRIPT from START on, a moment in
-whole seconds, and writes the replies to standard output. CONFIG and JOURNALS
-aren't opened yet: one external address, 192.0.2.1, serves the hosts of
+whole seconds below 2^40, and writes the replies to standard output. CONFIG and
+JOURNALS aren't opened yet: one external address, 192.0.2.1, serves the hosts of
 10.0.0.0/8, and leases are kept in memory.
+
+Exit status: 0 done, 2 words refused, 4 script refused at a line, 5 read failed,
+6 write failed, 8 out of memory.
 
        pcp --help       tells this
        pcp --version    tells the version

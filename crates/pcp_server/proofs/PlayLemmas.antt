@@ -18,8 +18,8 @@ use Rattle.pcp_server.specs.declared.readers.LineFault.{LineFault}
 use Rattle.pcp_server.specs.declared.readers.LineFault.TheVariants as LineFaults
 use Rattle.pcp_server.specs.Lines.{AreFirst, IsLine, IsUnbroken, ended}
 use Rattle.pcp_server.specs.Runs.{after_all, entries_of, history_of, line_text, out_of}
-use Rattle.pcp_server.specs.Played.{AreAnswered, EndsRefused, started}
-use Rattle.pcp_server.specs.Playing.{IsUnderway, IsOver, IsTurned, Answers, AnswersPart, EndsTurn, Fails, status_at}
+use Rattle.pcp_server.specs.Played.{IsOver, AreAnswered, EndsRefused, started}
+use Rattle.pcp_server.specs.Playing.{IsUnderway, IsTurned, Answers, AnswersPart, EndsTurn, Fails, status_at}
 use Rattle.pcp_server.proofs.FeedLemmas.{AllUnbroken-push, flat_map-ended-push, IsUnbroken-append, splits}
 use Rattle.pcp_server.proofs.HistorySteps.{AreLines-push, out_of-push, after_lines-push}
 use Rattle.pcp_server.proofs.HistoryLaws.{AreAnswered-lines}

@@ -10,8 +10,8 @@ use Rattle.pcp_server.specs.ShardStates.{ShardState}
 use Rattle.pcp_server.specs.Reading.{Reading}
 use Rattle.pcp_server.specs.Profile.{external, profile}
 use Rattle.pcp_server.specs.Words.{IsPlay}
-use Rattle.pcp_server.specs.Played.{started}
-use Rattle.pcp_server.specs.Playing.{IsUnderway, IsOver}
+use Rattle.pcp_server.specs.Played.{IsOver, started}
+use Rattle.pcp_server.specs.Playing.{IsUnderway}
 use Rattle.pcp_server.proofs.HistoryLaws.{AreAnswered-lines}
 use Rattle.pcp_server.proofs.ProfileLemmas.{IsExternal-external, external-high}
 

@@ -24,7 +24,7 @@ use Rattle.pcp_server.specs.Verdicts.{parsed}
 abbrev pub only_maps : List MapLease → Table
 only_maps leases = record { maps = leases; peers = [] }
 
--- a port is free where it is given out of, and no live lease of the protocol owns it
+-- a port is free where it is in the range, and no live lease of the protocol owns it
 abbrev pub is_free : External → Table → ℕ → Protocol → ℕ → Bool
 is_free external t m protocol port = nat_le external.low port && nat_le port external.high
     && not (list_any (is_port protocol port) (owners (live t m)))

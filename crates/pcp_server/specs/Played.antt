@@ -1,5 +1,5 @@
 -- What a run of `play` did with its script (our own).
-use Rattle.std.specs.Prelude.{◌≡◌, ◌≢◌, ℕ, ◌+◌, ◌-◌, ◌^◌, ◌<◌, ◌≤◌, ◌⊎◌, List, [], ◌∷◌, ◌++◌, length, flat_map, take, drop, slice_get, Some, true}
+use Rattle.std.specs.Prelude.{◌≡◌, ◌≢◌, ℕ, ◌+◌, ◌-◌, ◌^◌, ◌<◌, ◌≤◌, ◌⊎◌, List, [], ◌∷◌, ◌++◌, length, flat_map, take, drop, slice_get, Option, Some, true}
 use Rattle.std.specs.List.{AllByRecursion}
 use Rattle.pcp_base.specs.declared.configs.Config.{Config}
 use Rattle.pcp_base.specs.declared.configs.External.{External}
@@ -97,3 +97,11 @@ IsPlayed config external start script left written WriteFault = EndsWriting conf
 IsPlayed config external start script left written Memory = EndsEarly config external start script written
 -- the words are those of a command
 IsPlayed config external start script left written WordsRefused = ⊥
+
+-- A run over, for a source and a sink that tell their octets: it left this of the script, and wrote this.
+pub record IsOver (config : Config) (external : External) (start : ℕ) (script before : List ℕ) (left held : Option (List ℕ)) (status : Status) : Type 0 where
+  pub rest : List ℕ
+  pub written : List ℕ
+  pub left_is : left ≡ Some rest
+  pub held_is : held ≡ Some (before ++ written)
+  pub played : IsPlayed config external start script rest written status

@@ -22,7 +22,7 @@ use Rattle.pcp_server.specs.ShardStates.{ShardState}
 use Rattle.pcp_server.specs.Reading.{Reading, rest_of}
 use Rattle.pcp_server.specs.Lines.{AreLines, IsLine, IsUnbroken, ended}
 use Rattle.pcp_server.specs.Runs.{after_all, entries_of, history_of, line_text, out_of}
-use Rattle.pcp_server.specs.Played.{IsPlayed, started}
+use Rattle.pcp_server.specs.Played.{IsOver, started}
 
 -- These lines were read, each with its line feed, and answered, before the one with this number.
 pub record IsUnderway (config : Config) (external : External) (start number : ℕ) (script before : List ℕ) (shard : ShardState) (reading : Reading) (left held : Option (List ℕ)) : Type 0 where
@@ -36,14 +36,6 @@ pub record IsUnderway (config : Config) (external : External) (start number : �
   pub used : reading.used ≡ length (flat_map ended texts)
   pub shard_is : shard ≡ after_all (started start) (history_of config external (started start) lines)
   pub held_is : held ≡ Some (before ++ out_of config external (started start) lines)
-
--- a run over: what it left of the script and wrote, by its status
-pub record IsOver (config : Config) (external : External) (start : ℕ) (script before : List ℕ) (left held : Option (List ℕ)) (status : Status) : Type 0 where
-  pub rest : List ℕ
-  pub written : List ℕ
-  pub left_is : left ≡ Some rest
-  pub held_is : held ≡ Some (before ++ written)
-  pub played : IsPlayed config external start script rest written status
 
 -- a turn goes on to the next line, or ends the run
 abbrev pub IsTurned : Config → External → (start number : ℕ) → (script before : List ℕ) → ShardState → Reading → (left held : Option (List ℕ)) → Turn → Type 0

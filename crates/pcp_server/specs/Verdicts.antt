@@ -18,7 +18,7 @@ use Rattle.pcp_codec.specs.Requests.{opcode_of, body_of, frame_of}
 use Rattle.pcp_server.specs.declared.verdicts.Verdict.{Verdict}
 use Rattle.pcp_server.specs.declared.verdicts.Verdict.TheVariants.{Silent, Refuse, Asked}
 
--- a protocol without ports that we map, or no internal port; a PEER isn't let through before
+-- a protocol other than TCP and UDP, or internal port 0; PEER is refused before this step
 abbrev pub lacks_ports : Body → Bool
 lacks_ports Bodies.Announce = false
 lacks_ports (Bodies.Map c) = not (c.protocol == 6 || c.protocol == 17) || c.internal == 0

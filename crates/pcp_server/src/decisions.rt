@@ -14,11 +14,14 @@ use pcp_base::{
     Protocol, Record, Refusal,
 };
 
+// How many leases may live at an external address.
+const MOST_LEASES: usize = 32_768;
+
 /// An answer, and what the lease table keeps of the request.
 #[derive(Clone, Copy, Debug, PartialEq, Eq)]
-pub struct Decided {
-    pub answer: Answer,
-    pub kept: Option<Record>,
+pub(crate) struct Decided {
+    pub(crate) answer: Answer,
+    pub(crate) kept: Option<Record>,
 }
 
 /// Whether the lease covers the endpoint.
@@ -67,7 +70,7 @@ fn is_owned(maps: &[MapLease], m: Moment, protocol: Protocol, port: u16) -> bool
     has_owner(maps, m, protocol, port)
 }
 
-/// Whether the port is given out of and no live lease of the protocol owns it.
+/// Whether the port is in the external address's range, and no live lease of the protocol owns it.
 fn is_unowned(
     external: &External,
     maps: &[MapLease],
@@ -179,7 +182,7 @@ fn decide_free(
     let Some(port) = pick_port(external, maps, m, ask) else {
         return told(Answer::Refused(refusal(Code::NoResources, true)));
     };
-    if live_count(maps, m) >= 32_768 {
+    if live_count(maps, m) >= MOST_LEASES {
         return told(Answer::Refused(refusal(Code::NoResources, true)));
     }
     told_of(config, external, m, ask, lease_for(config, m, ask, port))
@@ -260,7 +263,7 @@ fn decide_mapping(
 }
 
 /// What the lease table decides on a request at a moment, over its MAP leases.
-pub fn decide(
+pub(crate) fn decide(
     config: &Config,
     external: &External,
     maps: &[MapLease],

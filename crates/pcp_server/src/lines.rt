@@ -15,7 +15,7 @@ use thiserror::Error;
 
 /// A line of a script.
 #[derive(Debug, Drop)]
-pub enum Line {
+pub(crate) enum Line {
     /// An empty line or a comment.
     Skip,
     /// A datagram that comes at a moment.
@@ -33,7 +33,7 @@ pub(crate) enum LineRefused {
     Memory,
 }
 
-// What stands between the spaces of a packet's line, behind its first word.
+/// What stands between the spaces of a packet's line, behind its first word.
 #[derive(Clone, Copy)]
 struct Fields<'a> {
     moment: &'a [u8],
@@ -60,6 +60,7 @@ pub(crate) fn read_line(alloc: Global, text: &[u8]) -> Result<Line, LineRefused>
     }
 }
 
+/// The moment and the datagram of a packet's line.
 fn read_packet(alloc: Global, text: &[u8]) -> Result<(Moment, Datagram), LineRefused>
     ensures packet { IfOk result (λ p. IsPacket text.now p.0 p.1) }
     ensures octets { IfOk result (λ p. AllByRecursion (λ x. x < 256) p.1.octets) }
@@ -81,6 +82,7 @@ fn read_packet(alloc: Global, text: &[u8]) -> Result<(Moment, Datagram), LineRef
     Ok((moment, Datagram { peer, port, octets }))
 }
 
+/// The four fields behind `packet`, each parted from the one before by one space.
 fn fields_of(text: &[u8]) -> Option<Fields<'_>>
     ensures fields { IfSome result (λ f. AreFields text.now f.moment.now f.peer.now f.port.now f.hex.now) }
     ensures none { IfNone result ((moment peer port hex : List ℕ) → ¬ (AreFields text.now moment peer port hex)) }
@@ -97,7 +99,7 @@ fn fields_of(text: &[u8]) -> Option<Fields<'_>>
     })
 }
 
-// What stands before the first space, and what behind it.
+/// What stands before the first space, and what behind it.
 fn split_at_space(text: &[u8]) -> Option<(&[u8], &[u8])>
     ensures parts { IfSome result (λ parts. (text.now ≡ parts.0.now ++ 32 ∷ parts.1.now) × IsWord parts.0.now) }
     ensures none { IfNone result (IsWord text.now) }
@@ -106,6 +108,7 @@ fn split_at_space(text: &[u8]) -> Option<(&[u8], &[u8])>
     Some((&text[..at], &text[at + 1..]))
 }
 
+/// A decimal port, without leading zeros.
 fn read_port(text: &[u8]) -> Option<u16>
     ensures value { IfSome result (λ port. (text.now ≡ decimal port) × (port < 2 ^ 16)) }
     ensures none { IfNone result ((port : ℕ) → port < 2 ^ 16 → ¬ (text.now ≡ decimal port)) }
@@ -114,6 +117,7 @@ fn read_port(text: &[u8]) -> Option<u16>
     Some(port as u16)
 }
 
+/// The octets of a field of hexadecimal digits; `-` for none.
 fn read_octets(alloc: Global, text: &[u8]) -> Result<Octets, LineRefused>
     ensures field { IfOk result (IsHexField text.now) }
     ensures octets { IfOk result (AllByRecursion (λ x. x < 256)) }

@@ -6,7 +6,7 @@ use pcp_base::{Datagram, Memory};
 use std::alloc::{AllocError, Global};
 
 /// Appends the line that tells the reply to a datagram.
-pub fn push_reply(
+pub(crate) fn push_reply(
     alloc: Global,
     out: &mut Vec<u8>,
     from: &Datagram,

@@ -9,7 +9,7 @@ use std::alloc::Global;
 
 /// 192.0.2.1 with its ports from 1024 on.
 #[tactic(auto, unfolding(crate::specs::Profile::external))]
-pub fn served_external() -> External
+pub(crate) fn served_external() -> External
     ensures { result ≡ external }
 {
     External {
@@ -21,7 +21,7 @@ pub fn served_external() -> External
 
 /// One external address, for the hosts of 10.0.0.0/8.
 #[tactic(auto, unfolding(crate::specs::Profile::profile))]
-pub fn served_config(alloc: Global) -> Result<Config, Memory>
+pub(crate) fn served_config(alloc: Global) -> Result<Config, Memory>
     ensures { IfOk result (λ config. config ≡ profile) }
 {
     let hosts = Prefix {

@@ -25,7 +25,7 @@ pub(crate) enum Ending {
     Last,
     /// The script had no further line.
     End,
-    /// The line is too long, or the script is by its end.
+    /// The line has more than 8,192 octets, or its end passes the script's 2^30.
     Refused,
 }
 

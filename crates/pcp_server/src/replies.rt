@@ -7,7 +7,7 @@ use pcp_codec::{Common, read_common, write_head, write_refusal};
 use std::alloc::{AllocError, Global};
 
 /// The reply to a request of at least 2 octets; `epoch` is in seconds.
-pub fn reply_for(
+pub(crate) fn reply_for(
     alloc: Global,
     request: &[u8],
     answer: &Answer,

@@ -8,8 +8,8 @@ ghost use Rattle.pcp_server.specs.Lines.{IsLine};
 ghost use Rattle.pcp_server.specs.Words.{IsPlay};
 ghost use Rattle.pcp_server.specs.Profile.{external, profile};
 ghost use Rattle.pcp_server.specs.Runs.{after_all, entries_of, line_text};
-ghost use Rattle.pcp_server.specs.Played.{IsPlayed};
-ghost use Rattle.pcp_server.specs.Playing.{Answers, AnswersOrFails, EndsTurn, Fails, IsOver, IsTurned, IsUnderway, PrintsLine, status_at};
+ghost use Rattle.pcp_server.specs.Played.{IsOver};
+ghost use Rattle.pcp_server.specs.Playing.{Answers, AnswersOrFails, EndsTurn, Fails, IsTurned, IsUnderway, PrintsLine, status_at};
 
 use crate::lines::{Line, LineRefused, read_line};
 use crate::outputs::push_reply;
@@ -240,7 +240,7 @@ pub fn run_once<S: Source, W: Sink>(
 ) -> Status
     // The words alone decide whether they are a command; if not, nothing is read or written.
     ensures words { (result ≡ WordsRefused) ↔ ((start : ℕ) → ¬ (IsPlay (map string_bytes words.now) start)) }
-    ensures untouched { result ≡ WordsRefused → (S.left input.new ≡ S.left input.old) × (W.held out.new ≡ W.held out.old) }
+    ensures untouched { result ≡ WordsRefused → (input.new ≡ input.old) × (out.new ≡ out.old) }
 
     // What was read and written, by the status, for a source and a sink that tell it.
     ensures played { (start : ℕ) (script before : List ℕ) → IsPlay (map string_bytes words.now) start →

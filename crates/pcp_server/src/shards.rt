@@ -22,7 +22,7 @@ use std::marker::Model;
 
 /// The lease table of one external address, as the records that came have made it.
 #[derive(Debug, Drop)]
-pub struct Shard {
+pub(crate) struct Shard {
     maps: Vec<MapLease>,
     base: Moment,
     last: Moment,
@@ -50,7 +50,7 @@ impl Model for Shard {
 
 impl Shard {
     /// The empty table of a Start at this moment.
-    pub fn start(alloc: Global, start: Moment) -> Shard
+    pub(crate) fn start(alloc: Global, start: Moment) -> Shard
         ensures { result ≡ started start }
     {
         Shard {
@@ -63,7 +63,7 @@ impl Shard {
 
     /// Answers a datagram that comes at `now`, which is raised to the moment reached: nothing where it is
     /// silent, else the reply. After `Memory` the table isn't to be used again.
-    pub fn answer(
+    pub(crate) fn answer(
         &mut self,
         alloc: Global,
         config: &Config,

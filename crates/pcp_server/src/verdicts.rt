@@ -13,7 +13,7 @@ use std::alloc::Global;
 
 /// What a datagram is.
 #[derive(Debug, Drop)]
-pub enum Verdict {
+pub(crate) enum Verdict {
     /// Nothing that is answered.
     Silent,
     /// A request that is refused before the lease table is asked.
@@ -24,7 +24,7 @@ pub enum Verdict {
 
 /// The verdict on a datagram from `source`: the first of its steps that fails decides.
 #[tactic(auto, unfolding(crate::specs::Verdicts::verdict_of))]
-pub fn judge(alloc: Global, config: &Config, source: &Address, octets: &[u8]) -> Verdict
+pub(crate) fn judge(alloc: Global, config: &Config, source: &Address, octets: &[u8]) -> Verdict
     ensures { result ≡ verdict_of config.now source.now octets.now }
 {
     match read_request(octets, source) {
@@ -41,7 +41,7 @@ pub fn judge(alloc: Global, config: &Config, source: &Address, octets: &[u8]) ->
 }
 
 /// A refusal with the lifetime of its code.
-pub fn refusal(code: Code, parsed: bool) -> Refusal
+pub(crate) fn refusal(code: Code, parsed: bool) -> Refusal
     ensures { result ≡ record { code = code; parsed = parsed; lifetime = lifetime_of code } }
 {
     Refusal {
