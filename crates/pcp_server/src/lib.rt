@@ -10,6 +10,8 @@ mod replies;
 mod run;
 mod shards;
 mod statuses;
+#[cfg(test)]
+mod tests;
 mod verdicts;
 mod words;
 
