@@ -21,7 +21,8 @@ ghost use Rattle.expiry_wheel.specs.IsNoLater.{IsNoLater};
 
 use crate::MOST_PAIRS;
 use crate::pair::{Pair, sooner};
-use std::alloc::{AllocError, Global};
+use pcp_base::Memory;
+use std::alloc::Global;
 use std::marker::Model;
 
 /// Pairs of an id and an expiry, ids distinct, in the order in which they came.
@@ -75,8 +76,8 @@ fn soonest(pairs: &[Pair]) -> Option<Pair>
 }
 
 impl PlainWheel {
-    /// A wheel with no pair.
-    pub fn new(alloc: Global) -> Result<PlainWheel, AllocError>
+    /// A wheel with no pair. The one error is want of memory.
+    pub fn new(alloc: Global) -> Result<PlainWheel, Memory>
         ensures { IfOk result (λ wheel. wheel ≡ map.empty) }
     {
         Ok(PlainWheel {
@@ -84,8 +85,8 @@ impl PlainWheel {
         })
     }
 
-    /// Sets the expiry of an id. An `Err` is want of memory, and changes nothing.
-    pub fn put(&mut self, id: u32, expiry: u64) -> Result<(), AllocError>
+    /// Sets the expiry of an id. The one error is want of memory, which changes nothing.
+    pub fn put(&mut self, id: u32, expiry: u64) -> Result<(), Memory>
         requires { map.len (map.insert self.old id expiry) ≤ MOST_PAIRS }
         ensures ok { OnOk result (self.new ≡ map.insert self.old id expiry) }
         ensures err { OnErr result (self.new ≡ self.old) }

@@ -5,7 +5,8 @@ ghost use Rattle.std.specs.FinMap as map;
 
 use crate::plain::PlainWheel;
 use crate::{MOST_PAIRS, Wheel};
-use std::alloc::{AllocError, Global};
+use pcp_base::Memory;
+use std::alloc::Global;
 use std::marker::Brand;
 use std::process::Abort;
 use std::sync::ledger::{Blank, Ledger};
@@ -68,7 +69,7 @@ fn put_both(
     alloc: Global,
     id: u32,
     expiry: u64,
-) -> Result<(), AllocError>
+) -> Result<(), Memory>
     requires wheel { map.len wheel.old < MOST_PAIRS }
     requires plain { map.len plain.old < MOST_PAIRS }
     ensures wheel { map.len wheel.new ≤ map.len wheel.old + 1 }

@@ -31,6 +31,7 @@ ghost use Rattle.expiry_wheel.specs.IsWheel.{IsWheel};
 use crate::MOST_PAIRS;
 use crate::pair::Pair;
 use crate::tree::{Node, Tree};
+use pcp_base::Memory;
 use std::alloc::{AllocError, Global};
 use std::collections::BTreeMap;
 use std::marker::{Brand, Model};
@@ -149,8 +150,8 @@ fn vacate<L: Ledger>(
 }
 
 impl Wheel {
-    /// A wheel with no pair.
-    pub fn new(alloc: Global) -> Result<Wheel, AllocError>
+    /// A wheel with no pair. The one error is want of memory.
+    pub fn new(alloc: Global) -> Result<Wheel, Memory>
         ensures { IfOk result (λ wheel. wheel ≡ map.empty) }
     {
         Ok(Wheel {
@@ -159,8 +160,8 @@ impl Wheel {
         })
     }
 
-    /// Sets the expiry of an id. An `Err` is want of memory, and changes nothing.
-    pub fn put(&mut self, alloc: Global, id: u32, expiry: u64) -> Result<(), AllocError>
+    /// Sets the expiry of an id. The one error is want of memory, which changes nothing.
+    pub fn put(&mut self, alloc: Global, id: u32, expiry: u64) -> Result<(), Memory>
         requires { map.len (map.insert self.old id expiry) ≤ MOST_PAIRS }
         ensures ok { OnOk result (self.new ≡ map.insert self.old id expiry) }
         ensures err { OnErr result (self.new ≡ self.old) }

@@ -4,7 +4,8 @@ ghost use Rattle.std.specs.Prelude.{◌≡◌, ◌≤◌, ◌<◌, ◌+◌, ◌�
 ghost use Rattle.std.specs.Bool.{OnTrue, OnFalse};
 
 use crate::flags;
-use std::alloc::{AllocError, Global};
+use pcp_base::Memory;
+use std::alloc::Global;
 use std::marker::Model;
 
 const PORTS: usize = 65536;
@@ -38,8 +39,8 @@ impl PlainRuns {
     ghost use Rattle.port_runs.specs.FreeRun.{IsFreeRun};
     ghost use Rattle.port_runs.specs.Fitting.{Fits};
 
-    /// The range from `low` to `high`, with no port taken.
-    pub fn new(alloc: Global, low: u16, high: u16) -> Result<PlainRuns, AllocError>
+    /// The range from `low` to `high`, with no port taken. The one error is want of memory.
+    pub fn new(alloc: Global, low: u16, high: u16) -> Result<PlainRuns, Memory>
         requires some { 1 ≤ low }
         requires ordered { low ≤ high }
         ensures { IfOk result (λ runs. runs ≡ record { low = low; high = high; taken = [] }) }

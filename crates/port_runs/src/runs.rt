@@ -5,7 +5,8 @@ ghost use Rattle.std.specs.Bool.{OnTrue, OnFalse};
 
 use crate::tree::Node;
 use crate::{flags, tree};
-use std::alloc::{AllocError, Global};
+use pcp_base::Memory;
+use std::alloc::Global;
 use std::marker::Model;
 use std::sync::ledger::Ledger;
 use step_count::Steps;
@@ -43,8 +44,8 @@ impl Runs {
     ghost use Rattle.port_runs.specs.FreeRun.{IsFreeRun};
     ghost use Rattle.port_runs.specs.Fitting.{Fits};
 
-    /// The range from `low` to `high`, both of it, with no port taken.
-    pub fn new(alloc: Global, low: u16, high: u16) -> Result<Runs, AllocError>
+    /// The range from `low` to `high`, both of it, with no port taken. The one error is want of memory.
+    pub fn new(alloc: Global, low: u16, high: u16) -> Result<Runs, Memory>
         requires some { 1 ≤ low }
         requires ordered { low ≤ high }
         ensures { IfOk result (λ runs. runs ≡ record { low = low; high = high; taken = [] }) }

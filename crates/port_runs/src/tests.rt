@@ -4,7 +4,8 @@ ghost use Rattle.std.specs.Prelude.{◌≡◌, ◌≤◌, ◌<◌, ◌+◌, ℕ,
 
 use crate::Runs;
 use crate::plain::PlainRuns;
-use std::alloc::{AllocError, Global};
+use pcp_base::Memory;
+use std::alloc::Global;
 use std::marker::Brand;
 use std::process::Abort;
 use std::sync::ledger::{Blank, Ledger};
@@ -62,7 +63,7 @@ fn check_all<L: Ledger>(
     low: u16,
     high: u16,
     calls: &[Call],
-) -> Result<(), AllocError>
+) -> Result<(), Memory>
     requires name { blank.name ≡ L.name }
     requires parts { blank.parts ≡ L.parts }
     requires part { 0 < L.parts }
@@ -78,7 +79,7 @@ fn check_all<L: Ledger>(
 }
 
 #[test]
-fn five_ports(rt: HostRuntime) -> Result<(), AllocError> {
+fn five_ports(rt: HostRuntime) -> Result<(), Memory> {
     let calls = [
         FirstRun(1, None, Some(10)),
         FirstRun(5, None, Some(10)),
@@ -125,7 +126,7 @@ fn five_ports(rt: HostRuntime) -> Result<(), AllocError> {
 }
 
 #[test]
-fn ends_of_the_numbers(rt: HostRuntime) -> Result<(), AllocError> {
+fn ends_of_the_numbers(rt: HostRuntime) -> Result<(), Memory> {
     let one = [
         FirstRun(1, None, Some(65535)),
         FirstRun(1, Some(0), None),
@@ -225,7 +226,7 @@ fn call_both<L: Ledger>(
 }
 
 /// Makes many calls of both bodies, and compares which ports are free in the end.
-fn compare<L: Ledger>(rt: &impl Abort, alloc: Global, blank: Blank) -> Result<(), AllocError>
+fn compare<L: Ledger>(rt: &impl Abort, alloc: Global, blank: Blank) -> Result<(), Memory>
     requires name { blank.name ≡ L.name }
     requires parts { blank.parts ≡ L.parts }
     requires part { 0 < L.parts }
@@ -244,6 +245,6 @@ fn compare<L: Ledger>(rt: &impl Abort, alloc: Global, blank: Blank) -> Result<()
 }
 
 #[test]
-fn tree_and_flags_agree(rt: HostRuntime) -> Result<(), AllocError> {
+fn tree_and_flags_agree(rt: HostRuntime) -> Result<(), Memory> {
     compare::<Brand>(&rt, rt.alloc(), Blank::new(1))
 }

@@ -1,4 +1,4 @@
-use Rattle.std.proofs.Common.{◌+◌, ◌≤◌, ap, arith}
+use Rattle.std.proofs.Common.{ap, arith}
 use Rattle.std.specs.FinMap as map
 use Rattle.expiry_wheel.proofs.Maps.{len_inserted}
 use Rattle.expiry_wheel.proofs.tests.put_both.Goals as goal

@@ -1,4 +1,4 @@
-use Rattle.std.proofs.Common.{◌≤◌, ap, arith}
+use Rattle.std.proofs.Common.{ap, arith}
 use Rattle.std.specs.FinMap as map
 use Rattle.expiry_wheel.proofs.Maps.{len_removed}
 use Rattle.expiry_wheel.proofs.tests.remove_both.Goals as goal
