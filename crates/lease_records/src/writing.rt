@@ -1,8 +1,9 @@
 //! Writing the octets of a record.
 ghost use Rattle.std.specs.Prelude.{◌≡◌, ◌≤◌, ◌∷◌, ◌++◌, length, OnOk, OnErr};
-ghost use Rattle.std.specs.List.{flat_map};
+ghost use Rattle.std.specs.List.{flat_map, AllByRecursion};
 ghost use Rattle.pcp_base.specs.Records.{IsWellFormedRecord};
-ghost use Rattle.lease_records.specs.RecordTexts.{number_of, endpoint_text, filter_text, term_text, map_text, peer_text, fields_text, kind_of, record_text};
+ghost use Rattle.lease_records.specs.RecordTexts.{number_of, endpoint_text, filter_text, term_text, map_text, peer_text, fields_text, kind_of, record_text, IsRecordText};
+ghost use Rattle.lease_records.specs.Values.{IsEndpoint, IsFilter, IsTerm, IsMap, IsPeer, IsChangeValue, IsValue};
 
 use crate::terms::Term;
 use pcp_base::{Change, Endpoint, Filter, MapLease, Memory, PeerLease, Protocol, Record};
@@ -13,6 +14,8 @@ pub fn write_record(alloc: Global, out: &mut Vec<u8>, kept: &Record) -> Result<(
     requires { IsWellFormedRecord kept.now }
     ensures ok { OnOk result (out.new.items ≡ out.old.items ++ record_text kept.now) }
     ensures err { OnErr result (out.new.items ≡ out.old.items) }
+    // So it is read again, whatever follows it.
+    ensures text { OnOk result (IsRecordText (record_text kept.now) kept.now) }
 {
     let mut text = Vec::new(alloc);
     put_record(&mut text, kept)?;
@@ -21,7 +24,8 @@ pub fn write_record(alloc: Global, out: &mut Vec<u8>, kept: &Record) -> Result<(
 }
 
 fn put_record(out: &mut Vec<u8>, kept: &Record) -> Result<(), AllocError>
-    ensures { OnOk result (out.new.items ≡ out.old.items ++ record_text kept.now) }
+    ensures ok { OnOk result (out.new.items ≡ out.old.items ++ record_text kept.now) }
+    ensures value { OnOk result (IsValue kept.now) }
 {
     out.push(kind_number(&kept.change))?;
     out.extend_from_slice(&kept.moment.get().to_be_bytes())?;
@@ -44,7 +48,8 @@ fn kind_number(change: &Change) -> u8
 }
 
 fn put_fields(out: &mut Vec<u8>, change: &Change) -> Result<(), AllocError>
-    ensures { OnOk result (out.new.items ≡ out.old.items ++ fields_text change.now) }
+    ensures ok { OnOk result (out.new.items ≡ out.old.items ++ fields_text change.now) }
+    ensures value { OnOk result (IsChangeValue change.now) }
 {
     match change {
         Change::Start | Change::Lose | Change::Mark => Ok(()),
@@ -60,7 +65,8 @@ fn put_fields(out: &mut Vec<u8>, change: &Change) -> Result<(), AllocError>
 }
 
 fn put_endpoint(out: &mut Vec<u8>, endpoint: &Endpoint) -> Result<(), AllocError>
-    ensures { OnOk result (out.new.items ≡ out.old.items ++ endpoint_text endpoint.now) }
+    ensures ok { OnOk result (out.new.items ≡ out.old.items ++ endpoint_text endpoint.now) }
+    ensures value { OnOk result (IsEndpoint endpoint.now) }
 {
     out.extend_from_slice(&endpoint.address.0)?;
     out.push(protocol_number(endpoint.protocol))?;
@@ -78,7 +84,8 @@ fn protocol_number(protocol: Protocol) -> u8
 }
 
 fn put_term(out: &mut Vec<u8>, term: &Term) -> Result<(), AllocError>
-    ensures { OnOk result (out.new.items ≡ out.old.items ++ term_text term.now) }
+    ensures ok { OnOk result (out.new.items ≡ out.old.items ++ term_text term.now) }
+    ensures value { OnOk result (IsTerm term.now) }
 {
     out.extend_from_slice(&term.nonce.0)?;
     out.extend_from_slice(&term.granted.get().to_be_bytes())?;
@@ -86,7 +93,8 @@ fn put_term(out: &mut Vec<u8>, term: &Term) -> Result<(), AllocError>
 }
 
 fn put_map(out: &mut Vec<u8>, lease: &MapLease) -> Result<(), AllocError>
-    ensures { OnOk result (out.new.items ≡ out.old.items ++ map_text lease.now) }
+    ensures ok { OnOk result (out.new.items ≡ out.old.items ++ map_text lease.now) }
+    ensures value { OnOk result (IsMap lease.now) }
 {
     let endpoint = Endpoint {
         address: lease.address,
@@ -106,7 +114,8 @@ fn put_map(out: &mut Vec<u8>, lease: &MapLease) -> Result<(), AllocError>
 }
 
 fn put_peer(out: &mut Vec<u8>, lease: &PeerLease) -> Result<(), AllocError>
-    ensures { OnOk result (out.new.items ≡ out.old.items ++ peer_text lease.now) }
+    ensures ok { OnOk result (out.new.items ≡ out.old.items ++ peer_text lease.now) }
+    ensures value { OnOk result (IsPeer lease.now) }
 {
     put_endpoint(out, &lease.endpoint)?;
     out.extend_from_slice(&lease.external.to_be_bytes())?;
@@ -122,7 +131,8 @@ fn put_peer(out: &mut Vec<u8>, lease: &PeerLease) -> Result<(), AllocError>
 
 fn put_filters(out: &mut Vec<u8>, filters: &[Filter]) -> Result<(), AllocError>
     requires { length filters.now ≤ 8 }
-    ensures { OnOk result (out.new.items ≡ out.old.items ++ (length filters.now ∷ flat_map filter_text filters.now)) }
+    ensures ok { OnOk result (out.new.items ≡ out.old.items ++ (length filters.now ∷ flat_map filter_text filters.now)) }
+    ensures value { OnOk result (AllByRecursion IsFilter filters.now) }
 {
     out.push(filters.len() as u8)?;
     for filter in filters {
@@ -132,7 +142,8 @@ fn put_filters(out: &mut Vec<u8>, filters: &[Filter]) -> Result<(), AllocError>
 }
 
 fn put_filter(out: &mut Vec<u8>, filter: &Filter) -> Result<(), AllocError>
-    ensures { OnOk result (out.new.items ≡ out.old.items ++ filter_text filter.now) }
+    ensures ok { OnOk result (out.new.items ≡ out.old.items ++ filter_text filter.now) }
+    ensures value { OnOk result (IsFilter filter.now) }
 {
     out.push(filter.prefix)?;
     out.extend_from_slice(&filter.port.to_be_bytes())?;
