@@ -5,6 +5,8 @@ mod judging;
 mod laws;
 mod reading;
 mod terms;
+#[cfg(test)]
+mod tests;
 mod writing;
 
 pub use laws::one_text;
