@@ -1,0 +1,4 @@
+pub mod FieldLaws
+pub mod FilterLoop
+pub mod PartLaws
+pub mod RecordLaws

@@ -1,0 +1,4 @@
+pub mod Judging
+pub mod RecordReading
+pub mod RecordTexts
+pub mod Values

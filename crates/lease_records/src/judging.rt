@@ -1,0 +1,97 @@
+//! Which records are well formed.
+ghost use Rattle.std.specs.Prelude.{◌≡◌, ◌≢◌, ◌+◌, ◌<◌, ◌≤◌, ◌↔◌, IsTrue};
+ghost use Rattle.std.specs.List.{AllByRecursion};
+ghost use Rattle.pcp_base.specs.Tables.{EachTwo, IsMapLease, IsPeerLease};
+ghost use Rattle.pcp_base.specs.Records.{IsLiveAt, IsChange, IsWellFormedRecord};
+ghost use Rattle.lease_records.specs.Judging.{HasPorts, HavePrefixes, AreLeaseFilters};
+
+use pcp_base::{Change, Filter, MapLease, Moment, PeerLease, Record};
+
+/// Whether the record can stand in a journal.
+pub(crate) fn is_well_formed(kept: &Record) -> bool
+    ensures { IsTrue result ↔ IsWellFormedRecord kept.now }
+{
+    let moment = kept.moment;
+    let seconds = moment.get();
+    prove!(seconds < 1 << 40);
+    match &kept.change {
+        Change::Start | Change::Lose | Change::Mark => true,
+        Change::Map(lease) => {
+            is_map_lease(lease) && is_live_at(moment, lease.granted, lease.expiry)
+        }
+        Change::Peer(lease) => {
+            is_peer_lease(lease) && is_live_at(moment, lease.granted, lease.expiry)
+        }
+        Change::DropMap(endpoint) => endpoint.port > 0,
+        Change::DropPeer(endpoint, _, port) => endpoint.port > 0 && *port > 0,
+    }
+}
+
+/// Whether a lease was granted by this moment, and is live at it.
+fn is_live_at(moment: Moment, granted: Moment, expiry: u64) -> bool
+    ensures { IsTrue result ↔ IsLiveAt moment granted expiry }
+{
+    granted.get() <= moment.get() && moment.get() < expiry && expiry < 1 << 41
+}
+
+fn is_map_lease(lease: &MapLease) -> bool
+    ensures { IsTrue result ↔ IsMapLease lease.now }
+{
+    has_ports(lease) && has_filters(lease.filters.items())
+}
+
+fn has_ports(lease: &MapLease) -> bool
+    ensures { IsTrue result ↔ HasPorts lease.now }
+{
+    are_ports(lease.internal, lease.count)
+        && are_ports(lease.external, lease.count)
+        && (1..=4096).contains(&lease.count)
+}
+
+fn has_filters(filters: &[Filter]) -> bool
+    ensures { IsTrue result ↔ AreLeaseFilters filters.now }
+{
+    are_different(filters) && have_prefixes(filters)
+}
+
+/// Whether there are `count` ports from this one on, which is at least 1.
+fn are_ports(first: u16, count: u16) -> bool
+    ensures { IsTrue result ↔ ((0 < first) × (first + count ≤ 65536)) }
+{
+    first > 0 && u32::from(first) + u32::from(count) <= 65536
+}
+
+fn is_peer_lease(lease: &PeerLease) -> bool
+    ensures { IsTrue result ↔ IsPeerLease lease.now }
+{
+    lease.endpoint.port > 0 && lease.external > 0 && lease.remote_port > 0
+}
+
+fn are_different(filters: &[Filter]) -> bool
+    ensures { IsTrue result ↔ EachTwo (λ f g. f ≢ g) filters.now }
+{
+    match filters {
+        [] => true,
+        [first, rest @ ..] => differs_from_all(first, rest) && are_different(rest),
+    }
+}
+
+fn differs_from_all(filter: &Filter, others: &[Filter]) -> bool
+    ensures { IsTrue result ↔ AllByRecursion (λ g. filter.now ≢ g) others.now }
+{
+    others.iter().all(|other| differ(filter, other))
+}
+
+fn differ(first: &Filter, second: &Filter) -> bool
+    ensures { IsTrue result ↔ (first.now ≢ second.now) }
+{
+    first != second
+}
+
+fn have_prefixes(filters: &[Filter]) -> bool
+    ensures { IsTrue result ↔ HavePrefixes filters.now }
+{
+    filters
+        .iter()
+        .all(|filter| matches!(filter.prefix, 1..=128))
+}

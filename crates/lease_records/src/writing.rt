@@ -1,0 +1,151 @@
+//! Writing the octets of a record.
+ghost use Rattle.std.specs.Prelude.{◌≡◌, ◌≤◌, ◌∷◌, ◌++◌, length, OnOk, OnErr};
+ghost use Rattle.std.specs.List.{flat_map, AllByRecursion};
+ghost use Rattle.pcp_base.specs.Records.{IsWellFormedRecord};
+ghost use Rattle.lease_records.specs.RecordTexts.{number_of, endpoint_text, filter_text, term_text, map_text, peer_text, fields_text, kind_of, record_text, IsRecordText};
+ghost use Rattle.lease_records.specs.Values.{IsEndpoint, IsFilter, IsTerm, IsMap, IsPeer, IsChangeValue, IsValue};
+
+use crate::terms::Term;
+use pcp_base::{Change, Endpoint, Filter, MapLease, Memory, PeerLease, Protocol, Record};
+use std::alloc::{AllocError, Global};
+
+/// Appends the text of a well formed record. After `Memory` nothing was appended.
+pub fn write_record(alloc: Global, out: &mut Vec<u8>, kept: &Record) -> Result<(), Memory>
+    requires { IsWellFormedRecord kept.now }
+    ensures ok { OnOk result (out.new.items ≡ out.old.items ++ record_text kept.now) }
+    ensures err { OnErr result (out.new.items ≡ out.old.items) }
+    // So it is read again, whatever follows it.
+    ensures text { OnOk result (IsRecordText (record_text kept.now) kept.now) }
+{
+    let mut text = Vec::new(alloc);
+    put_record(&mut text, kept)?;
+    out.extend_from_slice(&text)?;
+    Ok(())
+}
+
+fn put_record(out: &mut Vec<u8>, kept: &Record) -> Result<(), AllocError>
+    ensures ok { OnOk result (out.new.items ≡ out.old.items ++ record_text kept.now) }
+    ensures value { OnOk result (IsValue kept.now) }
+{
+    out.push(kind_number(&kept.change))?;
+    out.extend_from_slice(&kept.moment.get().to_be_bytes())?;
+    put_fields(out, &kept.change)
+}
+
+/// The number that stands for the kind of a change.
+fn kind_number(change: &Change) -> u8
+    ensures { result ≡ kind_of change.now }
+{
+    match change {
+        Change::Start => 1,
+        Change::Map(_) => 2,
+        Change::Peer(_) => 3,
+        Change::DropMap(_) => 4,
+        Change::DropPeer(..) => 5,
+        Change::Lose => 6,
+        Change::Mark => 7,
+    }
+}
+
+fn put_fields(out: &mut Vec<u8>, change: &Change) -> Result<(), AllocError>
+    ensures ok { OnOk result (out.new.items ≡ out.old.items ++ fields_text change.now) }
+    ensures value { OnOk result (IsChangeValue change.now) }
+{
+    match change {
+        Change::Start | Change::Lose | Change::Mark => Ok(()),
+        Change::Map(lease) => put_map(out, lease),
+        Change::Peer(lease) => put_peer(out, lease),
+        Change::DropMap(endpoint) => put_endpoint(out, endpoint),
+        Change::DropPeer(endpoint, remote, port) => {
+            put_endpoint(out, endpoint)?;
+            out.extend_from_slice(&remote.0)?;
+            out.extend_from_slice(&port.to_be_bytes())
+        }
+    }
+}
+
+fn put_endpoint(out: &mut Vec<u8>, endpoint: &Endpoint) -> Result<(), AllocError>
+    ensures ok { OnOk result (out.new.items ≡ out.old.items ++ endpoint_text endpoint.now) }
+    ensures value { OnOk result (IsEndpoint endpoint.now) }
+{
+    out.extend_from_slice(&endpoint.address.0)?;
+    out.push(protocol_number(endpoint.protocol))?;
+    out.extend_from_slice(&endpoint.port.to_be_bytes())
+}
+
+/// The number of a transport protocol.
+fn protocol_number(protocol: Protocol) -> u8
+    ensures { result ≡ number_of protocol }
+{
+    match protocol {
+        Protocol::Tcp => 6,
+        Protocol::Udp => 17,
+    }
+}
+
+fn put_term(out: &mut Vec<u8>, term: &Term) -> Result<(), AllocError>
+    ensures ok { OnOk result (out.new.items ≡ out.old.items ++ term_text term.now) }
+    ensures value { OnOk result (IsTerm term.now) }
+{
+    out.extend_from_slice(&term.nonce.0)?;
+    out.extend_from_slice(&term.granted.get().to_be_bytes())?;
+    out.extend_from_slice(&term.expiry.to_be_bytes())
+}
+
+fn put_map(out: &mut Vec<u8>, lease: &MapLease) -> Result<(), AllocError>
+    ensures ok { OnOk result (out.new.items ≡ out.old.items ++ map_text lease.now) }
+    ensures value { OnOk result (IsMap lease.now) }
+{
+    let endpoint = Endpoint {
+        address: lease.address,
+        protocol: lease.protocol,
+        port: lease.internal,
+    };
+    put_endpoint(out, &endpoint)?;
+    out.extend_from_slice(&lease.count.to_be_bytes())?;
+    out.extend_from_slice(&lease.external.to_be_bytes())?;
+    let term = Term {
+        nonce: lease.nonce,
+        granted: lease.granted,
+        expiry: lease.expiry,
+    };
+    put_term(out, &term)?;
+    put_filters(out, lease.filters.items())
+}
+
+fn put_peer(out: &mut Vec<u8>, lease: &PeerLease) -> Result<(), AllocError>
+    ensures ok { OnOk result (out.new.items ≡ out.old.items ++ peer_text lease.now) }
+    ensures value { OnOk result (IsPeer lease.now) }
+{
+    put_endpoint(out, &lease.endpoint)?;
+    out.extend_from_slice(&lease.external.to_be_bytes())?;
+    out.extend_from_slice(&lease.remote.0)?;
+    out.extend_from_slice(&lease.remote_port.to_be_bytes())?;
+    let term = Term {
+        nonce: lease.nonce,
+        granted: lease.granted,
+        expiry: lease.expiry,
+    };
+    put_term(out, &term)
+}
+
+fn put_filters(out: &mut Vec<u8>, filters: &[Filter]) -> Result<(), AllocError>
+    requires { length filters.now ≤ 8 }
+    ensures ok { OnOk result (out.new.items ≡ out.old.items ++ (length filters.now ∷ flat_map filter_text filters.now)) }
+    ensures value { OnOk result (AllByRecursion IsFilter filters.now) }
+{
+    out.push(filters.len() as u8)?;
+    for filter in filters {
+        put_filter(out, filter)?;
+    }
+    Ok(())
+}
+
+fn put_filter(out: &mut Vec<u8>, filter: &Filter) -> Result<(), AllocError>
+    ensures ok { OnOk result (out.new.items ≡ out.old.items ++ filter_text filter.now) }
+    ensures value { OnOk result (IsFilter filter.now) }
+{
+    out.push(filter.prefix)?;
+    out.extend_from_slice(&filter.port.to_be_bytes())?;
+    out.extend_from_slice(&filter.remote.0)
+}
