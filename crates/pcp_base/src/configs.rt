@@ -5,7 +5,7 @@ ghost use Rattle.pcp_base.specs.Pairing.{place_of};
 use crate::addresses::{Address, Prefix};
 use crate::lists::Listed;
 
-/// An external address and the range of its ports that leases are given: `1 <= low <= high`.
+/// An external address and the ports that are given out of it: `1 <= low <= high`.
 #[derive(Clone, Copy, Debug, PartialEq, Eq, Hash)]
 pub struct External {
     pub address: Address,

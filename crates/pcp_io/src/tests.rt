@@ -54,6 +54,7 @@ fn files(rt: HostRuntime) -> Result<(), Fail> {
         four_reads(alloc, &mut source)?.as_slice(),
         b"abc|de|||".as_slice()
     );
+    fs::remove_file(&rt, "script")?;
     Ok(())
 }
 
