@@ -26,7 +26,7 @@ const REPLY: &str =
 const WORDS: &str = "play c s j 1000";
 
 // Scripts, how their runs end, and what they put out.
-const TEXTS: [(&str, Status, &str); 15] = [
+static TEXTS: [(&str, Status, &str); 15] = [
     ("", Status::Done, ""),
     ("\n# packet x\n\n#", Status::Done, ""),
     (
@@ -93,7 +93,6 @@ const TEXTS: [(&str, Status, &str); 15] = [
 
 // A MAP request and the moment at which it comes. Addresses and the nonce are their hexadecimal digits
 // but the peer, which is dotted.
-#[derive(Clone, Copy)]
 struct Request {
     moment: u64,
     peer: &'static str,
@@ -138,7 +137,6 @@ const EXTERNAL: &str = "00000000000000000000ffffc0000201";
 const NONE: &str = "00000000000000000000000000000000";
 
 // The reply to a request.
-#[derive(Clone, Copy)]
 enum Reply {
     // A lifetime, the epoch and a port of 192.0.2.1.
     Granted(u32, u32, u16),
@@ -151,7 +149,7 @@ enum Reply {
 }
 
 // The cases: each is a script of its own.
-const NAMES: [&str; 16] = [
+static NAMES: [&str; 16] = [
     "grant",
     "renewal",
     "limits",
@@ -171,7 +169,7 @@ const NAMES: [&str; 16] = [
 ];
 
 // Requests and their replies, in the order of their case.
-const STEPS: [(&str, Request, Reply); 35] = [
+static STEPS: [(&str, Request, Reply); 35] = [
     ("grant", FIRST, Reply::Granted(3600, 10, 1024)),
     ("renewal", FIRST, Reply::Granted(3600, 10, 1024)),
     (
@@ -432,8 +430,8 @@ fn line_of(alloc: Global, r: &Request) -> Result<String, Memory> {
 }
 
 // The line that tells the reply to the request.
-fn reply_of(alloc: Global, r: &Request, reply: Reply) -> Result<String, Memory> {
-    let (code, lifetime, epoch, kept, port, address) = match reply {
+fn reply_of(alloc: Global, r: &Request, reply: &Reply) -> Result<String, Memory> {
+    let (code, lifetime, epoch, kept, port, address) = match *reply {
         Reply::Granted(lifetime, epoch, port) => (0, lifetime, epoch, ZEROS, port, EXTERNAL),
         Reply::Deleted(epoch) => (0, 0, epoch, ZEROS, r.port, r.address),
         Reply::Refused(code, lifetime, epoch) => (code, lifetime, epoch, ZEROS, r.port, r.address),
@@ -458,10 +456,10 @@ fn reply_of(alloc: Global, r: &Request, reply: Reply) -> Result<String, Memory> 
 fn case_of(alloc: Global, name: &str) -> Result<(String, String), Memory> {
     let mut script = String::new(alloc);
     let mut output = String::new(alloc);
-    for (case, request, reply) in STEPS {
-        if case == name {
-            script.push_str(&line_of(alloc, &request)?)?;
-            output.push_str(&reply_of(alloc, &request, reply)?)?;
+    for (case, request, reply) in &STEPS {
+        if *case == name {
+            script.push_str(&line_of(alloc, request)?)?;
+            output.push_str(&reply_of(alloc, request, reply)?)?;
         }
     }
     Ok((script, output))
@@ -509,7 +507,7 @@ fn played(alloc: Global, script: &str) -> Result<(Status, MemorySink), Memory> {
 #[test]
 fn requests(rt: HostRuntime) -> Result<(), Fail> {
     let alloc = rt.alloc();
-    for name in NAMES {
+    for name in &NAMES {
         let (script, output) = case_of(alloc, name)?;
         let (status, out) = played(alloc, &script)?;
         assert_eq!(rt; status, Status::Done, "{name}");
@@ -522,9 +520,9 @@ fn requests(rt: HostRuntime) -> Result<(), Fail> {
 #[test]
 fn texts(rt: HostRuntime) -> Result<(), Fail> {
     let alloc = rt.alloc();
-    for (script, want, output) in TEXTS {
+    for (script, want, output) in &TEXTS {
         let (status, out) = played(alloc, script)?;
-        assert_eq!(rt; status, want, "at {script}");
+        assert_eq!(rt; status, *want, "at {script}");
         let held = out.held();
         assert_eq!(rt;
             held,
