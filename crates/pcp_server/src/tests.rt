@@ -593,6 +593,21 @@ fn faults(rt: HostRuntime) -> Result<(), Fail> {
     Ok(())
 }
 
+// Of 30 lines, 4,440 octets, no more than 4,096 are read before the first one's result is written.
+#[test]
+fn line_by_line(rt: HostRuntime) -> Result<(), Fail> {
+    let alloc = rt.alloc();
+    let script = repeated(alloc, LINE, 30)?;
+    let words = words_of(alloc, WORDS)?;
+    let mut input = MemorySource::new(alloc, script.as_bytes().to_vec(alloc)?)?;
+    let mut out = MemorySink::new(alloc, 1000)?;
+    out.fail_at(alloc, 0)?;
+    let status = run_once(alloc, &words, &mut input, &mut out);
+    assert_eq!(rt; status, Status::WriteFault);
+    assert_eq!(rt; input.read(&mut [0; 500]).ok(), Some(344));
+    Ok(())
+}
+
 #[test]
 fn words(rt: HostRuntime) -> Result<(), Fail> {
     let alloc = rt.alloc();
