@@ -3,6 +3,7 @@ use pcp_base::{
     Address, Change, Endpoint, Filter, Filters, MapLease, Moment, Nonce, PeerLease, Protocol,
     Record,
 };
+use std::alloc::Global;
 use std::test::Fail;
 
 // Start at 1000.
@@ -112,10 +113,9 @@ fn two_filters() -> Filters {
     filters
 }
 
-#[test]
-fn one_of_each_kind(rt: HostRuntime) -> Result<(), Fail> {
+fn cases() -> Result<[(&'static [u8], u64, Change); 8], Fail> {
     let remote = Address::v4(198, 51, 100, 7);
-    let cases: [(&[u8], u64, Change); 8] = [
+    Ok([
         (&START, 1000, Change::Start),
         (&MAP, 1010, map_lease(Filters::none())?),
         (&FILTERED, 1010, map_lease(two_filters())?),
@@ -128,23 +128,33 @@ fn one_of_each_kind(rt: HostRuntime) -> Result<(), Fail> {
         ),
         (&LOSE, 1024, Change::Lose),
         (&MARK, (1 << 40) - 1, Change::Mark),
-    ];
-    for (text, seconds, change) in cases {
+    ])
+}
+
+/// Whether what is read of the text, and one octet behind it, is written as the text again.
+fn comes_back(alloc: Global, text: &[u8]) -> Result<bool, Fail> {
+    let mut out = Vec::from_slice(alloc, text)?;
+    out.push(255)?;
+    let (kept, _) = read_record(&out)?;
+    out.clear();
+    write_record(alloc, &mut out, &kept)?;
+    Ok(out.as_slice() == text)
+}
+
+fn is_refused_at_each_cut(text: &[u8]) -> bool {
+    (0..text.len()).all(|cut| read_record(&text[..cut]).is_err())
+}
+
+#[test]
+fn one_of_each_kind(rt: HostRuntime) -> Result<(), Fail> {
+    for (text, seconds, change) in cases()? {
         let want = Record {
             moment: moment(seconds)?,
             change,
         };
-        let (kept, length) = read_record(text)?;
-        assert_eq!(rt; kept, want);
-        assert_eq!(rt; length, text.len());
-        let mut out = Vec::from_slice(rt.alloc(), b"before")?;
-        write_record(rt.alloc(), &mut out, &kept)?;
-        assert_eq!(rt; &out[6..], text);
-        out.push(0)?;
-        assert_eq!(rt; read_record(&out[6..]), Ok((want, text.len())));
-        for cut in 0..text.len() {
-            assert_eq!(rt; read_record(&text[..cut]), Err(NotRecord));
-        }
+        assert_eq!(rt; read_record(text), Ok((want, text.len())));
+        assert!(rt; comes_back(rt.alloc(), text)?);
+        assert!(rt; is_refused_at_each_cut(text));
     }
     Ok(())
 }
