@@ -221,6 +221,8 @@ text_read octets text rest r is e = ap record_at (e ∙ ap (λ (t : List ℕ). t
 
 pub read_whole : (octets text rest left : List ℕ) (r s : Record) → IsRecordText text r → octets ≡ text ++ rest → record_at octets ≡ Some (s, left) → (s ≡ r) × (length octets - length left ≡ length text)
 read_whole octets text rest left r s is e found =
-    let both : (r, rest) ≡ (s, left) = some_is {A = Record × List ℕ} (r, rest) (s, left) (sym (text_read octets text rest r is e) ∙ found) in
+    let here : Record × List ℕ = (r, rest) in
+    let there : Record × List ℕ = (s, left) in
+    let both : here ≡ there = some_is here there (sym (text_read octets text rest r is e) ∙ found) in
     let behind : length rest ≡ length left = ap (λ (z : Record × List ℕ). length z.1) both in
     (sym (ap (λ (z : Record × List ℕ). z.0) both), omega (arith, ap length e, length-append text rest, behind))
