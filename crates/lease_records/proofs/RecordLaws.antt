@@ -214,3 +214,15 @@ pub rest_is_shorter : (octets rest : List ℕ) (r : Record) → IsBytes octets �
 rest_is_shorter octets rest r fits e =
     let t = record_takes octets (r, rest) fits e in
     omega (arith, ap length t.0.parts, length-append (record_text r) rest)
+
+-- what stands at the front is read, whatever follows it
+pub text_read : (octets text rest : List ℕ) (r : Record) → IsRecordText text r → octets ≡ text ++ rest → record_at octets ≡ Some (r, rest)
+text_read octets text rest r is e = ap record_at (e ∙ ap (λ (t : List ℕ). t ++ rest) is.text) ∙ record_again r rest is.value
+
+pub read_whole : (octets text rest left : List ℕ) (r s : Record) → IsRecordText text r → octets ≡ text ++ rest → record_at octets ≡ Some (s, left) → (s ≡ r) × (length octets - length left ≡ length text)
+read_whole octets text rest left r s is e found =
+    let here : Record × List ℕ = (r, rest) in
+    let there : Record × List ℕ = (s, left) in
+    let both : here ≡ there = some_is here there (sym (text_read octets text rest r is e) ∙ found) in
+    let behind : length rest ≡ length left = ap (λ (z : Record × List ℕ). length z.1) both in
+    (sym (ap (λ (z : Record × List ℕ). z.0) both), omega (arith, ap length e, length-append text rest, behind))

@@ -1,5 +1,5 @@
 //! Reading the octets of a record.
-ghost use Rattle.std.specs.Prelude.{◌≡◌, ◌≤◌, ℕ, length, take, IfOk, OnErr};
+ghost use Rattle.std.specs.Prelude.{◌≡◌, ◌≤◌, ℕ, List, ◌++◌, length, take, IfOk, OnErr};
 ghost use Rattle.std.specs.Int.{w16, w64};
 ghost use Rattle.pcp_base.specs.declared.records.Record.{Record};
 ghost use Rattle.lease_records.specs.RecordTexts.{IsRecordText};
@@ -279,6 +279,8 @@ pub fn read_record(octets: &[u8]) -> Result<(Record, usize), NotRecord>
     ensures within { IfOk result (λ found. found.1 ≤ length octets.now) }
     ensures found { IfOk result (λ found. IsRecordText (take found.1 octets.now) found.0) }
     ensures none { OnErr result ((r : Record) (n : ℕ) → ¬ (IsRecordText (take n octets.now) r)) }
+    // What was written is read again, whatever follows it.
+    ensures again { (r : Record) (text rest : List ℕ) → IsRecordText text r → octets.now ≡ text ++ rest → result ≡ Ok (r, length text) }
 {
     let Ok((record, rest)) = record_of(octets) else {
         return Err(NotRecord);
