@@ -1,0 +1,7 @@
+pub mod Contents
+pub mod DiskCalls
+pub mod DiskInMemory
+pub mod ImageLaws
+pub mod Images
+pub mod Moments
+pub mod Steps

@@ -1,0 +1,8 @@
+//! The disk of a journal, whose meaning says what a crash may leave at any moment, with a form in
+//! memory and a thin one over a file.
+#![tactic(auto)]
+
+mod calls;
+mod disks;
+
+pub use disks::{DiskPair, LeaseDisk};
