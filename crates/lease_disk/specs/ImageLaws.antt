@@ -17,7 +17,7 @@ torn-same place n octets = record {
 }
 
 pub length-padded : (octets : List ℕ) (place : ℕ) → length (padded octets place) ≡ max place (length octets)
-length-padded octets place = omega (arith, length-append octets (replicate (place - length octets) 0), length-replicate (place - length octets) 0)
+length-padded octets place = omega (arith, length-append octets (replicate (place - length octets) 0), length-replicate {A = ℕ} (place - length octets) 0)
 
 -- it may leave any octets in its range
 pub torn-written : (place n : ℕ) (octets piece : List ℕ) → length piece ≡ n → Torn place n octets (written octets place piece)
@@ -28,7 +28,7 @@ torn-written place n octets (x ∷ xs) is =
     let rest = drop (place + length piece) octets in
     let size : length front ≡ place = omega (arith, length-take place (padded octets place), length-padded octets place) in
     let sizes : length (front ++ piece) ≡ place + n = omega (arith, length-append front piece, size, is) in
-    let zeros = replicate (place - length octets) 0 in
+    let zeros : List ℕ = replicate (place - length octets) 0 in
     let m = min place (length octets) in
     let whole : length (front ++ piece ++ rest) ≡ place + n + length rest = omega (arith, length-append (front ++ piece) rest, sizes) in
     let end : length rest ≡ length octets - (place + n) = omega (arith, length-drop (place + length piece) octets, is) in

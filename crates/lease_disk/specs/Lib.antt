@@ -1,3 +1,4 @@
+pub mod Changes
 pub mod Contents
 pub mod DiskCalls
 pub mod DiskInMemory

@@ -3,6 +3,10 @@
 #![tactic(auto)]
 
 mod calls;
+mod changes;
 mod disks;
+mod memory;
+mod replays;
 
 pub use disks::{DiskPair, LeaseDisk};
+pub use memory::MemoryDisk;
