@@ -1,1 +1,4 @@
+pub mod Goings
+mod StepLemmas
+pub mod Within
 mod WriteLemmas

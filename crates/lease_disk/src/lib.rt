@@ -5,8 +5,10 @@
 mod calls;
 mod changes;
 mod disks;
+mod files;
 mod memory;
 mod replays;
 
+pub use files::FileDisk;
 pub use disks::{DiskPair, LeaseDisk};
 pub use memory::MemoryDisk;

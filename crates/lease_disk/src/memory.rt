@@ -10,7 +10,7 @@ use pcp_base::{Failed, Memory};
 use std::alloc::{AllocError, Global};
 use std::marker::Model;
 
-const MOST_OCTETS: u64 = 1 << 62;
+pub(crate) const MOST_OCTETS: u64 = 1 << 62;
 
 /// A disk in memory, which keeps all that was done to it. A device call fails, and counts that, exactly
 /// where `fail_at` or `stop_at` named it, where a write would pass the room, and where no memory was
@@ -41,7 +41,9 @@ impl MemoryDisk {
     ghost use Rattle.std.specs.Prelude.{◌≡◌, ◌+◌, ◌≤◌, ◌∷◌, length, OnOk, OnErr, IfOk};
     ghost use Rattle.lease_disk.specs.DiskCalls.{with_failing, with_stop};
     ghost use Rattle.lease_disk.specs.DiskInMemory.{new_disk};
-    ghost use Rattle.lease_disk.specs.Steps.Step.{Wrote, CutTo};
+    ghost use Rattle.lease_disk.specs.Images.{NoMore};
+    ghost use Rattle.lease_disk.specs.Steps.{IsImage};
+    ghost use Rattle.lease_disk.specs.Steps.Step.{Wrote, CutTo, Synced};
 
     /// A disk without an octet, which may hold as many as the room, but at most 2^62. No call of it is
     /// named to fail.
@@ -93,6 +95,16 @@ impl MemoryDisk {
     {
         self.changes.push(Change::CutTo(size as usize))?;
         self.octets.truncate(size as usize);
+        Ok(())
+    }
+
+    /// Notes a sync. After an error nothing has changed.
+    fn settle(&mut self) -> Result<(), AllocError>
+        ensures ok { OnOk result (self.new ≡ record self.old { steps = Synced ∷ self.old.steps }) }
+        ensures err { OnErr result (self.new ≡ self.old) }
+        ensures crash { NoMore (IsImage self.old.steps) (IsImage self.new.steps) }
+    {
+        self.changes.push(Change::Synced)?;
         Ok(())
     }
 
@@ -204,7 +216,7 @@ impl LeaseDisk for MemoryDisk {
         if self.calls.begin() {
             return Err(self.calls.fail());
         }
-        match self.changes.push(Change::Synced) {
+        match self.settle() {
             Ok(()) => Ok(()),
             Err(_) => Err(self.calls.starve()),
         }
