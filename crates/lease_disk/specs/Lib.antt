@@ -5,4 +5,5 @@ pub mod DiskInMemory
 pub mod ImageLaws
 pub mod Images
 pub mod Moments
+pub mod Replays
 pub mod Steps

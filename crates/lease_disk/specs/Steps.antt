@@ -10,12 +10,16 @@ pub data Step : Type 0 where
   CutTo : ℕ → Step
   Synced : Step
 
+-- the octets after one step more
+abbrev pub after_step : Step → List ℕ → List ℕ
+after_step (Wrote place piece) octets = written octets place piece
+after_step (CutTo size) octets = take size octets
+after_step Synced octets = octets
+
 -- the octets that a read gives after these steps
 abbrev pub octets_after : List Step → List ℕ
 octets_after [] = []
-octets_after (Wrote place piece ∷ steps) = written (octets_after steps) place piece
-octets_after (CutTo size ∷ steps) = take size (octets_after steps)
-octets_after (Synced ∷ steps) = octets_after steps
+octets_after (step ∷ steps) = after_step step (octets_after steps)
 
 -- a crash after these steps may leave this
 abbrev pub IsImage : List Step → List ℕ → Type 0
@@ -36,10 +40,15 @@ up_to_sync (Wrote place piece ∷ steps) = up_to_sync steps
 up_to_sync (CutTo size ∷ steps) = up_to_sync steps
 up_to_sync (Synced ∷ steps) = steps
 
+-- a step with `ff` for each octet that it wrote
+abbrev pub faded : Step → Step
+faded (Wrote place piece) = Wrote place (replicate (length piece) 255)
+faded step = step
+
 -- the steps, with `ff` for each octet that was written since the last sync
 abbrev pub blurred : List Step → List Step
 blurred [] = []
-blurred (Wrote place piece ∷ steps) = Wrote place (replicate (length piece) 255) ∷ blurred steps
+blurred (Wrote place piece ∷ steps) = faded (Wrote place piece) ∷ blurred steps
 blurred (CutTo size ∷ steps) = CutTo size ∷ blurred steps
 blurred (Synced ∷ steps) = steps
 

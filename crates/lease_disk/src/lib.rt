@@ -8,6 +8,8 @@ mod disks;
 mod files;
 mod memory;
 mod replays;
+#[cfg(test)]
+mod tests;
 
 pub use files::FileDisk;
 pub use disks::{DiskPair, LeaseDisk};

@@ -1,11 +1,13 @@
 //! A disk in memory.
-ghost use Rattle.std.specs.Prelude.{◌≡◌, ◌+◌, ◌-◌, ◌≤◌, ◌↔◌, length, min, IsTrue};
+ghost use Rattle.std.specs.Prelude.{◌≡◌, ◌+◌, ◌-◌, ◌≤◌, ◌↔◌, [], ◌∷◌, length, min, IfOk, IsTrue};
+ghost use Rattle.lease_disk.specs.Changes.{steps_of};
 ghost use Rattle.lease_disk.specs.Contents.{FillsFront, ReadsFrom};
+ghost use Rattle.lease_disk.specs.Steps.Step.{Wrote, Synced};
 
 use crate::calls::DiskCalls;
 use crate::changes::Change;
 use crate::disks::LeaseDisk;
-use crate::replays::put;
+use crate::replays::{image, put};
 use pcp_base::{Failed, Memory};
 use std::alloc::{AllocError, Global};
 use std::marker::Model;
@@ -28,21 +30,22 @@ impl Model for MemoryDisk {
     ghost use Rattle.std.specs.Prelude.{◌≡◌, ◌≤◌, ◌^◌, vec_len};
     ghost use Rattle.lease_disk.specs.Changes.{steps_of};
     ghost use Rattle.lease_disk.specs.DiskInMemory.{DiskInMemory};
+    ghost use Rattle.lease_disk.specs.Replays.{FitRoom};
     ghost use Rattle.lease_disk.specs.Steps.{octets_after};
 
     ghost Value = { DiskInMemory };
 
     ghost view = { λ d. record { steps = steps_of d.changes.items; room = d.room; calls = d.calls } };
 
-    ghost invariant = { λ d. (d.octets.items ≡ octets_after (steps_of d.changes.items)) × (vec_len d.octets ≤ d.room) × (d.room ≤ 2 ^ 62) };
+    ghost invariant = { λ d. (d.octets.items ≡ octets_after (steps_of d.changes.items)) × (vec_len d.octets ≤ d.room) × (d.room ≤ 2 ^ 62) × FitRoom d.room (steps_of d.changes.items) };
 }
 
 impl MemoryDisk {
-    ghost use Rattle.std.specs.Prelude.{◌≡◌, ◌+◌, ◌≤◌, ◌∷◌, length, OnOk, OnErr, IfOk};
+    ghost use Rattle.std.specs.Prelude.{◌≡◌, ◌+◌, ◌≤◌, ◌^◌, ◌∷◌, length, vec_len, OnOk, OnErr, IfOk};
     ghost use Rattle.lease_disk.specs.DiskCalls.{with_failing, with_stop};
-    ghost use Rattle.lease_disk.specs.DiskInMemory.{new_disk};
+    ghost use Rattle.lease_disk.specs.DiskInMemory.{holding, new_disk};
     ghost use Rattle.lease_disk.specs.Images.{NoMore};
-    ghost use Rattle.lease_disk.specs.Steps.{IsImage};
+    ghost use Rattle.lease_disk.specs.Steps.{IsImage, image_by};
     ghost use Rattle.lease_disk.specs.Steps.Step.{Wrote, CutTo, Synced};
 
     /// A disk without an octet, which may hold as many as the room, but at most 2^62. No call of it is
@@ -73,6 +76,35 @@ impl MemoryDisk {
         ensures { self.new ≡ record self.old { calls = with_stop self.old.calls call } }
     {
         self.calls.stop_at(call);
+    }
+
+    /// A disk of the same room that holds one of the images now, synced: at choice 0 the octets of the
+    /// last sync, at choice 1 those that a read gives, and at any other those that a read gives, with
+    /// `ff` for each octet that was written since the last sync. No call of it is named to fail.
+    #[tactic(auto, using(crate::proofs::ReplayLemmas::image_by_is, crate::proofs::ReplayLemmas::image_by_fits))]
+    pub fn stopped(&self, alloc: Global, choice: u8) -> Result<MemoryDisk, Memory>
+        ensures choice { IfOk result (λ disk. disk ≡ holding (image_by self.now.steps choice) self.now.room) }
+        ensures image { IsImage self.now.steps (image_by self.now.steps choice) }
+    {
+        let octets = image(alloc, &self.changes, choice)?;
+        Ok(MemoryDisk::holding(alloc, octets, self.room)?)
+    }
+
+    /// A disk of this room that holds these octets, synced.
+    #[tactic(auto, using(crate::proofs::ReplayLemmas::held_octets, crate::proofs::ReplayLemmas::held_fits))]
+    fn holding(alloc: Global, octets: Vec<u8>, room: u64) -> Result<MemoryDisk, AllocError>
+        requires fits { vec_len octets ≤ room }
+        requires most { room ≤ 2 ^ 62 }
+        ensures { IfOk result (λ disk. disk ≡ holding octets.items room) }
+    {
+        let changes = held(alloc, &octets)?;
+        Ok(MemoryDisk {
+            alloc,
+            octets,
+            changes,
+            room,
+            calls: DiskCalls::new(alloc),
+        })
     }
 
     /// Writes the piece at this place. After an error nothing has changed.
@@ -221,6 +253,17 @@ impl LeaseDisk for MemoryDisk {
             Err(_) => Err(self.calls.starve()),
         }
     }
+}
+
+/// The changes that leave these octets, synced.
+fn held(alloc: Global, octets: &[u8]) -> Result<Vec<Change>, AllocError>
+    ensures { IfOk result (λ changes. steps_of changes.items ≡ Synced ∷ Wrote 0 octets.now ∷ []) }
+{
+    let mut changes = Vec::new(alloc);
+    let piece = octets.to_vec(alloc)?;
+    changes.push(Change::Wrote { place: 0, piece })?;
+    changes.push(Change::Synced)?;
+    Ok(changes)
 }
 
 /// Whether a write of so many octets at this place ends within the room.
