@@ -1,6 +1,6 @@
 -- How 'each image since the start has P' goes on over one device call of each kind, for those who call
 -- a disk.
-use Rattle.std.proofs.Common.{◌≡◌, ◌⊎◌, inl, inr, ⊎_elim, ℕ, ◌≤◌, List, subst, arith}
+use Rattle.std.proofs.Common.{inl, inr, ⊎_elim, ℕ, ◌≤◌, List, subst, arith}
 use Rattle.lease_disk.specs.Images.{Torn, CutOrNot, Follows, NoMore, Only}
 use Rattle.lease_disk.specs.Moments.{Elapses, LeavesOnly}
 

@@ -1,11 +1,10 @@
 -- How an image is made of the steps.
-use Rattle.std.proofs.Common.{◌≡◌, inl, inr, ℕ, ◌==◌, ◌+◌, ◌<◌, ◌≤◌, nat_lt, if◌then◌else◌, Bool, true, false, min, max, List, [], ◌∷◌, ◌++◌, length, take, drop, get_or, map, reverse, refl, sym, ◌∙◌, ap, subst, arith, length-append, length-take, replicate}
+use Rattle.std.proofs.Common.{◌≡◌, inl, inr, ℕ, ◌==◌, ◌+◌, ◌<◌, ◌≤◌, nat_lt, if◌then◌else◌, Bool, true, false, max, List, [], ◌∷◌, ◌++◌, length, take, get_or, map, reverse, refl, sym, ◌∙◌, ap, subst, arith, length-take, replicate}
 use Rattle.std.proofs.lemmas.Bool.Decides.{nat_tests}
 use Rattle.std.proofs.lemmas.List.{append-nil, drop_all, length-replicate, length-map, length-reverse, map-append, reverse-append, take_more}
-use Rattle.lease_disk.specs.Contents.{padded, written}
+use Rattle.lease_disk.specs.Contents.{written}
 use Rattle.lease_disk.specs.Changes.{step_of, steps_of}
-use Rattle.lease_disk.specs.ImageLaws.{length-padded, torn-written, torn-same, image-now}
-use Rattle.lease_disk.specs.Images.{Torn, CutOrNot}
+use Rattle.lease_disk.specs.ImageLaws.{torn-written, torn-same, image-now}
 use Rattle.lease_disk.specs.Replays.{synced_count, blurred_from, FitRoom}
 use Rattle.lease_disk.specs.Steps.{Step, after_step, octets_after, IsImage, up_to_sync, faded, blurred, image_by}
 use Rattle.lease_disk.specs.Steps.Step.{Wrote, CutTo, Synced}

@@ -1,7 +1,7 @@
 -- Writes that leave no gap.
 use Rattle.std.proofs.Common.{◌≡◌, ℕ, ◌+◌, ◌-◌, ◌≤◌, min, List, [], ◌∷◌, ◌++◌, length, take, drop, sym, ◌∙◌, ap, arith, take-append-drop, replicate}
 use Rattle.std.proofs.lemmas.List.{append-nil, take-append-le}
-use Rattle.lease_disk.specs.Contents.{padded, written}
+use Rattle.lease_disk.specs.Contents.{written}
 use Rattle.lease_disk.specs.Images.{Torn}
 
 pub written_within : (octets : List ℕ) (place : ℕ) (piece : List ℕ) → place ≤ length octets

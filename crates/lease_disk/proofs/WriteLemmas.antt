@@ -1,7 +1,7 @@
 -- A write, as the code makes it: zeros first, and then the piece over them.
-use Rattle.std.proofs.Common.{◌≡◌, inl, inr, ℕ, ◌+◌, ◌-◌, ◌<◌, ◌≤◌, List, [], ◌∷◌, ◌++◌, length, take, drop, refl, sym, ◌∙◌, ap, arith, length-append, append_assoc, replicate}
+use Rattle.std.proofs.Common.{◌≡◌, inl, inr, ℕ, ◌+◌, ◌-◌, ◌<◌, List, [], ◌∷◌, ◌++◌, length, take, drop, sym, ◌∙◌, ap, arith, append_assoc, replicate}
 use Rattle.std.proofs.lemmas.Bool.{cases_lt}
-use Rattle.std.proofs.lemmas.List.{length-replicate, replicate-append-replicate, take-append-le, drop_all, append-nil}
+use Rattle.std.proofs.lemmas.List.{replicate-append-replicate, take-append-le, drop_all, append-nil}
 use Rattle.lease_disk.specs.Contents.{padded, written}
 use Rattle.lease_disk.specs.ImageLaws.{length-padded}
 

@@ -1,5 +1,5 @@
 -- The changes that a disk in memory keeps, as its steps (our own).
-use Rattle.std.specs.Prelude.{ℕ, List, reverse, map}
+use Rattle.std.specs.Prelude.{List, reverse, map}
 use Rattle.lease_disk.specs.declared.changes.Change.{Change}
 use Rattle.lease_disk.specs.declared.changes.Change.TheVariants as change
 use Rattle.lease_disk.specs.Steps.{Step}

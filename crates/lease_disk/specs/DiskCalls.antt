@@ -1,5 +1,5 @@
 -- The device calls of a disk in memory: how many came, which are to fail, and how many did (our own).
-use Rattle.std.specs.Prelude.{ℕ, ◌≤◌, ◌⊎◌, min, List, [], ◌∷◌, ◌++◌, Contains, Option, Some, None, IfSome, IsSomeAnd}
+use Rattle.std.specs.Prelude.{ℕ, ◌≤◌, ◌⊎◌, min, List, [], ◌∷◌, ◌++◌, Contains, Option, Some, None, IsSomeAnd}
 use Rattle.pcp_io.specs.CallLogs.{one_more}
 
 pub record DiskCallLog : Type 0 where

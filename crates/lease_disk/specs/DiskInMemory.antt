@@ -1,7 +1,7 @@
 -- A disk in memory (our own).
-use Rattle.std.specs.Prelude.{ℕ, ◌+◌, ◌^◌, ◌<◌, ◌⊎◌, min, List, [], ◌∷◌, length}
+use Rattle.std.specs.Prelude.{ℕ, ◌+◌, ◌^◌, ◌<◌, ◌⊎◌, min, List, [], ◌∷◌}
 use Rattle.lease_disk.specs.DiskCalls.{DiskCallLog, no_calls, IsNamed}
-use Rattle.lease_disk.specs.Steps.{Step, octets_after}
+use Rattle.lease_disk.specs.Steps.{Step}
 use Rattle.lease_disk.specs.Steps.Step.{Wrote, Synced}
 
 pub record DiskInMemory : Type 0 where

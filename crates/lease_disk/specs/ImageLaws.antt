@@ -1,6 +1,6 @@
 -- Laws of the steps of a disk: what a read gives is an image, and the images of one moment are those
 -- since it.
-use Rattle.std.proofs.Common.{◌≡◌, ◌⊎◌, inl, inr, ℕ, ◌+◌, ◌-◌, ◌≤◌, min, max, List, [], ◌∷◌, ◌++◌, length, take, drop, refl, sym, ◌∙◌, ap, arith, length-append, length-drop, length-take, replicate}
+use Rattle.std.proofs.Common.{◌≡◌, inl, inr, ℕ, ◌+◌, ◌-◌, min, max, List, [], ◌∷◌, ◌++◌, length, take, drop, refl, ◌∙◌, ap, arith, length-append, length-drop, length-take, replicate}
 use Rattle.std.proofs.lemmas.List.{length-replicate, take_min, take-take, take-append-le, drop_at}
 use Rattle.lease_disk.specs.Contents.{padded, written}
 use Rattle.lease_disk.specs.Images.{Torn}

@@ -11,6 +11,6 @@ mod replays;
 #[cfg(test)]
 mod tests;
 
-pub use files::FileDisk;
 pub use disks::{DiskPair, LeaseDisk};
+pub use files::FileDisk;
 pub use memory::MemoryDisk;

@@ -116,7 +116,8 @@ impl MemoryDisk {
         self.changes.reserve(1)?;
         let kept = piece.to_vec(self.alloc)?;
         put(&mut self.octets, place, piece)?;
-        self.changes.push_reserved(Change::Wrote { place, piece: kept });
+        self.changes
+            .push_reserved(Change::Wrote { place, piece: kept });
         Ok(())
     }
 

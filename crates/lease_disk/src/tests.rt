@@ -39,10 +39,16 @@ fn images(rt: HostRuntime) -> Result<(), Fail> {
     assert_eq!(rt; octets(alloc, &mut disk)?.as_slice(), b"abxyz".as_slice());
     assert_eq!(rt; image(alloc, &disk, 0)?.as_slice(), b"abcd".as_slice());
     assert_eq!(rt; image(alloc, &disk, 1)?.as_slice(), b"abxyz".as_slice());
-    assert_eq!(rt; image(alloc, &disk, 2)?.as_slice(), b"ab\xff\xff\xff".as_slice());
+    assert_eq!(rt;
+        image(alloc, &disk, 2)?.as_slice(),
+        b"ab\xff\xff\xff".as_slice()
+    );
     assert!(rt; disk.sync().is_ok());
     for choice in 0..3 {
-        assert_eq!(rt; image(alloc, &disk, choice)?.as_slice(), b"abxyz".as_slice());
+        assert_eq!(rt;
+            image(alloc, &disk, choice)?.as_slice(),
+            b"abxyz".as_slice()
+        );
     }
     assert_eq!(rt; disk.starved(), 0);
     Ok(())

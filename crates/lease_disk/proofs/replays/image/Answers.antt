@@ -1,6 +1,5 @@
-use Rattle.std.proofs.Common.{◌≡◌, ℕ, List, take, ◌∙◌, refl, rules}
+use Rattle.std.proofs.Common.{◌∙◌, refl, rules}
 use Rattle.std.proofs.lemmas.Result.{IfOk-weaker}
-use Rattle.std.specs.Prelude.{Vec}
 use Rattle.lease_disk.proofs.ReplayLemmas.{made_synced, made_read, made_blurred}
 use Rattle.lease_disk.proofs.replays.image.Goals as goal
 
