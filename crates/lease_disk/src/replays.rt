@@ -27,8 +27,8 @@ fn overwrite(octets: &mut Vec<u8>, place: usize, piece: &[u8])
     octets[place..place + piece.len()].copy_from_slice(piece);
 }
 
-#[tactic(auto, using(crate::proofs::WriteLemmas::written_padded))]
 /// Writes the piece into the octets at this place. After an error they are as before.
+#[tactic(auto, using(crate::proofs::WriteLemmas::written_padded))]
 pub(crate) fn put(octets: &mut Vec<u8>, place: usize, piece: &[u8]) -> Result<(), AllocError>
     ensures ok { OnOk result (octets.new.items ≡ written octets.old.items place piece.now) }
     ensures err { OnErr result (octets.new.items ≡ octets.old.items) }
