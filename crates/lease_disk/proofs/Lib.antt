@@ -1,0 +1,5 @@
+pub mod Goings
+mod ReplayLemmas
+mod StepLemmas
+pub mod Within
+mod WriteLemmas

@@ -1,0 +1,16 @@
+//! The disk of a journal, whose meaning says what a crash may leave at any moment, with a form in
+//! memory and a thin one over a file.
+#![tactic(auto)]
+
+mod calls;
+mod changes;
+mod disks;
+mod files;
+mod memory;
+mod replays;
+#[cfg(test)]
+mod tests;
+
+pub use disks::{DiskPair, LeaseDisk};
+pub use files::FileDisk;
+pub use memory::MemoryDisk;
