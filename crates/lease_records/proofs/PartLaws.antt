@@ -11,10 +11,11 @@ use Rattle.pcp_base.specs.declared.leases.Protocol.{Protocol}
 use Rattle.pcp_base.specs.declared.leases.Protocol.TheVariants.{Tcp, Udp}
 use Rattle.pcp_base.specs.declared.leases.Endpoint.{Endpoint}
 use Rattle.pcp_base.specs.declared.leases.Filter.{Filter}
+use Rattle.pcp_base.specs.Protocols.{protocol_number, protocol_of}
 use Rattle.lease_records.specs.declared.terms.Term.{Term}
 use Rattle.lease_records.specs.Values.{IsEndpoint, IsFilter, IsTerm}
-use Rattle.lease_records.specs.RecordTexts.{number_of, endpoint_text, filter_text, term_text}
-use Rattle.lease_records.specs.RecordReading.{octet_at, moment_at, address_at, nonce_at, protocol_of, endpoint_at, filter_at, filters_at, all_filters_at, term_at}
+use Rattle.lease_records.specs.RecordTexts.{endpoint_text, filter_text, term_text}
+use Rattle.lease_records.specs.RecordReading.{octet_at, moment_at, address_at, nonce_at, endpoint_at, filter_at, filters_at, all_filters_at, term_at}
 use Rattle.lease_records.proofs.FieldLaws.{IsBytes, bind_some, some_is, none_or, Takes, Takes-then, octets_take, octets_again, octet_takes, wide16, wide64, number_takes, number_again}
 
 -- which way a test went
@@ -62,17 +63,17 @@ moment_again m rest lt =
     let small : ltb m (2 ^ 40) ≡ true = lt-ltb _ _ lt in
     rw (number_again w64 (2 ^ 64) wide64 m rest (omega arith), small) refl
 
-protocol_is : (n : ℕ) (p : Protocol) → protocol_of n ≡ Some p → n ≡ number_of p
+pub protocol_is : (n : ℕ) (p : Protocol) → protocol_of n ≡ Some p → n ≡ protocol_number p
 protocol_is n p e =
     elim (chosen (eqb n 6) (Some Tcp) (cond (eqb n 17) (Some Udp) None) (Some p) e) [
-      | inl h ↦ subst (λ q. n ≡ number_of q) (some_is Tcp p h.1) (eqb-true _ _ h.0)
+      | inl h ↦ subst (λ q. n ≡ protocol_number q) (some_is Tcp p h.1) (eqb-true _ _ h.0)
       | inr h ↦ elim (chosen (eqb n 17) (Some Udp) None (Some p) h.1) [
-        | inl i ↦ subst (λ q. n ≡ number_of q) (some_is Udp p i.1) (eqb-true _ _ i.0)
+        | inl i ↦ subst (λ q. n ≡ protocol_number q) (some_is Udp p i.1) (eqb-true _ _ i.0)
         | inr i ↦ absurd (cc (i.1))
       ]
     ]
 
-protocol_again : (p : Protocol) → protocol_of (number_of p) ≡ Some p
+pub protocol_again : (p : Protocol) → protocol_of (protocol_number p) ≡ Some p
 protocol_again Tcp = refl
 protocol_again Udp = refl
 
@@ -88,9 +89,9 @@ endpoint_takes octets x fits e =
     let t = address_takes octets a.0 fits a.1 in
     let u = octet_takes a.0.1 n.0 t.0.rest_fits n.1 in
     let v = number_takes w16 (2 ^ 16) wide16 n.0.1 q.0 u.rest_fits q.1 in
-    let named : Takes a.0.1 (number_of p.0 ∷ []) n.0.1 = subst (λ k. Takes a.0.1 (k ∷ []) n.0.1) (protocol_is n.0.0 p.0 p.1) u in
-    let end = Takes-then a.0.1 (number_of p.0 ∷ []) n.0.1 (to_be_bytes w16 q.0.0) q.0.1 named v.0 in
-    let all = Takes-then octets a.0.0.0 a.0.1 (number_of p.0 ∷ to_be_bytes w16 q.0.0) q.0.1 t.0 end in
+    let named : Takes a.0.1 (protocol_number p.0 ∷ []) n.0.1 = subst (λ k. Takes a.0.1 (k ∷ []) n.0.1) (protocol_is n.0.0 p.0 p.1) u in
+    let end = Takes-then a.0.1 (protocol_number p.0 ∷ []) n.0.1 (to_be_bytes w16 q.0.0) q.0.1 named v.0 in
+    let all = Takes-then octets a.0.0.0 a.0.1 (protocol_number p.0 ∷ to_be_bytes w16 q.0.0) q.0.1 t.0 end in
     let made : Endpoint × List ℕ = (record { address = a.0.0; protocol = p.0; port = q.0.0 }, q.0.1) in
     subst (λ (y : Endpoint × List ℕ). Takes octets (endpoint_text y.0) y.1 × IsEndpoint y.0) (some_is made x q.2) (all, record { address = t.1; port = v.1 })
 
@@ -98,8 +99,8 @@ pub endpoint_again : (e : Endpoint) (rest : List ℕ) → IsEndpoint e → endpo
 unfolding endpoint_at
 endpoint_again e rest is =
     let behind = to_be_bytes w16 e.port ++ rest in
-    ap endpoint_at (append_assoc e.address.0 (number_of e.protocol ∷ to_be_bytes w16 e.port) rest)
-    ∙ rw (address_again e.address (number_of e.protocol ∷ behind) is.address, protocol_again e.protocol, number_again w16 (2 ^ 16) wide16 e.port rest is.port) refl
+    ap endpoint_at (append_assoc e.address.0 (protocol_number e.protocol ∷ to_be_bytes w16 e.port) rest)
+    ∙ rw (address_again e.address (protocol_number e.protocol ∷ behind) is.address, protocol_again e.protocol, number_again w16 (2 ^ 16) wide16 e.port rest is.port) refl
 
 filter_takes : (octets : List ℕ) (x : Filter × List ℕ) → IsBytes octets → filter_at octets ≡ Some x → Takes octets (filter_text x.0) x.1 × IsFilter x.0
 unfolding filter_at

@@ -6,15 +6,17 @@ use Rattle.std.proofs.lemmas.List.{take_at, take-append-drop, length-append}
 use Rattle.pcp_base.specs.declared.leases.MapLease.{MapLease}
 use Rattle.pcp_base.specs.declared.leases.PeerLease.{PeerLease}
 use Rattle.pcp_base.specs.declared.records.Change.{Change}
-use Rattle.pcp_base.specs.declared.records.Change.TheVariants.{Start, Map, Peer, DropMap, DropPeer, Lose, Mark}
+use Rattle.pcp_base.specs.declared.records.Change.TheVariants.{Start, Map, Peer, DropMap, DropPeer, Lose, Mark, Rest, Renumber}
 use Rattle.pcp_base.specs.declared.records.Record.{Record}
+use Rattle.pcp_base.specs.declared.leases.Endpoint.{Endpoint}
+use Rattle.pcp_base.specs.Protocols.{protocol_number}
 use Rattle.pcp_base.specs.Tables.{first_endpoint}
 use Rattle.pcp_base.specs.Records.{IsWellFormedRecord}
 use Rattle.lease_records.specs.Values.{IsMap, IsPeer, map_term, peer_term, IsChangeValue, IsValue}
-use Rattle.lease_records.specs.RecordTexts.{endpoint_text, term_text, map_text, peer_text, kind_of, fields_text, record_text, IsRecordText}
-use Rattle.lease_records.specs.RecordReading.{map_at, peer_at, drop_map_at, drop_peer_at, change_at, record_at}
-use Rattle.lease_records.proofs.FieldLaws.{IsBytes, bind_some, some_is, Takes, Takes-then, octet_takes, wide16, number_takes, number_again}
-use Rattle.lease_records.proofs.PartLaws.{chosen, moment_takes, moment_again, address_takes, address_again, endpoint_takes, endpoint_again, filters_text, all_filters_take, all_filters_again, term_takes, term_again}
+use Rattle.lease_records.specs.RecordTexts.{endpoint_text, term_text, map_text, peer_text, rest_text, kind_of, fields_text, record_text, IsRecordText}
+use Rattle.lease_records.specs.RecordReading.{map_at, peer_at, drop_map_at, drop_peer_at, rest_at, renumber_at, change_at, record_at}
+use Rattle.lease_records.proofs.FieldLaws.{IsBytes, bind_some, some_is, Takes, Takes-then, octet_takes, wide16, wide64, number_takes, number_again}
+use Rattle.lease_records.proofs.PartLaws.{chosen, protocol_is, protocol_again, moment_takes, moment_again, address_takes, address_again, endpoint_takes, endpoint_again, filters_text, all_filters_take, all_filters_again, term_takes, term_again}
 
 map_takes : (octets : List ℕ) (x : MapLease × List ℕ) → IsBytes octets → map_at octets ≡ Some x → Takes octets (map_text x.0) x.1 × IsMap x.0
 unfolding map_at
@@ -117,6 +119,35 @@ drop_peer_takes octets x fits e =
     let all = Takes-then octets (endpoint_text a.0.0 ++ b.0.0.0) b.0.1 (to_be_bytes w16 c.0.0) c.0.1 ab tc.0 in
     subst (ReadsChange 5 octets) (some_is (DropPeer a.0.0 b.0.0 c.0.0, c.0.1) x c.2) (record { kind_is = refl; fields = all; value = (ta.1, tb.1, tc.1) })
 
+rest_takes : (octets : List ℕ) (x : Change × List ℕ) → IsBytes octets → rest_at octets ≡ Some x → ReadsChange 8 octets x
+unfolding rest_at
+rest_takes octets x fits e =
+    let n = bind_some _ _ _ e in
+    let p = bind_some _ _ _ n.2 in
+    let o = bind_some _ _ _ p.2 in
+    let a = bind_some _ _ _ o.2 in
+    let q = bind_some _ _ _ a.2 in
+    let d = bind_some _ _ _ q.2 in
+    let tn = octet_takes octets n.0 fits n.1 in
+    let named : Takes octets (protocol_number p.0 ∷ []) n.0.1 = subst (λ k. Takes octets (k ∷ []) n.0.1) (protocol_is n.0.0 p.0 p.1) tn in
+    let to = number_takes w16 (2 ^ 16) wide16 n.0.1 o.0 tn.rest_fits o.1 in
+    let ta = address_takes o.0.1 a.0 to.0.rest_fits a.1 in
+    let tq = number_takes w16 (2 ^ 16) wide16 a.0.1 q.0 ta.0.rest_fits q.1 in
+    let td = number_takes w64 (2 ^ 64) wide64 q.0.1 d.0 tq.0.rest_fits d.1 in
+    let no = Takes-then octets (protocol_number p.0 ∷ []) n.0.1 (to_be_bytes w16 o.0.0) o.0.1 named to.0 in
+    let na = Takes-then octets (protocol_number p.0 ∷ to_be_bytes w16 o.0.0) o.0.1 a.0.0.0 a.0.1 no ta.0 in
+    let nq = Takes-then octets (protocol_number p.0 ∷ to_be_bytes w16 o.0.0 ++ a.0.0.0) a.0.1 (to_be_bytes w16 q.0.0) q.0.1 na tq.0 in
+    let all = Takes-then octets (protocol_number p.0 ∷ to_be_bytes w16 o.0.0 ++ a.0.0.0 ++ to_be_bytes w16 q.0.0) q.0.1 (to_be_bytes w64 d.0.0) d.0.1 nq td.0 in
+    let at : Endpoint = record { address = a.0.0; protocol = p.0; port = q.0.0 } in
+    subst (ReadsChange 8 octets) (some_is (Rest at o.0.0 d.0.0, d.0.1) x d.2) (record { kind_is = refl; fields = all; value = (record { address = ta.1; port = tq.1 }, to.1, td.1) })
+
+renumber_takes : (octets : List ℕ) (x : Change × List ℕ) → IsBytes octets → renumber_at octets ≡ Some x → ReadsChange 9 octets x
+unfolding renumber_at
+renumber_takes octets x fits e =
+    let a = bind_some _ _ _ e in
+    let t = address_takes octets a.0 fits a.1 in
+    subst (ReadsChange 9 octets) (some_is (Renumber a.0.0, a.0.1) x a.2) (record { kind_is = refl; fields = t.0; value = t.1 })
+
 none_here : (octets : List ℕ) → IsBytes octets → Takes octets [] octets
 none_here octets fits = record { parts = refl; rest_fits = fits }
 
@@ -146,10 +177,12 @@ change_takes kind octets x fits e =
     (λ e5. of_kind kind 5 _ _ x P e5 (drop_peer_takes octets x fits)
     (λ e6. of_kind kind 6 _ _ x P e6 (λ h. subst (ReadsChange 6 octets) (some_is (Lose, octets) x h) (record { kind_is = refl; fields = nothing; value = tt }))
     (λ e7. of_kind kind 7 _ _ x P e7 (λ h. subst (ReadsChange 7 octets) (some_is (Mark, octets) x h) (record { kind_is = refl; fields = nothing; value = tt }))
-    (λ h. absurd (cc h))))))))
+    (λ e8. of_kind kind 8 _ _ x P e8 (rest_takes octets x fits)
+    (λ e9. of_kind kind 9 _ _ x P e9 (renumber_takes octets x fits)
+    (λ h. absurd (cc h))))))))))
 
 change_again : (c : Change) (rest : List ℕ) → IsChangeValue c → change_at (kind_of c) (fields_text c ++ rest) ≡ Some (c, rest)
-unfolding change_at drop_map_at drop_peer_at
+unfolding change_at drop_map_at drop_peer_at rest_at renumber_at
 change_again Start rest is = refl
 change_again (Map l) rest is = rw (map_again l rest is) refl
 change_again (Peer l) rest is = rw (peer_again l rest is) refl
@@ -159,6 +192,18 @@ change_again (DropPeer e remote port) rest is =
     ap drop_peer_at regrouped ∙ rw (endpoint_again e (remote.0 ++ (to_be_bytes w16 port ++ rest)) is.0, address_again remote (to_be_bytes w16 port ++ rest) is.1, number_again w16 (2 ^ 16) wide16 port rest is.2) refl
 change_again Lose rest is = refl
 change_again Mark rest is = refl
+change_again (Rest e external end) rest is =
+    let number = protocol_number e.protocol in
+    let out = to_be_bytes w16 external in
+    let port = to_be_bytes w16 e.port in
+    let moment = to_be_bytes w64 end in
+    let behind = e.address.0 ++ (port ++ (moment ++ rest)) in
+    let regrouped : rest_text e external end ++ rest ≡ number ∷ (out ++ behind) =
+    append_assoc (number ∷ out ++ e.address.0 ++ port) moment rest
+    ∙ append_assoc (number ∷ out ++ e.address.0) port (moment ++ rest)
+    ∙ append_assoc (number ∷ out) e.address.0 (port ++ (moment ++ rest)) in
+    ap rest_at regrouped ∙ rw (protocol_again e.protocol, number_again w16 (2 ^ 16) wide16 external behind is.1, address_again e.address (port ++ (moment ++ rest)) is.0.address, number_again w16 (2 ^ 16) wide16 e.port (moment ++ rest) is.0.port, number_again w64 (2 ^ 64) wide64 end rest is.2) refl
+change_again (Renumber a) rest is = rw (address_again a rest is) refl
 
 -- ---- records
 

@@ -1,4 +1,3 @@
-pub mod Judging
 pub mod RecordReading
 pub mod RecordTexts
 pub mod Values

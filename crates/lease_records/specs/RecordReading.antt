@@ -3,15 +3,14 @@ use Rattle.std.specs.Prelude.{◌≡◌, ℕ, zero, suc, ◌^◌, List, [], ◌�
 use Rattle.std.specs.Int.{Width, w16, w64, byte_len, from_be_bytes}
 use Rattle.pcp_base.specs.declared.addresses.Address.{Address}
 use Rattle.pcp_base.specs.declared.addresses.Nonce.{Nonce}
-use Rattle.pcp_base.specs.declared.leases.Protocol.{Protocol}
-use Rattle.pcp_base.specs.declared.leases.Protocol.TheVariants.{Tcp, Udp}
 use Rattle.pcp_base.specs.declared.leases.Endpoint.{Endpoint}
 use Rattle.pcp_base.specs.declared.leases.Filter.{Filter}
 use Rattle.pcp_base.specs.declared.leases.MapLease.{MapLease}
 use Rattle.pcp_base.specs.declared.leases.PeerLease.{PeerLease}
 use Rattle.pcp_base.specs.declared.records.Change.{Change}
-use Rattle.pcp_base.specs.declared.records.Change.TheVariants.{Start, Map, Peer, DropMap, DropPeer, Lose, Mark}
+use Rattle.pcp_base.specs.declared.records.Change.TheVariants.{Start, Map, Peer, DropMap, DropPeer, Lose, Mark, Rest, Renumber}
 use Rattle.pcp_base.specs.declared.records.Record.{Record}
+use Rattle.pcp_base.specs.Protocols.{protocol_of}
 use Rattle.lease_records.specs.declared.terms.Term.{Term}
 
 infixl 10 ◌>>=◌
@@ -50,9 +49,6 @@ unfoldable pub nonce_at : List ℕ → Option (Nonce × List ℕ)
 nonce_at octets = do
   n ← octets_at 12 octets
   Some (record { 0 = n.0 }, n.1)
-
-abbrev pub protocol_of : ℕ → Option Protocol
-protocol_of n = if n == 6 then Some Tcp else if n == 17 then Some Udp else None
 
 unfoldable pub endpoint_at : List ℕ → Option (Endpoint × List ℕ)
 endpoint_at octets = do
@@ -143,6 +139,21 @@ drop_peer_at octets = do
   port ← number_at w16 remote.1
   Some (DropPeer e.0 remote.0 port.0, port.1)
 
+unfoldable pub rest_at : List ℕ → Option (Change × List ℕ)
+rest_at octets = do
+  n ← octet_at octets
+  protocol ← protocol_of n.0
+  external ← number_at w16 n.1
+  a ← address_at external.1
+  port ← number_at w16 a.1
+  end ← number_at w64 port.1
+  Some (Rest (record { address = a.0; protocol = protocol; port = port.0 }) external.0 end.0, end.1)
+
+unfoldable pub renumber_at : List ℕ → Option (Change × List ℕ)
+renumber_at octets = do
+  a ← address_at octets
+  Some (Renumber a.0, a.1)
+
 unfoldable pub change_at : ℕ → List ℕ → Option (Change × List ℕ)
 change_at kind octets =
     if kind == 1 then Some (Start, octets)
@@ -152,6 +163,8 @@ change_at kind octets =
     else if kind == 5 then drop_peer_at octets
     else if kind == 6 then Some (Lose, octets)
     else if kind == 7 then Some (Mark, octets)
+    else if kind == 8 then rest_at octets
+    else if kind == 9 then renumber_at octets
     else None
 
 -- a record whose fields are values, well formed or not

@@ -3,28 +3,22 @@
 use Rattle.std.specs.Prelude.{◌≡◌, ℕ, List, [], ◌∷◌, ◌++◌, length}
 use Rattle.std.specs.List.{flat_map}
 use Rattle.std.specs.Int.{to_be_bytes, w16, w64}
-use Rattle.pcp_base.specs.declared.leases.Protocol.{Protocol}
-use Rattle.pcp_base.specs.declared.leases.Protocol.TheVariants.{Tcp, Udp}
 use Rattle.pcp_base.specs.declared.leases.Endpoint.{Endpoint}
 use Rattle.pcp_base.specs.declared.leases.Filter.{Filter}
 use Rattle.pcp_base.specs.declared.leases.MapLease.{MapLease}
 use Rattle.pcp_base.specs.declared.leases.PeerLease.{PeerLease}
 use Rattle.pcp_base.specs.declared.records.Change.{Change}
-use Rattle.pcp_base.specs.declared.records.Change.TheVariants.{Start, Map, Peer, DropMap, DropPeer, Lose, Mark}
+use Rattle.pcp_base.specs.declared.records.Change.TheVariants.{Start, Map, Peer, DropMap, DropPeer, Lose, Mark, Rest, Renumber}
 use Rattle.pcp_base.specs.declared.records.Record.{Record}
+use Rattle.pcp_base.specs.Protocols.{protocol_number}
 use Rattle.pcp_base.specs.Tables.{first_endpoint}
 use Rattle.pcp_base.specs.Records.{IsWellFormedRecord}
 use Rattle.lease_records.specs.declared.terms.Term.{Term}
 use Rattle.lease_records.specs.Values.{map_term, peer_term, IsValue}
 
--- the numbers of the transport protocols
-abbrev pub number_of : Protocol → ℕ
-number_of Tcp = 6
-number_of Udp = 17
-
 -- address 16, protocol 1, port 2
 abbrev pub endpoint_text : Endpoint → List ℕ
-endpoint_text e = e.address.0 ++ number_of e.protocol ∷ to_be_bytes w16 e.port
+endpoint_text e = e.address.0 ++ protocol_number e.protocol ∷ to_be_bytes w16 e.port
 
 -- prefix 1, port 2, address 16
 abbrev pub filter_text : Filter → List ℕ
@@ -44,6 +38,10 @@ abbrev pub peer_text : PeerLease → List ℕ
 peer_text l = endpoint_text l.endpoint ++ to_be_bytes w16 l.external ++ l.remote.0 ++ to_be_bytes w16 l.remote_port
     ++ term_text (peer_term l)
 
+-- protocol 1, external 2, address 16, internal 2, end 8
+abbrev pub rest_text : Endpoint → ℕ → ℕ → List ℕ
+rest_text e external end = protocol_number e.protocol ∷ to_be_bytes w16 external ++ e.address.0 ++ to_be_bytes w16 e.port ++ to_be_bytes w64 end
+
 abbrev pub kind_of : Change → ℕ
 kind_of Start = 1
 kind_of (Map l) = 2
@@ -52,6 +50,8 @@ kind_of (DropMap e) = 4
 kind_of (DropPeer e remote port) = 5
 kind_of Lose = 6
 kind_of Mark = 7
+kind_of (Rest e external end) = 8
+kind_of (Renumber a) = 9
 
 abbrev pub fields_text : Change → List ℕ
 fields_text Start = []
@@ -61,6 +61,8 @@ fields_text (DropMap e) = endpoint_text e
 fields_text (DropPeer e remote port) = endpoint_text e ++ remote.0 ++ to_be_bytes w16 port
 fields_text Lose = []
 fields_text Mark = []
+fields_text (Rest e external end) = rest_text e external end
+fields_text (Renumber a) = a.0
 
 abbrev pub record_text : Record → List ℕ
 record_text r = kind_of r.change ∷ to_be_bytes w64 r.moment ++ fields_text r.change

@@ -6,7 +6,7 @@ use Rattle.pcp_base.specs.declared.leases.Filter.{Filter}
 use Rattle.pcp_base.specs.declared.leases.MapLease.{MapLease}
 use Rattle.pcp_base.specs.declared.leases.PeerLease.{PeerLease}
 use Rattle.pcp_base.specs.declared.records.Change.{Change}
-use Rattle.pcp_base.specs.declared.records.Change.TheVariants.{Start, Map, Peer, DropMap, DropPeer, Lose, Mark}
+use Rattle.pcp_base.specs.declared.records.Change.TheVariants.{Start, Map, Peer, DropMap, DropPeer, Lose, Mark, Rest, Renumber}
 use Rattle.pcp_base.specs.declared.records.Record.{Record}
 use Rattle.pcp_base.specs.Tables.{first_endpoint}
 use Rattle.lease_records.specs.declared.terms.Term.{Term}
@@ -54,6 +54,8 @@ IsChangeValue (DropPeer e remote port) = IsEndpoint e × (length remote.0 ≡ 16
 IsChangeValue Start = ⊤
 IsChangeValue Lose = ⊤
 IsChangeValue Mark = ⊤
+IsChangeValue (Rest e external end) = IsEndpoint e × (external < 2 ^ 16) × (end < 2 ^ 64)
+IsChangeValue (Renumber a) = length a.0 ≡ 16
 
 pub record IsValue (r : Record) : Type 0 where
   pub moment : r.moment < 2 ^ 40

@@ -1,11 +1,10 @@
 //! Which records are well formed.
 ghost use Rattle.std.specs.Prelude.{◌≡◌, ◌≢◌, ◌+◌, ◌<◌, ◌≤◌, ◌↔◌, IsTrue};
 ghost use Rattle.std.specs.List.{AllByRecursion};
-ghost use Rattle.pcp_base.specs.Tables.{EachTwo, IsMapLease, IsPeerLease};
-ghost use Rattle.pcp_base.specs.Records.{IsLiveAt, IsChange, IsWellFormedRecord};
-ghost use Rattle.lease_records.specs.Judging.{HasPorts, HavePrefixes, AreLeaseFilters};
+ghost use Rattle.pcp_base.specs.Tables.{EachTwo, HasPorts, HavePrefixes, AreLeaseFilters, IsMapLease, IsPeerLease};
+ghost use Rattle.pcp_base.specs.Records.{IsTermAt, IsEndAt, IsWellFormedChange, IsWellFormedRecord};
 
-use pcp_base::{Change, Filter, MapLease, Moment, PeerLease, Record};
+use pcp_base::{Change, End, Filter, MapLease, Moment, PeerLease, REST_SECONDS, Record};
 
 /// Whether the record can stand in a journal.
 pub(crate) fn is_well_formed(kept: &Record) -> bool
@@ -15,7 +14,7 @@ pub(crate) fn is_well_formed(kept: &Record) -> bool
     let seconds = moment.get();
     prove!(seconds < 1 << 40);
     match &kept.change {
-        Change::Start | Change::Lose | Change::Mark => true,
+        Change::Start | Change::Lose | Change::Mark | Change::Renumber(_) => true,
         Change::Map(lease) => {
             is_map_lease(lease) && is_live_at(moment, lease.granted, lease.expiry)
         }
@@ -24,20 +23,41 @@ pub(crate) fn is_well_formed(kept: &Record) -> bool
         }
         Change::DropMap(endpoint) => endpoint.port > 0,
         Change::DropPeer(endpoint, _, port) => endpoint.port > 0 && *port > 0,
+        Change::Rest(endpoint, external, end) => {
+            let rest = End {
+                endpoint: *endpoint,
+                external: *external,
+                end: *end,
+            };
+            is_end_at(moment, &rest)
+        }
     }
 }
 
 /// Whether a lease was granted by this moment, and is live at it.
 fn is_live_at(moment: Moment, granted: Moment, expiry: u64) -> bool
-    ensures { IsTrue result ↔ IsLiveAt moment granted expiry }
+    ensures { IsTrue result ↔ IsTermAt moment granted expiry }
 {
     granted.get() <= moment.get() && moment.get() < expiry && expiry < 1 << 41
+}
+
+/// Whether an end came by this moment, and may rest at it.
+fn is_end_at(moment: Moment, rest: &End) -> bool
+    ensures { IsTrue result ↔ IsEndAt moment rest.now }
+{
+    rest.endpoint.port > 0 && rest.external > 0 && may_rest(moment, rest.end)
+}
+
+fn may_rest(moment: Moment, end: u64) -> bool
+    ensures { IsTrue result ↔ ((end ≤ moment) × (moment < end + REST_SECONDS)) }
+{
+    end <= moment.get() && moment.get() - end < REST_SECONDS
 }
 
 fn is_map_lease(lease: &MapLease) -> bool
     ensures { IsTrue result ↔ IsMapLease lease.now }
 {
-    has_ports(lease) && has_filters(lease.filters.items())
+    has_ports(lease) && are_lease_filters(lease.filters.items())
 }
 
 fn has_ports(lease: &MapLease) -> bool
@@ -48,10 +68,10 @@ fn has_ports(lease: &MapLease) -> bool
         && (1..=4096).contains(&lease.count)
 }
 
-fn has_filters(filters: &[Filter]) -> bool
+fn are_lease_filters(filters: &[Filter]) -> bool
     ensures { IsTrue result ↔ AreLeaseFilters filters.now }
 {
-    are_different(filters) && have_prefixes(filters)
+    filters.len() <= 8 && are_different(filters) && have_prefixes(filters)
 }
 
 /// Whether there are `count` ports from this one on, which is at least 1.

@@ -3,7 +3,8 @@ ghost use Rattle.std.specs.Prelude.{◌≡◌, ◌≤◌, ℕ, List, ◌++◌, l
 ghost use Rattle.std.specs.Int.{w16, w64};
 ghost use Rattle.pcp_base.specs.declared.records.Record.{Record};
 ghost use Rattle.lease_records.specs.RecordTexts.{IsRecordText};
-ghost use Rattle.lease_records.specs.RecordReading.{Gives, octets_at, octet_at, number_at, moment_at, address_at, nonce_at, protocol_of, term_at, endpoint_at, filter_at, filters_at, all_filters_at, map_at, peer_at, drop_map_at, drop_peer_at, change_at, record_at};
+ghost use Rattle.pcp_base.specs.Protocols.{protocol_of};
+ghost use Rattle.lease_records.specs.RecordReading.{Gives, octets_at, octet_at, number_at, moment_at, address_at, nonce_at, term_at, endpoint_at, filter_at, filters_at, all_filters_at, map_at, peer_at, drop_map_at, drop_peer_at, rest_at, renumber_at, change_at, record_at};
 
 use crate::judging::is_well_formed;
 use crate::terms::Term;
@@ -82,10 +83,9 @@ fn nonce_of(octets: &[u8]) -> Result<(Nonce, &[u8]), NotRecord>
 fn protocol_named(number: u8) -> Result<Protocol, NotRecord>
     ensures { Gives (λ p. p) result (protocol_of number) }
 {
-    match number {
-        6 => Ok(Protocol::Tcp),
-        17 => Ok(Protocol::Udp),
-        _ => Err(NotRecord),
+    match Protocol::of(number) {
+        Some(protocol) => Ok(protocol),
+        None => Err(NotRecord),
     }
 }
 
@@ -232,6 +232,32 @@ fn drop_peer_of(octets: &[u8]) -> Result<(Change, &[u8]), NotRecord>
     Ok((Change::DropPeer(endpoint, remote, port), rest))
 }
 
+#[tactic(auto, unfolding(crate::specs::RecordReading::rest_at))]
+fn rest_of(octets: &[u8]) -> Result<(Change, &[u8]), NotRecord>
+    ensures { Gives (λ x. (x.0, x.1.now)) result (rest_at octets.now) }
+{
+    let (number, rest) = octet_of(octets)?;
+    let protocol = protocol_named(number)?;
+    let (external, rest) = u16_of(rest)?;
+    let (address, rest) = address_of(rest)?;
+    let (port, rest) = u16_of(rest)?;
+    let (end, rest) = u64_of(rest)?;
+    let endpoint = Endpoint {
+        address,
+        protocol,
+        port,
+    };
+    Ok((Change::Rest(endpoint, external, end), rest))
+}
+
+#[tactic(auto, unfolding(crate::specs::RecordReading::renumber_at))]
+fn renumber_of(octets: &[u8]) -> Result<(Change, &[u8]), NotRecord>
+    ensures { Gives (λ x. (x.0, x.1.now)) result (renumber_at octets.now) }
+{
+    let (address, rest) = address_of(octets)?;
+    Ok((Change::Renumber(address), rest))
+}
+
 #[tactic(auto, unfolding(crate::specs::RecordReading::change_at))]
 fn change_of(kind: u8, octets: &[u8]) -> Result<(Change, &[u8]), NotRecord>
     ensures { Gives (λ x. (x.0, x.1.now)) result (change_at kind octets.now) }
@@ -254,6 +280,8 @@ fn change_of(kind: u8, octets: &[u8]) -> Result<(Change, &[u8]), NotRecord>
         5 => drop_peer_of(octets),
         6 => Ok((Change::Lose, octets)),
         7 => Ok((Change::Mark, octets)),
+        8 => rest_of(octets),
+        9 => renumber_of(octets),
         _ => Err(NotRecord),
     }
 }

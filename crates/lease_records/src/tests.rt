@@ -54,6 +54,19 @@ const LOSE: [u8; 9] = [0x06, 0x00, 0x00, 0x00, 0x00, 0x00, 0x00, 0x04, 0x00];
 // Mark at the last moment, 2^40 - 1.
 const MARK: [u8; 9] = [0x07, 0x00, 0x00, 0x00, 0xff, 0xff, 0xff, 0xff, 0xff];
 
+// Rest at 1030: 10.0.0.5, UDP, 5000 owned 1024 until 1020.
+const REST: [u8; 38] = [
+    0x08, 0x00, 0x00, 0x00, 0x00, 0x00, 0x00, 0x04, 0x06, 0x11, 0x04, 0x00, 0x00, 0x00, 0x00, 0x00,
+    0x00, 0x00, 0x00, 0x00, 0x00, 0x00, 0xff, 0xff, 0x0a, 0x00, 0x00, 0x05, 0x13, 0x88, 0x00, 0x00,
+    0x00, 0x00, 0x00, 0x00, 0x03, 0xfc,
+];
+
+// Renumber at 1000 to 192.0.2.1.
+const RENUMBER: [u8; 25] = [
+    0x09, 0x00, 0x00, 0x00, 0x00, 0x00, 0x00, 0x03, 0xe8, 0x00, 0x00, 0x00, 0x00, 0x00, 0x00, 0x00,
+    0x00, 0x00, 0x00, 0xff, 0xff, 0xc0, 0x00, 0x02, 0x01,
+];
+
 const NONCE: Nonce = Nonce([0, 1, 2, 3, 4, 5, 6, 7, 8, 9, 10, 11]);
 
 fn moment(seconds: u64) -> Result<Moment, Fail> {
@@ -121,7 +134,7 @@ fn one_of_each_kind(rt: HostRuntime) -> Result<(), Fail> {
     let map = map_lease(Filters::none())?;
     let filtered = map_lease(two_filters())?;
     let peer = peer_lease()?;
-    let cases: [(&[u8], u64, Change); 8] = [
+    let cases: [(&[u8], u64, Change); 10] = [
         (&START, 1000, Change::Start),
         (&MAP, 1010, map),
         (&FILTERED, 1010, filtered),
@@ -134,6 +147,12 @@ fn one_of_each_kind(rt: HostRuntime) -> Result<(), Fail> {
         ),
         (&LOSE, 1024, Change::Lose),
         (&MARK, (1 << 40) - 1, Change::Mark),
+        (
+            &REST,
+            1030,
+            Change::Rest(endpoint(Protocol::Udp), 1024, 1020),
+        ),
+        (&RENUMBER, 1000, Change::Renumber(Address::v4(192, 0, 2, 1))),
     ];
     for (text, seconds, change) in cases {
         let (kept, length) = read_record(text)?;
@@ -150,10 +169,10 @@ fn one_of_each_kind(rt: HostRuntime) -> Result<(), Fail> {
 #[test]
 fn not_well_formed(rt: HostRuntime) {
     // a text, the place of an octet in it, and what stands there instead
-    let cases: [(&[u8], usize, u8); 11] = [
+    let cases: [(&[u8], usize, u8); 16] = [
         // the kind
         (&START, 0, 0),
-        (&START, 0, 8),
+        (&START, 0, 10),
         // the moment is 2^41 - 1
         (&MARK, 3, 1),
         // the protocol
@@ -169,6 +188,13 @@ fn not_well_formed(rt: HostRuntime) {
         // prefixes of 0, and of 129
         (&FILTERED, 61, 0),
         (&FILTERED, 61, 129),
+        // the protocol and the external port of a Rest
+        (&REST, 9, 1),
+        (&REST, 10, 0),
+        // it ended at 910, 120 seconds before, and ends at 1276, and at 2^56 + 1020
+        (&REST, 37, 0x8e),
+        (&REST, 36, 4),
+        (&REST, 30, 1),
     ];
     for (text, place, octet) in cases {
         let mut changed = [0; 99];

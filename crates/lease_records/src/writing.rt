@@ -2,11 +2,11 @@
 ghost use Rattle.std.specs.Prelude.{◌≡◌, ◌≤◌, ◌∷◌, ◌++◌, length, OnOk, OnErr};
 ghost use Rattle.std.specs.List.{flat_map, AllByRecursion};
 ghost use Rattle.pcp_base.specs.Records.{IsWellFormedRecord};
-ghost use Rattle.lease_records.specs.RecordTexts.{number_of, endpoint_text, filter_text, term_text, map_text, peer_text, fields_text, kind_of, record_text, IsRecordText};
+ghost use Rattle.lease_records.specs.RecordTexts.{endpoint_text, filter_text, term_text, map_text, peer_text, rest_text, fields_text, kind_of, record_text, IsRecordText};
 ghost use Rattle.lease_records.specs.Values.{IsEndpoint, IsFilter, IsTerm, IsMap, IsPeer, IsChangeValue, IsValue};
 
 use crate::terms::Term;
-use pcp_base::{Change, Endpoint, Filter, MapLease, Memory, PeerLease, Protocol, Record};
+use pcp_base::{Change, Endpoint, Filter, MapLease, Memory, PeerLease, Record};
 use std::alloc::{AllocError, Global};
 
 /// Appends the text of a well formed record. After `Memory` nothing was appended.
@@ -44,6 +44,8 @@ fn kind_number(change: &Change) -> u8
         Change::DropPeer(..) => 5,
         Change::Lose => 6,
         Change::Mark => 7,
+        Change::Rest(..) => 8,
+        Change::Renumber(_) => 9,
     }
 }
 
@@ -61,6 +63,8 @@ fn put_fields(out: &mut Vec<u8>, change: &Change) -> Result<(), AllocError>
             out.extend_from_slice(&remote.0)?;
             out.extend_from_slice(&port.to_be_bytes())
         }
+        Change::Rest(endpoint, external, end) => put_rest(out, endpoint, *external, *end),
+        Change::Renumber(address) => out.extend_from_slice(&address.0),
     }
 }
 
@@ -69,18 +73,24 @@ fn put_endpoint(out: &mut Vec<u8>, endpoint: &Endpoint) -> Result<(), AllocError
     ensures value { OnOk result (IsEndpoint endpoint.now) }
 {
     out.extend_from_slice(&endpoint.address.0)?;
-    out.push(protocol_number(endpoint.protocol))?;
+    out.push(endpoint.protocol.number())?;
     out.extend_from_slice(&endpoint.port.to_be_bytes())
 }
 
-/// The number of a transport protocol.
-fn protocol_number(protocol: Protocol) -> u8
-    ensures { result ≡ number_of protocol }
+fn put_rest(
+    out: &mut Vec<u8>,
+    endpoint: &Endpoint,
+    external: u16,
+    end: u64,
+) -> Result<(), AllocError>
+    ensures ok { OnOk result (out.new.items ≡ out.old.items ++ rest_text endpoint.now external end) }
+    ensures value { OnOk result (IsEndpoint endpoint.now) }
 {
-    match protocol {
-        Protocol::Tcp => 6,
-        Protocol::Udp => 17,
-    }
+    out.push(endpoint.protocol.number())?;
+    out.extend_from_slice(&external.to_be_bytes())?;
+    out.extend_from_slice(&endpoint.address.0)?;
+    out.extend_from_slice(&endpoint.port.to_be_bytes())?;
+    out.extend_from_slice(&end.to_be_bytes())
 }
 
 fn put_term(out: &mut Vec<u8>, term: &Term) -> Result<(), AllocError>

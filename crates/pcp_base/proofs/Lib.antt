@@ -1,7 +1,16 @@
 pub mod AddressLemmas
+pub mod ApplyLaws
 pub mod Decimals
-pub mod FitLemmas
+pub mod EndFacts
+pub mod EndLemmas
+pub mod EndOrder
 pub mod Members
 pub mod PrefixLemmas
+pub mod RestLaws
+pub mod RoomLaws
 pub mod Same
+pub mod SlotLemmas
+pub mod SnapshotLaws
+pub mod StageLaws
+pub mod StepLaws
 pub mod TableLemmas

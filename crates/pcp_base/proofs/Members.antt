@@ -2,7 +2,7 @@
 use Rattle.std.specs.Prelude.{◌≡◌, refl, ℕ, ◌+◌, ◌<◌, ◌≤◌, ◌⊎◌, zero, suc, Bool, true, false, List, [], ◌∷◌, ◌++◌, map, flat_map, filter, find, Contains, Some, None, IsSome}
 use Rattle.std.specs.List.{AllByRecursion, AllZip, list_any, range_with_len}
 use Rattle.std.proofs.Common.{inl, inr, ap, arith}
-use Rattle.std.proofs.lemmas.Bool.{cond_both, or_parts}
+use Rattle.std.proofs.lemmas.Bool.{cond_both, or_parts, or_from, or_cases, or_left, or_right}
 use Rattle.pcp_base.specs.Tables.{EachTwo}
 
 -- x is one of the list
@@ -33,6 +33,23 @@ pub All-filter : {X : Type 0} (P : X → Type 0) (p : X → Bool) (xs : List X) 
 All-filter P p [] a = tt
 All-filter P p (x ∷ xs) a =
     cond_both (p x) (x ∷ filter p xs) (filter p xs) (λ ys. AllByRecursion P ys) (λ _. (a.0, All-filter P p xs a.1)) (λ _. All-filter P p xs a.1)
+
+pub All-weaker : {X : Type 0} (P Q : X → Type 0) → ((x : X) → P x → Q x) → (xs : List X) → AllByRecursion P xs → AllByRecursion Q xs
+All-weaker P Q f [] a = tt
+All-weaker P Q f (x ∷ xs) a = (f x a.0, All-weaker P Q f xs a.1)
+
+-- what a filter keeps passes its test
+pub All-kept : {X : Type 0} (p : X → Bool) (xs : List X) → AllByRecursion (λ x. p x ≡ true) (filter p xs)
+All-kept p [] = tt
+All-kept p (x ∷ xs) = cond_both (p x) (x ∷ filter p xs) (filter p xs) (λ ys. AllByRecursion (λ x. p x ≡ true) ys) (λ e. (e, All-kept p xs)) (λ _. All-kept p xs)
+
+pub All-both : {X : Type 0} (P Q : X → Type 0) (xs : List X) → AllByRecursion P xs → AllByRecursion Q xs → AllByRecursion (λ x. P x × Q x) xs
+All-both P Q [] a b = tt
+All-both P Q (x ∷ xs) a b = ((a.0, b.0), All-both P Q xs a.1 b.1)
+
+pub All-append : {X : Type 0} (P : X → Type 0) (xs ys : List X) → AllByRecursion P xs → AllByRecursion P ys → AllByRecursion P (xs ++ ys)
+All-append P [] ys a b = b
+All-append P (x ∷ xs) ys a b = (a.0, All-append P xs ys a.1 b)
 
 pub All-push : {X : Type 0} (P : X → Type 0) (xs : List X) (x : X) → AllByRecursion P xs → P x → AllByRecursion P (xs ++ x ∷ [])
 All-push P [] x a h = (h, tt)
@@ -117,6 +134,28 @@ find-none p [] h = tt
 find-none p (y ∷ ys) h =
     cond_both (p y) (Some y) (find p ys) (λ o. o ≡ None → AllByRecursion (λ x. p x ≡ false) (y ∷ ys))
     (λ e k. absurd cc) (λ e k. (e, find-none p ys k)) h
+
+-- a filter that all pass keeps all
+pub filter-all : {X : Type 0} (p : X → Bool) (xs : List X) → AllByRecursion (λ x. p x ≡ true) xs → filter p xs ≡ xs
+filter-all p [] h = refl
+filter-all p (x ∷ xs) h = rw h.0 (ap (λ ys. x ∷ ys) (filter-all p xs h.1))
+
+pub none-any : {X : Type 0} (p : X → Bool) (xs : List X) → AllByRecursion (λ x. p x ≡ false) xs → list_any p xs ≡ false
+none-any p [] h = refl
+none-any p (x ∷ xs) h = or_from (p x) (list_any p xs) h.0 (none-any p xs h.1)
+
+pub any-some : {X : Type 0} (p : X → Bool) (xs : List X) → list_any p xs ≡ true → (x : X) × IsIn x xs × (p x ≡ true)
+any-some p [] h = absurd cc
+any-some p (x ∷ xs) h =
+    elim (or_cases (p x) (list_any p xs) h) [
+      | inl a ↦ (x, inl refl, a)
+      | inr b ↦ (let r = any-some p xs b in (r.0, inr r.1, r.2))
+    ]
+
+pub some-any : {X : Type 0} (p : X → Bool) (xs : List X) (x : X) → IsIn x xs → p x ≡ true → list_any p xs ≡ true
+some-any p [] x h e = absurd h
+some-any p (y ∷ ys) x (inl same) e = or_left (p y) (list_any p ys) (rw (← same) at e)
+some-any p (y ∷ ys) x (inr h) e = or_right (p y) (list_any p ys) (some-any p ys x h e)
 
 pub any-none : {X : Type 0} (p : X → Bool) (xs : List X) → list_any p xs ≡ false → AllByRecursion (λ x. p x ≡ false) xs
 any-none p [] h = tt

@@ -75,10 +75,10 @@ pub OnePort-fewer : (xs ys : List Owner) → ((o : Owner) → IsIn o ys → IsIn
 OnePort-fewer xs ys f h p q a b =
     h p q (Contains-from_IsIn xs p (f p (IsIn-from_Contains ys p a))) (Contains-from_IsIn xs q (f q (IsIn-from_Contains ys q b)))
 
-count-filter : {X : Type 0} (p q : X → Bool) (xs : List X) → count_by p (filter q xs) ≤ count_by p xs
+pub count-filter : {X : Type 0} (p q : X → Bool) (xs : List X) → count_by p (filter q xs) ≤ count_by p xs
 count-filter p q xs = omega (arith, sum_by-filter_both q (λ x. not (q x)) (λ _. refl) (λ x. cond (p x) 1 0) xs)
 
-length-fewer : {X : Type 0} (q : X → Bool) (xs : List X) → length (filter q xs) ≤ length xs
+pub length-fewer : {X : Type 0} (q : X → Bool) (xs : List X) → length (filter q xs) ≤ length xs
 length-fewer q xs = omega (arith, length-filter q xs, count_by-le-length q xs)
 
 -- fewer leases
@@ -137,15 +137,15 @@ IsMapLease-later l k same h = rw same at (at_expiry k.expiry)
   where
     at_expiry : (e : ℕ) → IsMapLease (record l { expiry = e })
     at_expiry e = record {
-      internal = h.internal;
-      external = h.external;
-      some = h.some;
-      few = h.few;
-      internal_end = h.internal_end;
-      external_end = h.external_end;
-      few_filters = h.few_filters;
-      different_filters = h.different_filters;
-      prefixes = h.prefixes;
+      ports = record {
+        internal = h.ports.internal;
+        external = h.ports.external;
+        some = h.ports.some;
+        few = h.ports.few;
+        internal_end = h.ports.internal_end;
+        external_end = h.ports.external_end;
+      };
+      filters = h.filters;
     }
 
 covers-later : (l k : MapLease) → SameButExpiry l k → (e : Endpoint) → covers l e ≡ covers k e
@@ -184,8 +184,8 @@ put-renewed (x ∷ xs) l expiry apart formed (inr h) =
     cond_both (is_map_of (first_endpoint l) x) _ _ (λ ys. AllZip SameButExpiry (x ∷ xs) ys)
     (λ yes. absurd (
     let same : first_endpoint x ≡ first_endpoint l = (same_endpoint-Decides (first_endpoint x) (first_endpoint l)).0 yes in
-    let ours = covers-first l (All-IsIn IsMapLease xs l formed.1 h).some in
-    let theirs = subst (λ (e : Endpoint). covers x e ≡ true) same (covers-first x formed.0.some) in
+    let ours = covers-first l (All-IsIn IsMapLease xs l formed.1 h).ports.some in
+    let theirs = subst (λ (e : Endpoint). covers x e ≡ true) same (covers-first x formed.0.ports.some) in
     All-IsIn (AreApart x) xs l apart.0 h (first_endpoint l) theirs ours))
     (λ _. (refl, put-renewed xs l expiry apart.1 formed.1 h))
 
@@ -322,7 +322,7 @@ pub Sound-put_new : (t : Table) (l : MapLease) → Sound t → IsMapLease l → 
     Sound (record t { maps = put (is_map_of (first_endpoint l)) l t.maps })
 Sound-put_new t l h formed r =
     let keys : AllByRecursion (λ x. is_map_of (first_endpoint l) x ≡ false) t.maps = All-from_IsIn (λ x. is_map_of (first_endpoint l) x ≡ false) t.maps
-    (λ x a. other_key x (first_endpoint l) (All-IsIn IsMapLease t.maps x h.maps a).some (All-IsIn (λ y. covers y (first_endpoint l) ≡ false) t.maps x r.uncovered a)) in
+    (λ x a. other_key x (first_endpoint l) (All-IsIn IsMapLease t.maps x h.maps a).ports.some (All-IsIn (λ y. covers y (first_endpoint l) ≡ false) t.maps x r.uncovered a)) in
     subst (λ (maps : List MapLease). Sound (record t { maps = maps })) (sym (put-end t.maps l keys)) (Sound-pushed t l h formed r)
 
 -- two leases with one key are one lease
@@ -335,12 +335,12 @@ same_key (x ∷ xs) a b apart formed (inl e) (inr k) same =
     let formed_b = All-IsIn IsMapLease xs b formed.1 k in
     let at : first_endpoint x ≡ first_endpoint b = ap first_endpoint e ∙ same in
     absurd (All-IsIn (AreApart x) xs b apart.0 k (first_endpoint b)
-    (subst (λ (z : Endpoint). covers x z ≡ true) at (covers-first x formed.0.some)) (covers-first b formed_b.some))
+    (subst (λ (z : Endpoint). covers x z ≡ true) at (covers-first x formed.0.ports.some)) (covers-first b formed_b.ports.some))
 same_key (x ∷ xs) a b apart formed (inr h) (inl f) same =
     let formed_a = All-IsIn IsMapLease xs a formed.1 h in
     let at : first_endpoint x ≡ first_endpoint a = ap first_endpoint f ∙ sym same in
     absurd (All-IsIn (AreApart x) xs a apart.0 h (first_endpoint a)
-    (subst (λ (z : Endpoint). covers x z ≡ true) at (covers-first x formed.0.some)) (covers-first a formed_a.some))
+    (subst (λ (z : Endpoint). covers x z ≡ true) at (covers-first x formed.0.ports.some)) (covers-first a formed_a.ports.some))
 
 -- a lease stays where another is put, but where it has the key
 pub put-keeps : (has_key : MapLease → Bool) (l new : MapLease) (maps : List MapLease) → IsIn l maps → IsIn l (put has_key new maps) ⊎ (has_key l ≡ true)

@@ -1,7 +1,7 @@
 -- Filters in eight slots, of which those that hold none are blank, so that the slots follow from the list.
-use Rattle.std.specs.Prelude.{◌≡◌, ℕ, ◌+◌, ◌-◌, ◌<◌, ◌≤◌, List, ◌++◌, length, take, drop, replicate, slice_set}
-use Rattle.std.proofs.Common.{sym, ◌∙◌, ap, arith}
-use Rattle.std.proofs.lemmas.List.{length-take-le, length-set, take-append-drop, drop-drop, drop-set-lt, drop-replicate}
+use Rattle.std.specs.Prelude.{◌≡◌, ℕ, ◌-◌, ◌≤◌, List, ◌++◌, length, take, drop, replicate}
+use Rattle.std.proofs.Common.{◌∙◌, ap, arith}
+use Rattle.std.proofs.lemmas.List.{length-take-le, take-append-drop}
 use Rattle.pcp_base.specs.declared.leases.Filter.{Filter}
 use Rattle.pcp_base.specs.declared.leases.Filters.TheInside.{Inside}
 
@@ -33,15 +33,3 @@ slots_of-view a h =
     let slots = joined (take a.count a.slots) a.slots (length (take a.count a.slots)) a.count same (take-append-drop a.count a.slots) h.blank_behind in
     ap (λ (s : List Filter). record { slots = s; count = length (take a.count a.slots) }) slots
     ∙ ap (λ n. record { slots = a.slots; count = n }) same
-
--- one more filter
-pub IsPadded-push : (a : Inside) (f : Filter) → IsPadded a → a.count < 8 → IsPadded (record { slots = slice_set a.slots a.count f; count = a.count + 1 })
-IsPadded-push a f h room =
-    let next : a.count < a.count + 1 = omega arith in
-    record {
-      few = omega arith;
-      eight = length-set a.slots a.count f ∙ h.eight;
-      blank_behind = drop-set-lt (a.count + 1) a.slots a.count f next ∙ sym (drop-drop 1 a.count a.slots)
-          ∙ ap (drop 1) h.blank_behind ∙ drop-replicate 1 (8 - a.count) blank
-          ∙ ap (λ n. replicate n blank) (let e : 8 - a.count - 1 ≡ 8 - (a.count + 1) = omega arith in e);
-    }

@@ -1,7 +1,6 @@
 -- Who owns which external port (our own).
 use Rattle.std.specs.Prelude.{◌≡◌, ℕ, ◌+◌, ◌&&◌, ◌==◌, Bool, List, [], ◌∷◌, ◌++◌, map, flat_map, filter, Contains, if◌then◌else◌}
-use Rattle.std.specs.List.{list_any}
-use Rattle.std.specs.List.{range_with_len}
+use Rattle.std.specs.List.{list_any, range_with_len}
 use Rattle.pcp_base.specs.declared.addresses.Address.{Address}
 use Rattle.pcp_base.specs.declared.leases.Protocol.{Protocol}
 use Rattle.pcp_base.specs.declared.leases.MapLease.{MapLease}
@@ -42,10 +41,14 @@ OnePort os = (p q : Owner) → Contains os p → Contains os q → p.endpoint �
 abbrev pub is_port : Protocol → ℕ → Owner → Bool
 is_port protocol port o = same_protocol o.protocol protocol && o.external == port
 
+-- whether one of them is of this port
+abbrev pub is_owned : Protocol → ℕ → List Owner → Bool
+is_owned protocol port os = list_any (is_port protocol port) os
+
 -- of how many different ports they are
 abbrev pub different_ports : List Owner → ℕ
 different_ports [] = 0
-different_ports (o ∷ os) = (if list_any (is_port o.protocol o.external) os then 0 else 1) + different_ports os
+different_ports (o ∷ os) = (if is_owned o.protocol o.external os then 0 else 1) + different_ports os
 
 -- how many different ports the leases of the address own that are live at m
 abbrev pub owned : Table → ℕ → Address → ℕ

@@ -1,10 +1,11 @@
 -- The lease table (our own; a MAP lease is a mapping of RFC 6887, section 11, a PEER lease one of section 12).
-use Rattle.std.specs.Prelude.{◌≡◌, ◌≢◌, ℕ, ◌+◌, ◌<◌, ◌≤◌, ◌&&◌, ◌==◌, nat_le, nat_lt, Bool, true, false, bytes_eq, List, [], ◌∷◌, length, filter, IsTrue, ⊤, if◌then◌else◌}
+use Rattle.std.specs.Prelude.{◌≡◌, ◌≢◌, ℕ, ◌+◌, ◌<◌, ◌≤◌, ◌&&◌, ◌==◌, nat_le, nat_lt, not, Bool, true, false, bytes_eq, List, [], ◌∷◌, length, filter, IsTrue, ⊤, if◌then◌else◌}
 use Rattle.std.specs.List.{AllByRecursion}
 use Rattle.pcp_base.specs.declared.addresses.Address.{Address}
 use Rattle.pcp_base.specs.declared.leases.Protocol.{Protocol}
 use Rattle.pcp_base.specs.declared.leases.Protocol.TheVariants.{Tcp, Udp}
 use Rattle.pcp_base.specs.declared.leases.Endpoint.{Endpoint}
+use Rattle.pcp_base.specs.declared.leases.Filter.{Filter}
 use Rattle.pcp_base.specs.declared.leases.MapLease.{MapLease}
 use Rattle.pcp_base.specs.declared.leases.PeerLease.{PeerLease}
 
@@ -21,6 +22,13 @@ abbrev pub live : Table → ℕ → Table
 live t m = record {
   maps = filter (λ l. nat_lt m l.expiry) t.maps;
   peers = filter (λ l. nat_lt m l.expiry) t.peers;
+}
+
+-- the others
+abbrev pub dead : Table → ℕ → Table
+dead t m = record {
+  maps = filter (λ l. not (nat_lt m l.expiry)) t.maps;
+  peers = filter (λ l. not (nat_lt m l.expiry)) t.peers;
 }
 
 -- whether the two are equal
@@ -67,17 +75,28 @@ abbrev pub EachTwo : {X : Type 0} → (X → X → Type 0) → List X → Type 0
 EachTwo R [] = ⊤
 EachTwo R (x ∷ xs) = AllByRecursion (R x) xs × EachTwo R xs
 
--- a MAP lease that a table may have
-pub record IsMapLease (l : MapLease) : Type 0 where
+-- 1 to 4096 internal ports, and as many external ones, of 1 to 65535
+pub record HasPorts (l : MapLease) : Type 0 where
   pub internal : 0 < l.internal
   pub external : 0 < l.external
   pub some : 0 < l.count
   pub few : l.count ≤ 4096
   pub internal_end : l.internal + l.count ≤ 65536
   pub external_end : l.external + l.count ≤ 65536
-  pub few_filters : length l.filters ≤ 8
-  pub different_filters : EachTwo (λ f g. f ≢ g) l.filters
-  pub prefixes : AllByRecursion (λ f. (0 < f.prefix) × (f.prefix ≤ 128)) l.filters
+
+abbrev pub HavePrefixes : List Filter → Type 0
+HavePrefixes filters = AllByRecursion (λ f. (0 < f.prefix) × (f.prefix ≤ 128)) filters
+
+-- at most 8 filters, different from each other, with prefixes 1 to 128
+pub record AreLeaseFilters (filters : List Filter) : Type 0 where
+  pub few : length filters ≤ 8
+  pub different : EachTwo (λ f g. f ≢ g) filters
+  pub prefixes : HavePrefixes filters
+
+-- a MAP lease that a table may have
+pub record IsMapLease (l : MapLease) : Type 0 where
+  pub ports : HasPorts l
+  pub filters : AreLeaseFilters l.filters
 
 -- a PEER lease that a table may have
 pub record IsPeerLease (l : PeerLease) : Type 0 where

@@ -14,6 +14,32 @@ pub enum Protocol {
     Udp,
 }
 
+impl Protocol {
+    ghost use Rattle.std.specs.Prelude.{◌≡◌};
+    ghost use Rattle.pcp_base.specs.Protocols.{protocol_number, protocol_of};
+
+    /// The number of the protocol in a message.
+    pub fn number(self) -> u8
+        ensures { result ≡ protocol_number self }
+    {
+        match self {
+            Protocol::Tcp => 6,
+            Protocol::Udp => 17,
+        }
+    }
+
+    /// The protocol that has this number; none where neither has it.
+    pub fn of(number: u8) -> Option<Protocol>
+        ensures { result ≡ protocol_of number }
+    {
+        match number {
+            6 => Some(Protocol::Tcp),
+            17 => Some(Protocol::Udp),
+            _ => None,
+        }
+    }
+}
+
 /// A port of an internal host.
 #[derive(Clone, Copy, Debug, PartialEq, Eq, PartialOrd, Ord, Hash)]
 pub struct Endpoint {
@@ -152,6 +178,19 @@ pub struct Owner {
     /// At least 1.
     pub external: u16,
     pub endpoint: Endpoint,
+}
+
+/// How long a port rests after its last lease, in seconds.
+pub const REST_SECONDS: u64 = 120;
+
+/// The last lease that owned an external port was one of this endpoint, and ended then.
+#[derive(Clone, Copy, Debug, PartialEq, Eq, Hash)]
+pub struct End {
+    pub endpoint: Endpoint,
+    /// At least 1.
+    pub external: u16,
+    /// In seconds.
+    pub end: u64,
 }
 
 /// Owned ports.

@@ -8,6 +8,7 @@ mod codes;
 mod configs;
 mod datagrams;
 mod errors;
+mod laws;
 mod leases;
 mod lists;
 mod moments;
@@ -23,8 +24,13 @@ pub use codes::Code;
 pub use configs::{Config, External, Externals, Prefixes, Subscriber, Subscribers, pair};
 pub use datagrams::{Datagram, Entry};
 pub use errors::{Failed, Memory};
+pub use laws::{
+    ends_at_a_moment, ends_come_in_steps, first_states_are_sound, new_leases_need_room,
+    ports_have_one_owner, ports_rest_for_one, snapshots_stand, states_are_sound, tables_decide,
+};
 pub use leases::{
-    Endpoint, Filter, FilterList, Filters, MapLease, Owner, OwnerList, PeerLease, Protocol,
+    End, Endpoint, Filter, FilterList, Filters, MapLease, Owner, OwnerList, PeerLease, Protocol,
+    REST_SECONDS,
 };
 pub use lists::{Listed, Octets};
 pub use moments::{Moment, epoch};

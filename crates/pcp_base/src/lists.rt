@@ -3,7 +3,7 @@ ghost use Rattle.std.specs.Prelude.{◌≡◌};
 
 use std::marker::Model;
 
-/// A list. It is made from a `Vec` and gives its items back, without taking memory.
+/// A list. It is made from a `Vec` and gives it back, without taking memory.
 #[derive(Debug, Drop)]
 pub struct Listed<T> {
     list: Vec<T>,
@@ -30,6 +30,13 @@ impl<T> Listed<T> {
         ensures { result.now ≡ self.now }
     {
         &self.list
+    }
+
+    /// The `Vec` of the items.
+    pub fn into_vec(self) -> Vec<T>
+        ensures { result.items ≡ self }
+    {
+        self.list
     }
 }
 

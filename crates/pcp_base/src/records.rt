@@ -7,7 +7,7 @@ use crate::moments::Moment;
 /// One change of a lease table.
 #[derive(Clone, Copy, Debug, PartialEq, Eq, Hash)]
 pub enum Change {
-    /// The table begins, empty.
+    /// The table begins, empty, and no external address is known.
     Start,
     /// A MAP lease is granted, or renewed in its place.
     Map(MapLease),
@@ -21,6 +21,10 @@ pub enum Change {
     Lose,
     /// Nothing changes but the last moment.
     Mark,
+    /// The external port, at least 1, was owned by this endpoint until this moment, in seconds.
+    Rest(Endpoint, u16, u64),
+    /// The external address is this one from now on.
+    Renumber(Address),
 }
 
 /// A change and its moment.

@@ -1,5 +1,5 @@
 use Rattle.std.proofs.Common.{arith}
-use Rattle.pcp_base.specs.FilterSlots.{IsPadded-push}
+use Rattle.pcp_base.proofs.SlotLemmas.{IsPadded-push}
 use Rattle.pcp_base.proofs.leases.Filters.push.Goals as goal
 
 -- there is room, and the next slot is no longer blank
