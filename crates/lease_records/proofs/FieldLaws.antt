@@ -4,7 +4,7 @@ use Rattle.std.specs.Int.{Width, w16, w64, byte_len, from_be_bytes, to_be_bytes}
 use Rattle.std.proofs.lemmas.Bool.{cases_lt, ltb-false, le-ltb}
 use Rattle.std.proofs.lemmas.List.{take_at, drop_at, take-append-drop, length-append, length-take, get_or-drop, get_or-take, get_or_past}
 use Rattle.std.proofs.lemmas.Nat.{be_bytes_2, be_bytes_8, from_be_bytes-to_be_bytes_2, from_be_bytes-to_be_bytes_8}
-use Rattle.lease_records.specs.RecordReading.{◌>>=◌, octets_at, octet_at, number_at}
+use Rattle.lease_records.specs.RecordReading.{◌>>=◌, take_octets, octet_at, number_at}
 
 abbrev pub IsBytes : List ℕ → Type 0
 IsBytes octets = (i : ℕ) → get_or octets i 0 < 256
@@ -45,14 +45,14 @@ Takes-then a x b y c p q = record { parts = p.parts ∙ ap (λ (t : List ℕ). x
 
 -- ---- octets
 
-pub octets_take : (n : ℕ) (octets : List ℕ) (x : List ℕ × List ℕ) → IsBytes octets → octets_at n octets ≡ Some x → Takes octets x.0 x.1 × (length x.0 ≡ n) × IsBytes x.0
+pub octets_take : (n : ℕ) (octets : List ℕ) (x : List ℕ × List ℕ) → IsBytes octets → take_octets n octets ≡ Some x → Takes octets x.0 x.1 × (length x.0 ≡ n) × IsBytes x.0
 octets_take n octets x fits e =
     let g = none_or (ltb (length octets) n) (Some (take n octets, drop n octets)) x e in
     let long : n ≤ length octets = ltb-false _ _ g.0 in
     subst (λ (y : List ℕ × List ℕ). Takes octets y.0 y.1 × (length y.0 ≡ n) × IsBytes y.0) (some_is (take n octets, drop n octets) x g.1)
     (record { parts = sym (take-append-drop n octets); rest_fits = IsBytes-drop n octets fits }, omega (arith, length-take n octets), IsBytes-take n octets fits)
 
-pub octets_again : (n : ℕ) (front rest : List ℕ) → length front ≡ n → octets_at n (front ++ rest) ≡ Some (front, rest)
+pub octets_again : (n : ℕ) (front rest : List ℕ) → length front ≡ n → take_octets n (front ++ rest) ≡ Some (front, rest)
 octets_again n front rest len =
     let long : ltb (length (front ++ rest)) n ≡ false = le-ltb _ _ (omega (arith, length-append front rest)) in
     rw (long, take_at front rest n len, drop_at front rest n len) refl

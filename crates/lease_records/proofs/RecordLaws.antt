@@ -13,7 +13,7 @@ use Rattle.pcp_base.specs.Protocols.{protocol_number}
 use Rattle.pcp_base.specs.Tables.{first_endpoint}
 use Rattle.pcp_base.specs.Records.{IsWellFormedRecord}
 use Rattle.lease_records.specs.Values.{IsMap, IsPeer, map_term, peer_term, IsChangeValue, IsValue}
-use Rattle.lease_records.specs.RecordTexts.{endpoint_text, term_text, map_text, peer_text, rest_text, kind_of, fields_text, record_text, IsRecordText}
+use Rattle.lease_records.specs.RecordTexts.{endpoint_text, term_text, map_text, peer_text, rest_text, kind_of, fields_text, record_text, IsRecordText, OneText}
 use Rattle.lease_records.specs.RecordReading.{map_at, peer_at, drop_map_at, drop_peer_at, rest_at, renumber_at, change_at, record_at}
 use Rattle.lease_records.proofs.FieldLaws.{IsBytes, bind_some, some_is, Takes, Takes-then, octet_takes, wide16, wide64, number_takes, number_again}
 use Rattle.lease_records.proofs.PartLaws.{chosen, protocol_is, protocol_again, moment_takes, moment_again, address_takes, address_again, endpoint_takes, endpoint_again, filters_text, all_filters_take, all_filters_again, term_takes, term_again}
@@ -244,12 +244,10 @@ front_taken octets rest r fits e formed =
     }
 
 -- one record has one text, and no text begins another
-pub one_text : (a b x y : List ℕ) (r s : Record) → IsRecordText a r → IsRecordText b s → a ++ x ≡ b ++ y → (a ≡ b) × (r ≡ s) × (x ≡ y)
-one_text a b x y r s p q e =
-    let same : record_text r ++ x ≡ record_text s ++ y = ap (λ (t : List ℕ). t ++ x) (sym p.text) ∙ e ∙ ap (λ (t : List ℕ). t ++ y) q.text in
-    let both : (r, x) ≡ (s, y) = some_is (r, x) (s, y) (sym (record_again r x p.value) ∙ ap record_at same ∙ record_again s y q.value) in
-    let records : r ≡ s = ap (λ (z : Record × List ℕ). z.0) both in
-    (p.text ∙ ap record_text records ∙ sym q.text, records, ap (λ (z : Record × List ℕ). z.1) both)
+pub one_text : OneText
+one_text r s x y p q same =
+    let both : (r, x) ≡ (s, y) = some_is (r, x) (s, y) (sym (record_again r x p) ∙ ap record_at same ∙ record_again s y q) in
+    (ap (λ (z : Record × List ℕ). z.0) both, ap (λ (z : Record × List ℕ). z.1) both)
 
 -- what is read is the record of that text
 pub read_as : (octets rest : List ℕ) (n : ℕ) (r s : Record) → IsRecordText (take n octets) r → record_at octets ≡ Some (s, rest) → r ≡ s

@@ -23,8 +23,8 @@ abbrev pub Gives : {X Y E : Type 0} → (X → Y) → Result X E → Option Y �
 Gives view (Ok x) read = read ≡ Some (view x)
 Gives view (Err e) read = read ≡ None
 
-abbrev pub octets_at : ℕ → List ℕ → Option (List ℕ × List ℕ)
-octets_at n octets = if nat_lt (length octets) n then None else Some (take n octets, drop n octets)
+abbrev pub take_octets : ℕ → List ℕ → Option (List ℕ × List ℕ)
+take_octets n octets = if nat_lt (length octets) n then None else Some (take n octets, drop n octets)
 
 abbrev pub octet_at : List ℕ → Option (ℕ × List ℕ)
 octet_at [] = None
@@ -32,7 +32,7 @@ octet_at (x ∷ rest) = Some (x, rest)
 
 unfoldable pub number_at : Width → List ℕ → Option (ℕ × List ℕ)
 number_at w octets = do
-  n ← octets_at (byte_len w) octets
+  n ← take_octets (byte_len w) octets
   Some (from_be_bytes w n.0, n.1)
 
 unfoldable pub moment_at : List ℕ → Option (ℕ × List ℕ)
@@ -42,12 +42,12 @@ moment_at octets = do
 
 unfoldable pub address_at : List ℕ → Option (Address × List ℕ)
 address_at octets = do
-  a ← octets_at 16 octets
+  a ← take_octets 16 octets
   Some (record { 0 = a.0 }, a.1)
 
 unfoldable pub nonce_at : List ℕ → Option (Nonce × List ℕ)
 nonce_at octets = do
-  n ← octets_at 12 octets
+  n ← take_octets 12 octets
   Some (record { 0 = n.0 }, n.1)
 
 unfoldable pub endpoint_at : List ℕ → Option (Endpoint × List ℕ)

@@ -1,6 +1,6 @@
 -- The text of a record: its kind in one octet, its moment in 8, and its fields (our own). Numbers are
 -- big-endian.
-use Rattle.std.specs.Prelude.{◌≡◌, ℕ, List, [], ◌∷◌, ◌++◌, length}
+use Rattle.std.specs.Prelude.{◌≡◌, ℕ, List, [], ◌∷◌, ◌++◌, length, Result, Ok}
 use Rattle.std.specs.List.{flat_map}
 use Rattle.std.specs.Int.{to_be_bytes, w16, w64}
 use Rattle.pcp_base.specs.declared.leases.Endpoint.{Endpoint}
@@ -13,6 +13,7 @@ use Rattle.pcp_base.specs.declared.records.Record.{Record}
 use Rattle.pcp_base.specs.Protocols.{protocol_number}
 use Rattle.pcp_base.specs.Tables.{first_endpoint}
 use Rattle.pcp_base.specs.Records.{IsWellFormedRecord}
+use Rattle.lease_records.specs.declared.reading.NotRecord.{NotRecord}
 use Rattle.lease_records.specs.declared.terms.Term.{Term}
 use Rattle.lease_records.specs.Values.{map_term, peer_term, IsValue}
 
@@ -29,9 +30,13 @@ abbrev pub term_text : Term → List ℕ
 term_text t = t.nonce.0 ++ to_be_bytes w64 t.granted ++ to_be_bytes w64 t.expiry
 
 -- the first endpoint, count 2, first external 2, nonce, granted, expiry, the number of filters 1, each filter
+-- how many, and each
+abbrev pub filters_text : List Filter → List ℕ
+filters_text filters = length filters ∷ flat_map filter_text filters
+
 abbrev pub map_text : MapLease → List ℕ
 map_text l = endpoint_text (first_endpoint l) ++ to_be_bytes w16 l.count ++ to_be_bytes w16 l.external
-    ++ term_text (map_term l) ++ length l.filters ∷ flat_map filter_text l.filters
+    ++ term_text (map_term l) ++ filters_text l.filters
 
 -- the endpoint, external 2, remote address 16, remote port 2, nonce, granted, expiry
 abbrev pub peer_text : PeerLease → List ℕ
@@ -72,3 +77,13 @@ pub record IsRecordText (octets : List ℕ) (r : Record) : Type 0 where
   pub value : IsValue r
   pub well_formed : IsWellFormedRecord r
   pub text : octets ≡ record_text r
+
+-- one record has one text, and no text of a record begins that of another
+abbrev pub OneText : Type 0
+OneText = (r s : Record) (x y : List ℕ) → IsValue r → IsValue s →
+    record_text r ++ x ≡ record_text s ++ y → (r ≡ s) × (x ≡ y)
+
+-- octets that begin with the text of a record are read as this record
+abbrev pub IsReadAgain : List ℕ → Result (Record × ℕ) NotRecord → Type 0
+IsReadAgain octets result = (r : Record) (text rest : List ℕ) → IsRecordText text r →
+    octets ≡ text ++ rest → result ≡ Ok (r, length text)

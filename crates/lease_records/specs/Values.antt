@@ -1,6 +1,7 @@
 -- What a value of a type is among all that a clause could name: each number and each string of octets has its width.
 use Rattle.std.specs.Prelude.{◌≡◌, ◌<◌, ◌≤◌, ◌^◌, length, ⊤}
 use Rattle.std.specs.List.{AllByRecursion}
+use Rattle.pcp_base.specs.declared.leases.TheConstants.{MOST_FILTERS}
 use Rattle.pcp_base.specs.declared.leases.Endpoint.{Endpoint}
 use Rattle.pcp_base.specs.declared.leases.Filter.{Filter}
 use Rattle.pcp_base.specs.declared.leases.MapLease.{MapLease}
@@ -36,7 +37,7 @@ pub record IsMap (l : MapLease) : Type 0 where
   pub count : l.count < 2 ^ 16
   pub external : l.external < 2 ^ 16
   pub term : IsTerm (map_term l)
-  pub few_filters : length l.filters ≤ 8
+  pub few_filters : length l.filters ≤ MOST_FILTERS
   pub filters : AllByRecursion IsFilter l.filters
 
 pub record IsPeer (l : PeerLease) : Type 0 where

@@ -1,7 +1,6 @@
 //! The octets of the records of a lease journal, both ways.
 #![tactic(auto)]
 
-mod judging;
 mod laws;
 mod reading;
 mod terms;

@@ -2,11 +2,10 @@
 ghost use Rattle.std.specs.Prelude.{◌≡◌, ◌≤◌, ℕ, List, ◌++◌, length, take, IfOk, OnErr};
 ghost use Rattle.std.specs.Int.{w16, w64};
 ghost use Rattle.pcp_base.specs.declared.records.Record.{Record};
-ghost use Rattle.lease_records.specs.RecordTexts.{IsRecordText};
+ghost use Rattle.lease_records.specs.RecordTexts.{IsRecordText, IsReadAgain};
 ghost use Rattle.pcp_base.specs.Protocols.{protocol_of};
-ghost use Rattle.lease_records.specs.RecordReading.{Gives, octets_at, octet_at, number_at, moment_at, address_at, nonce_at, term_at, endpoint_at, filter_at, filters_at, all_filters_at, map_at, peer_at, drop_map_at, drop_peer_at, rest_at, renumber_at, change_at, record_at};
+ghost use Rattle.lease_records.specs.RecordReading.{Gives, take_octets, octet_at, number_at, moment_at, address_at, nonce_at, term_at, endpoint_at, filter_at, filters_at, all_filters_at, map_at, peer_at, drop_map_at, drop_peer_at, rest_at, renumber_at, change_at, record_at};
 
-use crate::judging::is_well_formed;
 use crate::terms::Term;
 use pcp_base::{
     Address, Change, Endpoint, Filter, Filters, MapLease, Moment, Nonce, PeerLease, Protocol,
@@ -20,7 +19,7 @@ use thiserror::Error;
 pub struct NotRecord;
 
 fn octets_of<const N: usize>(octets: &[u8]) -> Result<([u8; N], &[u8]), NotRecord>
-    ensures { Gives (λ x. (x.0, x.1.now)) result (octets_at N octets.now) }
+    ensures { Gives (λ x. (x.0, x.1.now)) result (take_octets N octets.now) }
 {
     match octets.split_first_chunk::<N>() {
         Some((front, rest)) => Ok((*front, rest)),
@@ -308,12 +307,12 @@ pub fn read_record(octets: &[u8]) -> Result<(Record, usize), NotRecord>
     ensures found { IfOk result (λ found. IsRecordText (take found.1 octets.now) found.0) }
     ensures none { OnErr result ((r : Record) (n : ℕ) → ¬ (IsRecordText (take n octets.now) r)) }
     // What was written is read again, whatever follows it.
-    ensures again { (r : Record) (text rest : List ℕ) → IsRecordText text r → octets.now ≡ text ++ rest → result ≡ Ok (r, length text) }
+    ensures again { IsReadAgain octets.now result }
 {
     let Ok((record, rest)) = record_of(octets) else {
         return Err(NotRecord);
     };
-    if !is_well_formed(&record) {
+    if !record.is_well_formed() {
         return Err(NotRecord);
     }
     Ok((record, octets.len() - rest.len()))

@@ -1,8 +1,9 @@
 //! Writing the octets of a record.
 ghost use Rattle.std.specs.Prelude.{◌≡◌, ◌≤◌, ◌∷◌, ◌++◌, length, OnOk, OnErr};
 ghost use Rattle.std.specs.List.{flat_map, AllByRecursion};
+ghost use Rattle.pcp_base.specs.declared.leases.TheConstants.{MOST_FILTERS};
 ghost use Rattle.pcp_base.specs.Records.{IsWellFormedRecord};
-ghost use Rattle.lease_records.specs.RecordTexts.{endpoint_text, filter_text, term_text, map_text, peer_text, rest_text, fields_text, kind_of, record_text, IsRecordText};
+ghost use Rattle.lease_records.specs.RecordTexts.{endpoint_text, filter_text, filters_text, term_text, map_text, peer_text, rest_text, fields_text, kind_of, record_text, IsRecordText};
 ghost use Rattle.lease_records.specs.Values.{IsEndpoint, IsFilter, IsTerm, IsMap, IsPeer, IsChangeValue, IsValue};
 
 use crate::terms::Term;
@@ -140,8 +141,8 @@ fn put_peer(out: &mut Vec<u8>, lease: &PeerLease) -> Result<(), AllocError>
 }
 
 fn put_filters(out: &mut Vec<u8>, filters: &[Filter]) -> Result<(), AllocError>
-    requires { length filters.now ≤ 8 }
-    ensures ok { OnOk result (out.new.items ≡ out.old.items ++ (length filters.now ∷ flat_map filter_text filters.now)) }
+    requires { length filters.now ≤ MOST_FILTERS }
+    ensures ok { OnOk result (out.new.items ≡ out.old.items ++ filters_text filters.now) }
     ensures value { OnOk result (AllByRecursion IsFilter filters.now) }
 {
     out.push(filters.len() as u8)?;

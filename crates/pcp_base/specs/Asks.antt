@@ -1,4 +1,4 @@
--- Requests that the verdict lets through (RFC 6887, sections 11.1, 12.1 and 13; RFC 7753 for the port set).
+-- Requests that the verdict lets through (RFC 6887, sections 11.1, 12.1 and 13; RFC 7753, section 4.1).
 use Rattle.std.specs.Prelude.{◌≡◌, ℕ, ◌<◌, ◌≤◌, [], IfSome, ⊤}
 use Rattle.std.specs.List.{AllByRecursion}
 use Rattle.pcp_base.specs.declared.asks.MapAsk.{MapAsk}

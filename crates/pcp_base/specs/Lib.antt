@@ -1,6 +1,7 @@
 pub mod AddressTexts
 pub mod Apply
 pub mod Asks
+pub mod Cases
 pub mod Codes
 pub mod Configs
 pub mod Ends

@@ -1,6 +1,7 @@
 -- Whether a sound table has room for a new lease (our own).
 use Rattle.std.specs.Prelude.{◌≡◌, ◌+◌, ◌<◌, ◌≤◌, not, List, [], ◌∷◌, length, count_by, find, Contains, IfNone, ⊤}
 use Rattle.std.specs.List.{AllByRecursion}
+use Rattle.pcp_base.specs.declared.leases.TheConstants.{MOST_LEASES, MOST_PEERS}
 use Rattle.pcp_base.specs.declared.leases.MapLease.{MapLease}
 use Rattle.pcp_base.specs.declared.leases.PeerLease.{PeerLease}
 use Rattle.pcp_base.specs.declared.leases.Owner.{Owner}
@@ -16,18 +17,20 @@ use Rattle.pcp_base.specs.Fits.{IsAllowed, IsRested}
 
 -- A port of both has one owner, and an endpoint of both has one port.
 pub record Agree (os ps : List Owner) : Type 0 where
-  pub owner : (p q : Owner) → Contains os p → Contains ps q → p.protocol ≡ q.protocol → p.external ≡ q.external → p.endpoint ≡ q.endpoint
-  pub port : (p q : Owner) → Contains os p → Contains ps q → p.endpoint ≡ q.endpoint → p.external ≡ q.external
+  pub owner : (p q : Owner) → Contains os p → Contains ps q →
+      p.protocol ≡ q.protocol → p.external ≡ q.external → p.endpoint ≡ q.endpoint
+  pub port : (p q : Owner) → Contains os p → Contains ps q →
+      p.endpoint ≡ q.endpoint → p.external ≡ q.external
 
 pub record HasRoomForMap (t : Table) (l : MapLease) : Type 0 where
   pub apart : AllByRecursion (λ x. AreApart x l) t.maps
   pub agree : Agree (owners t) (map_owners l)
-  pub room : length t.maps + length t.peers < 32768
+  pub room : length t.maps + length t.peers < MOST_LEASES
 
 pub record HasRoomForPeer (t : Table) (l : PeerLease) : Type 0 where
-  pub few : count_by (λ x. names x l.endpoint) t.peers < 16
+  pub few : count_by (λ x. names x l.endpoint) t.peers < MOST_PEERS
   pub agree : Agree (owners t) (peer_owner l ∷ [])
-  pub room : length t.maps + length t.peers < 32768
+  pub room : length t.maps + length t.peers < MOST_LEASES
 
 -- where the change is a new lease, the table has room for it
 abbrev pub HasRoom : Table → Change → Type 0

@@ -1,6 +1,7 @@
 -- What holds of every lease table and of every state (our own; the limits are those of the server).
 use Rattle.std.specs.Prelude.{◌≡◌, ◌+◌, ◌≤◌, true, false, length, count_by}
 use Rattle.std.specs.List.{AllByRecursion}
+use Rattle.pcp_base.specs.declared.leases.TheConstants.{MOST_LEASES, MOST_PEERS}
 use Rattle.pcp_base.specs.declared.leases.Endpoint.{Endpoint}
 use Rattle.pcp_base.specs.Tables.{Table, EachTwo, IsMapLease, IsPeerLease, AreApart, HaveOtherKeys, names}
 use Rattle.pcp_base.specs.Owners.{owners, OneOwner, OnePort}
@@ -14,8 +15,8 @@ pub record Sound (t : Table) : Type 0 where
   pub different : EachTwo HaveOtherKeys t.peers
   pub one_owner : OneOwner (owners t)
   pub one_port : OnePort (owners t)
-  pub few : length t.maps + length t.peers ≤ 32768
-  pub few_peers : (e : Endpoint) → count_by (λ l. names l e) t.peers ≤ 16
+  pub few : length t.maps + length t.peers ≤ MOST_LEASES
+  pub few_peers : (e : Endpoint) → count_by (λ l. names l e) t.peers ≤ MOST_PEERS
 
 pub record SoundState (s : State) : Type 0 where
   pub table : Sound s.table

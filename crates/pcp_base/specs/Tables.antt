@@ -2,6 +2,7 @@
 use Rattle.std.specs.Prelude.{◌≡◌, ◌≢◌, ℕ, ◌+◌, ◌<◌, ◌≤◌, ◌&&◌, ◌==◌, nat_le, nat_lt, not, Bool, true, false, bytes_eq, List, [], ◌∷◌, length, filter, IsTrue, ⊤, if◌then◌else◌}
 use Rattle.std.specs.List.{AllByRecursion}
 use Rattle.pcp_base.specs.declared.addresses.Address.{Address}
+use Rattle.pcp_base.specs.declared.leases.TheConstants.{MOST_PORTS, MOST_FILTERS}
 use Rattle.pcp_base.specs.declared.leases.Protocol.{Protocol}
 use Rattle.pcp_base.specs.declared.leases.Protocol.TheVariants.{Tcp, Udp}
 use Rattle.pcp_base.specs.declared.leases.Endpoint.{Endpoint}
@@ -75,21 +76,21 @@ abbrev pub EachTwo : {X : Type 0} → (X → X → Type 0) → List X → Type 0
 EachTwo R [] = ⊤
 EachTwo R (x ∷ xs) = AllByRecursion (R x) xs × EachTwo R xs
 
--- 1 to 4096 internal ports, and as many external ones, of 1 to 65535
+-- internal ports, at least one, and as many external ones, of 1 to 65535
 pub record HasPorts (l : MapLease) : Type 0 where
   pub internal : 0 < l.internal
   pub external : 0 < l.external
   pub some : 0 < l.count
-  pub few : l.count ≤ 4096
+  pub few : l.count ≤ MOST_PORTS
   pub internal_end : l.internal + l.count ≤ 65536
   pub external_end : l.external + l.count ≤ 65536
 
 abbrev pub HavePrefixes : List Filter → Type 0
 HavePrefixes filters = AllByRecursion (λ f. (0 < f.prefix) × (f.prefix ≤ 128)) filters
 
--- at most 8 filters, different from each other, with prefixes 1 to 128
+-- few filters, different from each other, with prefixes 1 to 128
 pub record AreLeaseFilters (filters : List Filter) : Type 0 where
-  pub few : length filters ≤ 8
+  pub few : length filters ≤ MOST_FILTERS
   pub different : EachTwo (λ f g. f ≢ g) filters
   pub prefixes : HavePrefixes filters
 

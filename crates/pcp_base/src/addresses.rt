@@ -125,7 +125,8 @@ impl Address {
     }
 }
 
-// Whether this is an IPv4 address. Of either kind it is, its text writes it.
+// Whether this is an IPv4 address. Of either kind it is, its text writes it: the law stands here, where
+// its octets are read and so known to be octets.
 fn is_v4(octets: &[u8; 16]) -> bool
     ensures value { result ≡ starts_with nat_eq octets.now v4_front }
     ensures read_again { let a : Address = record { 0 = octets.now } in IsAddressText (address_text a) a }

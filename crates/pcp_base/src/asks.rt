@@ -4,7 +4,7 @@ use crate::addresses::{Address, Nonce};
 use crate::codes::Code;
 use crate::leases::{Endpoint, FilterList};
 
-/// The ports that a PORT_SET option asks for or tells (RFC 7753).
+/// The ports that a PORT_SET option asks for or tells (RFC 7753, section 4.1).
 #[derive(Clone, Copy, Debug, PartialEq, Eq, Hash)]
 pub struct PortSet {
     /// How many ports.
@@ -20,6 +20,7 @@ pub struct PortSet {
 pub struct MapAsk {
     /// The internal endpoint, whose address is that of THIRD_PARTY where the request has it.
     pub endpoint: Endpoint,
+    /// The mapping nonce, which must be that of the lease that the request renews or deletes.
     pub nonce: Nonce,
     /// Seconds; 0 asks for deletion.
     pub lifetime: u32,
@@ -29,6 +30,7 @@ pub struct MapAsk {
     pub address: Address,
     /// Whether the request has PREFER_FAILURE.
     pub prefer: bool,
+    /// The PORT_SET of the request.
     pub set: Option<PortSet>,
     /// The filters in request order, with prefixes 0 to 128.
     pub filters: FilterList,
@@ -39,6 +41,7 @@ pub struct MapAsk {
 pub struct PeerAsk {
     /// The internal endpoint, whose address is that of THIRD_PARTY where the request has it.
     pub endpoint: Endpoint,
+    /// The mapping nonce, which must be that of the lease that the request renews or deletes.
     pub nonce: Nonce,
     /// Seconds; 0 asks for deletion.
     pub lifetime: u32,
@@ -69,17 +72,22 @@ pub enum Ask {
     Known(Refusal),
     /// An ANNOUNCE request (RFC 6887, section 14.1).
     Announce,
+    /// A MAP request.
     Map(MapAsk),
+    /// A PEER request.
     Peer(PeerAsk),
 }
 
 /// What is answered.
 #[derive(Clone, Copy, Debug, PartialEq, Eq, Hash)]
 pub enum Answer {
+    /// An error reply.
     Refused(Refusal),
+    /// A SUCCESS that tells nothing but the epoch.
     Announced,
     /// There is no lease now.
     Gone,
+    /// A MAP lease is granted or renewed.
     Mapped {
         /// Seconds granted.
         lifetime: u32,
@@ -90,6 +98,7 @@ pub enum Answer {
         /// The ports of the lease, where the request asked for a set and the lease has more than one.
         set: Option<PortSet>,
     },
+    /// A PEER lease is granted or renewed.
     Peered {
         /// Seconds granted.
         lifetime: u32,

@@ -1,6 +1,12 @@
 //! Result codes (RFC 6887, section 7.4).
 ghost use Rattle.std.specs.Prelude.{◌≡◌};
-ghost use Rattle.pcp_base.specs.Codes.{number_of, lifetime_of};
+ghost use Rattle.pcp_base.specs.Codes.{code_number, lifetime_of};
+
+/// The lifetime of an error that may pass soon, in seconds, as RFC 6887, section 7.4, recommends.
+pub const SHORT_ERROR: u32 = 30;
+
+/// The lifetime of any other error, in seconds, as RFC 6887, section 7.4, recommends.
+pub const LONG_ERROR: u32 = 1_800;
 
 /// A result code of RFC 6887, section 7.4, in the order of their numbers.
 #[derive(Clone, Copy, Debug, PartialEq, Eq, Hash)]
@@ -24,13 +30,13 @@ pub enum Code {
 impl Code {
     /// The number on the wire, 0 to 13.
     pub fn number(self) -> u8
-        ensures { result ≡ number_of self }
+        ensures { result ≡ code_number self }
     {
         self as u8
     }
 
-    /// The seconds that an error reply with this code tells: 30 for an error that may pass soon, 1800
-    /// for any other (RFC 6887, section 7.4, names the two kinds), and 0 for success.
+    /// The seconds that an error reply with this code tells: [`SHORT_ERROR`] for an error that may pass
+    /// soon, [`LONG_ERROR`] for any other, and 0 for success.
     pub fn lifetime(self) -> u32
         ensures { result ≡ lifetime_of self }
     {
@@ -39,8 +45,8 @@ impl Code {
             Code::NetworkFailure
             | Code::NoResources
             | Code::UserExQuota
-            | Code::CannotProvideExternal => 30,
-            _ => 1800,
+            | Code::CannotProvideExternal => SHORT_ERROR,
+            _ => LONG_ERROR,
         }
     }
 }

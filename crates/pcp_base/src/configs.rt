@@ -5,17 +5,35 @@ ghost use Rattle.pcp_base.specs.Pairing.{place_of};
 use crate::addresses::{Address, Prefix};
 use crate::lists::Listed;
 
+/// How many external addresses a server may have.
+pub const MOST_EXTERNALS: usize = 16;
+
+/// How many subscriber rows a configuration may have.
+pub const MOST_SUBSCRIBERS: usize = 1_024;
+
+/// How many prefixes of hosts may ask for others.
+pub const MOST_THIRD_PARTIES: usize = 256;
+
+/// How many external ports an internal address may be allowed to own.
+pub const MOST_QUOTA: u32 = 65_535;
+
+/// The longest lifetime that may be granted, in seconds: a day.
+pub const LONGEST_LIFETIME: u32 = 86_400;
+
 /// An external address and the ports that are given out of it: `1 <= low <= high`.
 #[derive(Clone, Copy, Debug, PartialEq, Eq, Hash)]
 pub struct External {
     pub address: Address,
+    /// The first port, at least 1.
     pub low: u16,
+    /// The last port, not below `low`.
     pub high: u16,
 }
 
 /// Internal hosts and the external address that they share.
 #[derive(Clone, Copy, Debug, PartialEq, Eq, Hash)]
 pub struct Subscriber {
+    /// The internal addresses of the hosts.
     pub prefix: Prefix,
     /// The index of the external address, below their number.
     pub external: u32,
@@ -33,17 +51,17 @@ pub type Subscribers = Listed<Subscriber>;
 /// The configuration of a server.
 #[derive(Debug, Drop)]
 pub struct Config {
-    /// How many external ports an internal address may own, 1 to 65535.
+    /// How many external ports an internal address may own, 1 to [`MOST_QUOTA`].
     pub quota: u32,
-    /// The least lifetime that is granted, in seconds, 1 to 86400.
+    /// The least lifetime that is granted, in seconds, 1 to [`LONGEST_LIFETIME`].
     pub lifetime_min: u32,
-    /// The greatest lifetime that is granted, in seconds, `lifetime_min` to 86400.
+    /// The greatest lifetime that is granted, in seconds, `lifetime_min` to [`LONGEST_LIFETIME`].
     pub lifetime_max: u32,
-    /// Hosts that may ask for others by THIRD_PARTY, at most 256 prefixes.
+    /// Hosts that may ask for others by THIRD_PARTY, at most [`MOST_THIRD_PARTIES`] prefixes.
     pub third_party: Prefixes,
-    /// 1 to 16, with different addresses.
+    /// 1 to [`MOST_EXTERNALS`], with different addresses.
     pub externals: Externals,
-    /// At most 1024.
+    /// At most [`MOST_SUBSCRIBERS`].
     pub subscribers: Subscribers,
 }
 

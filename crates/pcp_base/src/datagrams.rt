@@ -8,6 +8,7 @@ use crate::records::Record;
 /// A datagram and its peer: the sender of one that came, the receiver of one that goes.
 #[derive(Debug, Drop)]
 pub struct Datagram {
+    /// The address of the peer.
     pub peer: Address,
     /// The peer's UDP port.
     pub port: u16,
@@ -18,8 +19,11 @@ pub struct Datagram {
 /// both have no octets, what the server itself did.
 #[derive(Debug, Drop)]
 pub struct Entry {
+    /// When it took effect.
     pub moment: Moment,
+    /// The request and its sender.
     pub from: Datagram,
+    /// The octets of the reply, which goes to that sender.
     pub reply: Octets,
     /// What the lease table and its journal keep of it.
     pub kept: Option<Record>,

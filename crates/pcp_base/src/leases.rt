@@ -71,10 +71,10 @@ impl Filter {
 /// Filters of a request, in its order.
 pub type FilterList = Listed<Filter>;
 
-/// The filters of a lease: at most 8, in the order added. They take no memory of their own.
+/// The filters of a lease: at most [`MOST_FILTERS`], in the order added. They take no memory of their own.
 #[derive(Clone, Copy, Debug, PartialEq, Eq, Hash)]
 pub struct Filters {
-    slots: [Filter; 8],
+    slots: [Filter; MOST_FILTERS],
     count: usize,
 }
 
@@ -98,13 +98,14 @@ impl Model for Filters {
 impl Filters {
     ghost use Rattle.std.specs.Bool.{OnTrue, OnFalse};
     ghost use Rattle.std.specs.Prelude.{◌≡◌, ◌<◌, ◌≤◌, ◌↔◌, [], ◌∷◌, ◌++◌, length, IsTrue};
+    ghost use Rattle.pcp_base.specs.declared.leases.TheConstants.{MOST_FILTERS};
 
     /// No filter.
     pub fn none() -> Filters
         ensures { result ≡ [] }
     {
         Filters {
-            slots: [Filter::BLANK; 8],
+            slots: [Filter::BLANK; MOST_FILTERS],
             count: 0,
         }
     }
@@ -112,18 +113,18 @@ impl Filters {
     /// The filters, in the order added.
     pub fn items(&self) -> &[Filter]
         ensures value { result.now ≡ self.now }
-        ensures few { length self.now ≤ 8 }
+        ensures few { length self.now ≤ MOST_FILTERS }
     {
         &self.slots[..self.count]
     }
 
-    /// Adds a filter at the end; false, and nothing changes, where there are 8.
+    /// Adds a filter at the end; false, and nothing changes, where there are [`MOST_FILTERS`].
     pub fn push(&mut self, filter: Filter) -> bool
-        ensures room { IsTrue result ↔ (length self.old < 8) }
+        ensures room { IsTrue result ↔ (length self.old < MOST_FILTERS) }
         ensures added { OnTrue result (self.new ≡ self.old ++ filter ∷ []) }
         ensures full { OnFalse result (self.new ≡ self.old) }
     {
-        if self.count == 8 {
+        if self.count == MOST_FILTERS {
             return false;
         }
         self.slots[self.count] = filter;
@@ -141,7 +142,7 @@ pub struct MapLease {
     pub protocol: Protocol,
     /// The first internal port, at least 1, and with `count` at most 65536.
     pub internal: u16,
-    /// How many ports, 1 to 4096.
+    /// How many ports, 1 to [`MOST_PORTS`].
     pub count: u16,
     /// The first external port, at least 1, and with `count` at most 65536.
     pub external: u16,
@@ -152,6 +153,39 @@ pub struct MapLease {
     /// It is live at each moment below this one, in seconds, below 2^41.
     pub expiry: u64,
     pub filters: Filters,
+}
+
+impl MapLease {
+    ghost use Rattle.std.specs.Prelude.{◌≡◌, nat_lt};
+    ghost use Rattle.pcp_base.specs.Tables.{first_endpoint, covers};
+
+    /// The first internal endpoint, which is the key of the lease.
+    pub fn first_endpoint(&self) -> Endpoint
+        ensures { result ≡ first_endpoint self.now }
+    {
+        Endpoint {
+            address: self.address,
+            protocol: self.protocol,
+            port: self.internal,
+        }
+    }
+
+    /// Whether the endpoint's port is one of the internal ports of the lease.
+    pub fn covers(&self, endpoint: &Endpoint) -> bool
+        ensures { result ≡ covers self.now endpoint.now }
+    {
+        self.address == endpoint.address
+            && self.protocol == endpoint.protocol
+            && self.internal <= endpoint.port
+            && u32::from(endpoint.port) < u32::from(self.internal) + u32::from(self.count)
+    }
+
+    /// Whether the lease is live at `m`.
+    pub fn is_live(&self, m: Moment) -> bool
+        ensures { result ≡ nat_lt m self.now.expiry }
+    {
+        m.get() < self.expiry
+    }
 }
 
 /// A mapping for one remote peer that a PEER request made (RFC 6887, section 12).
@@ -171,6 +205,25 @@ pub struct PeerLease {
     pub expiry: u64,
 }
 
+impl PeerLease {
+    ghost use Rattle.std.specs.Prelude.{◌≡◌, nat_lt};
+    ghost use Rattle.pcp_base.specs.Tables.{is_peer_of};
+
+    /// Whether this is the key of the lease: its endpoint, remote address and remote port.
+    pub fn is_of(&self, endpoint: &Endpoint, remote: &Address, remote_port: u16) -> bool
+        ensures { result ≡ is_peer_of endpoint.now remote.now remote_port self.now }
+    {
+        self.endpoint == *endpoint && self.remote == *remote && self.remote_port == remote_port
+    }
+
+    /// Whether the lease is live at `m`.
+    pub fn is_live(&self, m: Moment) -> bool
+        ensures { result ≡ nat_lt m self.now.expiry }
+    {
+        m.get() < self.expiry
+    }
+}
+
 /// An external port and the endpoint that owns it.
 #[derive(Clone, Copy, Debug, PartialEq, Eq, PartialOrd, Ord, Hash)]
 pub struct Owner {
@@ -182,6 +235,18 @@ pub struct Owner {
 
 /// How long a port rests after its last lease, in seconds.
 pub const REST_SECONDS: u64 = 120;
+
+/// How many leases an external address may have, MAP and PEER together.
+pub const MOST_LEASES: usize = 32_768;
+
+/// How many PEER leases may name one endpoint.
+pub const MOST_PEERS: usize = 16;
+
+/// How many ports a MAP lease may have.
+pub const MOST_PORTS: u16 = 4_096;
+
+/// How many filters a lease may have.
+pub const MOST_FILTERS: usize = 8;
 
 /// The last lease that owned an external port was one of this endpoint, and ended then.
 #[derive(Clone, Copy, Debug, PartialEq, Eq, Hash)]

@@ -8,6 +8,7 @@ mod codes;
 mod configs;
 mod datagrams;
 mod errors;
+mod judging;
 mod laws;
 mod leases;
 mod lists;
@@ -20,8 +21,11 @@ mod tests;
 
 pub use addresses::{Address, Nonce, NotAddress, NotPrefix, Prefix};
 pub use asks::{Answer, Ask, MapAsk, PeerAsk, PortSet, Refusal};
-pub use codes::Code;
-pub use configs::{Config, External, Externals, Prefixes, Subscriber, Subscribers, pair};
+pub use codes::{Code, LONG_ERROR, SHORT_ERROR};
+pub use configs::{
+    Config, External, Externals, LONGEST_LIFETIME, MOST_EXTERNALS, MOST_QUOTA, MOST_SUBSCRIBERS,
+    MOST_THIRD_PARTIES, Prefixes, Subscriber, Subscribers, pair,
+};
 pub use datagrams::{Datagram, Entry};
 pub use errors::{Failed, Memory};
 pub use laws::{
@@ -29,8 +33,8 @@ pub use laws::{
     ports_have_one_owner, ports_rest_for_one, snapshots_stand, states_are_sound, tables_decide,
 };
 pub use leases::{
-    End, Endpoint, Filter, FilterList, Filters, MapLease, Owner, OwnerList, PeerLease, Protocol,
-    REST_SECONDS,
+    End, Endpoint, Filter, FilterList, Filters, MOST_FILTERS, MOST_LEASES, MOST_PEERS, MOST_PORTS,
+    MapLease, Owner, OwnerList, PeerLease, Protocol, REST_SECONDS,
 };
 pub use lists::{Listed, Octets};
 pub use moments::{Moment, epoch};

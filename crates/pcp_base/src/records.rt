@@ -30,6 +30,7 @@ pub enum Change {
 /// A change and its moment.
 #[derive(Clone, Copy, Debug, PartialEq, Eq, Hash)]
 pub struct Record {
+    /// When the change took effect.
     pub moment: Moment,
     pub change: Change,
 }

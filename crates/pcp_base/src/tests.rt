@@ -236,3 +236,54 @@ fn pairs_by_the_first_row(rt: HostRuntime) -> Result<(), Fail> {
     assert_eq!(rt; pair(&config, &Address::v4(11, 0, 0, 7)), None);
     Ok(())
 }
+
+#[test]
+fn leases_and_their_keys(rt: HostRuntime) -> Result<(), Fail> {
+    let host = Address::v4(10, 0, 0, 5);
+    let endpoint_of = |port| Endpoint {
+        address: host,
+        protocol: Protocol::Udp,
+        port,
+    };
+    let map = MapLease {
+        address: host,
+        protocol: Protocol::Udp,
+        internal: 65534,
+        count: 2,
+        external: 1024,
+        nonce: Nonce([7; 12]),
+        granted: Moment::of(10).ok_or("granted")?,
+        expiry: 130,
+        filters: Filters::none(),
+    };
+    assert!(rt; map.first_endpoint() == endpoint_of(65534));
+    for (port, covered) in [(65533, false), (65534, true), (65535, true)] {
+        assert!(rt; map.covers(&endpoint_of(port)) == covered);
+    }
+    let peer = PeerLease {
+        endpoint: endpoint_of(5000),
+        external: 1024,
+        remote: LONG,
+        remote_port: 53,
+        nonce: map.nonce,
+        granted: map.granted,
+        expiry: map.expiry,
+    };
+    for (port, remote_port, same) in [(5000, 53, true), (5001, 53, false), (5000, 54, false)] {
+        assert!(rt; peer.is_of(&endpoint_of(port), &LONG, remote_port) == same);
+    }
+    for (seconds, live) in [(129, true), (130, false)] {
+        let m = Moment::of(seconds).ok_or("seconds")?;
+        assert!(rt; map.is_live(m) == live && peer.is_live(m) == live);
+    }
+    let mut record = Record {
+        moment: map.granted,
+        change: Change::Map(map),
+    };
+    assert!(rt; record.is_well_formed());
+    record.change = Change::DropMap(endpoint_of(0));
+    assert!(rt; !record.is_well_formed());
+    assert!(rt; Protocol::of(Protocol::Tcp.number()) == Some(Protocol::Tcp));
+    assert!(rt; Protocol::of(0).is_none());
+    Ok(())
+}

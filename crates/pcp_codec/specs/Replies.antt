@@ -3,7 +3,7 @@
 use Rattle.std.specs.Prelude.{ℕ, ◌+◌, ◌-◌, ◌*◌, ◌/◌, ◌%◌, min, max, List, ◌∷◌, ◌++◌, length, replicate, if◌then◌else◌}
 use Rattle.std.specs.Int.{to_be_bytes, w32}
 use Rattle.pcp_base.specs.declared.asks.Refusal.{Refusal}
-use Rattle.pcp_base.specs.Codes.{number_of}
+use Rattle.pcp_base.specs.Codes.{code_number}
 use Rattle.pcp_codec.specs.Fields.{octets_at}
 use Rattle.pcp_codec.specs.Requests.{opcode_of}
 
@@ -20,6 +20,6 @@ reply_length request = max 24 ((min (length request) 1100 + 3) / 4 * 4)
 -- understood up to its options, else with what the request has there.
 abbrev pub refusal_text : List ℕ → Refusal → ℕ → List ℕ
 refusal_text request refusal epoch =
-    head (opcode_of request) (number_of refusal.code) refusal.lifetime epoch
+    head (opcode_of request) (code_number refusal.code) refusal.lifetime epoch
     (if refusal.parsed then replicate 12 0 else octets_at request 12 12)
     ++ octets_at request 24 (reply_length request - 24)

@@ -1,6 +1,6 @@
 //! Replies (RFC 6887, sections 7.2 and 8.2).
 ghost use Rattle.std.specs.Prelude.{◌≡◌, ◌≤◌, ◌++◌, length, OnOk, OnErr};
-ghost use Rattle.pcp_base.specs.Codes.{number_of};
+ghost use Rattle.pcp_base.specs.Codes.{code_number};
 ghost use Rattle.pcp_codec.specs.Replies.{head, reply_length, refusal_text};
 
 use crate::fields::{copy_octets, octet_of, octets_of};

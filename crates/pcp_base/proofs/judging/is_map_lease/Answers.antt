@@ -1,6 +1,6 @@
 use Rattle.std.proofs.Common.{refl, sym, subst}
 use Rattle.pcp_base.specs.Tables.{AreLeaseFilters}
-use Rattle.lease_records.proofs.judging.is_map_lease.Goals as goal
+use Rattle.pcp_base.proofs.judging.is_map_lease.Goals as goal
 
 pub returns-then-has_ports : goal.returns-then-has_ports
 returns-then-has_ports c =

@@ -4,22 +4,33 @@ ghost use Rattle.std.specs.List.{AllByRecursion};
 ghost use Rattle.pcp_base.specs.Tables.{EachTwo, HasPorts, HavePrefixes, AreLeaseFilters, IsMapLease, IsPeerLease};
 ghost use Rattle.pcp_base.specs.Records.{IsTermAt, IsEndAt, IsWellFormedChange, IsWellFormedRecord};
 
-use pcp_base::{Change, End, Filter, MapLease, Moment, PeerLease, REST_SECONDS, Record};
+use crate::leases::{End, Filter, MOST_FILTERS, MOST_PORTS, MapLease, PeerLease, REST_SECONDS};
+use crate::moments::Moment;
+use crate::records::{Change, Record};
 
-/// Whether the record can stand in a journal.
-pub(crate) fn is_well_formed(kept: &Record) -> bool
-    ensures { IsTrue result ↔ IsWellFormedRecord kept.now }
+impl Record {
+    /// Whether the record may stand in a journal: its fields are in their ranges, and a lease in it was
+    /// granted by the record's moment and is live at it.
+    pub fn is_well_formed(&self) -> bool
+        ensures { IsTrue result ↔ IsWellFormedRecord self.now }
+    {
+        let seconds = self.moment.get();
+        prove!(seconds < 1 << 40);
+        is_well_formed_change(self.moment, &self.change)
+    }
+}
+
+/// Whether a record of this moment may make the change.
+fn is_well_formed_change(moment: Moment, change: &Change) -> bool
+    ensures { IsTrue result ↔ IsWellFormedChange moment change.now }
 {
-    let moment = kept.moment;
-    let seconds = moment.get();
-    prove!(seconds < 1 << 40);
-    match &kept.change {
+    match change {
         Change::Start | Change::Lose | Change::Mark | Change::Renumber(_) => true,
         Change::Map(lease) => {
-            is_map_lease(lease) && is_live_at(moment, lease.granted, lease.expiry)
+            is_map_lease(lease) && is_term_at(moment, lease.granted, lease.expiry)
         }
         Change::Peer(lease) => {
-            is_peer_lease(lease) && is_live_at(moment, lease.granted, lease.expiry)
+            is_peer_lease(lease) && is_term_at(moment, lease.granted, lease.expiry)
         }
         Change::DropMap(endpoint) => endpoint.port > 0,
         Change::DropPeer(endpoint, _, port) => endpoint.port > 0 && *port > 0,
@@ -35,7 +46,7 @@ pub(crate) fn is_well_formed(kept: &Record) -> bool
 }
 
 /// Whether a lease was granted by this moment, and is live at it.
-fn is_live_at(moment: Moment, granted: Moment, expiry: u64) -> bool
+fn is_term_at(moment: Moment, granted: Moment, expiry: u64) -> bool
     ensures { IsTrue result ↔ IsTermAt moment granted expiry }
 {
     granted.get() <= moment.get() && moment.get() < expiry && expiry < 1 << 41
@@ -65,13 +76,13 @@ fn has_ports(lease: &MapLease) -> bool
 {
     are_ports(lease.internal, lease.count)
         && are_ports(lease.external, lease.count)
-        && (1..=4096).contains(&lease.count)
+        && (1..=MOST_PORTS).contains(&lease.count)
 }
 
 fn are_lease_filters(filters: &[Filter]) -> bool
     ensures { IsTrue result ↔ AreLeaseFilters filters.now }
 {
-    filters.len() <= 8 && are_different(filters) && have_prefixes(filters)
+    filters.len() <= MOST_FILTERS && are_different(filters) && have_prefixes(filters)
 }
 
 /// Whether there are `count` ports from this one on, which is at least 1.

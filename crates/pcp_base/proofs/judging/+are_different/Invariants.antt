@@ -1,5 +1,5 @@
 use Rattle.std.proofs.Common.{length}
-use Rattle.lease_records.proofs.judging.+are_different.Given as goal
+use Rattle.pcp_base.proofs.judging.+are_different.Given as goal
 
 abbrev pub decreases-are_different : goal.decreases-are_different
 decreases-are_different l = length l.filters.now
