@@ -1,4 +1,5 @@
-pub mod Goings
+pub mod CallLemmas
+pub mod PairLemmas
 mod ReplayLemmas
 mod StepLemmas
 pub mod Within

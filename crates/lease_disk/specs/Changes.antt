@@ -2,14 +2,14 @@
 use Rattle.std.specs.Prelude.{List, reverse, map}
 use Rattle.lease_disk.specs.declared.changes.Change.{Change}
 use Rattle.lease_disk.specs.declared.changes.Change.TheVariants as change
-use Rattle.lease_disk.specs.Steps.{Step}
-use Rattle.lease_disk.specs.Steps.Step.{Wrote, CutTo, Synced}
+use Rattle.lease_disk.specs.Steps.{DiskStep}
+use Rattle.lease_disk.specs.Steps.DiskStep.{Wrote, CutTo, Synced}
 
-abbrev pub step_of : Change → Step
+abbrev pub step_of : Change → DiskStep
 step_of (change.Wrote place piece) = Wrote place piece.items
 step_of (change.CutTo size) = CutTo size
 step_of change.Synced = Synced
 
 -- the changes stand in the order made, and the steps latest first
-abbrev pub steps_of : List Change → List Step
+abbrev pub steps_of : List Change → List DiskStep
 steps_of changes = reverse (map step_of changes)

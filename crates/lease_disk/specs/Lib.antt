@@ -1,9 +1,9 @@
 pub mod Changes
 pub mod Contents
-pub mod DiskCalls
 pub mod DiskInMemory
 pub mod ImageLaws
 pub mod Images
 pub mod Moments
+pub mod Pairs
 pub mod Replays
 pub mod Steps

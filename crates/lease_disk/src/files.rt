@@ -1,8 +1,6 @@
 //! A disk over a file. It tells nothing of its octets.
 ghost use Rattle.std.specs.Prelude.{◌≡◌, ◌+◌, ◌^◌, ◌≤◌, IfOk, OnOk, OnErr, length};
-ghost use Rattle.lease_disk.specs.Contents.{FillsFront};
 
-use crate::calls::raised;
 use crate::disks::LeaseDisk;
 use crate::memory::MOST_OCTETS;
 use pcp_base::Failed;
@@ -10,12 +8,14 @@ use std::fs::{File, OpenFile, OpenOptions};
 use std::io;
 use std::io::{ErrorKind, Read, Seek, SeekFrom, Write};
 use std::marker::Model;
+use std::os::unix::fs::OpenOptionsExt;
 use std::path::Path;
 use std::rt::Files;
 
-/// A disk over a file, which is made at the first call, a reading one too. Each error of the file or of
-/// its folder is a fault that it counts, and so is a length above 2^62 and a write past that; nothing
-/// else is. A count that stands at 2^64 - 1 stands still.
+/// A disk over a regular file, which is made at the first call, a reading one too, and which only its
+/// owner may read and write. Each error of the file or of its folder is a fault that it counts, and
+/// so are a link or a device in the file's place, a length above 2^62, a write past that, and each
+/// sync after one that failed; nothing else is. A count that stands at 2^64 - 1 stands still.
 #[derive(Drop)]
 pub struct FileDisk<F: Files + Drop> {
     side: SideFile<F>,
@@ -35,8 +35,8 @@ impl<F: Files + Drop> FileDisk<F> {
     ghost use Rattle.std.specs.Prelude.{◌≡◌};
     ghost use Rattle.pcp_io.specs.CallLogs.{one_more};
 
-    /// A disk over the file of this path that has counted no fault. While the file can't be opened or
-    /// made, each call tries again and fails.
+    /// A disk over the file of this path that has counted no fault. While the file can't be opened
+    /// or made, each call tries again and fails.
     pub fn new(files: F, path: String) -> FileDisk<F>
         ensures { result ≡ 0 }
     {
@@ -45,6 +45,7 @@ impl<F: Files + Drop> FileDisk<F> {
                 files,
                 path,
                 opened: None,
+                lost: false,
             },
             faults: 0,
         }
@@ -54,7 +55,7 @@ impl<F: Files + Drop> FileDisk<F> {
     fn fail(&mut self) -> Failed
         ensures { self.new ≡ one_more self.old }
     {
-        self.faults = raised(self.faults);
+        self.faults = self.faults.saturating_add(1);
         Failed
     }
 }
@@ -79,6 +80,8 @@ impl<F: Files + Drop> LeaseDisk for FileDisk<F> {
 
     ghost counts_now = { λ _ _ _ _ now. now };
 
+    ghost since_earlier = { λ _ _ _ _ _ was. was };
+
     ghost only_now = { λ _ _ was. was };
 
     fn len(&mut self) -> Result<u64, Failed>
@@ -93,8 +96,7 @@ impl<F: Files + Drop> LeaseDisk for FileDisk<F> {
     }
 
     fn read_at(&mut self, place: u64, piece: &mut [u8]) -> Result<usize, Failed>
-        ensures fills { IfOk result (FillsFront piece.old piece.new) }
-        ensures piece { OnErr result (piece.new ≡ piece.old) }
+        ensures bound { IfOk result (λ n. n ≤ length piece.new) }
         ensures same { OnOk result (self.new ≡ self.old) }
         ensures counted { OnErr result (self.new ≡ one_more self.old) }
     {
@@ -142,6 +144,9 @@ struct SideFile<F: Files + Drop> {
     files: F,
     path: String,
     opened: Option<F::File>,
+    // Whether a sync failed. The system may then have lost what was written before it, and reports
+    // success for the next sync all the same.
+    lost: bool,
 }
 
 impl<F: Files + Drop> SideFile<F> {
@@ -164,16 +169,11 @@ impl<F: Files + Drop> SideFile<F> {
     }
 
     fn read_at(&mut self, place: u64, piece: &mut [u8]) -> io::Result<usize>
-        ensures fills { IfOk result (FillsFront piece.old piece.new) }
-        ensures piece { OnErr result (piece.new ≡ piece.old) }
+        ensures bound { IfOk result (λ n. n ≤ length piece.new) }
     {
-        let mut room = [0; 4096];
-        let most = piece.len().min(room.len());
         let file = self.file()?;
         file.seek(SeekFrom::Start(place))?;
-        let count = file.read(&mut room[..most])?;
-        piece[..count].copy_from_slice(&room[..count]);
-        Ok(count)
+        read_uninterrupted(file, piece)
     }
 
     fn write_at(&mut self, place: u64, piece: &[u8]) -> io::Result<()>
@@ -195,19 +195,50 @@ impl<F: Files + Drop> SideFile<F> {
     }
 
     fn sync(&mut self) -> io::Result<()> {
-        self.file()?.sync_all()
+        if self.lost {
+            return Err(io::Error::from(ErrorKind::Other));
+        }
+        let done = self.file()?.sync_all();
+        self.lost = done.is_err();
+        done
     }
+}
+
+/// One read, which is made again where a signal interrupts it.
+fn read_uninterrupted<R: Read>(reader: &mut R, piece: &mut [u8]) -> io::Result<usize>
+    ensures bound { IfOk result (λ n. n ≤ length piece.new) }
+{
+    for _ in 0..u64::MAX {
+        match reader.read(piece) {
+            Err(error) if error.kind() == ErrorKind::Interrupted => {}
+            done => return done,
+        }
+    }
+    Err(io::Error::from(ErrorKind::Interrupted))
 }
 
 /// Opens the file, makes it where it isn't there, and makes its entry in the folder durable.
 fn open_durably<F: Files>(files: &F, path: &str) -> io::Result<F::File> {
+    if is_taken(files, path)? {
+        return Err(io::Error::from(ErrorKind::InvalidInput));
+    }
     let file = OpenOptions::new()
         .read(true)
         .write(true)
         .create(true)
+        .mode(0o600)
         .open(files, path)?;
     File::open(files, folder_of(path))?.sync_all()?;
     Ok(file)
+}
+
+/// Whether the path names something that isn't a regular file, as a link, a folder or a device.
+fn is_taken<F: Files>(files: &F, path: &str) -> io::Result<bool> {
+    match files.symlink_metadata(path) {
+        Ok(found) => Ok(!found.is_file()),
+        Err(error) if error.kind() == ErrorKind::NotFound => Ok(false),
+        Err(error) => Err(error),
+    }
 }
 
 /// The folder that a path names its file in.

@@ -2,9 +2,10 @@
 //! memory and a thin one over a file.
 #![tactic(auto)]
 
-mod calls;
 mod changes;
 mod disks;
+#[cfg(test)]
+mod fake_files;
 mod files;
 mod memory;
 mod replays;

@@ -1,16 +1,16 @@
 //! The octets that changes make.
 ghost use Rattle.std.specs.Prelude.{◌≡◌, ◌+◌, ◌≤◌, ◌++◌, if◌then◌else◌, length, take, drop, vec_len, IfOk, OnOk, OnErr};
 ghost use Rattle.lease_disk.specs.Changes.{step_of, steps_of};
-ghost use Rattle.lease_disk.specs.Contents.{padded, written};
-ghost use Rattle.lease_disk.specs.Replays.{blurred_from, synced_count};
-ghost use Rattle.lease_disk.specs.Steps.{after_step, faded, image_by, octets_after, up_to_sync};
+ghost use Rattle.lease_disk.specs.Contents.{with_zeros, after_write};
+ghost use Rattle.lease_disk.specs.Replays.{with_ff_from, synced_count};
+ghost use Rattle.lease_disk.specs.Steps.{after_step, with_ff, image_by, octets_after, up_to_sync};
 
 use crate::changes::Change;
 use std::alloc::{AllocError, Global};
 
 /// Puts zeros behind the octets, up to this length. After an error they are as before.
 fn pad(octets: &mut Vec<u8>, size: usize) -> Result<(), AllocError>
-    ensures ok { OnOk result (octets.new.items ≡ padded octets.old.items size) }
+    ensures ok { OnOk result (octets.new.items ≡ with_zeros octets.old.items size) }
     ensures err { OnErr result (octets.new.items ≡ octets.old.items) }
 {
     if octets.len() < size {
@@ -22,15 +22,16 @@ fn pad(octets: &mut Vec<u8>, size: usize) -> Result<(), AllocError>
 /// Writes the piece over the octets at this place.
 fn overwrite(octets: &mut Vec<u8>, place: usize, piece: &[u8])
     requires { place + length piece.now ≤ vec_len octets.old }
-    ensures { octets.new.items ≡ take place octets.old.items ++ piece.now ++ drop (place + length piece.now) octets.old.items }
+    ensures { octets.new.items ≡ take place octets.old.items
+        ++ piece.now ++ drop (place + length piece.now) octets.old.items }
 {
     octets[place..place + piece.len()].copy_from_slice(piece);
 }
 
 /// Writes the piece into the octets at this place. After an error they are as before.
-#[tactic(auto, using(crate::proofs::WriteLemmas::written_padded))]
+#[tactic(auto, using(crate::proofs::WriteLemmas::after_write_padded))]
 pub(crate) fn put(octets: &mut Vec<u8>, place: usize, piece: &[u8]) -> Result<(), AllocError>
-    ensures ok { OnOk result (octets.new.items ≡ written octets.old.items place piece.now) }
+    ensures ok { OnOk result (octets.new.items ≡ after_write octets.old.items place piece.now) }
     ensures err { OnErr result (octets.new.items ≡ octets.old.items) }
 {
     if piece.is_empty() {
@@ -45,13 +46,15 @@ pub(crate) fn put(octets: &mut Vec<u8>, place: usize, piece: &[u8]) -> Result<()
 
 /// Makes one change of the octets, with `ff` for each octet that it wrote where it isn't plain.
 fn make(alloc: Global, octets: &mut Vec<u8>, change: &Change, plain: bool) -> Result<(), AllocError>
-    ensures { OnOk result (octets.new.items ≡ after_step (if plain then step_of change.now else faded (step_of change.now)) octets.old.items) }
+    ensures { let step = step_of change.now in
+        OnOk result
+        (octets.new.items ≡ after_step (if plain then step else with_ff step) octets.old.items) }
 {
     match change {
         Change::Wrote { place, piece } if plain => put(octets, *place, piece)?,
         Change::Wrote { place, piece } => {
-            let blurred = vec![in alloc; 0xff; piece.len()]?;
-            put(octets, *place, &blurred)?;
+            let with_ff = vec![in alloc; 0xff; piece.len()]?;
+            put(octets, *place, &with_ff)?;
         }
         Change::CutTo(size) => octets.truncate(*size),
         Change::Synced => {}
@@ -62,7 +65,8 @@ fn make(alloc: Global, octets: &mut Vec<u8>, change: &Change, plain: bool) -> Re
 /// The octets that the changes make, those from this number on with `ff` for each octet that was
 /// written.
 fn replay(alloc: Global, changes: &[Change], plain: usize) -> Result<Vec<u8>, AllocError>
-    ensures { IfOk result (λ octets. octets.items ≡ octets_after (blurred_from plain (steps_of changes.now))) }
+    ensures { IfOk result
+        (λ octets. octets.items ≡ octets_after (with_ff_from plain (steps_of changes.now))) }
 {
     let mut octets = Vec::new(alloc);
     for (index, change) in changes.iter().enumerate() {
@@ -72,10 +76,11 @@ fn replay(alloc: Global, changes: &[Change], plain: usize) -> Result<Vec<u8>, Al
 }
 
 /// How many changes end with the last sync.
-fn synced(changes: &[Change]) -> usize
+fn synced_count(changes: &[Change]) -> usize
     ensures count { result ≡ synced_count (steps_of changes.now) }
     ensures bound { result ≤ length changes.now }
-    ensures octets { octets_after (steps_of (take result changes.now)) ≡ octets_after (up_to_sync (steps_of changes.now)) }
+    ensures octets { octets_after (steps_of (take result changes.now))
+        ≡ octets_after (up_to_sync (steps_of changes.now)) }
 {
     let mut count = 0;
     for (index, change) in changes.iter().enumerate() {
@@ -90,7 +95,7 @@ fn synced(changes: &[Change]) -> usize
 pub(crate) fn image(alloc: Global, changes: &[Change], choice: u8) -> Result<Vec<u8>, AllocError>
     ensures { IfOk result (λ octets. octets.items ≡ image_by (steps_of changes.now) choice) }
 {
-    let synced = synced(changes);
+    let synced = synced_count(changes);
     match choice {
         0 => replay(alloc, &changes[..synced], synced),
         1 => replay(alloc, changes, changes.len()),

@@ -21,6 +21,12 @@ Reads-told xs (Some ys) old new n h = (ys, refl, let e : Some xs ≡ Some (take 
 pub append_known-take : (before : Option (List ℕ)) (octets : List ℕ) (taken n : ℕ) → append_known (append_known before (take taken octets)) (take n (drop taken octets)) ≡ append_known before (take (taken + n) octets)
 append_known-take before octets taken n = append_known-append before (take taken octets) (take n (drop taken octets)) ∙ ap (append_known before) (sym (take-add taken n octets))
 
+-- some first octets were taken, and the count of faults hasn't fallen
+pub record HasTaken (before now : Option (List ℕ)) (octets : List ℕ) (taken faults_before faults_now : ℕ) : Type 0 where
+  pub within : taken ≤ length octets
+  pub front : now ≡ append_known before (take taken octets)
+  pub later : faults_before ≤ faults_now
+
 -- what lies behind the octets taken, as a write is passed it
 pub behind : (octets : List ℕ) (taken : ℕ) → take (length octets - taken) (drop taken octets) ≡ drop taken octets
 behind octets taken = take_all (length octets - taken) (drop taken octets) (omega (arith, length-drop taken octets))

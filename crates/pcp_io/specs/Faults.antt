@@ -1,7 +1,8 @@
 -- Counts of faults (our own). Each object of the outside has a count that never falls.
 use Rattle.std.specs.Prelude.{ℕ, ◌-◌, ◌^◌, ◌<◌, ◌≤◌, ◌⊎◌, Result, IsErr}
 
--- The count has risen. A count of 64 bits that stands at its end can rise no more, and says nothing then.
+-- The count has risen. A count of 64 bits that stands at its end can rise no more, and says nothing
+-- then.
 abbrev pub HasRisen : ℕ → ℕ → Type 0
 HasRisen before now = (before < now) ⊎ (2 ^ 64 - 1 ≤ now)
 

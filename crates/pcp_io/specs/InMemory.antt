@@ -23,5 +23,5 @@ abbrev pub new_sink : ℕ → SinkInMemory
 new_sink room = record { held = []; room = room; calls = no_calls }
 
 -- the next write is to fail, or the piece would pass the room
-abbrev pub IsRefused : SinkInMemory → List ℕ → Type 0
-IsRefused sink piece = IsNamed sink.calls ⊎ (sink.room < length sink.held + length piece)
+abbrev pub IsWriteRefused : SinkInMemory → List ℕ → Type 0
+IsWriteRefused sink piece = IsNamed sink.calls ⊎ (sink.room < length sink.held + length piece)

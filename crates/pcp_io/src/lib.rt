@@ -1,5 +1,6 @@
-//! The outside as traits: sources of octets and sinks, each with a count of its faults, with forms in
-//! memory and thin adapters over files and the standard streams.
+//! The outside as traits: sources of octets and sinks, each with a count of its faults, with forms
+//! in memory, whose calls are counted and may be named to fail, and thin adapters over files and the
+//! standard streams.
 #![tactic(auto)]
 
 mod calls;
@@ -10,6 +11,7 @@ mod sinks;
 mod sources;
 mod writers;
 
+pub use calls::Calls;
 pub use memory_sinks::MemorySink;
 pub use memory_sources::MemorySource;
 pub use readers::{FileSource, LateFile, ReadSource, StdSource};

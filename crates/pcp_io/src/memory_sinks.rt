@@ -70,7 +70,7 @@ impl Sink for MemorySink {
     ghost use Rattle.std.specs.Prelude.{◌≡◌, ◌⊎◌, Some, length, IsErr, IfOk, OnOk, OnErr};
     ghost use Rattle.pcp_io.specs.CallLogs.{with_call, with_fault, with_starved};
     ghost use Rattle.pcp_io.specs.Faults.{HasCause};
-    ghost use Rattle.pcp_io.specs.InMemory.{IsRefused};
+    ghost use Rattle.pcp_io.specs.InMemory.{IsWriteRefused};
     ghost use Rattle.pcp_io.specs.Writes.{Writes};
 
     ghost held = { λ s. Some s.held };
@@ -80,14 +80,15 @@ impl Sink for MemorySink {
     fn write(&mut self, piece: &[u8]) -> Result<usize, Failed>
         ensures writes { IfOk result (Writes (Some self.old.held) (Some self.new.held) piece.now) }
         ensures whole { IfOk result (λ n. n ≡ length piece.now) }
-        ensures kept { OnErr result (self.new.held ≡ self.old.held) }
+        ensures unchanged { OnErr result (self.new.held ≡ self.old.held) }
         ensures cause { HasCause self.old.calls.faults self.new.calls.faults result }
 
-        // It fails where the call is named and where the piece would pass the room, and else only for
-        // want of memory.
-        ensures refused { IsRefused self.old piece.now → IsErr result }
-        ensures fault { IsRefused self.old piece.now → self.new.calls ≡ with_fault self.old.calls }
-        ensures starved { OnErr result (IsRefused self.old piece.now ⊎ (self.new.calls ≡ with_starved self.old.calls)) }
+        // It fails where the call is named and where the piece would pass the room, and else only
+        // for want of memory.
+        ensures refused { IsWriteRefused self.old piece.now → IsErr result }
+        ensures fault { IsWriteRefused self.old piece.now → self.new.calls ≡ with_fault self.old.calls }
+        ensures starved { OnErr result
+            (IsWriteRefused self.old piece.now ⊎ (self.new.calls ≡ with_starved self.old.calls)) }
         ensures call { OnOk result (self.new.calls ≡ with_call self.old.calls) }
         ensures room { self.new.room ≡ self.old.room }
     {

@@ -5,8 +5,8 @@ use pcp_base::{Failed, Memory};
 use std::alloc::Global;
 use std::marker::Model;
 
-/// A source that gives the octets of a list. A read gives as many as fit; it fails, and counts that,
-/// exactly where `fail_at` named it.
+/// A source that gives the octets of a list. A read gives as many as fit; it fails, and counts
+/// that, exactly where `fail_at` named it.
 #[derive(Drop)]
 pub struct MemorySource {
     octets: Vec<u8>,
@@ -42,8 +42,8 @@ impl MemorySource {
         })
     }
 
-    /// Names a read that is to fail. Reads are numbered from 0, those that fail too; all from number
-    /// 2^64 - 1 on have that number.
+    /// Names a read that is to fail. Reads are numbered from 0, those that fail too; all from
+    /// number 2^64 - 1 on have that number.
     pub fn fail_at(&mut self, _alloc: Global, call: u64) -> Result<(), Memory>
         ensures ok { OnOk result (self.new ≡ record self.old { calls = with_failing self.old.calls call }) }
         ensures err { OnErr result (self.new ≡ self.old) }
@@ -72,7 +72,7 @@ impl Source for MemorySource {
     fn read(&mut self, piece: &mut [u8]) -> Result<usize, Failed>
         ensures reads { IfOk result (Reads (Some self.old.left) (Some self.new.left) piece.old piece.new) }
         ensures most { IfOk result (λ n. n ≡ min (length piece.old) (length self.old.left)) }
-        ensures kept { OnErr result (self.new.left ≡ self.old.left) }
+        ensures unchanged { OnErr result (self.new.left ≡ self.old.left) }
         ensures piece { OnErr result (piece.new ≡ piece.old) }
         ensures cause { HasCause self.old.calls.faults self.new.calls.faults result }
 

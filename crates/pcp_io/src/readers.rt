@@ -1,7 +1,6 @@
 //! Sources over files and standard input. They tell nothing of what they read.
 ghost use Rattle.std.specs.Prelude.{◌≡◌, ◌≤◌, IfOk, OnErr, drop, length};
 
-use crate::calls::raised;
 use crate::sources::Source;
 use pcp_base::Failed;
 use std::fs::File;
@@ -10,8 +9,8 @@ use std::io::{Read, Stdin};
 use std::marker::Model;
 use std::rt::Files;
 
-/// The octets of a reader, at most 4,096 a read. Each error of the reader is a fault that it counts,
-/// and nothing else is. A count that stands at 2^64 - 1 stands still.
+/// The octets of a reader, at most 4,096 a read. Each error of the reader is a fault that it
+/// counts, and nothing else is. A count that stands at 2^64 - 1 stands still.
 #[derive(Drop)]
 pub struct ReadSource<R: Read> {
     reader: R,
@@ -85,7 +84,7 @@ impl<R: Read> Source for ReadSource<R> {
         match read_front(&mut self.reader, piece) {
             Ok(count) => Ok(count),
             Err(_) => {
-                self.faults = raised(self.faults);
+                self.faults = self.faults.saturating_add(1);
                 Err(Failed)
             }
         }

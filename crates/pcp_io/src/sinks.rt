@@ -18,7 +18,7 @@ pub trait Sink {
     /// After `Failed` nothing was taken, and a fault was counted.
     fn write(&mut self, piece: &[u8]) -> Result<usize, Failed>
         ensures writes { IfOk result (Writes (held self.old) (held self.new) piece.now) }
-        ensures kept { OnErr result (held self.new ≡ held self.old) }
+        ensures unchanged { OnErr result (held self.new ≡ held self.old) }
         ensures cause { HasCause (faults self.old) (faults self.new) result };
 }
 

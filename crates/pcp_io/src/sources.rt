@@ -13,12 +13,12 @@ pub trait Source {
     // How many faults it has counted.
     ghost faults: { Self → ℕ };
 
-    /// Reads the next octets into the front of the piece and says how many, 0 for a piece that isn't
-    /// empty exactly at the end. The rest of the piece stays as it is. After `Failed` nothing was
-    /// read, the piece is as before, and a fault was counted.
+    /// Reads the next octets into the front of the piece and says how many, 0 for a piece that
+    /// isn't empty exactly at the end. The rest of the piece stays as it is. After `Failed` nothing
+    /// was read, the piece is as before, and a fault was counted.
     fn read(&mut self, piece: &mut [u8]) -> Result<usize, Failed>
         ensures reads { IfOk result (Reads (left self.old) (left self.new) piece.old piece.new) }
-        ensures kept { OnErr result (left self.new ≡ left self.old) }
+        ensures unchanged { OnErr result (left self.new ≡ left self.old) }
         ensures piece { OnErr result (piece.new ≡ piece.old) }
         ensures cause { HasCause (faults self.old) (faults self.new) result };
 }

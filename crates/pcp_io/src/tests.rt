@@ -2,12 +2,13 @@
 use super::*;
 use pcp_base::Failed;
 use std::alloc::{AllocError, Global};
-use std::fs;
+use std::io::{ErrorKind, Read, Write};
 use std::process::Abort;
 use std::test::Fail;
+use std::{fs, io};
 
-// The octets of four reads in pieces of three, of which a failed one is written as "!", each followed
-// by a bar.
+// The octets of four reads in pieces of three, of which a failed one is written as "!", each
+// followed by a bar.
 fn four_reads<S: Source>(alloc: Global, source: &mut S) -> Result<Vec<u8>, AllocError> {
     let mut seen = Vec::new(alloc);
     for _ in 0..4 {
@@ -41,9 +42,88 @@ fn sources_in_memory(rt: HostRuntime) -> Result<(), Fail> {
     Ok(())
 }
 
+// A reader whose second read fails. The others give at most three octets of a list.
+#[derive(Drop)]
+struct RoughReader {
+    octets: &'static [u8],
+    reads: u8,
+}
+
+impl Read for RoughReader {
+    fn read(&mut self, buf: &mut [u8]) -> io::Result<usize> {
+        self.reads = self.reads.wrapping_add(1);
+        if self.reads == 2 {
+            return Err(io::Error::from(ErrorKind::Other));
+        }
+        let count = self.octets.len().min(buf.len()).min(3);
+        buf[..count].copy_from_slice(&self.octets[..count]);
+        self.octets = &self.octets[count..];
+        Ok(count)
+    }
+}
+
+#[test]
+fn reader_that_fails(rt: HostRuntime) -> Result<(), Fail> {
+    let alloc = rt.alloc();
+    let mut source = ReadSource::of(RoughReader {
+        octets: b"abcde",
+        reads: 0,
+    });
+    let seen = four_reads(alloc, &mut source)?;
+    assert!(rt; seen.as_slice() == b"abc|!|de||".as_slice());
+    Ok(())
+}
+
+// A writer whose second write fails and whose third takes nothing. The others take at most two
+// octets.
+#[derive(Drop)]
+struct RoughWriter {
+    taken: Vec<u8>,
+    writes: u8,
+}
+
+impl Write for RoughWriter {
+    fn write(&mut self, buf: &[u8]) -> io::Result<usize> {
+        self.writes = self.writes.wrapping_add(1);
+        match self.writes {
+            2 => Err(io::Error::from(ErrorKind::BrokenPipe)),
+            3 => Ok(0),
+            _ => {
+                let count = buf.len().min(2);
+                self.taken.extend_from_slice(&buf[..count])?;
+                Ok(count)
+            }
+        }
+    }
+
+    fn flush(&mut self) -> io::Result<()> {
+        Ok(())
+    }
+}
+
+#[test]
+fn writer_that_fails(rt: HostRuntime) -> Result<(), Fail> {
+    let mut writer = RoughWriter {
+        taken: Vec::new(rt.alloc()),
+        writes: 0,
+    };
+    let mut sink = WriteSink::of(&mut writer);
+    let part = sink.write(b"abcde").ok();
+    let failed = sink.write(b"cde").ok();
+    let nothing = sink.write(b"cde").ok();
+    let rest = write_all(&mut sink, b"cde").ok();
+    assert!(rt; (part, failed, nothing, rest) == (Some(2), None, None, Some(())));
+    assert!(rt; writer.taken.as_slice() == b"abcde".as_slice());
+    Ok(())
+}
+
 #[test]
 fn files(rt: HostRuntime) -> Result<(), Fail> {
     let alloc = rt.alloc();
+    // a folder can be opened, and not be read
+    let folder = String::from_str(alloc, ".")?;
+    let seen = four_reads(alloc, &mut FileSource::new(rt.clone()?, folder))?;
+    assert!(rt; seen.as_slice() == b"!|!|!|!|".as_slice());
     let path = String::from_str(alloc, "script")?;
     let mut source = FileSource::new(rt.clone()?, path);
     let mut piece = [b'.'; 3];

@@ -1,5 +1,4 @@
 //! A sink over standard output. It tells nothing of what it took.
-use crate::calls::raised;
 use crate::sinks::Sink;
 use pcp_base::Failed;
 use std::io::{Stdout, Write};
@@ -67,7 +66,7 @@ impl<W: Write> Sink for WriteSink<W> {
         match self.writer.write(piece) {
             Ok(count) if count > 0 || piece.is_empty() => Ok(count),
             _ => {
-                self.faults = raised(self.faults);
+                self.faults = self.faults.saturating_add(1);
                 Err(Failed)
             }
         }

@@ -1,6 +1,7 @@
 -- How 'each image since the start has P' goes on over one device call of each kind, for those who call
 -- a disk.
 use Rattle.std.proofs.Common.{inl, inr, ⊎_elim, ℕ, ◌≤◌, List, subst, arith}
+use Rattle.std.proofs.lemmas.Bool.{cases_lt}
 use Rattle.lease_disk.specs.Images.{Torn, CutOrNot, Follows, NoMore, Only}
 use Rattle.lease_disk.specs.Moments.{Elapses, LeavesOnly}
 
@@ -24,6 +25,7 @@ module _ {D : Type 0} (moment : D → ℕ) (left_since : D → ℕ → List ℕ 
     later = omega (arith, so_far.later, time.later);
     each = λ image left. ⊎_elim (so_far.each image) (here image) (time.nothing_else (moment old) image so_far.later left);
     before = λ t image le left. ⊎_elim (so_far.before t image le) (λ now. inr (here image now)) (time.nothing_else t image (omega (arith, le, so_far.later)) left);
+    keeps = λ t image le was. time.keeps t image (omega (arith, le, so_far.later)) (so_far.keeps t image le was);
   }
 
   -- one run after another
@@ -33,6 +35,7 @@ module _ {D : Type 0} (moment : D → ℕ) (left_since : D → ℕ → List ℕ 
     later = omega (arith, first.later, second.later);
     each = λ image left. ⊎_elim (first.each image) (λ (has : P image). has) (second.before (moment old) image first.later left);
     before = λ t image le left. ⊎_elim (first.before t image le) (λ has. inr has) (second.before t image (omega (arith, le, first.later)) left);
+    keeps = λ t image le was. second.keeps t image (omega (arith, le, first.later)) (first.keeps t image le was);
   }
 
   -- what follows from P
@@ -42,6 +45,7 @@ module _ {D : Type 0} (moment : D → ℕ) (left_since : D → ℕ → List ℕ 
     later = so_far.later;
     each = λ image left. gives image (so_far.each image left);
     before = λ t image le left. ⊎_elim (λ was. inl was) (λ has. inr (gives image has)) (so_far.before t image le left);
+    keeps = so_far.keeps;
   }
 
   module _ (may_leave : D → List ℕ → Type 0)
@@ -49,7 +53,7 @@ module _ {D : Type 0} (moment : D → ℕ) (left_since : D → ℕ → List ℕ 
       (only_now : (disk : D) (image : List ℕ) → left_since disk (moment disk) image → may_leave disk image) where
     -- before the first call
     pub started : (disk : D) (P : List ℕ → Type 0) → ((image : List ℕ) → may_leave disk image → P image) → LeavesOnly moment left_since disk disk P
-    started disk P here = record { later = omega arith; each = λ image left. here image (only_now disk image left); before = λ t image le left. inl left }
+    started disk P here = record { later = omega arith; each = λ image left. here image (only_now disk image left); before = λ t image le left. inl left; keeps = λ t image le was. was }
 
     -- the images now are among those since the start
     pub has_now : (old new : D) (P : List ℕ → Type 0) → LeavesOnly moment left_since old new P → (image : List ℕ) → may_leave new image → P image
@@ -90,3 +94,22 @@ module _ {D : Type 0} (moment : D → ℕ) (left_since : D → ℕ → List ℕ 
     pub has_seen : (tells : Type 0) (seen : D → List ℕ) → ((disk : D) → tells → may_leave disk (seen disk))
         → (old new : D) (P : List ℕ → Type 0) → LeavesOnly moment left_since old new P → tells → P (seen new)
     has_seen tells seen seen_now old new P so_far told = has_now old new P so_far (seen new) (seen_now new told)
+
+    -- the images before a run are among those since it
+    pub had_then : (old new : D) (P : List ℕ → Type 0) → LeavesOnly moment left_since old new P → (image : List ℕ) → may_leave old image → P image
+    had_then old new P so_far image left = so_far.each image (so_far.keeps (moment old) image (omega arith) (counts_now old (moment old) image (omega arith) left))
+
+    -- a later part of a run
+    pub later_part : ((disk : D) (t u : ℕ) (image : List ℕ) → t ≤ u → left_since disk u image → left_since disk t image)
+        → (old mid new : D) (P Q : List ℕ → Type 0) → LeavesOnly moment left_since old new P → LeavesOnly moment left_since old mid Q → moment mid ≤ moment new
+        → ((t : ℕ) (image : List ℕ) → t ≤ moment mid → left_since mid t image → left_since new t image)
+        → LeavesOnly moment left_since mid new P
+    later_part since_earlier old mid new P Q run part later keeps = record {
+      later = later;
+      each = λ image left. run.each image (since_earlier new (moment old) (moment mid) image part.later left);
+      before = λ t image le left. elim (cases_lt (moment old) t) [
+        | inl past ↦ inr (run.each image (since_earlier new (moment old) t image (omega arith) left))
+        | inr within ↦ ⊎_elim (λ was. inl (part.keeps t image within was)) (λ has. inr has) (run.before t image within left)
+      ];
+      keeps = keeps;
+    }

@@ -1,0 +1,155 @@
+//! A file system for tests: its files take two octets a write, an interrupted call comes before each
+//! read, and a sync fails where it is told to.
+use crate::replays::put;
+use std::alloc::{Allocator, Global};
+use std::cell::Cell;
+use std::fs::{Metadata, OpenFile, OpenOptions};
+use std::io;
+use std::io::{ErrorKind, Read, Seek, SeekFrom, Write};
+use std::rt::Files;
+
+/// A read from this place on gives how many syncs of the file were called.
+pub(crate) const SYNCS_AT: u64 = 1000;
+
+/// The file system. It has nothing until a file is opened.
+#[derive(Drop)]
+pub(crate) struct FakeFiles {
+    pub(crate) alloc: Global,
+    /// the number of the sync of the file that fails, from 1 on, or 0 for none
+    pub(crate) failing_sync: u8,
+    /// the same of the folder
+    pub(crate) failing_folder: u8,
+}
+
+/// An opened file, or the folder.
+#[derive(Drop)]
+pub(crate) struct FakeFile {
+    octets: Vec<u8>,
+    at: u64,
+    interrupted: bool,
+    syncs: Cell<u8>,
+    failing_sync: u8,
+}
+
+fn refused<T>() -> io::Result<T> {
+    Err(io::Error::from(ErrorKind::Unsupported))
+}
+
+impl Read for FakeFile {
+    fn read(&mut self, buf: &mut [u8]) -> io::Result<usize> {
+        self.interrupted = !self.interrupted;
+        if self.interrupted {
+            return Err(io::Error::from(ErrorKind::Interrupted));
+        }
+        if self.at >= SYNCS_AT && !buf.is_empty() {
+            buf[0] = self.syncs.get();
+            return Ok(1);
+        }
+        let start = self.octets.len().min(self.at as usize);
+        let count = buf.len().min(self.octets.len() - start);
+        buf[..count].copy_from_slice(&self.octets[start..start + count]);
+        Ok(count)
+    }
+}
+
+impl Write for FakeFile {
+    fn write(&mut self, buf: &[u8]) -> io::Result<usize> {
+        let count = buf.len().min(2);
+        put(&mut self.octets, self.at as usize, &buf[..count])?;
+        self.at = self.at.wrapping_add(count as u64);
+        Ok(count)
+    }
+
+    fn flush(&mut self) -> io::Result<()> {
+        Ok(())
+    }
+}
+
+impl Seek for FakeFile {
+    fn seek(&mut self, to: SeekFrom) -> io::Result<u64> {
+        let SeekFrom::Start(place) = to else {
+            return refused();
+        };
+        self.at = place;
+        Ok(place)
+    }
+}
+
+impl OpenFile for FakeFile {
+    fn metadata(&self) -> io::Result<Metadata> {
+        Ok(Metadata::of_file(self.octets.len() as u64))
+    }
+
+    fn set_len(&self, _size: u64) -> io::Result<()> {
+        refused()
+    }
+
+    fn sync_all(&self) -> io::Result<()> {
+        self.syncs.set(self.syncs.get().wrapping_add(1));
+        if self.syncs.get() == self.failing_sync {
+            return Err(io::Error::from(ErrorKind::Other));
+        }
+        Ok(())
+    }
+
+    fn sync_data(&self) -> io::Result<()> {
+        self.sync_all()
+    }
+}
+
+impl Files for FakeFiles {
+    type File = FakeFile;
+
+    type Dir = FakeFile;
+
+    fn open_file(&self, how: &OpenOptions, path: &str) -> io::Result<FakeFile> {
+        how.check()?;
+        Ok(FakeFile {
+            octets: Vec::new(self.alloc),
+            at: 0,
+            interrupted: false,
+            syncs: Cell::new(0),
+            failing_sync: if path == "folder" {
+                self.failing_folder
+            } else {
+                self.failing_sync
+            },
+        })
+    }
+
+    fn symlink_metadata(&self, _path: &str) -> io::Result<Metadata> {
+        Err(io::Error::from(ErrorKind::NotFound))
+    }
+
+    fn open_dir(&self, _path: &str) -> io::Result<FakeFile> {
+        refused()
+    }
+
+    fn metadata(&self, _path: &str) -> io::Result<Metadata> {
+        refused()
+    }
+
+    fn copy(&self, _from: &str, _to: &str) -> io::Result<u64> {
+        refused()
+    }
+
+    fn rename(&self, _from: &str, _to: &str) -> io::Result<()> {
+        refused()
+    }
+
+    fn remove_file(&self, _path: &str) -> io::Result<()> {
+        refused()
+    }
+
+    fn create_dir(&self, _path: &str) -> io::Result<()> {
+        refused()
+    }
+
+    fn remove_dir(&self, _path: &str) -> io::Result<()> {
+        refused()
+    }
+
+    fn remove_dir_all<B: Allocator>(&self, _alloc: B, _path: &str) -> io::Result<()> {
+        refused()
+    }
+}
