@@ -18,7 +18,6 @@ use Rattle.pcp_server.specs.declared.verdicts.Verdict.{Verdict}
 use Rattle.pcp_server.specs.declared.verdicts.Verdict.TheVariants.{Silent}
 use Rattle.pcp_server.specs.Verdicts.{lacks_ports, service_steps, ask_steps, ask_of, verdict_by, verdict_of}
 use Rattle.pcp_server.specs.Histories.{asked}
-use Rattle.pcp_server.proofs.Steps.{HasPort}
 
 octet-lt : (message : List ℕ) (place : ℕ) → AllByRecursion (λ x. x < 256) message → octet message place < 256
 octet-lt [] place h = omega arith
@@ -28,11 +27,6 @@ octet-lt (x ∷ xs) (suc place) h = octet-lt xs place h.1
 pub u16_at-lt : (message : List ℕ) (place : ℕ) → AllByRecursion (λ x. x < 256) message → u16_at message place < 65536
 u16_at-lt message place h = omega (arith, octet-lt message place h, octet-lt message (place + 1) h)
 
--- what the lease table may rely on of an ask
-pub record IsReadAsk (ask : Ask) : Type 0 where
-  pub formed : IsWellFormedAsk ask
-  pub port : HasPort ask
-
 -- where none is the first that fails, none fails
 none-fails : (steps : List Step) → first_failing steps ≡ None → AllByRecursion (λ step. step.fails ≡ false) steps
 none-fails [] h = tt
@@ -40,43 +34,47 @@ none-fails (step ∷ steps) h =
     cond_both step.fails (Some step.refusal) (first_failing steps) (λ o. o ≡ None → AllByRecursion (λ (s : Step). s.fails ≡ false) (step ∷ steps))
     (λ _ e. absurd cc) (λ no e. (no, none-fails steps e)) h
 
-IsReadAsk-common : (message : List ℕ) (source : Address) (lifetime : ℕ) (c : Common) → c ≡ common_of message → AllByRecursion (λ x. x < 256) message →
-    lacks_ports (Bodies.Map c) ≡ false → IsReadAsk (ask_of source lifetime (Bodies.Map c))
-IsReadAsk-common message source lifetime c same octets h =
+formed-common : (message : List ℕ) (source : Address) (lifetime : ℕ) (c : Common) → c ≡ common_of message → AllByRecursion (λ x. x < 256) message →
+    lacks_ports (Bodies.Map c) ≡ false → IsWellFormedAsk (ask_of source lifetime (Bodies.Map c))
+formed-common message source lifetime c same octets h =
     let internal : c.internal < 65536 = subst (λ (d : Common). d.internal < 65536) (sym same) (u16_at-lt message 40 octets) in
+    let external : c.external < 65536 = subst (λ (d : Common). d.external < 65536) (sym same) (u16_at-lt message 42 octets) in
     let parts = or_parts (not (c.protocol == 6 || c.protocol == 17)) (c.internal == 0) h in
     let some : c.internal ≡ 0 → ⊥ = eqb-false c.internal 0 parts.1 in
     record {
-      formed = record { internal = omega (arith, some); set = tt; prefixes = tt; deletion = λ _. refl };
-      port = internal;
+      internal = record { some = omega (arith, some); below = omega (arith, internal) };
+      suggested = omega (arith, external);
+      set = tt;
+      prefixes = tt;
+      deletion = λ _. refl;
     }
 
-IsReadAsk-body : (message : List ℕ) (source : Address) (lifetime : ℕ) → opcode_of message ≤ 2 → (opcode_of message == 2) ≡ false → AllByRecursion (λ x. x < 256) message →
-    lacks_ports (body_of message) ≡ false → IsReadAsk (ask_of source lifetime (body_of message))
-IsReadAsk-body message source lifetime low not_peer octets =
-    cond_both (opcode_of message == 0) Bodies.Announce _ (λ (b : Body). lacks_ports b ≡ false → IsReadAsk (ask_of source lifetime b))
-    (λ _ _. record { formed = tt; port = tt })
-    (λ not_announce. cond_both (opcode_of message == 1) (Bodies.Map (common_of message)) _ (λ (b : Body). lacks_ports b ≡ false → IsReadAsk (ask_of source lifetime b))
-    (λ _ h. IsReadAsk-common message source lifetime (common_of message) refl octets h)
+formed-body : (message : List ℕ) (source : Address) (lifetime : ℕ) → opcode_of message ≤ 2 → (opcode_of message == 2) ≡ false → AllByRecursion (λ x. x < 256) message →
+    lacks_ports (body_of message) ≡ false → IsWellFormedAsk (ask_of source lifetime (body_of message))
+formed-body message source lifetime low not_peer octets =
+    cond_both (opcode_of message == 0) Bodies.Announce _ (λ (b : Body). lacks_ports b ≡ false → IsWellFormedAsk (ask_of source lifetime b))
+    (λ _ _. tt)
+    (λ not_announce. cond_both (opcode_of message == 1) (Bodies.Map (common_of message)) _ (λ (b : Body). lacks_ports b ≡ false → IsWellFormedAsk (ask_of source lifetime b))
+    (λ _ h. formed-common message source lifetime (common_of message) refl octets h)
     (λ not_map h. absurd (omega (arith, eqb-false _ _ not_announce, eqb-false _ _ not_map, eqb-false _ _ not_peer))))
 
 abbrev steps_of : Config → Address → List ℕ → List Step
 steps_of config source message = frame_steps message source ++ service_steps message ++ ask_steps config source message
 
 -- Where no step fails it is a request that is served; what is known to be refused is no request of the table's.
-IsReadAsk-by : (config : Config) (source : Address) (message : List ℕ) (first : Option Refusal) → first_failing (steps_of config source message) ≡ first →
-    AllByRecursion (λ x. x < 256) message → IsReadAsk (asked (verdict_by config source message first))
-IsReadAsk-by config source message (Some refusal) h octets = record { formed = tt; port = tt }
-IsReadAsk-by config source message None h octets =
+formed-by : (config : Config) (source : Address) (message : List ℕ) (first : Option Refusal) → first_failing (steps_of config source message) ≡ first →
+    AllByRecursion (λ x. x < 256) message → IsWellFormedAsk (asked (verdict_by config source message first))
+formed-by config source message (Some refusal) h octets = tt
+formed-by config source message None h octets =
     let none = none-fails (steps_of config source message) h in
     let served = none.1.1.1.1.1 in
-    IsReadAsk-body message source (frame_of message).lifetime (ltb-false 2 (opcode_of message) none.1.1.0) served.0 octets served.1.1.0
+    formed-body message source (frame_of message).lifetime (ltb-false 2 (opcode_of message) none.1.1.0) served.0 octets served.1.1.0
 
 -- the ask of a datagram
-pub IsReadAsk-asked : (config : Config) (source : Address) (message : List ℕ) → AllByRecursion (λ x. x < 256) message → IsReadAsk (asked (verdict_of config source message))
+pub formed-asked : (config : Config) (source : Address) (message : List ℕ) → AllByRecursion (λ x. x < 256) message → IsWellFormedAsk (asked (verdict_of config source message))
 unfolding verdict_of
-IsReadAsk-asked config source message octets =
+formed-asked config source message octets =
     cond_both (is_silent message) Silent (verdict_by config source message (first_failing (steps_of config source message)))
-    (λ (v : Verdict). IsReadAsk (asked v))
-    (λ _. record { formed = tt; port = tt })
-    (λ _. IsReadAsk-by config source message (first_failing (steps_of config source message)) refl octets)
+    (λ (v : Verdict). IsWellFormedAsk (asked v))
+    (λ _. tt)
+    (λ _. formed-by config source message (first_failing (steps_of config source message)) refl octets)

@@ -5,7 +5,7 @@ use Rattle.std.proofs.lemmas.Bool.Decides.{nat_tests}
 use Rattle.pcp_base.specs.declared.leases.Endpoint.{Endpoint}
 use Rattle.pcp_base.specs.declared.leases.MapLease.{MapLease}
 use Rattle.pcp_base.specs.Tables.{covers}
-use Rattle.pcp_server.specs.OwnedPorts.{HasPorts}
+use Rattle.pcp_server.specs.OwnedPorts.{EndsInRange}
 use Rattle.pcp_server.proofs.PutLemmas.{filter_All}
 use Rattle.pcp_server.specs.Decisions.{covering, only_maps}
 
@@ -23,10 +23,10 @@ in_range false low port end h = absurd cc
 in_range true low port end h = (grind (arith, nat_tests), grind (arith, nat_tests))
 
 -- the lease that covers the endpoint, as the table has it
-pub covering_found : (maps : List MapLease) (m : ℕ) (e : Endpoint) (l : MapLease) → AllByRecursion HasPorts maps → Some l ≡ covering (only_maps maps) m e → HasPorts l × (covers l e ≡ true)
-covering_found maps m e l all h = found_All HasPorts (λ x. covers x e) (filter (λ x. nat_lt m x.expiry) maps) l (filter_All HasPorts (λ x. nat_lt m x.expiry) maps all) (sym h)
+pub covering_found : (maps : List MapLease) (m : ℕ) (e : Endpoint) (l : MapLease) → AllByRecursion EndsInRange maps → Some l ≡ covering (only_maps maps) m e → EndsInRange l × (covers l e ≡ true)
+covering_found maps m e l all h = found_All EndsInRange (λ x. covers x e) (filter (λ x. nat_lt m x.expiry) maps) l (filter_All EndsInRange (λ x. nat_lt m x.expiry) maps all) (sym h)
 
-pub covering_port : (maps : List MapLease) (m : ℕ) (e : Endpoint) (l : MapLease) → AllByRecursion HasPorts maps → Some l ≡ covering (only_maps maps) m e → l.external + (e.port - l.internal) < 2 ^ 16
+pub covering_port : (maps : List MapLease) (m : ℕ) (e : Endpoint) (l : MapLease) → AllByRecursion EndsInRange maps → Some l ≡ covering (only_maps maps) m e → l.external + (e.port - l.internal) < 2 ^ 16
 covering_port maps m e l all h =
     let found = covering_found maps m e l all h in
     let range = in_range _ l.internal e.port (l.internal + l.count) found.1 in

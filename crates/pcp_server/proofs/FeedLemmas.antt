@@ -2,20 +2,11 @@
 use Rattle.std.proofs.Common.{◌≡◌, ◌≢◌, ℕ, ◌⊎◌, inl, inr, List, [], ◌∷◌, ◌++◌, flat_map, slice_get, Some, refl, ap, sym, ◌∙◌, append_assoc, append-nil}
 use Rattle.std.specs.List.{AllByRecursion}
 use Rattle.std.proofs.lemmas.Bool.{cases_eq}
+use Rattle.pcp_base.proofs.Members.{All-append, All-push}
 use Rattle.pcp_server.specs.Lines.{IsUnbroken, ended}
-
-pub All-append : {X : Type 0} (P : X → Type 0) (xs ys : List X) → AllByRecursion P xs → AllByRecursion P ys → AllByRecursion P (xs ++ ys)
-All-append P [] ys h k = k
-All-append P (x ∷ xs) ys h k = (h.0, All-append P xs ys h.1 k)
-
-pub All-push : {X : Type 0} (P : X → Type 0) (xs : List X) (x : X) → AllByRecursion P xs → P x → AllByRecursion P (xs ++ x ∷ [])
-All-push P xs x h k = All-append P xs (x ∷ []) h (k, tt)
 
 pub IsUnbroken-append : (xs ys : List ℕ) → IsUnbroken xs → IsUnbroken ys → IsUnbroken (xs ++ ys)
 IsUnbroken-append xs ys h k = All-append (λ c. ¬ (c ≡ 10)) xs ys h k
-
-pub IsUnbroken-push : (xs : List ℕ) (c : ℕ) → IsUnbroken xs → c ≢ 10 → IsUnbroken (xs ++ c ∷ [])
-IsUnbroken-push xs c h k = All-push (λ c. ¬ (c ≡ 10)) xs c h k
 
 pub AllUnbroken-push : (texts : List (List ℕ)) (text : List ℕ) → AllByRecursion IsUnbroken texts → IsUnbroken text → AllByRecursion IsUnbroken (texts ++ text ∷ [])
 AllUnbroken-push texts text h k = All-push IsUnbroken texts text h k

@@ -12,7 +12,7 @@ use Rattle.hex.specs.Hex.{IsBytes, decode_of, decode_sized, is_hex_digit}
 use Rattle.pcp_base.specs.AddressTexts.{IsAddressText}
 use Rattle.pcp_base.specs.declared.addresses.Address.{Address}
 use Rattle.pcp_base.specs.declared.datagrams.Datagram.{Datagram}
-use Rattle.pcp_server.proofs.FeedLemmas.{All-append}
+use Rattle.pcp_base.proofs.Members.{All-append}
 use Rattle.pcp_server.specs.Fields.{IsWord, AreFields}
 use Rattle.pcp_server.specs.Lines.{IsPacket, IsHexField}
 

@@ -7,7 +7,7 @@ use Rattle.pcp_base.specs.declared.configs.External.{External}
 use Rattle.pcp_server.specs.declared.lines.Line.{Line}
 use Rattle.pcp_server.specs.Histories.{after}
 use Rattle.pcp_server.specs.Lines.{IsLine, AreLines}
-use Rattle.pcp_server.specs.Runs.{entries_of, line_text, after_all, history_of, out_of}
+use Rattle.pcp_server.specs.ScriptRun.{entries_of, line_text, after_all, history_of, out_of}
 use Rattle.pcp_server.specs.ShardStates.{ShardState}
 
 pub AreLines-push : (texts : List (List ℕ)) (lines : List Line) (text : List ℕ) (line : Line) → AreLines texts lines → length text ≤ 8192 → IsLine text line →

@@ -1,6 +1,5 @@
 pub mod AskLemmas
 pub mod CoveringLemmas
-pub mod DecisionLemmas
 pub mod Deeds
 pub mod FeedLemmas
 pub mod FieldLemmas

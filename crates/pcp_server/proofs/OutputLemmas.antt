@@ -9,7 +9,7 @@ use Rattle.pcp_server.specs.declared.lines.Line.{Line}
 use Rattle.pcp_server.specs.declared.lines.Line.TheVariants.{Skip, Packet}
 use Rattle.pcp_server.specs.Histories.{after}
 use Rattle.pcp_server.specs.Outputs.{reply_line, reply_to, printed}
-use Rattle.pcp_server.specs.Runs.{entry_of, line_text, after_all, history_of, out_of}
+use Rattle.pcp_server.specs.ScriptRun.{entry_of, line_text, after_all, history_of, out_of}
 use Rattle.pcp_server.specs.ShardStates.{ShardState}
 
 -- by what a test says

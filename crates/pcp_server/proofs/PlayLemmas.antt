@@ -17,7 +17,7 @@ use Rattle.pcp_server.specs.Reading.{Reading, rest_of, Uses, EndsByFeed, EndsLas
 use Rattle.pcp_server.specs.declared.readers.LineFault.{LineFault}
 use Rattle.pcp_server.specs.declared.readers.LineFault.TheVariants as LineFaults
 use Rattle.pcp_server.specs.Lines.{AreFirst, IsLine, IsUnbroken, ended}
-use Rattle.pcp_server.specs.Runs.{after_all, entries_of, history_of, line_text, out_of}
+use Rattle.pcp_server.specs.ScriptRun.{after_all, entries_of, history_of, line_text, out_of}
 use Rattle.pcp_server.specs.Played.{IsOver, AreAnswered, EndsRefused, started}
 use Rattle.pcp_server.specs.Playing.{IsUnderway, IsTurned, Answers, AnswersPart, EndsTurn, Fails, status_at}
 use Rattle.pcp_server.proofs.FeedLemmas.{AllUnbroken-push, flat_map-ended-push, IsUnbroken-append, splits}
@@ -85,7 +85,7 @@ length-ended text = length-append text (10 ∷ [])
 module _ (config : Config) (external : External) (start number : ℕ) (script before : List ℕ) (shard : ShardState) (reading : Reading) (left held : Option (List ℕ)) (u : IsUnderway config external start number script before shard reading left held) where
   -- what is written so far is the results of the lines so far
   answered : AreAnswered config external start u.texts (out_of config external (started start) u.lines)
-  answered = AreAnswered-lines config external start u.texts u.lines (out_of config external (started start) u.lines) u.ports.0 u.ports.1 u.read refl
+  answered = AreAnswered-lines config external start u.texts u.lines (out_of config external (started start) u.lines) u.served u.read refl
 
   -- octets that the reader used stand behind the lines so far
   told_after : (text : List ℕ) (known : Option (List ℕ)) → rest_of reading left ≡ prepend_known text known → Told script (flat_map ended u.texts ++ text) known
@@ -106,7 +106,7 @@ module _ (config : Config) (external : External) (start number : ℕ) (script be
 
   goes_on : (text : List ℕ) (shard' : ShardState) (reading' : Reading) (left' held' : Option (List ℕ)) → EndsByFeed reading reading' left left' text → Answers config external text shard shard' held held' → IsUnderway config external start (number + 1) script before shard' reading' left' held'
   goes_on text shard' reading' left' held' e a = record {
-    ports = u.ports;
+    served = u.served;
     texts = u.texts ++ text ∷ [];
     lines = u.lines ++ a.line ∷ [];
     read = AreLines-push u.texts u.lines text a.line u.read e.short a.read;
@@ -167,7 +167,7 @@ module _ (config : Config) (external : External) (start number : ℕ) (script be
             few = omega (arith, ap length spelled, length-append (flat_map ended u.texts) text, u.used, e.uses.used, e.uses.few);
           };
           read = nothing;
-          answered = AreAnswered-lines config external start (u.texts ++ text ∷ []) lines (out_of config external (started start) lines) u.ports.0 u.ports.1
+          answered = AreAnswered-lines config external start (u.texts ++ text ∷ []) lines (out_of config external (started start) lines) u.served
               (AreLines-push u.texts u.lines text a.line u.read e.short a.read) refl;
         };
       }
@@ -280,7 +280,7 @@ module _ (config : Config) (external : External) (start number : ℕ) (script be
           result = result;
           first = first;
           answered = answered;
-          next = AreAnswered-lines config external start (u.texts ++ text ∷ []) (u.lines ++ a.line ∷ []) (lines_out ++ result) u.ports.0 u.ports.1
+          next = AreAnswered-lines config external start (u.texts ++ text ∷ []) (u.lines ++ a.line ∷ []) (lines_out ++ result) u.served
               (AreLines-push u.texts u.lines text a.line u.read short a.read) (sym (out_of-push config external (started start) u.lines a.line));
           taken = part.taken;
           short = part.short;

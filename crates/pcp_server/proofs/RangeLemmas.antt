@@ -2,9 +2,5 @@
 use Rattle.std.proofs.Common.{◌≡◌, ℕ, zero, suc, ◌+◌, ◌<◌, Bool, true, false, find, Some, refl, arith}
 use Rattle.std.specs.List.{range_with_len}
 
-pub find_first : (test : ℕ → Bool) (a n : ℕ) → 0 < n → test a ≡ true → find test (range_with_len a n) ≡ Some a
-find_first test a zero some passes = absurd (omega arith)
-find_first test a (suc n) some passes = rw passes refl
-
 pub find_later : (test : ℕ → Bool) (a n m : ℕ) → n ≡ suc m → test a ≡ false → find test (range_with_len a n) ≡ find test (range_with_len (a + 1) m)
 find_later test a n m e fails = rw (e, fails) refl

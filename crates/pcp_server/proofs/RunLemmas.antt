@@ -1,10 +1,8 @@
 -- How a run of `play` begins, and by which words.
-use Rattle.std.proofs.Common.{◌≡◌, ℕ, ◌≤◌, List, [], decimal, Option, Some, refl, sym, ap, subst, ◌∙◌, inl, inr, append-nil, arith}
+use Rattle.std.proofs.Common.{◌≡◌, ℕ, List, [], decimal, Option, Some, refl, sym, ap, ◌∙◌, inl, append-nil, arith}
 use Rattle.std.proofs.lemmas.Fmt.{decimal_injective}
-use Rattle.pcp_io.specs.Faults.{HasRisen}
 use Rattle.pcp_base.specs.declared.configs.Config.{Config}
 use Rattle.pcp_base.specs.declared.configs.External.{External}
-use Rattle.pcp_server.specs.declared.statuses.Status.{Status}
 use Rattle.pcp_server.specs.declared.statuses.Status.TheVariants as Statuses
 use Rattle.pcp_server.specs.ShardStates.{ShardState}
 use Rattle.pcp_server.specs.Reading.{Reading}
@@ -13,12 +11,12 @@ use Rattle.pcp_server.specs.Words.{IsPlay}
 use Rattle.pcp_server.specs.Played.{IsOver, started}
 use Rattle.pcp_server.specs.Playing.{IsUnderway}
 use Rattle.pcp_server.proofs.HistoryLaws.{AreAnswered-lines}
-use Rattle.pcp_server.proofs.ProfileLemmas.{IsExternal-external, external-high}
+use Rattle.pcp_server.proofs.ProfileLemmas.{IsExternal-external}
 
 -- before the first line
 began : (start : ℕ) (script before : List ℕ) → IsUnderway profile external start 1 script before (started start) (record { pending = []; used = 0 }) (Some script) (Some before)
 began start script before = record {
-  ports = (IsExternal-external, external-high);
+  served = IsExternal-external;
   texts = [];
   lines = [];
   read = tt;
@@ -45,7 +43,7 @@ ends_at_once start script before left held l h = record {
     texts = [];
     rest = script;
     first = record { unbroken = tt; spelled = inl refl; few = omega arith };
-    answered = AreAnswered-lines profile external start [] [] [] IsExternal-external external-high tt refl;
+    answered = AreAnswered-lines profile external start [] [] [] IsExternal-external tt refl;
   };
 }
 
@@ -53,16 +51,6 @@ ends_at_once start script before left held l h = record {
 pub served_same : (config config' : Config) (served served' : External) (start number : ℕ) (script before : List ℕ) (shard : ShardState) (reading : Reading) (left held : Option (List ℕ)) → config' ≡ config → served' ≡ served
     → IsUnderway config served start number script before shard reading left held → IsUnderway config' served' start number script before shard reading left held
 served_same config config' served served' start number script before shard reading left held c e u = rw (c, e) u
-
-pub over_served : (config : Config) (served : External) (start : ℕ) (script before : List ℕ) (left held : Option (List ℕ)) (status : Status) → config ≡ profile → served ≡ external
-    → IsOver config served start script before left held status → IsOver profile external start script before left held status
-over_served config served start script before left held status c e h =
-    subst (λ (x : External). IsOver profile x start script before left held status) e (subst (λ (x : Config). IsOver x served start script before left held status) c h)
-
--- a count that rose later rose since before
-pub HasRisen-since : (a b c : ℕ) → a ≤ b → HasRisen b c → HasRisen a c
-HasRisen-since a b c before (inl h) = inl (omega arith)
-HasRisen-since a b c before (inr h) = inr h
 
 -- words are those of one command at most
 pub IsPlay-unique : (words : List (List ℕ)) (m n : ℕ) → IsPlay words m → IsPlay words n → m ≡ n

@@ -11,7 +11,7 @@ use Rattle.pcp_codec.specs.Framing.{first_failing, frame_steps, is_silent}
 use Rattle.pcp_server.specs.declared.verdicts.Verdict.{Verdict}
 use Rattle.pcp_server.specs.declared.verdicts.Verdict.TheVariants.{Silent}
 use Rattle.pcp_server.specs.Histories.{asked}
-use Rattle.pcp_server.specs.Runs.{IsHeard, heard_ask}
+use Rattle.pcp_server.specs.ScriptRun.{IsHeard, heard_ask}
 use Rattle.pcp_server.specs.Verdicts.{ask_steps, service_steps, verdict_by, verdict_of}
 
 when_silent : (b : Bool) (v : Verdict) → b ≡ true → cond b Silent v ≡ Silent

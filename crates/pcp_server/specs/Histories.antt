@@ -15,7 +15,7 @@ use Rattle.pcp_base.specs.Tables.{Table, live, covers}
 use Rattle.pcp_base.specs.Owners.{owners, OneOwner}
 use Rattle.pcp_base.specs.States.{State}
 use Rattle.pcp_server.specs.ShardStates.{ShardState}
-use Rattle.pcp_base.specs.Apply.{apply}
+use Rattle.pcp_base.specs.Apply.{apply_first}
 use Rattle.pcp_codec.specs.Framing.{is_silent}
 use Rattle.pcp_server.specs.declared.decisions.Decided.{Decided}
 use Rattle.pcp_server.specs.declared.verdicts.Verdict.{Verdict}
@@ -34,10 +34,10 @@ asked (Asked place ask) = ask
 abbrev pub decided_on : Config → External → Table → ℕ → Datagram → Decided
 decided_on config external t m from = decide config external t m (asked (verdict_of config from.peer from.octets))
 
--- what a record makes of a state
+-- what a record makes of a state: ports don't rest yet, as in the first format of records
 abbrev pub kept_in : State → Option Record → State
 kept_in s None = s
-kept_in s (Some r) = apply s r
+kept_in s (Some r) = apply_first s r
 
 abbrev pub after : ShardState → Entry → ShardState
 after shard e = record { state = kept_in shard.state e.kept; reached = e.moment; told = max shard.told e.base }
@@ -61,8 +61,8 @@ IsLegal config external shard [] = ⊤
 IsLegal config external shard (e ∷ es) = IsAnswer config external shard e × IsLegal config external (after shard e) es
 
 -- no external port has two owners, at any moment
-abbrev pub HasOneOwner : Table → Type 0
-HasOneOwner t = (m : ℕ) → OneOwner (owners (live t m))
+abbrev pub AlwaysHasOneOwner : Table → Type 0
+AlwaysHasOneOwner t = (m : ℕ) → OneOwner (owners (live t m))
 
 -- the entry is a MAP request with the nonce of the lease, for an endpoint that it covers
 pub record IsForLease (config : Config) (e : Entry) (l : MapLease) : Type 0 where
@@ -80,4 +80,4 @@ HasItsNonce config shard e = (l : MapLease) → Contains (live shard.state.table
 abbrev pub IsSafe : Config → ShardState → List Entry → Type 0
 IsSafe config shard [] = ⊤
 IsSafe config shard (e ∷ es) =
-    HasOneOwner (after shard e).state.table × HasItsNonce config shard e × IsSafe config (after shard e) es
+    AlwaysHasOneOwner (after shard e).state.table × HasItsNonce config shard e × IsSafe config (after shard e) es

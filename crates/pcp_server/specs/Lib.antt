@@ -11,7 +11,7 @@ pub mod Playing
 pub mod Profile
 pub mod Reading
 pub mod Replies
-pub mod Runs
+pub mod ScriptRun
 pub mod ShardStates
 pub mod Verdicts
 pub mod Words

@@ -1,5 +1,5 @@
 -- What a run of `play` did with its script (our own).
-use Rattle.std.specs.Prelude.{◌≡◌, ◌≢◌, ℕ, ◌+◌, ◌-◌, ◌^◌, ◌<◌, ◌≤◌, ◌⊎◌, List, [], ◌∷◌, ◌++◌, length, flat_map, take, drop, slice_get, Option, Some, true}
+use Rattle.std.specs.Prelude.{◌≡◌, ◌≢◌, ℕ, ◌+◌, ◌-◌, ◌^◌, ◌<◌, ◌≤◌, ◌⊎◌, List, [], ◌∷◌, ◌++◌, length, flat_map, take, drop, slice_get, Option, Some, None, true}
 use Rattle.std.specs.List.{AllByRecursion}
 use Rattle.pcp_base.specs.declared.configs.Config.{Config}
 use Rattle.pcp_base.specs.declared.configs.External.{External}
@@ -16,7 +16,7 @@ use Rattle.pcp_server.specs.Outputs.{heard_of, AreEntriesOf, printed}
 -- where a history begins: one Start came, at this moment
 abbrev pub started : ℕ → ShardState
 started start = record {
-  state = record { table = empty_table; base = start; last = start; started = true };
+  state = record { table = empty_table; ends = []; base = start; address = None; last = start; started = true };
   reached = start;
   told = start;
 }

@@ -21,12 +21,12 @@ use Rattle.pcp_base.specs.Configs.{IsExternal}
 use Rattle.pcp_server.specs.ShardStates.{ShardState}
 use Rattle.pcp_server.specs.Reading.{Reading, rest_of}
 use Rattle.pcp_server.specs.Lines.{AreLines, IsLine, IsUnbroken, ended}
-use Rattle.pcp_server.specs.Runs.{after_all, entries_of, history_of, line_text, out_of}
+use Rattle.pcp_server.specs.ScriptRun.{after_all, entries_of, history_of, line_text, out_of}
 use Rattle.pcp_server.specs.Played.{IsOver, started}
 
 -- These lines were read, each with its line feed, and answered, before the one with this number.
 pub record IsUnderway (config : Config) (external : External) (start number : ℕ) (script before : List ℕ) (shard : ShardState) (reading : Reading) (left held : Option (List ℕ)) : Type 0 where
-  pub ports : IsExternal external × (external.high < 65536)
+  pub served : IsExternal external
   pub texts : List (List ℕ)
   pub lines : List Line
   pub read : AreLines texts lines

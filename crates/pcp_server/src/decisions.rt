@@ -5,7 +5,7 @@ ghost use Rattle.pcp_base.specs.Tables.{Table, covers, first_endpoint, live};
 ghost use Rattle.pcp_base.specs.Owners.{is_port, owners};
 ghost use Rattle.pcp_base.specs.declared.asks.Answer.TheVariants.{Gone};
 ghost use Rattle.pcp_base.specs.declared.records.Change.TheVariants.{DropMap};
-ghost use Rattle.pcp_server.specs.OwnedPorts.{HasPorts, IsOfMaps, owns};
+ghost use Rattle.pcp_server.specs.OwnedPorts.{EndsInRange, IsOfMaps, owns};
 ghost use Rattle.pcp_server.specs.Decisions.{answered, covering, decide as decide_on, decide_by, decide_map, granted_lifetime, is_free, mapped, new_lease, only_maps, pick};
 
 use crate::verdicts::refusal;
@@ -130,7 +130,7 @@ fn told_of(
     lease: MapLease,
 ) -> Decided
     requires told { lease.external + (ask.now.endpoint.port - lease.internal) < 2 ^ 16 }
-    requires ports { HasPorts lease }
+    requires ports { EndsInRange lease }
     ensures value { result ≡ mapped config.now external.now m ask.now lease }
     ensures kept { IfSome result.kept (λ r. (r.moment ≡ m) × IsOfMaps r.change) }
 {
@@ -205,7 +205,7 @@ fn decide_held(
     lease: &MapLease,
 ) -> Decided
     requires told { lease.now.external + (ask.now.endpoint.port - lease.now.internal) < 2 ^ 16 }
-    requires ports { HasPorts lease.now }
+    requires ports { EndsInRange lease.now }
     ensures value { (t : Table) → result ≡ decide_by config.now external.now t m ask.now (Some lease.now) }
     ensures kept { IfSome result.kept (λ r. (r.moment ≡ m) × IsOfMaps r.change) }
 {
@@ -229,17 +229,23 @@ fn decide_held(
 fn dropped(m: Moment, lease: &MapLease) -> Decided
     ensures { result ≡ record { answer = Gone; kept = Some (record { moment = m; change = DropMap (first_endpoint lease.now) }) } }
 {
-    let first = Endpoint {
-        address: lease.address,
-        protocol: lease.protocol,
-        port: lease.internal,
-    };
     Decided {
         answer: Answer::Gone,
         kept: Some(Record {
             moment: m,
-            change: Change::DropMap(first),
+            change: Change::DropMap(key_of(lease)),
         }),
+    }
+}
+
+/// The key of a lease: its first endpoint.
+pub(crate) fn key_of(lease: &MapLease) -> Endpoint
+    ensures { result ≡ first_endpoint lease.now }
+{
+    Endpoint {
+        address: lease.address,
+        protocol: lease.protocol,
+        port: lease.internal,
     }
 }
 
@@ -252,7 +258,7 @@ fn decide_mapping(
     m: Moment,
     ask: &MapAsk,
 ) -> Decided
-    requires { AllByRecursion HasPorts maps.now }
+    requires { AllByRecursion EndsInRange maps.now }
     ensures value { result ≡ decide_map config.now external.now (only_maps maps.now) m ask.now }
     ensures kept { IfSome result.kept (λ r. (r.moment ≡ m) × IsOfMaps r.change) }
 {
@@ -270,7 +276,7 @@ pub(crate) fn decide(
     m: Moment,
     ask: &Ask,
 ) -> Decided
-    requires { AllByRecursion HasPorts maps.now }
+    requires { AllByRecursion EndsInRange maps.now }
     ensures value { result ≡ decide_on config.now external.now (only_maps maps.now) m ask.now }
     // What is kept is of a MAP lease whose ports are ports.
     ensures kept { IfSome result.kept (λ r. (r.moment ≡ m) × IsOfMaps r.change) }

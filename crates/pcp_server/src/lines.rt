@@ -11,7 +11,6 @@ use crate::words::read_moment;
 use hex::FromHexError;
 use pcp_base::{Address, Datagram, Moment, Octets, read_number};
 use std::alloc::Global;
-use thiserror::Error;
 
 /// A line of a script.
 #[derive(Debug, Drop)]
@@ -23,13 +22,11 @@ pub(crate) enum Line {
 }
 
 /// Why no line was read.
-#[derive(Clone, Copy, Debug, PartialEq, Eq, Error)]
+#[derive(Clone, Copy, Debug, PartialEq, Eq)]
 pub(crate) enum LineRefused {
     /// The text stands for no line.
-    #[error("not a line")]
     NotLine,
     /// No memory was found.
-    #[error("out of memory")]
     Memory,
 }
 

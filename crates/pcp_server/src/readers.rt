@@ -8,7 +8,6 @@ use pcp_base::Failed;
 use pcp_io::Source;
 use std::alloc::AllocFailed;
 use std::marker::Model;
-use thiserror::Error;
 
 // How many octets a script may have.
 const MOST_OCTETS: u64 = 1 << 30;
@@ -30,13 +29,11 @@ pub(crate) enum Ending {
 }
 
 /// Why no line was read to its end.
-#[derive(Clone, Copy, Debug, PartialEq, Eq, Error)]
+#[derive(Clone, Copy, Debug, PartialEq, Eq)]
 pub(crate) enum LineFault {
     /// The source failed, and counted that.
-    #[error("the script can't be read")]
     Read,
     /// No memory was found.
-    #[error("out of memory")]
     Memory,
 }
 

@@ -7,7 +7,7 @@ ghost use Rattle.pcp_server.specs.declared.run.Turn.TheVariants.{More, Over};
 ghost use Rattle.pcp_server.specs.Lines.{IsLine};
 ghost use Rattle.pcp_server.specs.Words.{IsPlay};
 ghost use Rattle.pcp_server.specs.Profile.{external, profile};
-ghost use Rattle.pcp_server.specs.Runs.{after_all, entries_of, line_text};
+ghost use Rattle.pcp_server.specs.ScriptRun.{after_all, entries_of, line_text};
 ghost use Rattle.pcp_server.specs.Played.{IsOver};
 ghost use Rattle.pcp_server.specs.Playing.{Answers, AnswersOrFails, EndsTurn, Fails, IsTurned, IsUnderway, PrintsLine, status_at};
 

@@ -3,14 +3,14 @@ ghost use Rattle.std.specs.Prelude.{◌≡◌, ◌<◌, ◌≤◌, length, max, 
 ghost use Rattle.pcp_base.specs.Tables.{first_endpoint, is_map_of, live, put};
 ghost use Rattle.std.specs.List.{AllByRecursion};
 ghost use Rattle.pcp_base.specs.Epoch.{epoch_of};
-ghost use Rattle.pcp_base.specs.Apply.{apply, changed};
+ghost use Rattle.pcp_base.specs.Apply.{apply_first, table_changed};
 ghost use Rattle.pcp_codec.specs.Framing.{is_silent};
-ghost use Rattle.pcp_server.specs.OwnedPorts.{HasPorts, IsOfMaps};
+ghost use Rattle.pcp_server.specs.OwnedPorts.{EndsInRange, IsOfMaps};
 ghost use Rattle.pcp_server.specs.Decisions.{decide as decide_on, only_maps};
-ghost use Rattle.pcp_server.specs.Runs.{IsAnswered, IsHeard, IsStep, heard_ask};
+ghost use Rattle.pcp_server.specs.ScriptRun.{IsAnswered, IsHeard, IsStep, heard_ask};
 ghost use Rattle.pcp_server.specs.Played.{started};
 
-use crate::decisions::{Decided, decide};
+use crate::decisions::{Decided, decide, key_of};
 use crate::replies::reply_for;
 use crate::verdicts::{Verdict, judge};
 use pcp_base::{
@@ -31,21 +31,28 @@ pub(crate) struct Shard {
 }
 
 impl Model for Shard {
-    ghost use Rattle.std.specs.Prelude.{true};
+    ghost use Rattle.std.specs.Prelude.{true, [], None};
     ghost use Rattle.std.specs.List.{AllByRecursion};
-    ghost use Rattle.pcp_server.specs.OwnedPorts.{HasPorts};
+    ghost use Rattle.pcp_server.specs.OwnedPorts.{EndsInRange};
     ghost use Rattle.pcp_server.specs.Decisions.{only_maps};
     ghost use Rattle.pcp_server.specs.ShardStates.{ShardState};
 
     ghost Value = { ShardState };
 
     ghost view = { λ s. record {
-      state = record { table = only_maps s.maps.items; base = s.base; last = s.last; started = true };
+      state = record {
+        table = only_maps s.maps.items;
+        ends = [];
+        base = s.base;
+        address = None;
+        last = s.last;
+        started = true;
+      };
       reached = s.reached;
       told = s.base;
     } };
 
-    ghost invariant = { λ s. AllByRecursion HasPorts s.maps.items };
+    ghost invariant = { λ s. AllByRecursion EndsInRange s.maps.items };
 }
 
 impl Shard {
@@ -141,7 +148,7 @@ impl Shard {
     /// Applies a record to the table. After `Memory` the table isn't to be used again.
     fn keep(&mut self, kept: &Record) -> Result<(), Memory>
         requires { IsOfMaps kept.now.change }
-        ensures { OnOk result (self.new ≡ record self.old { state = apply self.old.state kept.now }) }
+        ensures { OnOk result (self.new ≡ record self.old { state = apply_first self.old.state kept.now }) }
     {
         change_maps(&mut self.maps, kept)?;
         self.last = kept.moment;
@@ -179,17 +186,6 @@ fn has_key(lease: &MapLease, key: &Endpoint) -> bool
     ensures { result ≡ is_map_of key.now lease.now }
 {
     key_of(lease) == *key
-}
-
-/// The key of a lease.
-fn key_of(lease: &MapLease) -> Endpoint
-    ensures { result ≡ first_endpoint lease.now }
-{
-    Endpoint {
-        address: lease.address,
-        protocol: lease.protocol,
-        port: lease.internal,
-    }
 }
 
 /// Drops the leases that aren't live at a moment.
@@ -230,9 +226,9 @@ fn put_lease(maps: &mut Vec<MapLease>, lease: MapLease) -> Result<(), AllocError
 /// Drops the leases that aren't live at the record's moment, and changes the others by it.
 fn change_maps(maps: &mut Vec<MapLease>, kept: &Record) -> Result<(), AllocError>
     requires change { IsOfMaps kept.now.change }
-    requires ports { AllByRecursion HasPorts maps.old.items }
-    ensures ports { AllByRecursion HasPorts maps.new.items }
-    ensures ok { OnOk result (only_maps maps.new.items ≡ changed kept.now.change (live (only_maps maps.old.items) kept.now.moment)) }
+    requires ports { AllByRecursion EndsInRange maps.old.items }
+    ensures ports { AllByRecursion EndsInRange maps.new.items }
+    ensures ok { OnOk result (only_maps maps.new.items ≡ table_changed kept.now.change (live (only_maps maps.old.items) kept.now.moment)) }
 {
     drop_ended(maps, kept.moment);
     match &kept.change {

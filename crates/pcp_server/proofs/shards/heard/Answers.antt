@@ -1,5 +1,5 @@
 use Rattle.std.proofs.Common.{◌∙◌, ap, sym, subst}
-use Rattle.pcp_server.specs.Runs.{IsHeard, heard_ask}
+use Rattle.pcp_server.specs.ScriptRun.{IsHeard, heard_ask}
 use Rattle.pcp_server.specs.Verdicts.{verdict_of}
 use Rattle.pcp_server.proofs.VerdictLemmas.{IsHeard-verdict}
 use Rattle.pcp_server.proofs.shards.heard.Goals as goal
