@@ -1,7 +1,7 @@
 //! What no clause says: that the definitions mean these octets and texts, and that runs succeed with
 //! ample memory.
 ghost use Rattle.std.specs.Prelude.{◌≡◌};
-ghost use Rattle.pcp_server.specs.OwnedPorts.{HasPorts};
+ghost use Rattle.pcp_server.specs.OwnedPorts.{EndsInRange};
 
 use crate::decisions::decide;
 use crate::profiles::served_config;
@@ -673,7 +673,7 @@ fn ask_of(alloc: Global, host: u8) -> Ask {
 
 // The lease that it is granted at a moment, until the expiry.
 fn lease_of(granted: Moment, expiry: u64) -> MapLease
-    ensures { HasPorts result }
+    ensures { EndsInRange result }
 {
     MapLease {
         address: Address::v4(10, 0, 0, 5),
