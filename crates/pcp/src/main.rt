@@ -1,11 +1,15 @@
 //! `pcp`: answers Port Control Protocol requests (RFC 6887).
 #![tactic(auto)]
 
+#[cfg(test)]
+mod tests;
+
 use pcp_base::Memory;
 use pcp_io::{FileSource, StdSink};
 use pcp_server::{Status, run_once};
 use std::alloc::Global;
 use std::env;
+use std::io::ErrorKind;
 use std::process::ExitCode;
 
 const USAGE: &str = "usage: pcp play CONFIG SCRIPT JOURNALS START
@@ -30,15 +34,16 @@ fn main(rt: HostRuntime) -> ExitCode {
         Err(status) => status,
     };
     if status != Status::Done {
-        let _ = eprintln!(rt; "pcp: {status}");
+        let _ = eprintln!(rt; "{status}");
     }
     ExitCode::from(status.exit())
 }
 
 /// The words behind the program's name. A word that isn't UTF-8 is part of no command.
 fn words(rt: &HostRuntime) -> Result<Vec<String>, Status> {
-    let Ok(args) = env::args(rt) else {
-        return Err(Status::WordsRefused);
+    let args = match env::args(rt) {
+        Ok(args) => args,
+        Err(error) => return Err(status_of(error.kind())),
     };
     let mut words = Vec::new(rt.alloc());
     for word in args.skip(1) {
@@ -47,6 +52,14 @@ fn words(rt: &HostRuntime) -> Result<Vec<String>, Status> {
         }
     }
     Ok(words)
+}
+
+/// How the program ends where its words can't be had.
+fn status_of(kind: ErrorKind) -> Status {
+    match kind {
+        ErrorKind::OutOfMemory => Status::Memory,
+        _ => Status::WordsRefused,
+    }
 }
 
 /// Runs the command that the words are.

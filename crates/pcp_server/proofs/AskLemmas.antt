@@ -1,5 +1,5 @@
 -- What the verdict lets through is well formed.
-use Rattle.std.specs.Prelude.{◌≡◌, refl, ℕ, zero, suc, ◌+◌, ◌<◌, ◌≤◌, ◌==◌, ◌||◌, not, false, List, [], ◌∷◌, ◌++◌, Option, Some, None}
+use Rattle.std.specs.Prelude.{◌≡◌, refl, ℕ, zero, suc, ◌+◌, ◌<◌, ◌≤◌, ◌==◌, ◌||◌, not, false, List, [], ◌∷◌, ◌++◌, Option, Some, None, is_none}
 use Rattle.std.specs.List.{AllByRecursion}
 use Rattle.std.proofs.Common.{sym, subst, arith}
 use Rattle.std.proofs.lemmas.Bool.{cond_both, or_parts, eqb-false, ltb-false}
@@ -8,6 +8,7 @@ use Rattle.pcp_base.specs.declared.asks.Refusal.{Refusal}
 use Rattle.pcp_base.specs.declared.asks.Ask.{Ask}
 use Rattle.pcp_base.specs.declared.configs.Config.{Config}
 use Rattle.pcp_base.specs.Asks.{IsWellFormedAsk}
+use Rattle.pcp_base.specs.Protocols.{protocol_of}
 use Rattle.pcp_codec.specs.declared.requests.Common.{Common}
 use Rattle.pcp_codec.specs.declared.requests.Body.{Body}
 use Rattle.pcp_codec.specs.declared.requests.Body.TheVariants as Bodies
@@ -39,7 +40,7 @@ formed-common : (message : List ℕ) (source : Address) (lifetime : ℕ) (c : Co
 formed-common message source lifetime c same octets h =
     let internal : c.internal < 65536 = subst (λ (d : Common). d.internal < 65536) (sym same) (u16_at-lt message 40 octets) in
     let external : c.external < 65536 = subst (λ (d : Common). d.external < 65536) (sym same) (u16_at-lt message 42 octets) in
-    let parts = or_parts (not (c.protocol == 6 || c.protocol == 17)) (c.internal == 0) h in
+    let parts = or_parts (is_none (protocol_of c.protocol)) (c.internal == 0) h in
     let some : c.internal ≡ 0 → ⊥ = eqb-false c.internal 0 parts.1 in
     record {
       internal = record { some = omega (arith, some); below = omega (arith, internal) };

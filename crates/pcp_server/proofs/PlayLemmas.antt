@@ -6,6 +6,7 @@ use Rattle.pcp_io.proofs.KnownOctets.{prepend_known-append}
 use Rattle.pcp_base.specs.declared.configs.Config.{Config}
 use Rattle.pcp_base.specs.declared.configs.External.{External}
 use Rattle.pcp_server.specs.declared.lines.Line.{Line}
+use Rattle.pcp_server.specs.declared.readers.TheConstants.{PIECE}
 use Rattle.pcp_server.specs.declared.readers.Ending.{Ending}
 use Rattle.pcp_server.specs.declared.readers.Ending.TheVariants as Endings
 use Rattle.pcp_server.specs.declared.statuses.Status.TheVariants as Statuses
@@ -13,12 +14,12 @@ use Rattle.pcp_server.specs.declared.run.Turn.{Turn}
 use Rattle.pcp_server.specs.declared.run.TextFault.{TextFault}
 use Rattle.pcp_server.specs.declared.run.TextFault.TheVariants as Faults
 use Rattle.pcp_server.specs.ShardStates.{ShardState}
-use Rattle.pcp_server.specs.Reading.{Reading, rest_of, Uses, EndsByFeed, EndsLast, EndsScript, EndsRefusing, Ends, Stops, StopsReading}
+use Rattle.pcp_server.specs.Reading.{Reading, rest_of, Uses, EndsByFeed, EndsLast, EndsScript, EndsRefusing, Ends, Stops, StopsForMemory, StopsReading}
 use Rattle.pcp_server.specs.declared.readers.LineFault.{LineFault}
 use Rattle.pcp_server.specs.declared.readers.LineFault.TheVariants as LineFaults
 use Rattle.pcp_server.specs.Lines.{AreFirst, IsLine, IsUnbroken, ended}
 use Rattle.pcp_server.specs.ScriptRun.{after_all, entries_of, history_of, line_text, out_of}
-use Rattle.pcp_server.specs.Played.{IsOver, AreAnswered, EndsRefused, started}
+use Rattle.pcp_server.specs.Played.{IsOver, AreAnswered, EndsRefused, ReadsFew, most_for, started}
 use Rattle.pcp_server.specs.Playing.{IsUnderway, IsTurned, Answers, AnswersPart, EndsTurn, Fails, status_at}
 use Rattle.pcp_server.proofs.FeedLemmas.{AllUnbroken-push, flat_map-ended-push, IsUnbroken-append, splits}
 use Rattle.pcp_server.proofs.HistorySteps.{AreLines-push, out_of-push, after_lines-push}
@@ -78,6 +79,9 @@ too_long_refused : (script text front back rest : List ℕ) → rest ≡ front +
 too_long_refused script text front back rest e (inl long) = inl (omega (arith, length-append text front))
 too_long_refused script text front back rest e (inr past) =
     inr (inl (omega (arith, past.0, past.1, ap length e, length-append front back, length-drop 1 back)))
+
+most_for-longer : (text front : List ℕ) → length text ≤ 8193 → length text + PIECE ≤ most_for (text ++ front)
+most_for-longer text front short = omega (arith, short, length-append text front)
 
 length-ended : (text : List ℕ) → length (ended text) ≡ length text + 1
 length-ended text = length-append text (10 ∷ [])
@@ -187,6 +191,7 @@ module _ (config : Config) (external : External) (start number : ℕ) (script be
           spelled = t.spelled;
           unbroken = u.unbroken;
           unended = e.uses.unbroken;
+          short = e.short;
           few = omega (arith, u.used, e.uses.used, e.uses.few);
           answered = answered;
         };
@@ -203,13 +208,24 @@ module _ (config : Config) (external : External) (start number : ℕ) (script be
       }
 
   -- what is left of the source, once the rest of the script is known
-  left_of : (reading' : Reading) (left' : Option (List ℕ)) (rest : List ℕ) → rest_of reading' left' ≡ Some rest → (y : List ℕ) × (left' ≡ Some y)
+  left_of : (reading' : Reading) (left' : Option (List ℕ)) (rest : List ℕ) → rest_of reading' left' ≡ Some rest → (y : List ℕ) × (left' ≡ Some y) × (rest ≡ reading'.pending ++ y)
   left_of reading' None rest h = absurd cc
-  left_of reading' (Some y) rest h = (y, refl)
+  left_of reading' (Some y) rest h = (y, refl, sym (some_same (reading'.pending ++ y) rest h))
+
+  -- octets that were used behind the lines so far, and what is pending, are few
+  reads_few : (used : List ℕ) (reading' : Reading) (rest left'' : List ℕ) (most : ℕ) → script ≡ (flat_map ended u.texts ++ used) ++ rest → rest ≡ reading'.pending ++ left'' → length reading'.pending ≤ PIECE → length used + PIECE ≤ most → ReadsFew script left'' u.texts most
+  reads_few used reading' rest left'' most spelled pending piece few = record {
+    ahead = used ++ reading'.pending;
+    spelled = spelled ∙ ap (λ xs. (flat_map ended u.texts ++ used) ++ xs) pending
+        ∙ append_assoc (flat_map ended u.texts) used (reading'.pending ++ left'')
+        ∙ ap (λ xs. flat_map ended u.texts ++ xs) (sym (append_assoc used reading'.pending left''))
+        ∙ sym (append_assoc (flat_map ended u.texts) (used ++ reading'.pending) left'');
+    few = omega (arith, length-append used reading'.pending, piece, few);
+  }
 
   -- no memory was found for the line of which these octets were used
-  ends_early : (used : List ℕ) (n : ℕ) (reading' : Reading) (left' held' : Option (List ℕ)) → rest_of reading left ≡ prepend_known used (rest_of reading' left') → n ≡ reading.used + length used → n ≤ 2 ^ 30 → held' ≡ held → IsOver config external start script before left' held' Statuses.Memory
-  ends_early used n reading' left' held' h count few same =
+  ends_early : (used : List ℕ) (n : ℕ) (reading' : Reading) (left' held' : Option (List ℕ)) → rest_of reading left ≡ prepend_known used (rest_of reading' left') → n ≡ reading.used + length used → n ≤ 2 ^ 30 → length used ≤ 8193 → length reading'.pending ≤ PIECE → held' ≡ held → IsOver config external start script before left' held' Statuses.Memory
+  ends_early used n reading' left' held' h count few short piece same =
       let t = told_after used (rest_of reading' left') h in
       let l = left_of reading' left' t.rest t.known_is in
       record {
@@ -221,24 +237,26 @@ module _ (config : Config) (external : External) (start number : ℕ) (script be
           texts = u.texts;
           rest = used ++ t.rest;
           first = first_so_far used (rest_of reading' left') n h count few t;
+          read = reads_few used reading' t.rest l.0 (8193 + PIECE) t.spelled l.2 piece (omega (arith, short));
           answered = answered;
         };
       }
 
-  stops_early : (text : List ℕ) (reading' : Reading) (left' : Option (List ℕ)) → Uses reading reading' left left' text → IsOver config external start script before left' held Statuses.Memory
-  stops_early text reading' left' e = ends_early text reading'.used reading' left' held e.octets e.used e.few refl
+  stops_early : (text : List ℕ) (reading' : Reading) (left' : Option (List ℕ)) → StopsForMemory reading reading' left left' text → IsOver config external start script before left' held Statuses.Memory
+  stops_early text reading' left' e = ends_early text reading'.used reading' left' held e.uses.octets e.uses.used e.uses.few (omega (arith, e.short)) e.uses.piece refl
 
   -- a fault at the text of a line that was read to its end, whatever is left then
   ends_fault : (text : List ℕ) (n : ℕ) (known : Option (List ℕ)) → rest_of reading left ≡ prepend_known text known → IsUnbroken text → n ≡ reading.used + length text → n ≤ 2 ^ 30
       → (t : Told script (flat_map ended u.texts ++ text) known) → (t.rest ≡ []) ⊎ (slice_get t.rest 0 ≡ Some 10) → (text ≢ []) ⊎ (t.rest ≢ [])
-      → ((line : Line) → ¬ (IsLine text line)) → EndsRefused config external start number script (out_of config external (started start) u.lines)
-  ends_fault text n known h unbroken used few t whole some refused = record {
+      → ((line : Line) → ¬ (IsLine text line)) → (left'' : List ℕ) → ReadsFew script left'' u.texts (most_for text) → EndsRefused config external start number script left'' (out_of config external (started start) u.lines)
+  ends_fault text n known h unbroken used few t whole some refused left'' read = record {
     texts = u.texts;
     text = text;
     tail = t.rest;
     first = first_so_far text known n h used few t;
     number = u.count;
     refused = record { unbroken = unbroken; whole = whole; some = some; refused = inr (inr refused) };
+    read = read;
     answered = answered;
   }
 
@@ -246,8 +264,8 @@ module _ (config : Config) (external : External) (start number : ℕ) (script be
   ends_refused : (text : List ℕ) (n : ℕ) (reading' : Reading) (left' held' known : Option (List ℕ)) (rest : List ℕ) → rest_of reading' left' ≡ Some rest
       → rest_of reading left ≡ prepend_known text known → IsUnbroken text → n ≡ reading.used + length text → n ≤ 2 ^ 30
       → ((t : List ℕ) → known ≡ Some t → ((t ≡ []) ⊎ (slice_get t 0 ≡ Some 10)) × ((text ≢ []) ⊎ (t ≢ [])))
-      → ((line : Line) → ¬ (IsLine text line)) → held' ≡ held → IsOver config external start script before left' held' (Statuses.ScriptRefused number)
-  ends_refused text n reading' left' held' known rest e h unbroken used few whole refused same =
+      → ((line : Line) → ¬ (IsLine text line)) → held' ≡ held → ((left'' : List ℕ) → rest ≡ reading'.pending ++ left'' → ReadsFew script left'' u.texts (most_for text)) → IsOver config external start script before left' held' (Statuses.ScriptRefused number)
+  ends_refused text n reading' left' held' known rest e h unbroken used few whole refused same read =
       let t = told_after text known h in
       let l = left_of reading' left' rest e in
       let w = whole t.rest t.known_is in
@@ -256,12 +274,12 @@ module _ (config : Config) (external : External) (start number : ℕ) (script be
         written = out_of config external (started start) u.lines;
         left_is = l.1;
         held_is = same ∙ u.held_is;
-        played = ends_fault text n known h unbroken used few t w.0 w.1 refused;
+        played = ends_fault text n known h unbroken used few t w.0 w.1 refused l.0 (read l.0 l.2);
       }
 
   -- the result of the next line is written in part
-  ends_writing : (text rest : List ℕ) (reading' : Reading) (left' held' : Option (List ℕ)) → rest_of reading' left' ≡ Some rest → length text ≤ 8192 → AreFirst script rest (u.texts ++ text ∷ []) → AnswersPart config external text shard held held' → IsOver config external start script before left' held' Statuses.WriteFault
-  ends_writing text rest reading' left' held' e short first a =
+  ends_writing : (text rest : List ℕ) (reading' : Reading) (left' held' : Option (List ℕ)) → rest_of reading' left' ≡ Some rest → length text ≤ 8192 → AreFirst script rest (u.texts ++ text ∷ []) → AnswersPart config external text shard held held' → ((left'' : List ℕ) → rest ≡ reading'.pending ++ left'' → ReadsFew script left'' u.texts (most_for text)) → IsOver config external start script before left' held' Statuses.WriteFault
+  ends_writing text rest reading' left' held' e short first a read =
       let lines_out = out_of config external (started start) u.lines in
       let after = after_all (started start) (history_of config external (started start) u.lines) in
       let result = line_text a.line (entries_of config external after a.line) in
@@ -285,6 +303,7 @@ module _ (config : Config) (external : External) (start number : ℕ) (script be
           taken = part.taken;
           short = part.short;
           written_is = refl;
+          read = read l.0 l.2;
         };
       }
 
@@ -304,11 +323,13 @@ module _ (config : Config) (external : External) (start number : ℕ) (script be
       let t = told_after (ended text) (rest_of reading' left') e.octets in
       ends_refused text (reading.used + length text) reading' left' held' known t.rest t.known_is split e.unbroken refl (omega (arith, e.used, e.few))
       (λ xs k. let feed = begins_feed (rest_of reading' left') xs k in (inr feed.0, inr feed.1)) h.0 h.1
+      (λ l'' k. reads_few (ended text) reading' t.rest l'' (most_for text) t.spelled k e.piece (omega (arith, length-ended text, e.short)))
   fault_by_feed text reading' shard' left' held' faults faults' Faults.Write e h =
       let t = told_after (ended text) (rest_of reading' left') e.octets in
       ends_writing text t.rest reading' left' held' t.known_is e.short (first_by_feed text t.rest reading' left' e t.spelled) h.0
+      (λ l'' k. reads_few (ended text) reading' t.rest l'' (most_for text) t.spelled k e.piece (omega (arith, length-ended text, e.short)))
   fault_by_feed text reading' shard' left' held' faults faults' Faults.Memory e h =
-      ends_early (ended text) reading'.used reading' left' held' e.octets (omega (arith, e.used, length-ended text)) e.few h
+      ends_early (ended text) reading'.used reading' left' held' e.octets (omega (arith, e.used, length-ended text)) e.few (omega (arith, length-ended text, e.short)) e.piece h
 
   -- a fault behind the last line, which has no line feed
   fault_at_last : (text : List ℕ) (reading' : Reading) (shard' : ShardState) (left' held' : Option (List ℕ)) (faults faults' : ℕ) (fault : TextFault) → EndsLast reading reading' left left' text → Fails config external text shard held held' faults faults' fault → IsOver config external start script before left' held' (status_at number fault)
@@ -318,6 +339,7 @@ module _ (config : Config) (external : External) (start number : ℕ) (script be
       let nothing : t.rest ≡ [] = at_end left' t.rest none e.none_left in
       ends_refused text reading'.used reading' left' held' (rest_of reading' left') t.rest t.known_is e.uses.octets e.uses.unbroken e.uses.used e.uses.few
       (λ xs k. (inl (some_same xs t.rest (sym k ∙ t.known_is) ∙ nothing), inl e.some)) h.0 h.1
+      (λ l'' k. reads_few text reading' t.rest l'' (most_for text) t.spelled k e.uses.piece (omega (arith, e.short)))
   fault_at_last text reading' shard' left' held' faults faults' Faults.Write e h =
       let t = told_after text (rest_of reading' left') e.uses.octets in
       let none : left' ≡ Some t.rest = rest_left reading' left' t.rest e.none_pending t.known_is in
@@ -329,8 +351,9 @@ module _ (config : Config) (external : External) (start number : ℕ) (script be
         few = omega (arith, ap length spelled, length-append (flat_map ended u.texts) text, u.used, e.uses.used, e.uses.few);
       } in
       ends_writing text t.rest reading' left' held' t.known_is e.short first h.0
+      (λ l'' k. reads_few text reading' t.rest l'' (most_for text) t.spelled k e.uses.piece (omega (arith, e.short)))
   fault_at_last text reading' shard' left' held' faults faults' Faults.Memory e h =
-      ends_early text reading'.used reading' left' held' e.uses.octets e.uses.used e.uses.few h
+      ends_early text reading'.used reading' left' held' e.uses.octets e.uses.used e.uses.few (omega (arith, e.short)) e.uses.piece h
 
   -- the text is too long, or something is left behind it
   long_or_past : {text : List ℕ} {reading' : Reading} {left' : Option (List ℕ)} → EndsRefusing reading reading' left left' text → (rest : List ℕ) → rest_of reading' left' ≡ Some rest → (length text ≡ 8193) ⊎ (0 < length rest)
@@ -342,6 +365,9 @@ module _ (config : Config) (external : External) (start number : ℕ) (script be
   long_or_past_by {text} {reading'} {left'} e t =
       let whole : length script ≡ reading'.used + length t.rest = omega (arith, ap length t.spelled, length-append (flat_map ended u.texts ++ text) t.rest, length-append (flat_map ended u.texts) text, u.used, e.uses.used) in
       elim e.refused [ inl long ↦ inl long | inr past ↦ inr (pending_left reading' left' t.rest t.known_is past.1, whole ∙ ap (λ n. n + length t.rest) past.0) ]
+
+  used_few : {text : List ℕ} {reading' : Reading} {left' : Option (List ℕ)} → EndsRefusing reading reading' left left' text → length text ≤ 8193
+  used_few e = elim e.refused [ inl long ↦ omega (arith, long) | inr past ↦ omega (arith, past.2) ]
 
   -- the reader refuses a line that is too long, or by whose end the script is
   ends_too_long : (text : List ℕ) (reading' : Reading) (left' held' : Option (List ℕ)) → EndsRefusing reading reading' left left' text → held' ≡ held → IsOver config external start script before left' held' (Statuses.ScriptRefused number)
@@ -367,6 +393,7 @@ module _ (config : Config) (external : External) (start number : ℕ) (script be
             some = too_long_some text s.front s.back (long_or_past e t.rest t.known_is) s.spelled;
             refused = too_long_refused script text s.front s.back t.rest s.spelled (long_or_past_by e t);
           };
+          read = reads_few text reading' t.rest l.0 (most_for (text ++ s.front)) t.spelled l.2 e.uses.piece (most_for-longer text s.front (used_few e));
           answered = answered;
         };
       }

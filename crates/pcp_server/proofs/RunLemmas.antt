@@ -43,6 +43,7 @@ ends_at_once start script before left held l h = record {
     texts = [];
     rest = script;
     first = record { unbroken = tt; spelled = inl refl; few = omega arith };
+    read = record { ahead = []; spelled = refl; few = omega arith };
     answered = AreAnswered-lines profile external start [] [] [] IsExternal-external tt refl;
   };
 }

@@ -13,6 +13,7 @@ use Rattle.pcp_base.specs.declared.records.Record.{Record}
 use Rattle.pcp_base.specs.declared.configs.Config.{Config}
 use Rattle.pcp_base.specs.declared.configs.External.{External}
 use Rattle.pcp_base.specs.Tables.{Table, live, covers, first_endpoint, is_map_of, names, IsMapLease}
+use Rattle.pcp_base.specs.declared.leases.TheConstants.{MOST_LEASES}
 use Rattle.pcp_base.specs.Apply.{table_changed, rebases}
 use Rattle.pcp_base.specs.Asks.{IsMapAsk, IsWellFormedAsk}
 use Rattle.pcp_base.specs.Configs.{IsExternal}
@@ -65,7 +66,7 @@ new-IsMapLease config external t m ask port x formed free = record {
 
 room-new : (config : Config) (external : External) (t : Table) (m : ℕ) (ask : MapAsk) (port : ℕ) → t.peers ≡ [] →
     AllByRecursion (λ x. covers x ask.endpoint ≡ false) (live t m).maps → IsFreePort external t m ask.endpoint.protocol port →
-    length (live t m).maps + length (live t m).peers < 32768 → IsRoomFor (live t m) (new_lease config m ask port)
+    length (live t m).maps + length (live t m).peers < MOST_LEASES → IsRoomFor (live t m) (new_lease config m ask port)
 room-new config external t m ask port none uncovered free room = record {
   one = refl;
   uncovered = uncovered;

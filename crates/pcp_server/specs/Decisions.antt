@@ -16,6 +16,8 @@ use Rattle.pcp_base.specs.declared.configs.Config.{Config}
 use Rattle.pcp_base.specs.declared.configs.External.{External}
 use Rattle.pcp_base.specs.Tables.{Table, live, covers, first_endpoint}
 use Rattle.pcp_base.specs.Owners.{owners, is_port}
+use Rattle.pcp_base.specs.Cases.{Case, first_case}
+use Rattle.pcp_base.specs.declared.leases.TheConstants.{MOST_LEASES}
 use Rattle.pcp_server.specs.declared.decisions.Decided.{Decided}
 use Rattle.pcp_codec.specs.Framing.{unparsed}
 use Rattle.pcp_server.specs.Verdicts.{parsed}
@@ -68,51 +70,42 @@ new_lease config m ask port = record {
   filters = [];
 }
 
--- a case: where it applies, and what is decided then
-pub record Case : Type 0 where
-  pub applies : Bool
-  pub decided : Decided
-
--- the decision of the first case that applies, else the last one
-abbrev pub first_case : List Case → Decided → Decided
-first_case [] last = last
-first_case (c ∷ cs) last = if c.applies then c.decided else first_case cs last
-
 -- the seconds that a lease still has, as a reply tells them
 abbrev pub time_left : ℕ → MapLease → ℕ
 time_left m lease = min (lease.expiry - m) (2 ^ 32 - 1)
 
 -- a live lease covers the endpoint: it has another nonce, or is deleted
-abbrev pub held_cases : ℕ → MapAsk → MapLease → List Case
+abbrev pub held_cases : ℕ → MapAsk → MapLease → List (Case Decided)
 held_cases m ask lease =
     (record {
       applies = not (bytes_eq lease.nonce.0 ask.nonce.0);
-      decided = answered (Refused (record { code = NotAuthorized; parsed = true; lifetime = time_left m lease }));
+      result = answered (Refused (record { code = NotAuthorized; parsed = true; lifetime = time_left m lease }));
     })
     ∷ (record {
       applies = ask.lifetime == 0;
-      decided = record { answer = Gone; kept = Some (record { moment = m; change = Changes.DropMap (first_endpoint lease) }) };
+      result = record { answer = Gone; kept = Some (record { moment = m; change = Changes.DropMap (first_endpoint lease) }) };
     })
     ∷ []
 
 -- none covers it: nothing is to be deleted, there is no port, or the table is full
-abbrev pub new_cases : Table → ℕ → MapAsk → Option ℕ → List Case
+abbrev pub new_cases : Table → ℕ → MapAsk → Option ℕ → List (Case Decided)
 new_cases t m ask picked =
-    (record { applies = ask.lifetime == 0; decided = answered Gone })
-    ∷ (record { applies = is_none picked; decided = answered (Refused (parsed NoResources)) })
+    (record { applies = ask.lifetime == 0; result = answered Gone })
+    ∷ (record { applies = is_none picked; result = answered (Refused (parsed NoResources)) })
     ∷ (record {
-      applies = nat_le 32768 (length (live t m).maps + length (live t m).peers);
-      decided = answered (Refused (parsed NoResources));
+      applies = nat_le MOST_LEASES (length (live t m).maps + length (live t m).peers);
+      result = answered (Refused (parsed NoResources));
     })
     ∷ []
 
 -- else the lease is renewed, or granted at the pick
 abbrev pub decide_by : Config → External → Table → ℕ → MapAsk → Option MapLease → Decided
 decide_by config external t m ask (Some lease) =
-    first_case (held_cases m ask lease) (mapped config external m ask (renewed config m ask lease))
+    unwrap_or (first_case (held_cases m ask lease)) (mapped config external m ask (renewed config m ask lease))
 decide_by config external t m ask None =
     let picked = pick external t m ask in
-    first_case (new_cases t m ask picked) (mapped config external m ask (new_lease config m ask (unwrap_or picked 0)))
+    unwrap_or (first_case (new_cases t m ask picked))
+    (mapped config external m ask (new_lease config m ask (unwrap_or picked 0)))
 
 -- the live MAP lease that covers the endpoint
 abbrev pub covering : Table → ℕ → Endpoint → Option MapLease

@@ -1,11 +1,12 @@
 -- What a run of `play` did with its script (our own).
-use Rattle.std.specs.Prelude.{◌≡◌, ◌≢◌, ℕ, ◌+◌, ◌-◌, ◌^◌, ◌<◌, ◌≤◌, ◌⊎◌, List, [], ◌∷◌, ◌++◌, length, flat_map, take, drop, slice_get, Option, Some, None, true}
+use Rattle.std.specs.Prelude.{◌≡◌, ◌≢◌, ℕ, ◌+◌, ◌-◌, ◌^◌, ◌<◌, ◌≤◌, ◌⊎◌, List, [], ◌∷◌, ◌++◌, length, flat_map, take, drop, min, slice_get, Option, Some, None, true}
 use Rattle.std.specs.List.{AllByRecursion}
 use Rattle.pcp_base.specs.declared.configs.Config.{Config}
 use Rattle.pcp_base.specs.declared.configs.External.{External}
 use Rattle.pcp_base.specs.declared.datagrams.Entry.{Entry}
 use Rattle.pcp_base.specs.Tables.{empty_table}
 use Rattle.pcp_server.specs.declared.lines.Line.{Line}
+use Rattle.pcp_server.specs.declared.readers.TheConstants.{PIECE}
 use Rattle.pcp_server.specs.declared.statuses.Status.{Status}
 use Rattle.pcp_server.specs.declared.statuses.Status.TheVariants.{Done, WordsRefused, ScriptRefused, ReadFault, WriteFault, Memory}
 use Rattle.pcp_server.specs.Histories.{IsLegal, IsSafe}
@@ -40,6 +41,16 @@ pub record IsRefused (script text tail : List ℕ) : Type 0 where
   pub some : (text ≢ []) ⊎ (tail ≢ [])
   pub refused : (8192 < length text) ⊎ ((2 ^ 30 < length script - length (drop 1 tail)) ⊎ ((line : Line) → ¬ (IsLine text line)))
 
+-- What was read, where this is left of the script: these lines, and at most so many octets behind them.
+pub record ReadsFew (script left : List ℕ) (texts : List (List ℕ)) (most : ℕ) : Type 0 where
+  pub ahead : List ℕ
+  pub spelled : script ≡ flat_map ended texts ++ ahead ++ left
+  pub few : length ahead ≤ most
+
+-- the octets of the next line that may be read, its line feed included, and one piece
+abbrev pub most_for : List ℕ → ℕ
+most_for text = min (length text + 1) 8193 + PIECE
+
 -- every line is answered
 pub record EndsDone (config : Config) (external : External) (start : ℕ) (script left written : List ℕ) : Type 0 where
   pub texts : List (List ℕ)
@@ -48,13 +59,14 @@ pub record EndsDone (config : Config) (external : External) (start : ℕ) (scrip
   pub answered : AreAnswered config external start texts written
 
 -- the lines before the n-th are answered, and that one is refused
-pub record EndsRefused (config : Config) (external : External) (start n : ℕ) (script written : List ℕ) : Type 0 where
+pub record EndsRefused (config : Config) (external : External) (start n : ℕ) (script left written : List ℕ) : Type 0 where
   pub texts : List (List ℕ)
   pub text : List ℕ
   pub tail : List ℕ
   pub first : AreFirst script (text ++ tail) texts
   pub number : n ≡ length texts + 1
   pub refused : IsRefused script text tail
+  pub read : ReadsFew script left texts (most_for text)
   pub answered : AreAnswered config external start texts written
 
 -- every line is answered whose line feed was read
@@ -64,11 +76,13 @@ pub record EndsReading (config : Config) (external : External) (start : ℕ) (sc
   pub spelled : script ≡ flat_map ended texts ++ part ++ left
   pub unbroken : AllByRecursion IsUnbroken texts
   pub unended : IsUnbroken part
-  pub few : length (flat_map ended texts) ≤ 2 ^ 30
+  -- the line isn't too long yet, nor is the script
+  pub short : length part ≤ 8192
+  pub few : length (flat_map ended texts) + length part ≤ 2 ^ 30
   pub answered : AreAnswered config external start texts written
 
 -- the results of some first lines are written, but that of the last of these only in part
-pub record EndsWriting (config : Config) (external : External) (start : ℕ) (script written : List ℕ) : Type 0 where
+pub record EndsWriting (config : Config) (external : External) (start : ℕ) (script left written : List ℕ) : Type 0 where
   pub texts : List (List ℕ)
   pub text : List ℕ
   pub rest : List ℕ
@@ -80,21 +94,23 @@ pub record EndsWriting (config : Config) (external : External) (start : ℕ) (sc
   pub taken : ℕ
   pub short : taken < length result
   pub written_is : written ≡ before ++ take taken result
+  pub read : ReadsFew script left texts (most_for text)
 
--- some first lines are answered
-pub record EndsEarly (config : Config) (external : External) (start : ℕ) (script written : List ℕ) : Type 0 where
+-- some first lines are answered, and at most one more is read
+pub record EndsEarly (config : Config) (external : External) (start : ℕ) (script left written : List ℕ) : Type 0 where
   pub texts : List (List ℕ)
   pub rest : List ℕ
   pub first : AreFirst script rest texts
+  pub read : ReadsFew script left texts (8193 + PIECE)
   pub answered : AreAnswered config external start texts written
 
 -- What is written, and what is left of the script, by the status.
 abbrev pub IsPlayed : Config → External → ℕ → (script left written : List ℕ) → Status → Type 0
 IsPlayed config external start script left written Done = EndsDone config external start script left written
-IsPlayed config external start script left written (ScriptRefused n) = EndsRefused config external start n script written
+IsPlayed config external start script left written (ScriptRefused n) = EndsRefused config external start n script left written
 IsPlayed config external start script left written ReadFault = EndsReading config external start script left written
-IsPlayed config external start script left written WriteFault = EndsWriting config external start script written
-IsPlayed config external start script left written Memory = EndsEarly config external start script written
+IsPlayed config external start script left written WriteFault = EndsWriting config external start script left written
+IsPlayed config external start script left written Memory = EndsEarly config external start script left written
 -- the words are those of a command
 IsPlayed config external start script left written WordsRefused = ⊥
 

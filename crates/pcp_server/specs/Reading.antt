@@ -6,6 +6,7 @@ use Rattle.pcp_server.specs.declared.readers.Ending.{Ending}
 use Rattle.pcp_server.specs.declared.readers.Ending.TheVariants.{Feed, Last, End, Refused}
 use Rattle.pcp_server.specs.declared.readers.LineFault.{LineFault}
 use Rattle.pcp_server.specs.declared.readers.LineFault.TheVariants.{Read, Memory}
+use Rattle.pcp_server.specs.declared.readers.TheConstants.{PIECE}
 use Rattle.pcp_server.specs.Lines.{IsUnbroken}
 
 pub record Reading : Type 0 where
@@ -20,6 +21,7 @@ rest_of reading left = prepend_known reading.pending left
 
 -- these next octets of a line were used, and no others
 pub record Uses (old new : Reading) (before now : Option (List ℕ)) (text : List ℕ) : Type 0 where
+  pub piece : length new.pending ≤ PIECE
   pub unbroken : IsUnbroken text
   pub octets : rest_of old before ≡ prepend_known text (rest_of new now)
   pub used : new.used ≡ old.used + length text
@@ -28,6 +30,7 @@ pub record Uses (old new : Reading) (before now : Option (List ℕ)) (text : Lis
 
 -- a line, and the line feed behind it
 pub record EndsByFeed (old new : Reading) (before now : Option (List ℕ)) (text : List ℕ) : Type 0 where
+  pub piece : length new.pending ≤ PIECE
   pub unbroken : IsUnbroken text
   pub octets : rest_of old before ≡ prepend_known (text ++ 10 ∷ []) (rest_of new now)
   pub used : new.used ≡ old.used + length text + 1
@@ -60,12 +63,18 @@ Ends old new before now text Last = EndsLast old new before now text
 Ends old new before now text End = EndsScript old new before now text
 Ends old new before now text Refused = EndsRefusing old new before now text
 
+-- no memory was found for more of the line
+pub record StopsForMemory (old new : Reading) (before now : Option (List ℕ)) (text : List ℕ) : Type 0 where
+  pub uses : Uses old new before now text
+  pub short : length text ≤ 8192
+
 -- the source failed, when all that had been read was used
 pub record StopsReading (old new : Reading) (before now : Option (List ℕ)) (faults faults_now : ℕ) (text : List ℕ) : Type 0 where
   pub uses : Uses old new before now text
+  pub short : length text ≤ 8192
   pub none_pending : new.pending ≡ []
   pub risen : HasRisen faults faults_now
 
 abbrev pub Stops : Reading → Reading → Option (List ℕ) → Option (List ℕ) → ℕ → ℕ → List ℕ → LineFault → Type 0
 Stops old new before now faults faults_now text Read = StopsReading old new before now faults faults_now text
-Stops old new before now faults faults_now text Memory = Uses old new before now text
+Stops old new before now faults faults_now text Memory = StopsForMemory old new before now text

@@ -2,7 +2,7 @@
 use Rattle.std.specs.Prelude.{ℕ, ◌==◌, ◌||◌, nat_lt, not, Bool, true, false, List, [], ◌∷◌, ◌++◌, length, Option, Some, None, is_none, unwrap_or, if◌then◌else◌}
 use Rattle.pcp_base.specs.declared.addresses.Address.{Address}
 use Rattle.pcp_base.specs.declared.leases.Protocol.{Protocol}
-use Rattle.pcp_base.specs.declared.leases.Protocol.TheVariants.{Tcp, Udp}
+use Rattle.pcp_base.specs.declared.leases.Protocol.TheVariants.{Udp}
 use Rattle.pcp_base.specs.declared.codes.Code.{Code}
 use Rattle.pcp_base.specs.declared.codes.Code.TheVariants.{UnsuppOpcode, UnsuppOption, UnsuppProtocol, NotAuthorized}
 use Rattle.pcp_base.specs.declared.asks.Refusal.{Refusal}
@@ -11,6 +11,7 @@ use Rattle.pcp_base.specs.declared.asks.Ask.TheVariants as Asks
 use Rattle.pcp_base.specs.declared.configs.Config.{Config}
 use Rattle.pcp_base.specs.Codes.{lifetime_of}
 use Rattle.pcp_base.specs.Pairing.{place_of}
+use Rattle.pcp_base.specs.Protocols.{protocol_of}
 use Rattle.pcp_codec.specs.declared.requests.Body.{Body}
 use Rattle.pcp_codec.specs.declared.requests.Body.TheVariants as Bodies
 use Rattle.pcp_codec.specs.Framing.{Step, first_failing, frame_steps, is_silent, unparsed}
@@ -21,8 +22,8 @@ use Rattle.pcp_server.specs.declared.verdicts.Verdict.TheVariants.{Silent, Refus
 -- a protocol other than TCP and UDP, or internal port 0; PEER is refused before this step
 abbrev pub lacks_ports : Body → Bool
 lacks_ports Bodies.Announce = false
-lacks_ports (Bodies.Map c) = not (c.protocol == 6 || c.protocol == 17) || c.internal == 0
-lacks_ports (Bodies.Peer c port remote) = not (c.protocol == 6 || c.protocol == 17) || c.internal == 0
+lacks_ports (Bodies.Map c) = is_none (protocol_of c.protocol) || c.internal == 0
+lacks_ports (Bodies.Peer c port remote) = is_none (protocol_of c.protocol) || c.internal == 0
 
 -- a request that was read and is refused
 abbrev pub parsed : Code → Refusal
@@ -42,14 +43,15 @@ ask_steps config source message =
     ∷ (record { fails = is_none (place_of config.subscribers source); refusal = parsed NotAuthorized })
     ∷ []
 
-abbrev pub protocol_of : ℕ → Protocol
-protocol_of number = if number == 6 then Tcp else Udp
+-- that of a number which passed the steps
+abbrev pub asked_protocol : ℕ → Protocol
+asked_protocol number = unwrap_or (protocol_of number) Udp
 
 -- what a request without options asks for
 abbrev pub ask_of : Address → ℕ → Body → Ask
 ask_of source lifetime Bodies.Announce = Asks.Announce
 ask_of source lifetime (Bodies.Map c) = Asks.Map (record {
-  endpoint = record { address = source; protocol = protocol_of c.protocol; port = c.internal };
+  endpoint = record { address = source; protocol = asked_protocol c.protocol; port = c.internal };
   nonce = c.nonce;
   lifetime = lifetime;
   port = c.external;
@@ -59,7 +61,7 @@ ask_of source lifetime (Bodies.Map c) = Asks.Map (record {
   filters = [];
 })
 ask_of source lifetime (Bodies.Peer c port remote) = Asks.Peer (record {
-  endpoint = record { address = source; protocol = protocol_of c.protocol; port = c.internal };
+  endpoint = record { address = source; protocol = asked_protocol c.protocol; port = c.internal };
   nonce = c.nonce;
   lifetime = lifetime;
   port = c.external;

@@ -1,7 +1,7 @@
 //! What the lease table decides (RFC 6887, sections 11.3 and 15), over a plain list of leases.
 ghost use Rattle.std.specs.Prelude.{◌≡◌, ◌+◌, ◌-◌, ◌<◌, ◌^◌, [], length, nat_lt, filter, find, option_copied, IfSome};
 ghost use Rattle.std.specs.List.{AllByRecursion, list_any, range_with_len};
-ghost use Rattle.pcp_base.specs.Tables.{Table, covers, first_endpoint, live};
+ghost use Rattle.pcp_base.specs.Tables.{Table, first_endpoint, live};
 ghost use Rattle.pcp_base.specs.Owners.{is_port, owners};
 ghost use Rattle.pcp_base.specs.declared.asks.Answer.TheVariants.{Gone};
 ghost use Rattle.pcp_base.specs.declared.records.Change.TheVariants.{DropMap};
@@ -10,12 +10,9 @@ ghost use Rattle.pcp_server.specs.Decisions.{answered, covering, decide as decid
 
 use crate::verdicts::refusal;
 use pcp_base::{
-    Answer, Ask, Change, Code, Config, Endpoint, External, Filters, MapAsk, MapLease, Moment,
-    Protocol, Record, Refusal,
+    Answer, Ask, Change, Code, Config, Endpoint, External, Filters, MOST_LEASES, MapAsk, MapLease,
+    Moment, Protocol, Record, Refusal,
 };
-
-// How many leases may live at an external address.
-const MOST_LEASES: usize = 32_768;
 
 /// An answer, and what the lease table keeps of the request.
 #[derive(Clone, Copy, Debug, PartialEq, Eq)]
@@ -24,24 +21,13 @@ pub(crate) struct Decided {
     pub(crate) kept: Option<Record>,
 }
 
-/// Whether the lease covers the endpoint.
-fn is_covering(lease: &MapLease, endpoint: &Endpoint) -> bool
-    ensures { result ≡ covers lease.now endpoint.now }
-{
-    lease.address == endpoint.address
-        && lease.protocol == endpoint.protocol
-        && lease.internal <= endpoint.port
-        && u32::from(endpoint.port) < u32::from(lease.internal) + u32::from(lease.count)
-}
-
 /// The live lease that covers the endpoint.
 fn lease_of<'a>(maps: &'a [MapLease], m: Moment, endpoint: &Endpoint) -> Option<&'a MapLease>
     ensures { option_copied result ≡ covering (only_maps maps.now) m endpoint.now }
 {
-    let now = m.get();
     maps.iter()
-        .filter(|lease| now < lease.expiry)
-        .find(|lease| is_covering(lease, endpoint))
+        .filter(|lease| lease.is_live(m))
+        .find(|lease| lease.covers(endpoint))
 }
 
 /// Whether the lease owns the port of the protocol.
@@ -233,19 +219,8 @@ fn dropped(m: Moment, lease: &MapLease) -> Decided
         answer: Answer::Gone,
         kept: Some(Record {
             moment: m,
-            change: Change::DropMap(key_of(lease)),
+            change: Change::DropMap(lease.first_endpoint()),
         }),
-    }
-}
-
-/// The key of a lease: its first endpoint.
-pub(crate) fn key_of(lease: &MapLease) -> Endpoint
-    ensures { result ≡ first_endpoint lease.now }
-{
-    Endpoint {
-        address: lease.address,
-        protocol: lease.protocol,
-        port: lease.internal,
     }
 }
 

@@ -1,7 +1,8 @@
 //! A script's lines, read through a bounded buffer.
-ghost use Rattle.std.specs.Prelude.{◌≡◌, ◌≢◌, ◌+◌, ◌^◌, ◌<◌, ◌≤◌, [], drop, slice_get, IfOk, IfNone, IfErr, OnErr};
+ghost use Rattle.std.specs.Prelude.{◌≡◌, ◌≢◌, ◌+◌, ◌^◌, ◌<◌, ◌≤◌, [], drop, length, slice_get, IfOk, IfNone, IfErr, OnErr};
 ghost use Rattle.std.specs.Io.KnownBytes.{IsAtEnd};
 ghost use Rattle.pcp_io.specs.Faults.{HasCause};
+ghost use Rattle.pcp_server.specs.declared.readers.TheConstants.{PIECE};
 ghost use Rattle.pcp_server.specs.Reading.{Reading, rest_of, Ends, Stops};
 
 use pcp_base::Failed;
@@ -11,6 +12,9 @@ use std::marker::Model;
 
 // How many octets a script may have.
 const MOST_OCTETS: u64 = 1 << 30;
+
+// How many octets are read at a time.
+pub(crate) const PIECE: usize = 4096;
 
 // How many octets a line may have, without its line feed.
 const LONGEST: usize = 8192;
@@ -62,7 +66,7 @@ impl From<AllocFailed<u8>> for LineFault {
 /// Reads a script in pieces of 4,096 octets, and gives its lines.
 #[derive(Drop)]
 pub(crate) struct LineReader {
-    buffer: [u8; 4096],
+    buffer: [u8; PIECE],
     // where the octets begin that were read but not used, and where they end
     start: usize,
     end: usize,
@@ -72,13 +76,14 @@ pub(crate) struct LineReader {
 
 impl Model for LineReader {
     ghost use Rattle.std.specs.Prelude.{◌^◌, ◌≤◌, drop, take};
+    ghost use Rattle.pcp_server.specs.declared.readers.TheConstants.{PIECE};
     ghost use Rattle.pcp_server.specs.Reading.{Reading};
 
     ghost Value = { Reading };
 
     ghost view = { λ r. record { pending = drop r.start (take r.end r.buffer); used = r.used } };
 
-    ghost invariant = { λ r. (r.start ≤ r.end) × (r.end ≤ 4096) × (r.used ≤ 2 ^ 30) };
+    ghost invariant = { λ r. (r.start ≤ r.end) × (r.end ≤ PIECE) × (r.used ≤ 2 ^ 30) };
 }
 
 impl LineReader {
@@ -87,7 +92,7 @@ impl LineReader {
         ensures { result ≡ record { pending = []; used = 0 } }
     {
         LineReader {
-            buffer: [0; 4096],
+            buffer: [0; PIECE],
             start: 0,
             end: 0,
             used: 0,
@@ -133,7 +138,8 @@ impl LineReader {
     fn peek<S: Source>(&mut self, input: &mut S) -> Result<Option<u8>, Failed>
         ensures octet { IfOk result (λ octet. octet ≡ slice_get self.new.pending 0) }
         ensures at_end { IfOk result (λ octet. IfNone octet (IsAtEnd (S.left input.new))) }
-        ensures kept { rest_of self.new (S.left input.new) ≡ rest_of self.old (S.left input.old) }
+        ensures unchanged { rest_of self.new (S.left input.new) ≡ rest_of self.old (S.left input.old) }
+        ensures piece { length self.new.pending ≤ PIECE }
         ensures used { self.new.used ≡ self.old.used }
         ensures few { self.new.used ≤ 2 ^ 30 }
         ensures empty { OnErr result (self.new.pending ≡ []) }
@@ -156,6 +162,7 @@ impl LineReader {
         requires some { self.old.pending ≢ [] }
         requires room { self.old.used < 2 ^ 30 }
         ensures pending { self.new.pending ≡ drop 1 self.old.pending }
+        ensures piece { length self.new.pending ≤ PIECE }
         ensures used { self.new.used ≡ self.old.used + 1 }
     {
         self.start += 1;

@@ -10,7 +10,7 @@ ghost use Rattle.pcp_server.specs.Decisions.{decide as decide_on, only_maps};
 ghost use Rattle.pcp_server.specs.ScriptRun.{IsAnswered, IsHeard, IsStep, heard_ask};
 ghost use Rattle.pcp_server.specs.Played.{started};
 
-use crate::decisions::{Decided, decide, key_of};
+use crate::decisions::{Decided, decide};
 use crate::replies::reply_for;
 use crate::verdicts::{Verdict, judge};
 use pcp_base::{
@@ -185,7 +185,7 @@ fn ask_in(verdict: Verdict) -> Option<Ask>
 fn has_key(lease: &MapLease, key: &Endpoint) -> bool
     ensures { result ≡ is_map_of key.now lease.now }
 {
-    key_of(lease) == *key
+    lease.first_endpoint() == *key
 }
 
 /// Drops the leases that aren't live at a moment.
@@ -207,7 +207,7 @@ fn drop_key(maps: &mut Vec<MapLease>, key: &Endpoint)
 fn place_of(maps: &[MapLease], lease: &MapLease) -> Option<usize>
     ensures { result ≡ position (is_map_of (first_endpoint lease.now)) maps.now }
 {
-    let key = key_of(lease);
+    let key = lease.first_endpoint();
     maps.iter().position(|held| has_key(held, &key))
 }
 

@@ -38,16 +38,21 @@ impl Status {
     }
 }
 
+/// The line that the program tells on standard error, without its line feed.
 impl fmt::Display for Status {
-    /// What the program tells on standard error.
+    ghost use Rattle.std.specs.Prelude.{Some};
+    ghost use Rattle.pcp_server.specs.Exits.{message_of};
+
+    ghost output = { λ status. Some (message_of status) };
+
     fn fmt<W: fmt::Write>(&self, f: &mut fmt::Formatter<W>) -> fmt::Result {
         match self {
-            Status::Done => write!(f, "done"),
-            Status::WordsRefused => write!(f, "words refused"),
-            Status::ScriptRefused(line) => write!(f, "script refused at line {line}"),
-            Status::ReadFault => write!(f, "read failed"),
-            Status::WriteFault => write!(f, "write failed"),
-            Status::Memory => write!(f, "out of memory"),
+            Status::Done => f.write_str("pcp: done"),
+            Status::WordsRefused => f.write_str("pcp: words refused"),
+            Status::ScriptRefused(line) => write!(f, "pcp: script refused at line {line}"),
+            Status::ReadFault => f.write_str("pcp: read failed"),
+            Status::WriteFault => f.write_str("pcp: write failed"),
+            Status::Memory => f.write_str("pcp: out of memory"),
         }
     }
 }

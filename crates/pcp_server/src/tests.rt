@@ -1,12 +1,15 @@
 //! What no clause says: that the definitions mean these octets and texts, and that runs succeed with
 //! ample memory.
-ghost use Rattle.std.specs.Prelude.{◌≡◌};
+ghost use Rattle.std.specs.Prelude.{◌≡◌, [], Some, IfOk, IfSome};
 ghost use Rattle.pcp_server.specs.OwnedPorts.{EndsInRange};
+ghost use Rattle.pcp_server.specs.Played.{IsOver};
+ghost use Rattle.pcp_server.specs.Profile.{external, profile};
 
 use crate::decisions::decide;
 use crate::profiles::served_config;
 use crate::run::run_once;
 use crate::statuses::Status;
+use crate::words::start_of;
 use pcp_base::{
     Address, Answer, Ask, Change, Code, Endpoint, External, FilterList, Filters, MapAsk, MapLease,
     Memory, Moment, Nonce, Protocol, Record, Refusal,
@@ -25,25 +28,18 @@ const REPLY: &str =
 
 const WORDS: &str = "play c s j 1000";
 
-// Scripts, how their runs end, and what they put out.
+// Octets 12 to 59 of the request, which an error reply repeats where the request counts as not read.
+const TAIL: &str =
+    "000000000000ffff0a000005000102030405060708090a0b110000001388000000000000000000000000ffff00000000";
+
+// Scripts, how their runs end, and what they put out. `@` stands for `LINE` without its line feed, `$` for
+// `REPLY`, and `%` for `TAIL`.
 static TEXTS: [(&str, Status, &str); 15] = [
     ("", Status::Done, ""),
     ("\n# packet x\n\n#", Status::Done, ""),
-    (
-        "packet 1010 10.0.0.5 40000 0201000000000e1000000000000000000000ffff0a000005000102030405060708090a0b110000001388000000000000000000000000ffff00000000\n",
-        Status::Done,
-        "reply 10.0.0.5 40000 0281000000000e100000000a000000000000000000000000000102030405060708090a0b110000001388040000000000000000000000ffffc0000201\n",
-    ),
-    (
-        "packet 1010 10.0.0.5 40000 0201000000000e1000000000000000000000ffff0a000005000102030405060708090a0b110000001388000000000000000000000000ffff00000000",
-        Status::Done,
-        "reply 10.0.0.5 40000 0281000000000e100000000a000000000000000000000000000102030405060708090a0b110000001388040000000000000000000000ffffc0000201\n",
-    ),
-    (
-        "#\npacket 1010 10.0.0.5 40000 0201000000000e1000000000000000000000ffff0a000005000102030405060708090a0b110000001388000000000000000000000000ffff00000000\n\n\n",
-        Status::Done,
-        "reply 10.0.0.5 40000 0281000000000e100000000a000000000000000000000000000102030405060708090a0b110000001388040000000000000000000000ffffc0000201\n",
-    ),
+    ("@\n", Status::Done, "$"),
+    ("@", Status::Done, "$"),
+    ("#\n@\n\n\n", Status::Done, "$"),
     ("packet 1010 10.0.0.5 40000 02\n", Status::Done, "silent\n"),
     ("packet 1010 10.0.0.5 40000 -\n", Status::Done, "silent\n"),
     (
@@ -52,7 +48,7 @@ static TEXTS: [(&str, Status, &str); 15] = [
         "silent\n",
     ),
     (
-        "packet 1010 10.0.0.5 40000 0281000000000e1000000000000000000000ffff0a000005000102030405060708090a0b110000001388000000000000000000000000ffff00000000\n",
+        "packet 1010 10.0.0.5 40000 0281000000000e1000000000%\n",
         Status::Done,
         "silent\n",
     ),
@@ -62,9 +58,9 @@ static TEXTS: [(&str, Status, &str); 15] = [
         "reply 10.0.0.5 40000 02810001000007080000000a000000000000000000000000\n",
     ),
     (
-        "packet 1010 10.0.0.5 40000 0101000000000e1000000000000000000000ffff0a000005000102030405060708090a0b110000001388000000000000000000000000ffff00000000\n",
+        "packet 1010 10.0.0.5 40000 0101000000000e1000000000%\n",
         Status::Done,
-        "reply 10.0.0.5 40000 02810001000007080000000a000000000000ffff0a000005000102030405060708090a0b110000001388000000000000000000000000ffff00000000\n",
+        "reply 10.0.0.5 40000 02810001000007080000000a%\n",
     ),
     // an ANNOUNCE request
     (
@@ -74,21 +70,17 @@ static TEXTS: [(&str, Status, &str); 15] = [
     ),
     // a PEER request, to 198.51.100.7 port 53
     (
-        "packet 1010 10.0.0.5 40000 0202000000000e1000000000000000000000ffff0a000005000102030405060708090a0b110000001388000000000000000000000000ffff000000000035000000000000000000000000ffffc6336407\n",
+        "packet 1010 10.0.0.5 40000 0202000000000e1000000000%0035000000000000000000000000ffffc6336407\n",
         Status::Done,
-        "reply 10.0.0.5 40000 02820004000007080000000a000000000000ffff0a000005000102030405060708090a0b110000001388000000000000000000000000ffff000000000035000000000000000000000000ffffc6336407\n",
+        "reply 10.0.0.5 40000 02820004000007080000000a%0035000000000000000000000000ffffc6336407\n",
     ),
     // an option
     (
-        "packet 1010 10.0.0.5 40000 0201000000000e1000000000000000000000ffff0a000005000102030405060708090a0b110000001388000000000000000000000000ffff000000007f000000\n",
+        "@7f000000\n",
         Status::Done,
-        "reply 10.0.0.5 40000 02810005000007080000000a000000000000ffff0a000005000102030405060708090a0b110000001388000000000000000000000000ffff000000007f000000\n",
+        "reply 10.0.0.5 40000 02810005000007080000000a%7f000000\n",
     ),
-    (
-        "packet 1010 10.0.0.5 40000 0201000000000e1000000000000000000000ffff0a000005000102030405060708090a0b110000001388000000000000000000000000ffff00000000\npacket 1010 10.0.0.5 40000 0201000000000e1000000000000000000000ffff0a000005000102030405060708090a0b110000001388000000000000000000000000ffff00000000\npacket x\npacket 1010 10.0.0.5 40000 0201000000000e1000000000000000000000ffff0a000005000102030405060708090a0b110000001388000000000000000000000000ffff00000000\n",
-        Status::ScriptRefused(3),
-        "reply 10.0.0.5 40000 0281000000000e100000000a000000000000000000000000000102030405060708090a0b110000001388040000000000000000000000ffffc0000201\nreply 10.0.0.5 40000 0281000000000e100000000a000000000000000000000000000102030405060708090a0b110000001388040000000000000000000000ffffc0000201\n",
-    ),
+    ("@\n@\npacket x\n@\n", Status::ScriptRefused(3), "$$"),
 ];
 
 // A MAP request and the moment at which it comes. Addresses and the nonce are their hexadecimal digits
@@ -499,9 +491,52 @@ fn run_of(
     Ok((status, out))
 }
 
-// The same where nothing fails.
-fn played(alloc: Global, script: &str) -> Result<(Status, MemorySink), Memory> {
-    run_of(alloc, script, u64::MAX, u64::MAX, 1 << 20)
+// A run over, and the objects that it used.
+#[derive(Drop)]
+struct Run {
+    start: Moment,
+    status: Status,
+    input: MemorySource,
+    out: MemorySink,
+}
+
+// Runs a command over a script in memory; none where the words are no command.
+fn run_in_memory(alloc: Global, words: &[String], script: Vec<u8>) -> Result<Option<Run>, Memory>
+    ensures { IfOk result (λ run. IfSome run (λ r.
+        IsOver profile external r.start script.items [] (Some r.input.left) (Some r.out.held) r.status)) }
+{
+    let Some(start) = start_of(words) else {
+        return Ok(None);
+    };
+    let mut input = MemorySource::new(alloc, script)?;
+    let mut out = MemorySink::new(alloc, 1 << 20)?;
+    let status = run_once(alloc, words, &mut input, &mut out);
+    Ok(Some(Run {
+        start,
+        status,
+        input,
+        out,
+    }))
+}
+
+// Plays the script, of which nothing fails.
+fn played(alloc: Global, script: &str) -> Result<Option<Run>, Memory> {
+    let words = words_of(alloc, WORDS)?;
+    run_in_memory(alloc, &words, script.as_bytes().to_vec(alloc)?)
+}
+
+// A text with what its signs stand for.
+fn filled(alloc: Global, text: &str) -> Result<String, Memory> {
+    let mut all = String::new(alloc);
+    for sign in text.chars() {
+        match sign {
+            '@' => all.push_str(LINE.trim_end())?,
+            '$' => all.push_str(REPLY)?,
+            '%' => all.push_str(TAIL)?,
+            _ => all.push(sign)?,
+        }
+    }
+    Ok(all)
 }
 
 #[test]
@@ -509,10 +544,14 @@ fn requests(rt: HostRuntime) -> Result<(), Fail> {
     let alloc = rt.alloc();
     for name in &NAMES {
         let (script, output) = case_of(alloc, name)?;
-        let (status, out) = played(alloc, &script)?;
-        assert_eq!(rt; status, Status::Done, "{name}");
-        let held = out.held();
-        assert_eq!(rt; held, output.as_bytes(), "{name}: {}", held.escape_ascii());
+        let run = played(alloc, &script)?.ok_or("words")?;
+        assert!(rt; run.status == Status::Done, "{name}");
+        let held = run.out.held();
+        assert!(rt;
+            held == output.as_bytes(),
+            "{name}: {}",
+            held.escape_ascii()
+        );
     }
     Ok(())
 }
@@ -521,12 +560,12 @@ fn requests(rt: HostRuntime) -> Result<(), Fail> {
 fn texts(rt: HostRuntime) -> Result<(), Fail> {
     let alloc = rt.alloc();
     for (script, want, output) in &TEXTS {
-        let (status, out) = played(alloc, script)?;
-        assert_eq!(rt; status, *want, "at {script}");
-        let held = out.held();
-        assert_eq!(rt;
-            held,
-            output.as_bytes(),
+        let run = played(alloc, &filled(alloc, script)?)?.ok_or("words")?;
+        assert!(rt; run.status == *want, "at {script}");
+        let held = run.out.held();
+        let output = filled(alloc, output)?;
+        assert!(rt;
+            held == output.as_bytes(),
             "at {script}: {}",
             held.escape_ascii()
         );
@@ -545,9 +584,9 @@ fn long_datagram(rt: HostRuntime) -> Result<(), Fail> {
     let head = "02810003000007080000000a000000000000ffff0a000005";
     let data = "000102030405060708090a0b110000001388000000000000000000000000ffff00000000";
     let output = format!(in alloc; "reply 10.0.0.5 40000 {head}{data}{cut}\n")?;
-    let (status, out) = played(alloc, &script)?;
-    assert_eq!(rt; status, Status::Done);
-    assert_eq!(rt; out.held(), output.as_bytes());
+    let run = played(alloc, &script)?.ok_or("words")?;
+    assert!(rt; run.status == Status::Done);
+    assert!(rt; run.out.held() == output.as_bytes());
     Ok(())
 }
 
@@ -560,9 +599,9 @@ fn long_lines(rt: HostRuntime) -> Result<(), Fail> {
     ] {
         let comment = repeated(alloc, "#", count)?;
         let script = format!(in alloc; "{comment}\n{LINE}")?;
-        let (status, out) = played(alloc, &script)?;
-        assert_eq!(rt; status, want, "at {count}");
-        assert_eq!(rt; out.held(), output.as_bytes(), "at {count}");
+        let run = played(alloc, &script)?.ok_or("words")?;
+        assert!(rt; run.status == want, "at {count}");
+        assert!(rt; run.out.held() == output.as_bytes(), "at {count}");
     }
     Ok(())
 }
@@ -583,28 +622,9 @@ fn faults(rt: HostRuntime) -> Result<(), Fail> {
         let script = repeated(alloc, LINE, lines)?;
         let output = repeated(alloc, REPLY, replies)?;
         let (status, out) = run_of(alloc, &script, read, write, room)?;
-        assert_eq!(rt; status, want, "read {read}, write {write}, room {room}");
-        assert_eq!(rt;
-            out.held(),
-            output.as_bytes(),
-            "read {read}, write {write}, room {room}"
-        );
+        let same = status == want && out.held() == output.as_bytes();
+        assert!(rt; same, "read {read}, write {write}, room {room}");
     }
-    Ok(())
-}
-
-// Of 30 lines, 4,440 octets, no more than 4,096 are read before the first one's result is written.
-#[test]
-fn line_by_line(rt: HostRuntime) -> Result<(), Fail> {
-    let alloc = rt.alloc();
-    let script = repeated(alloc, LINE, 30)?;
-    let words = words_of(alloc, WORDS)?;
-    let mut input = MemorySource::new(alloc, script.as_bytes().to_vec(alloc)?)?;
-    let mut out = MemorySink::new(alloc, 1000)?;
-    out.fail_at(alloc, 0)?;
-    let status = run_once(alloc, &words, &mut input, &mut out);
-    assert_eq!(rt; status, Status::WriteFault);
-    assert_eq!(rt; input.read(&mut [0; 500]).ok(), Some(344));
     Ok(())
 }
 
@@ -625,30 +645,23 @@ fn words(rt: HostRuntime) -> Result<(), Fail> {
         let mut input = MemorySource::new(alloc, b"#".to_vec(alloc)?)?;
         let mut out = MemorySink::new(alloc, 1000)?;
         let status = run_once(alloc, &words, &mut input, &mut out);
-        assert_eq!(rt; status, want, "for {command}");
-        assert_eq!(rt; input.read(&mut [0; 2]).ok(), Some(left), "for {command}");
-        assert_eq!(rt; out.held(), b"".as_slice(), "for {command}");
+        assert!(rt; status == want && out.held().is_empty(), "for {command}");
+        assert!(rt; input.read(&mut [0; 2]).ok() == Some(left), "for {command}");
     }
     Ok(())
 }
 
 #[test]
 fn statuses(rt: HostRuntime) -> Result<(), Fail> {
-    let alloc = rt.alloc();
     for (status, exit, text) in [
-        (Status::Done, 0, "done"),
-        (Status::WordsRefused, 2, "words refused"),
-        (Status::ScriptRefused(3), 4, "script refused at line 3"),
-        (Status::ReadFault, 5, "read failed"),
-        (Status::WriteFault, 6, "write failed"),
-        (Status::Memory, 8, "out of memory"),
+        (Status::WordsRefused, 2, "pcp: words refused"),
+        (Status::ScriptRefused(3), 4, "pcp: script refused at line 3"),
+        (Status::ReadFault, 5, "pcp: read failed"),
+        (Status::WriteFault, 6, "pcp: write failed"),
+        (Status::Memory, 8, "pcp: out of memory"),
     ] {
-        assert_eq!(rt; status.exit(), exit, "for {status}");
-        assert_eq!(rt;
-            format!(in alloc; "{status}")?.as_str(),
-            text,
-            "for {status:?}"
-        );
+        let message = format!(in rt.alloc(); "{status}")?;
+        assert!(rt; status.exit() == exit && message == text, "{message}");
     }
     Ok(())
 }
@@ -720,16 +733,16 @@ fn one_port_alone(rt: HostRuntime) -> Result<(), Fail> {
     });
 
     let granted = decide(&config, &external, &[], first, &ask_of(alloc, 5));
-    assert_eq!(rt; granted.answer, mapped);
-    assert_eq!(rt; granted.kept, kept_at(first, lease_of(first, 4610)));
+    assert!(rt; granted.answer == mapped);
+    assert!(rt; granted.kept == kept_at(first, lease_of(first, 4610)));
 
     let maps = [lease_of(first, 4610)];
     let refused = decide(&config, &external, &maps, first, &ask_of(alloc, 6));
-    assert_eq!(rt; refused.answer, full);
-    assert_eq!(rt; refused.kept, None);
+    assert!(rt; refused.answer == full);
+    assert!(rt; refused.kept == None);
 
     let renewal = decide(&config, &external, &maps, later, &ask_of(alloc, 5));
-    assert_eq!(rt; renewal.answer, mapped);
-    assert_eq!(rt; renewal.kept, kept_at(later, lease_of(first, 4615)));
+    assert!(rt; renewal.answer == mapped);
+    assert!(rt; renewal.kept == kept_at(later, lease_of(first, 4615)));
     Ok(())
 }

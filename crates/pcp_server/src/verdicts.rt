@@ -3,7 +3,7 @@ ghost use Rattle.std.specs.Prelude.{◌≡◌, ◌++◌};
 ghost use Rattle.pcp_base.specs.Codes.{lifetime_of};
 ghost use Rattle.pcp_codec.specs.Framing.{first_failing};
 ghost use Rattle.pcp_codec.specs.Requests.{frame_of};
-ghost use Rattle.pcp_server.specs.Verdicts.{ask_of, ask_steps, lacks_ports, protocol_of, service_steps, verdict_of};
+ghost use Rattle.pcp_server.specs.Verdicts.{ask_of, ask_steps, asked_protocol, lacks_ports, service_steps, verdict_of};
 
 use pcp_base::{
     Address, Ask, Code, Config, Endpoint, FilterList, MapAsk, PeerAsk, Protocol, Refusal, pair,
@@ -76,29 +76,18 @@ fn has_no_ports(body: &Body) -> bool
     match body {
         Body::Announce => false,
         Body::Map(common) | Body::Peer { common, .. } => {
-            !(common.protocol == 6 || common.protocol == 17) || common.internal == 0
+            Protocol::of(common.protocol).is_none() || common.internal == 0
         }
-    }
-}
-
-/// The protocol of a number that is 6 or 17.
-fn protocol(number: u8) -> Protocol
-    ensures { result ≡ protocol_of number }
-{
-    if number == 6 {
-        Protocol::Tcp
-    } else {
-        Protocol::Udp
     }
 }
 
 /// The endpoint that a request names.
 fn endpoint(address: Address, common: &Common) -> Endpoint
-    ensures { result ≡ record { address = address; protocol = protocol_of common.now.protocol; port = common.now.internal } }
+    ensures { result ≡ record { address = address; protocol = asked_protocol common.now.protocol; port = common.now.internal } }
 {
     Endpoint {
         address,
-        protocol: protocol(common.protocol),
+        protocol: Protocol::of(common.protocol).unwrap_or(Protocol::Udp),
         port: common.internal,
     }
 }
