@@ -1,8 +1,7 @@
 -- Fields of a message, octet by octet.
 use Rattle.std.specs.Int.{to_be_bytes, w16, w32}
-use Rattle.std.proofs.Common.{◌≡◌, ℕ, zero, suc, ◌+◌, ◌^◌, ◌<◌, ◌≤◌, List, [], ◌∷◌, ◌++◌, length, take, drop, refl, ap, sym, ◌∙◌, arith, add-zero, zero-add, add-one}
-use Rattle.std.proofs.Math.ListN.{set}
-use Rattle.std.proofs.lemmas.List.{take_more_set}
+use Rattle.std.proofs.Common.{◌≡◌, ℕ, zero, suc, ◌+◌, ◌^◌, ◌<◌, ◌≤◌, ◌-◌, List, [], ◌∷◌, ◌++◌, length, take, drop, replicate, min, nat_le, true, false, refl, ap, sym, ◌∙◌, arith, add-zero, zero-add, add-one}
+use Rattle.std.proofs.lemmas.List.{get_or-drop}
 use Rattle.std.proofs.lemmas.Nat.{be_bytes_2, be_bytes_4}
 use Rattle.pcp_codec.specs.Fields.{octet, octets_at, u16_at, u32_at}
 
@@ -35,13 +34,53 @@ octets_at-whole (x ∷ xs) = ap (λ rest. x ∷ rest) (octets_at-tail x xs 0 (le
 pub octets_at-all : (xs : List ℕ) (n : ℕ) → length xs ≡ n → octets_at xs 0 n ≡ xs
 octets_at-all xs n e = rw (← e) (octets_at-whole xs)
 
--- an octet more is stored behind those so far
-pub stored_more : (message piece : List ℕ) (place i x : ℕ) → i < length piece → take i piece ≡ octets_at message place i → x ≡ octet message (place + i) → take (i + 1) (set piece i x) ≡ octets_at message place (i + 1)
-stored_more message piece place i x within so_far e =
-    take_more_set piece i x within
-    ∙ ap (λ front. front ++ x ∷ []) so_far
-    ∙ ap (λ y. octets_at message place i ++ y ∷ []) e
-    ∙ sym (octets_at-more message place i)
+-- from a place on
+octets_at-from : (message : List ℕ) (place i n : ℕ) → octets_at message (place + i) n ≡ octets_at (drop place message) i n
+octets_at-from message place i zero = refl
+octets_at-from message place i (suc n) =
+    let same : place + i + 1 ≡ place + (i + 1) = omega arith in
+    rw (get_or-drop place message i 0)
+    (ap (λ rest. octet message (place + i) ∷ rest) (ap (λ p. octets_at message p n) same ∙ octets_at-from message place (i + 1) n))
+
+past-end : (place n : ℕ) → octets_at [] place n ≡ replicate n 0
+past-end place zero = refl
+past-end place (suc n) = ap (λ rest. 0 ∷ rest) (past-end (place + 1) n)
+
+-- octets that are there, and zeros where none is left
+cut : (xs : List ℕ) (k z : ℕ) → k ≤ length xs → (0 < z → k ≡ length xs) → octets_at xs 0 (k + z) ≡ take k xs ++ replicate z 0
+cut [] k z within all =
+    let none : k ≡ 0 = omega (arith, within) in
+    rw (none, zero-add) (past-end 0 z)
+cut (x ∷ xs) zero zero within all = refl
+cut (x ∷ xs) zero (suc z) within all = absurd (omega (arith, all))
+cut (x ∷ xs) (suc k) z within all =
+    let sum : suc k + z ≡ suc (k + z) = omega arith in
+    rw sum (ap (λ rest. x ∷ rest) (octets_at-tail x xs 0 (k + z) ∙ cut xs k z (omega (arith, within)) (λ some. omega (arith, all some))))
+
+drop-all : (xs : List ℕ) (n : ℕ) → length xs ≤ n → drop n xs ≡ []
+drop-all [] zero h = refl
+drop-all [] (suc n) h = refl
+drop-all (x ∷ xs) zero h = absurd (omega (arith, h))
+drop-all (x ∷ xs) (suc n) h = drop-all xs n (omega (arith, h))
+
+drop-start : (message : List ℕ) (place start : ℕ) → start ≡ min place (length message) → drop start message ≡ drop place message
+drop-start message place start e =
+    elim (nat_le place (length message)) as (λ b. nat_le place (length message) ≡ b → drop start message ≡ drop place message) [
+      true ↦ λ h. let same : start ≡ place = grind (arith, e, h) in ap (λ k. drop k message) same
+      | false ↦ λ h. let all : length message ≤ place = grind (arith, h) in let end : start ≡ length message = grind (arith, e, all) in
+      ap (λ k. drop k message) end ∙ drop-all message (length message) (omega arith) ∙ sym (drop-all message place all)
+    ] refl
+
+-- what a copy of the octets from a place on writes over a piece
+pub copied : (message there : List ℕ) (place start count size rest : ℕ) → start ≡ min place (length message) → there ≡ drop start message → count ≡ min (length there) size → rest + count ≡ size → take count there ++ replicate rest 0 ≡ octets_at message place size
+copied message there place start count size rest s t c r =
+    let from : octets_at message place size ≡ octets_at there 0 size =
+    ap (λ p. octets_at message p size) (sym (add-zero place)) ∙ octets_at-from message place 0 size
+    ∙ ap (λ m. octets_at m 0 size) (sym (t ∙ drop-start message place start s)) in
+    let whole : size ≡ count + rest = omega (arith, c, r) in
+    let within : count ≤ length there = omega (arith, c) in
+    let all : 0 < rest → count ≡ length there = λ some. omega (arith, c, r, some) in
+    sym (from ∙ ap (octets_at there 0) whole ∙ cut there count rest within all)
 
 -- one field behind another
 pub octets_at-append : (message : List ℕ) (place a b : ℕ) → octets_at message place (a + b) ≡ octets_at message place a ++ octets_at message (place + a) b

@@ -5,6 +5,7 @@ use Rattle.pcp_base.specs.declared.codes.Code.{Code}
 use Rattle.pcp_base.specs.declared.codes.Code.TheVariants.{UnsuppVersion, MalformedRequest, UnsuppOpcode, AddressMismatch}
 use Rattle.pcp_base.specs.declared.asks.Refusal.{Refusal}
 use Rattle.pcp_base.specs.Codes.{lifetime_of}
+use Rattle.pcp_codec.specs.declared.layout.TheConstants.{VERSION, R_BIT, PEER_OPCODE, MESSAGE_OCTETS, HEAD_OCTETS, CLIENT_PLACE}
 use Rattle.pcp_codec.specs.declared.requests.Framed.{Framed}
 use Rattle.pcp_codec.specs.declared.requests.Framed.TheVariants.{Silent, Refuse, Whole}
 use Rattle.pcp_codec.specs.Fields.{octet, octets_at}
@@ -12,8 +13,8 @@ use Rattle.pcp_codec.specs.Requests.{opcode_of, data_length, frame_of}
 
 -- A datagram that gets no reply: it is too short, it is a response, or its head of version 2 isn't whole.
 abbrev pub is_silent : List ℕ → Bool
-is_silent message = nat_lt (length message) 2 || nat_le 128 (octet message 1)
-    || (octet message 0 == 2 && nat_lt (length message) 24)
+is_silent message = nat_lt (length message) 2 || nat_le R_BIT (octet message 1)
+    || (octet message 0 == VERSION && nat_lt (length message) HEAD_OCTETS)
 
 -- a request that is refused before it is understood
 abbrev pub unparsed : Code → Refusal
@@ -24,14 +25,26 @@ pub record Step : Type 0 where
   pub fails : Bool
   pub refusal : Refusal
 
+-- whether a request has too many octets, or no whole words (section 7)
+abbrev pub is_of_wrong_size : List ℕ → Bool
+is_of_wrong_size message = nat_lt MESSAGE_OCTETS (length message) || not (length message % 4 == 0)
+
+-- whether the opcode's data isn't whole
+abbrev pub lacks_data : List ℕ → Bool
+lacks_data message = nat_lt (length message) (HEAD_OCTETS + data_length (opcode_of message))
+
+-- whether the client address isn't the address that the datagram came from (section 8.2)
+abbrev pub is_from_another : List ℕ → Address → Bool
+is_from_another message source = not (bytes_eq (octets_at message CLIENT_PLACE 16) source.0)
+
 -- the steps that need no options, in order
 abbrev pub frame_steps : List ℕ → Address → List Step
 frame_steps message source =
-    (record { fails = not (octet message 0 == 2); refusal = unparsed UnsuppVersion })
-    ∷ (record { fails = nat_lt 1100 (length message) || not (length message % 4 == 0); refusal = unparsed MalformedRequest })
-    ∷ (record { fails = nat_lt 2 (opcode_of message); refusal = unparsed UnsuppOpcode })
-    ∷ (record { fails = nat_lt (length message) (24 + data_length (opcode_of message)); refusal = unparsed MalformedRequest })
-    ∷ (record { fails = not (bytes_eq (octets_at message 8 16) source.0); refusal = unparsed AddressMismatch })
+    (record { fails = not (octet message 0 == VERSION); refusal = unparsed UnsuppVersion })
+    ∷ (record { fails = is_of_wrong_size message; refusal = unparsed MalformedRequest })
+    ∷ (record { fails = nat_lt PEER_OPCODE (opcode_of message); refusal = unparsed UnsuppOpcode })
+    ∷ (record { fails = lacks_data message; refusal = unparsed MalformedRequest })
+    ∷ (record { fails = is_from_another message source; refusal = unparsed AddressMismatch })
     ∷ []
 
 -- the refusal of the first step that fails, which is the least of those that fail

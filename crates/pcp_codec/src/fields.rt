@@ -2,6 +2,9 @@
 ghost use Rattle.std.specs.Prelude.{◌≡◌, ◌+◌, ◌<◌, ◌^◌, length};
 ghost use Rattle.std.specs.Int.{from_be_bytes, w16, w32};
 ghost use Rattle.pcp_codec.specs.Fields.{octet, octets_at, u16_at, u32_at};
+ghost use Rattle.pcp_codec.specs.Requests.{opcode_of};
+
+use crate::layout::R_BIT;
 
 /// The octet at a place.
 pub(crate) fn octet_of(message: &[u8], place: usize) -> u8
@@ -36,12 +39,23 @@ pub(crate) fn u32_of(message: &[u8], place: usize) -> u32
     u32::from_be_bytes(octets_of(message, place))
 }
 
+/// The seven bits after the R bit.
+pub(crate) fn opcode_in(message: &[u8]) -> u8
+    ensures value { result ≡ opcode_of message.now }
+    ensures seven_bits { result < 128 }
+{
+    octet_of(message, 1) % R_BIT
+}
+
 /// Copies the octets of a message from a place on over the whole piece.
 pub(crate) fn copy_octets(message: &[u8], place: usize, piece: &mut [u8])
     requires { place + length piece.old < 2 ^ 64 }
     ensures { piece.new ≡ octets_at message.now place (length piece.old) }
 {
-    for i in 0..piece.len() {
-        piece[i] = octet_of(message, place + i);
-    }
+    let start = place.min(message.len());
+    let there = &message[start..];
+    let count = there.len().min(piece.len());
+    let (front, behind) = piece.split_at_mut(count);
+    front.copy_from_slice(&there[..count]);
+    behind.fill(0);
 }

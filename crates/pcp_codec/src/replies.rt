@@ -3,7 +3,8 @@ ghost use Rattle.std.specs.Prelude.{◌≡◌, ◌≤◌, ◌++◌, length, OnOk
 ghost use Rattle.pcp_base.specs.Codes.{code_number};
 ghost use Rattle.pcp_codec.specs.Replies.{head, reply_length, refusal_text};
 
-use crate::fields::{copy_octets, octet_of, octets_of};
+use crate::fields::{copy_octets, octets_of, opcode_in};
+use crate::layout::*;
 use pcp_base::{Memory, Refusal};
 use std::alloc::Global;
 
@@ -23,8 +24,8 @@ pub fn write_head(
     let [e0, e1, e2, e3] = epoch.to_be_bytes();
     let [r0, r1, r2, r3, r4, r5, r6, r7, r8, r9, r10, r11] = *last;
     *out = [
-        2,
-        128 + opcode % 128,
+        VERSION,
+        R_BIT + opcode % R_BIT,
         0,
         code,
         l0,
@@ -56,7 +57,11 @@ fn reply_len(request: &[u8]) -> usize
     ensures least { 24 ≤ result }
     ensures most { result ≤ 1100 }
 {
-    request.len().min(1100).next_multiple_of(4).max(24)
+    request
+        .len()
+        .min(MESSAGE_OCTETS)
+        .next_multiple_of(4)
+        .max(HEAD_OCTETS)
 }
 
 /// Appends the error reply to a request of at least 2 octets: the request with zeros past its end, cut at
@@ -73,7 +78,7 @@ pub fn write_refusal(
     ensures ok { OnOk result (out.new.items ≡ out.old.items ++ refusal_text request.now refusal epoch) }
     ensures err { OnErr result (out.new.items ≡ out.old.items) }
 {
-    let mut reply = [0; 1100];
+    let mut reply = [0; MESSAGE_OCTETS];
     let length = reply_len(request);
     refuse(request, refusal, epoch, &mut reply[..length]);
     out.extend_from_slice(&reply[..length])?;
@@ -88,19 +93,18 @@ fn refuse(request: &[u8], refusal: Refusal, epoch: u32, reply: &mut [u8])
     let last = if refusal.parsed {
         [0; 12]
     } else {
-        octets_of(request, 12)
+        octets_of(request, LAST_PLACE)
     };
-    let mut head = [0; 24];
-    let opcode = octet_of(request, 1) % 128;
+    let mut head = [0; HEAD_OCTETS];
     write_head(
         &mut head,
-        opcode,
+        opcode_in(request),
         refusal.code.number(),
         refusal.lifetime,
         epoch,
         &last,
     );
-    let (front, rest) = reply.split_at_mut(24);
+    let (front, rest) = reply.split_at_mut(HEAD_OCTETS);
     front.copy_from_slice(&head);
-    copy_octets(request, 24, rest);
+    copy_octets(request, HEAD_OCTETS, rest);
 }

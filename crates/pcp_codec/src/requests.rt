@@ -4,7 +4,8 @@ ghost use Rattle.pcp_codec.specs.Packets.{IsRequest};
 ghost use Rattle.pcp_codec.specs.Requests.{opcode_of, data_length, common_of, body_of};
 ghost use Rattle.pcp_codec.specs.Framing.{first_failing, frame_steps, framed_of, unparsed};
 
-use crate::fields::{octet_of, octets_of, u16_of, u32_of};
+use crate::fields::{octet_of, octets_of, opcode_in, u16_of, u32_of};
+use crate::layout::*;
 use pcp_base::{Address, Code, Nonce, Refusal};
 
 /// The data that MAP and PEER share (RFC 6887, sections 11.1 and 12.1), in requests and in responses.
@@ -79,16 +80,19 @@ fn first_steps(octets: &[u8], source: &Address) -> Framed
     ensures { result ≡ framed_of octets.now source.now }
 {
     let version = octet_of(octets, 0);
-    if octets.len() < 2 || octet_of(octets, 1) >= 128 || (version == 2 && octets.len() < 24) {
+    if octets.len() < 2
+        || octet_of(octets, 1) >= R_BIT
+        || (version == VERSION && octets.len() < HEAD_OCTETS)
+    {
         return Framed::Silent;
     }
     match refused_with(octets, source) {
         Some(refusal) => Framed::Refuse(refusal),
         None => Framed::Whole(Frame {
-            opcode: octet_of(octets, 1) % 128,
-            lifetime: u32_of(octets, 4),
+            opcode: opcode_in(octets),
+            lifetime: u32_of(octets, LIFETIME_PLACE),
             body: read_body(octets),
-            options: 24 + data_len(octets),
+            options: HEAD_OCTETS + data_len(octets),
         }),
     }
 }
@@ -108,15 +112,14 @@ fn refusal(code: Code) -> Refusal
 fn refused_with(octets: &[u8], source: &Address) -> Option<Refusal>
     ensures { result ≡ first_failing (frame_steps octets.now source.now) }
 {
-    let opcode = octet_of(octets, 1) % 128;
-    let client = Address(octets_of(octets, 8));
-    if octet_of(octets, 0) != 2 {
+    let client = Address(octets_of(octets, CLIENT_PLACE));
+    if octet_of(octets, 0) != VERSION {
         Some(refusal(Code::UnsuppVersion))
-    } else if octets.len() > 1100 || octets.len() % 4 != 0 {
+    } else if octets.len() > MESSAGE_OCTETS || octets.len() % 4 != 0 {
         Some(refusal(Code::MalformedRequest))
-    } else if opcode > 2 {
+    } else if opcode_in(octets) > PEER_OPCODE {
         Some(refusal(Code::UnsuppOpcode))
-    } else if octets.len() < 24 + data_len(octets) {
+    } else if octets.len() < HEAD_OCTETS + data_len(octets) {
         Some(refusal(Code::MalformedRequest))
     } else if client != *source {
         Some(refusal(Code::AddressMismatch))
@@ -130,10 +133,10 @@ fn data_len(octets: &[u8]) -> usize
     ensures value { result ≡ data_length (opcode_of octets.now) }
     ensures bound { result ≤ 56 }
 {
-    match octet_of(octets, 1) % 128 {
-        0 => 0,
-        1 => 36,
-        _ => 56,
+    match opcode_in(octets) {
+        ANNOUNCE_OPCODE => 0,
+        MAP_OPCODE => MAP_OCTETS,
+        _ => PEER_OCTETS,
     }
 }
 
@@ -141,13 +144,13 @@ fn data_len(octets: &[u8]) -> usize
 fn read_body(octets: &[u8]) -> Body
     ensures { result ≡ body_of octets.now }
 {
-    match octet_of(octets, 1) % 128 {
-        0 => Body::Announce,
-        1 => Body::Map(read_common(octets)),
+    match opcode_in(octets) {
+        ANNOUNCE_OPCODE => Body::Announce,
+        MAP_OPCODE => Body::Map(read_common(octets)),
         _ => Body::Peer {
             common: read_common(octets),
-            remote_port: u16_of(octets, 60),
-            remote: Address(octets_of(octets, 64)),
+            remote_port: u16_of(octets, REMOTE_PORT_PLACE),
+            remote: Address(octets_of(octets, REMOTE_PLACE)),
         },
     }
 }
@@ -158,10 +161,10 @@ pub fn read_common(octets: &[u8]) -> Common
     ensures { result ≡ common_of octets.now }
 {
     Common {
-        nonce: Nonce(octets_of(octets, 24)),
-        protocol: octet_of(octets, 36),
-        internal: u16_of(octets, 40),
-        external: u16_of(octets, 42),
-        address: Address(octets_of(octets, 44)),
+        nonce: Nonce(octets_of(octets, NONCE_PLACE)),
+        protocol: octet_of(octets, PROTOCOL_PLACE),
+        internal: u16_of(octets, INTERNAL_PLACE),
+        external: u16_of(octets, EXTERNAL_PLACE),
+        address: Address(octets_of(octets, ADDRESS_PLACE)),
     }
 }
