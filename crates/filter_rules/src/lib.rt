@@ -3,39 +3,40 @@
 
 ghost use Rattle.std.specs.Prelude.{◌≡◌, ◌||◌, ◌<◌, ◌≤◌, length, IfOk, IfErr};
 ghost use Rattle.std.specs.List.{list_any};
+ghost use Rattle.pcp_base.specs.declared.leases.TheConstants.{MOST_FILTERS};
 ghost use Rattle.filter_rules.specs.Filters.{allows, fold_filters, is_for, same_filter};
 
-use pcp_base::{Address, Filter, Filters, Prefix};
+use pcp_base::{Address, Filter, Filters, MOST_FILTERS, Prefix};
 use thiserror::Error;
 
 #[cfg(test)]
 mod tests;
 
-/// Too many filters for one mapping: this many, at least 9.
+/// Too many filters for one mapping: this many, more than [`MOST_FILTERS`].
 #[derive(Clone, Copy, Debug, PartialEq, Eq, Error)]
 #[error("more than 8 filters")]
 pub struct Excess(pub usize);
 
 /// The filters of a mapping after those of a request, in order: one of prefix length 0 empties the list,
-/// any other is added unless it is there. Where more than 8 are left there are too many; how many there
+/// any other is added unless it is there. Where more than [`MOST_FILTERS`] are left there are too many; how many there
 /// are on the way doesn't count.
 pub fn fold_filters(old: &Filters, new: &[Filter]) -> Result<Filters, Excess>
     ensures folded { IfOk result (λ filters. filters ≡ fold_filters old.now new.now) }
-    ensures few { IfOk result (λ filters. length (fold_filters old.now new.now) ≤ 8) }
+    ensures few { IfOk result (λ filters. length (fold_filters old.now new.now) ≤ MOST_FILTERS) }
     ensures counted { IfErr result (λ excess. excess.0 ≡ length (fold_filters old.now new.now)) }
-    ensures many { IfErr result (λ excess. 8 < length (fold_filters old.now new.now)) }
+    ensures many { IfErr result (λ excess. MOST_FILTERS < length (fold_filters old.now new.now)) }
 {
     let (folded, count) = folded_and_count(old, new);
-    if count > 8 {
+    if count > MOST_FILTERS {
         return Err(Excess(count));
     }
     Ok(folded)
 }
 
-/// The folded filters, where they are at most 8, and how many they are.
+/// The folded filters, where they are at most [`MOST_FILTERS`], and how many they are.
 fn folded_and_count(old: &Filters, new: &[Filter]) -> (Filters, usize)
     ensures count { result.1 ≡ length (fold_filters old.now new.now) }
-    ensures folded { result.1 ≤ 8 → result.0 ≡ fold_filters old.now new.now }
+    ensures folded { result.1 ≤ MOST_FILTERS → result.0 ≡ fold_filters old.now new.now }
 {
     let mut base = *old;
     let mut from = 0;
@@ -57,7 +58,8 @@ fn folded_and_count(old: &Filters, new: &[Filter]) -> (Filters, usize)
 
 /// Whether the filter is one of these, or of those.
 fn is_in_either(filter: &Filter, these: &[Filter], those: &[Filter]) -> bool
-    ensures { result ≡ (list_any (same_filter filter.now) these.now || list_any (same_filter filter.now) those.now) }
+    ensures { result ≡ (list_any (same_filter filter.now) these.now
+        || list_any (same_filter filter.now) those.now) }
 {
     is_among(filter, these) || is_among(filter, those)
 }

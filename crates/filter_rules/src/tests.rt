@@ -16,7 +16,7 @@ const NET: Filter = Filter {
 const NONE: Filter = Filter {
     prefix: 0,
     port: 7,
-    remote: HOST.remote,
+    remote: Address([0; 16]),
 };
 
 // The filter of one host with this port.

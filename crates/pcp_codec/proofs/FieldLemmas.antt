@@ -1,6 +1,6 @@
 -- Fields of a message, octet by octet.
 use Rattle.std.specs.Int.{to_be_bytes, w16, w32}
-use Rattle.std.proofs.Common.{◌≡◌, ℕ, zero, suc, ◌+◌, ◌^◌, ◌<◌, ◌≤◌, ◌-◌, List, [], ◌∷◌, ◌++◌, length, take, drop, replicate, min, nat_le, true, false, refl, ap, sym, ◌∙◌, arith, add-zero, zero-add, add-one}
+use Rattle.std.proofs.Common.{◌≡◌, ℕ, zero, suc, ◌+◌, ◌^◌, ◌<◌, ◌≤◌, List, [], ◌∷◌, ◌++◌, length, take, drop, replicate, min, nat_le, true, false, refl, ap, sym, ◌∙◌, arith, add-zero, zero-add, add-one}
 use Rattle.std.proofs.lemmas.List.{get_or-drop}
 use Rattle.std.proofs.lemmas.Nat.{be_bytes_2, be_bytes_4}
 use Rattle.pcp_codec.specs.Fields.{octet, octets_at, u16_at, u32_at}
@@ -66,9 +66,9 @@ drop-all (x ∷ xs) (suc n) h = drop-all xs n (omega (arith, h))
 drop-start : (message : List ℕ) (place start : ℕ) → start ≡ min place (length message) → drop start message ≡ drop place message
 drop-start message place start e =
     elim (nat_le place (length message)) as (λ b. nat_le place (length message) ≡ b → drop start message ≡ drop place message) [
-      true ↦ λ h. let same : start ≡ place = grind (arith, e, h) in ap (λ k. drop k message) same
+      | true ↦ λ h. let same : start ≡ place = grind (arith, e, h) in ap (λ k. drop k message) same
       | false ↦ λ h. let all : length message ≤ place = grind (arith, h) in let end : start ≡ length message = grind (arith, e, all) in
-      ap (λ k. drop k message) end ∙ drop-all message (length message) (omega arith) ∙ sym (drop-all message place all)
+          ap (λ k. drop k message) end ∙ drop-all message (length message) (omega arith) ∙ sym (drop-all message place all)
     ] refl
 
 -- what a copy of the octets from a place on writes over a piece

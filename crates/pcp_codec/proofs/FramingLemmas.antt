@@ -5,35 +5,36 @@ use Rattle.std.proofs.lemmas.Bool.Decides.{nat_tests}
 use Rattle.std.proofs.lemmas.Slice.Eq.{bytes_eq-Decides}
 use Rattle.pcp_base.specs.declared.addresses.Address.{Address}
 use Rattle.pcp_base.specs.declared.asks.Refusal.{Refusal}
+use Rattle.pcp_base.specs.Cases.{Case, first_case}
 use Rattle.pcp_codec.specs.declared.requests.Frame.{Frame}
 use Rattle.pcp_codec.specs.declared.requests.Framed.TheVariants.{Silent, Refuse, Whole}
 use Rattle.pcp_codec.specs.Fields.{octet, octets_at}
 use Rattle.pcp_codec.specs.Requests.{opcode_of, data_length, frame_of}
-use Rattle.pcp_codec.specs.Framing.{Step, is_silent, first_failing, frame_steps, framed_by, framed_of}
+use Rattle.pcp_codec.specs.Framing.{is_silent, frame_steps, framed_unless, reading_of}
 
-silent_of : (b : Bool) (first : Option Refusal) (message : List ℕ) → cond b Silent (framed_by message first) ≡ Silent → b ≡ true
+silent_of : (b : Bool) (first : Option Refusal) (message : List ℕ) → cond b Silent (framed_unless first (frame_of message)) ≡ Silent → b ≡ true
 silent_of true first message h = refl
 silent_of false None message h = absurd cc
 silent_of false (Some r) message h = absurd cc
 
-refused_of : (b : Bool) (first : Option Refusal) (message : List ℕ) (r : Refusal) → cond b Silent (framed_by message first) ≡ Refuse r → (b ≡ false) × (first ≡ Some r)
+refused_of : (b : Bool) (first : Option Refusal) (message : List ℕ) (r : Refusal) → cond b Silent (framed_unless first (frame_of message)) ≡ Refuse r → (b ≡ false) × (first ≡ Some r)
 refused_of true first message r h = absurd cc
 refused_of false None message r h = absurd cc
 refused_of false (Some s) message r h = let same : s ≡ r = cc in (refl, ap Some same)
 
-whole_of : (b : Bool) (first : Option Refusal) (message : List ℕ) (f : Frame) → cond b Silent (framed_by message first) ≡ Whole f → (b ≡ false) × (first ≡ None) × (frame_of message ≡ f)
+whole_of : (b : Bool) (first : Option Refusal) (message : List ℕ) (f : Frame) → cond b Silent (framed_unless first (frame_of message)) ≡ Whole f → (b ≡ false) × (first ≡ None) × (frame_of message ≡ f)
 whole_of true first message f h = absurd cc
 whole_of false None message f h = let same : frame_of message ≡ f = cc in (refl, refl, same)
 whole_of false (Some r) message f h = absurd cc
 
-pub framed_silent : (message : List ℕ) (source : Address) → framed_of message source ≡ Silent → is_silent message ≡ true
-framed_silent message source h = silent_of (is_silent message) (first_failing (frame_steps message source)) message h
+pub framed_silent : (message : List ℕ) (source : Address) → reading_of message source ≡ Silent → is_silent message ≡ true
+framed_silent message source h = silent_of (is_silent message) (first_case (frame_steps message source)) message h
 
-pub framed_refused : (message : List ℕ) (source : Address) (r : Refusal) → framed_of message source ≡ Refuse r → (is_silent message ≡ false) × (first_failing (frame_steps message source) ≡ Some r)
-framed_refused message source r h = refused_of (is_silent message) (first_failing (frame_steps message source)) message r h
+pub framed_refused : (message : List ℕ) (source : Address) (r : Refusal) → reading_of message source ≡ Refuse r → (is_silent message ≡ false) × (first_case (frame_steps message source) ≡ Some r)
+framed_refused message source r h = refused_of (is_silent message) (first_case (frame_steps message source)) message r h
 
-pub framed_whole : (message : List ℕ) (source : Address) (f : Frame) → framed_of message source ≡ Whole f → (is_silent message ≡ false) × (first_failing (frame_steps message source) ≡ None) × (frame_of message ≡ f)
-framed_whole message source f h = whole_of (is_silent message) (first_failing (frame_steps message source)) message f h
+pub framed_whole : (message : List ℕ) (source : Address) (f : Frame) → reading_of message source ≡ Whole f → (is_silent message ≡ false) × (first_case (frame_steps message source) ≡ None) × (frame_of message ≡ f)
+framed_whole message source f h = whole_of (is_silent message) (first_case (frame_steps message source)) message f h
 
 some_then : (b : Bool) (x r : Refusal) (p q : Option Refusal) → (p ≡ Some r → q ≡ Some r) → cond b (Some x) p ≡ Some r → cond b (Some x) q ≡ Some r
 some_then true x r p q later h = h
@@ -44,13 +45,13 @@ none_then true x p q t later h = absurd cc
 none_then false x p q t later h = later h
 
 -- what fails first among steps, and then among others
-pub first_failing-Some : (xs ys : List Step) (r : Refusal) → first_failing xs ≡ Some r → first_failing (xs ++ ys) ≡ Some r
-first_failing-Some [] ys r h = absurd cc
-first_failing-Some (x ∷ xs) ys r h = some_then x.fails x.refusal r (first_failing xs) (first_failing (xs ++ ys)) (first_failing-Some xs ys r) h
+pub first_case-Some : (xs ys : List (Case Refusal)) (r : Refusal) → first_case xs ≡ Some r → first_case (xs ++ ys) ≡ Some r
+first_case-Some [] ys r h = absurd cc
+first_case-Some (x ∷ xs) ys r h = some_then x.applies x.result r (first_case xs) (first_case (xs ++ ys)) (first_case-Some xs ys r) h
 
-pub first_failing-None : (xs ys : List Step) → first_failing xs ≡ None → first_failing (xs ++ ys) ≡ first_failing ys
-first_failing-None [] ys h = refl
-first_failing-None (x ∷ xs) ys h = none_then x.fails x.refusal (first_failing xs) (first_failing (xs ++ ys)) (first_failing ys) (first_failing-None xs ys) h
+pub first_case-None : (xs ys : List (Case Refusal)) → first_case xs ≡ None → first_case (xs ++ ys) ≡ first_case ys
+first_case-None [] ys h = refl
+first_case-None (x ∷ xs) ys h = none_then x.applies x.result (first_case xs) (first_case (xs ++ ys)) (first_case ys) (first_case-None xs ys) h
 
 -- what passing all steps says of the octets
 pub record Passes (message : List ℕ) (source : Address) : Type 0 where
@@ -62,23 +63,23 @@ pub record Passes (message : List ℕ) (source : Address) : Type 0 where
   pub client : octets_at message 8 16 ≡ source.0
 
 -- no step of a list fails
-abbrev AllPass : List Step → Type 0
+abbrev AllPass : List (Case Refusal) → Type 0
 AllPass [] = Unit {0}
-AllPass (step ∷ steps) = (step.fails ≡ false) × AllPass steps
+AllPass (step ∷ steps) = (step.applies ≡ false) × AllPass steps
 
 none_both : (b : Bool) (x : Refusal) (rest : Option Refusal) → cond b (Some x) rest ≡ None → (b ≡ false) × (rest ≡ None)
 none_both true x rest h = absurd cc
 none_both false x rest h = (refl, h)
 
-first_failing-all : (steps : List Step) → first_failing steps ≡ None → AllPass steps
-first_failing-all [] h = tt
-first_failing-all (step ∷ steps) h =
-    let both = none_both step.fails step.refusal (first_failing steps) h in
-    (both.0, first_failing-all steps both.1)
+first_case-all : (steps : List (Case Refusal)) → first_case steps ≡ None → AllPass steps
+first_case-all [] h = tt
+first_case-all (step ∷ steps) h =
+    let both = none_both step.applies step.result (first_case steps) h in
+    (both.0, first_case-all steps both.1)
 
-all-first_failing : (steps : List Step) → AllPass steps → first_failing steps ≡ None
-all-first_failing [] h = refl
-all-first_failing (step ∷ steps) h = rw h.0 (all-first_failing steps h.1)
+all-first_case : (steps : List (Case Refusal)) → AllPass steps → first_case steps ≡ None
+all-first_case [] h = refl
+all-first_case (step ∷ steps) h = rw h.0 (all-first_case steps h.1)
 
 size_of : (n : ℕ) → (nat_lt 1100 n || not (n % 4 == 0)) ≡ false → (n ≤ 1100) × (n % 4 ≡ 0)
 size_of n h = grind (arith, nat_tests)
@@ -86,7 +87,7 @@ size_of n h = grind (arith, nat_tests)
 size_is : (n : ℕ) → n ≤ 1100 → n % 4 ≡ 0 → (nat_lt 1100 n || not (n % 4 == 0)) ≡ false
 size_is n h e = grind (arith, nat_tests)
 
-whole_by : (b : Bool) (first : Option Refusal) (message : List ℕ) → b ≡ false → first ≡ None → cond b Silent (framed_by message first) ≡ Whole (frame_of message)
+whole_by : (b : Bool) (first : Option Refusal) (message : List ℕ) → b ≡ false → first ≡ None → cond b Silent (framed_unless first (frame_of message)) ≡ Whole (frame_of message)
 whole_by b first message h e = rw (h, e) refl
 
 heard_is : (message : List ℕ) → 24 ≤ length message → octet message 1 < 128 → is_silent message ≡ false
@@ -98,11 +99,11 @@ heard_of message h = grind (arith, nat_tests)
 same_octets : (xs ys : List ℕ) → not (bytes_eq xs ys) ≡ false → xs ≡ ys
 same_octets xs ys h = (bytes_eq-Decides xs ys).0 (not-false (bytes_eq xs ys) h)
 
-pub passed : (message : List ℕ) (source : Address) (frame : Frame) → framed_of message source ≡ Whole frame → Passes message source × (frame_of message ≡ frame)
+pub passed : (message : List ℕ) (source : Address) (frame : Frame) → reading_of message source ≡ Whole frame → Passes message source × (frame_of message ≡ frame)
 passed message source frame h =
     let found = framed_whole message source frame h in
     let heard = heard_of message found.0 in
-    let all = first_failing-all (frame_steps message source) found.1 in
+    let all = first_case-all (frame_steps message source) found.1 in
     let size = size_of (length message) all.1.0 in
     let known = ltb-false 2 (opcode_of message) all.1.1.0 in (
       record {
@@ -116,7 +117,7 @@ passed message source frame h =
       found.2,
     )
 
-pub passes : (message : List ℕ) (source : Address) → Passes message source → framed_of message source ≡ Whole (frame_of message)
+pub passes : (message : List ℕ) (source : Address) → Passes message source → reading_of message source ≡ Whole (frame_of message)
 passes message source p =
     let opcode = p.opcode in
     let room = p.room in
@@ -126,5 +127,5 @@ passes message source p =
     let fits = le-ltb (length message) (24 + data_length (opcode_of message)) room in
     let client = ap not ((bytes_eq-Decides (octets_at message 8 16) source.0).1 p.client) in
     let heard = heard_is message (omega arith) (omega arith) in
-    let none = all-first_failing (frame_steps message source) (version, (size, (known, (fits, (client, tt))))) in
-    whole_by (is_silent message) (first_failing (frame_steps message source)) message heard none
+    let none = all-first_case (frame_steps message source) (version, (size, (known, (fits, (client, tt))))) in
+    whole_by (is_silent message) (first_case (frame_steps message source)) message heard none

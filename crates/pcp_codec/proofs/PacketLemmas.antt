@@ -10,7 +10,7 @@ use Rattle.pcp_codec.specs.declared.requests.Frame.{Frame}
 use Rattle.pcp_codec.specs.declared.requests.Framed.TheVariants.{Whole}
 use Rattle.pcp_codec.specs.Fields.{octet, octets_at, u16_at, u32_at}
 use Rattle.pcp_codec.specs.Requests.{opcode_of, data_length, common_of}
-use Rattle.pcp_codec.specs.Framing.{framed_of}
+use Rattle.pcp_codec.specs.Framing.{reading_of}
 use Rattle.pcp_codec.specs.Packets.{IsCommon, IsPeer, IsData, IsRequest}
 use Rattle.pcp_codec.proofs.FieldLemmas.{octets_at-all, octets_at-append, octets_at-split, length-octets_at, u16_at-fits, u32_at-fits, u16_at-spelled, u32_at-spelled}
 use Rattle.pcp_codec.proofs.FramingLemmas.{passed, passes}
@@ -62,7 +62,7 @@ request-text message version opcode n lifetime client room v o l c =
     rw (v, o, l, c) (sym (ap (λ front. front ++ drop (24 + n) message) (sym (octets_at-append message 0 24 n)) ∙ octets_at-split message (24 + n) room))
 
 -- what is read is spelled so
-pub whole-is : (message : List ℕ) (source : Address) (frame : Frame) → IsOctets message → framed_of message source ≡ Whole frame → IsRequest message source frame (drop frame.options message)
+pub whole-is : (message : List ℕ) (source : Address) (frame : Frame) → IsOctets message → reading_of message source ≡ Whole frame → IsRequest message source frame (drop frame.options message)
 whole-is message source frame fits h =
     let found = passed message source frame h in
     let p = found.0 in
@@ -157,7 +157,7 @@ head-text : (opcode : ℕ) (lifetime r s a b fields options : List ℕ) → s �
 head-text opcode lifetime r s a b fields options x y = rw (x, y) refl
 
 -- what is spelled so is read
-pub is-whole : (message : List ℕ) (source : Address) (frame : Frame) (options : List ℕ) → IsRequest message source frame options → framed_of message source ≡ Whole frame
+pub is-whole : (message : List ℕ) (source : Address) (frame : Frame) (options : List ℕ) → IsRequest message source frame options → reading_of message source ≡ Whole frame
 is-whole message source frame options h =
     let front = head_cells frame.opcode h.reserved frame.lifetime source.0 in
     let same : message ≡ front ++ h.fields ++ options =
@@ -166,7 +166,7 @@ is-whole message source frame options h =
     let size = data-size frame.opcode h.fields frame.body h.body in
     let opcode : frame.opcode % 128 ≡ frame.opcode = omega (arith, size.0) in
     let room : 24 + data_length frame.opcode ≤ length (front ++ h.fields ++ options) = omega (arith, size.1, length-append h.fields options) in
-    ap (λ m. framed_of m source) same
+    ap (λ m. reading_of m source) same
     ∙ passes (front ++ h.fields ++ options) source (record {
       version = refl;
       opcode = size.0;

@@ -4,8 +4,10 @@ use Rattle.pcp_base.specs.declared.addresses.Address.{Address}
 use Rattle.pcp_base.specs.declared.codes.Code.{Code}
 use Rattle.pcp_base.specs.declared.codes.Code.TheVariants.{UnsuppVersion, MalformedRequest, UnsuppOpcode, AddressMismatch}
 use Rattle.pcp_base.specs.declared.asks.Refusal.{Refusal}
+use Rattle.pcp_base.specs.Cases.{Case, first_case}
 use Rattle.pcp_base.specs.Codes.{lifetime_of}
 use Rattle.pcp_codec.specs.declared.layout.TheConstants.{VERSION, R_BIT, PEER_OPCODE, MESSAGE_OCTETS, HEAD_OCTETS, CLIENT_PLACE}
+use Rattle.pcp_codec.specs.declared.requests.Frame.{Frame}
 use Rattle.pcp_codec.specs.declared.requests.Framed.{Framed}
 use Rattle.pcp_codec.specs.declared.requests.Framed.TheVariants.{Silent, Refuse, Whole}
 use Rattle.pcp_codec.specs.Fields.{octet, octets_at}
@@ -20,11 +22,6 @@ is_silent message = nat_lt (length message) 2 || nat_le R_BIT (octet message 1)
 abbrev pub unparsed : Code → Refusal
 unparsed code = record { code = code; parsed = false; lifetime = lifetime_of code }
 
--- a step of the verdict: whether it fails, and how the request is refused then
-pub record Step : Type 0 where
-  pub fails : Bool
-  pub refusal : Refusal
-
 -- whether a request has too many octets, or no whole words (section 7)
 abbrev pub is_of_wrong_size : List ℕ → Bool
 is_of_wrong_size message = nat_lt MESSAGE_OCTETS (length message) || not (length message % 4 == 0)
@@ -38,24 +35,22 @@ abbrev pub is_from_another : List ℕ → Address → Bool
 is_from_another message source = not (bytes_eq (octets_at message CLIENT_PLACE 16) source.0)
 
 -- the steps that need no options, in order
-abbrev pub frame_steps : List ℕ → Address → List Step
+abbrev pub frame_steps : List ℕ → Address → List (Case Refusal)
 frame_steps message source =
-    (record { fails = not (octet message 0 == VERSION); refusal = unparsed UnsuppVersion })
-    ∷ (record { fails = is_of_wrong_size message; refusal = unparsed MalformedRequest })
-    ∷ (record { fails = nat_lt PEER_OPCODE (opcode_of message); refusal = unparsed UnsuppOpcode })
-    ∷ (record { fails = lacks_data message; refusal = unparsed MalformedRequest })
-    ∷ (record { fails = is_from_another message source; refusal = unparsed AddressMismatch })
+    (record { applies = not (octet message 0 == VERSION); result = unparsed UnsuppVersion })
+    ∷ (record { applies = is_of_wrong_size message; result = unparsed MalformedRequest })
+    ∷ (record { applies = nat_lt PEER_OPCODE (opcode_of message); result = unparsed UnsuppOpcode })
+    ∷ (record { applies = lacks_data message; result = unparsed MalformedRequest })
+    ∷ (record { applies = is_from_another message source; result = unparsed AddressMismatch })
     ∷ []
 
--- the refusal of the first step that fails, which is the least of those that fail
-abbrev pub first_failing : List Step → Option Refusal
-first_failing [] = None
-first_failing (step ∷ steps) = if step.fails then Some step.refusal else first_failing steps
+-- the frame, unless a step refuses the request
+abbrev pub framed_unless : Option Refusal → Frame → Framed
+framed_unless None frame = Whole frame
+framed_unless (Some refusal) frame = Refuse refusal
 
-abbrev pub framed_by : List ℕ → Option Refusal → Framed
-framed_by message None = Whole (frame_of message)
-framed_by message (Some refusal) = Refuse refusal
-
-abbrev pub framed_of : List ℕ → Address → Framed
-framed_of message source =
-    if is_silent message then Silent else framed_by message (first_failing (frame_steps message source))
+-- what a datagram is before its options are read
+abbrev pub reading_of : List ℕ → Address → Framed
+reading_of message source =
+    if is_silent message then Silent
+    else framed_unless (first_case (frame_steps message source)) (frame_of message)

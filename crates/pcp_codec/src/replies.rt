@@ -9,7 +9,7 @@ use pcp_base::{Memory, Refusal};
 use std::alloc::Global;
 
 /// Writes the head of a reply (RFC 6887, section 7.2): version 2, the R bit and the low 7 bits of `opcode`,
-/// the result code 0 to 13, the lifetime and the epoch in seconds, and the octets 12 to 23.
+/// the result code, the lifetime and the epoch in seconds, and the octets 12 to 23.
 pub fn write_head(
     out: &mut [u8; 24],
     opcode: u8,
@@ -65,8 +65,8 @@ fn reply_len(request: &[u8]) -> usize
 }
 
 /// Appends the error reply to a request of at least 2 octets: the request with zeros past its end, cut at
-/// 1100 octets, under a new head (RFC 6887, section 8.2; zeros and cut are our own). It has 24 to 1100
-/// octets, a multiple of 4. `epoch` is in seconds. After `Memory` nothing was appended.
+/// [`MESSAGE_OCTETS`], under a new head (RFC 6887, sections 7.2 and 8.2; zeros and cut are our own). It
+/// has 24 to 1100 octets, a multiple of 4. `epoch` is in seconds. After `Memory` nothing was appended.
 pub fn write_refusal(
     _alloc: Global,
     out: &mut Vec<u8>,

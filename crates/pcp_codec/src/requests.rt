@@ -1,8 +1,9 @@
 //! Requests (RFC 6887, sections 7.1, 8.2, 11.1, 12.1 and 14.1).
 ghost use Rattle.std.specs.Prelude.{◌≡◌, ℕ, ◌≤◌, List, drop};
+ghost use Rattle.pcp_base.specs.Cases.{first_case};
 ghost use Rattle.pcp_codec.specs.Packets.{IsRequest};
 ghost use Rattle.pcp_codec.specs.Requests.{opcode_of, data_length, common_of, body_of};
-ghost use Rattle.pcp_codec.specs.Framing.{first_failing, frame_steps, framed_of, unparsed};
+ghost use Rattle.pcp_codec.specs.Framing.{frame_steps, reading_of, unparsed};
 
 use crate::fields::{octet_of, octets_of, opcode_in, u16_of, u32_of};
 use crate::layout::*;
@@ -68,16 +69,18 @@ pub enum Framed {
 /// (code 1), length (3), opcode (4), room for the data (3) and client address (12). Octets past the end
 /// read as zero (RFC 6887, section 8.2; the order is our own).
 pub fn read_request(octets: &[u8], source: &Address) -> Framed
-    ensures exact { result ≡ framed_of octets.now source.now }
-    ensures grammar { (frame : Frame) → result ≡ Framed.Whole frame → IsRequest octets.now source.now frame (drop frame.options octets.now) }
-    ensures only { (frame : Frame) (options : List ℕ) → IsRequest octets.now source.now frame options → result ≡ Framed.Whole frame }
+    ensures exact { result ≡ reading_of octets.now source.now }
+    ensures grammar { (frame : Frame) → result ≡ Framed.Whole frame
+        → IsRequest octets.now source.now frame (drop frame.options octets.now) }
+    ensures only { (frame : Frame) (options : List ℕ) → IsRequest octets.now source.now frame options
+        → result ≡ Framed.Whole frame }
 {
     first_steps(octets, source)
 }
 
 /// The answer of the first five steps.
 fn first_steps(octets: &[u8], source: &Address) -> Framed
-    ensures { result ≡ framed_of octets.now source.now }
+    ensures { result ≡ reading_of octets.now source.now }
 {
     let version = octet_of(octets, 0);
     if octets.len() < 2
@@ -110,7 +113,7 @@ fn refusal(code: Code) -> Refusal
 
 /// The refusal of the first of the five steps that fails.
 fn refused_with(octets: &[u8], source: &Address) -> Option<Refusal>
-    ensures { result ≡ first_failing (frame_steps octets.now source.now) }
+    ensures { result ≡ first_case (frame_steps octets.now source.now) }
 {
     let client = Address(octets_of(octets, CLIENT_PLACE));
     if octet_of(octets, 0) != VERSION {

@@ -56,9 +56,9 @@ fn requests(rt: HostRuntime) {
         (&REQUEST, other, refused(Code::AddressMismatch)),
         (&REQUEST, CLIENT, WHOLE),
     ] {
-        assert_eq!(rt; read_request(octets, &source), want, "for {octets:?}");
+        assert!(rt; read_request(octets, &source) == want, "for {octets:?}");
     }
-    assert_eq!(rt; read_common(&REQUEST), COMMON);
+    assert!(rt; read_common(&REQUEST) == COMMON);
 }
 
 #[test]
@@ -71,14 +71,13 @@ fn cut_requests(rt: HostRuntime) {
             24..=59 => refused(Code::MalformedRequest),
             _ => WHOLE,
         };
-        assert_eq!(rt; read_request(&REQUEST[..n], &CLIENT), want, "cut to {n}");
+        assert!(rt; read_request(&REQUEST[..n], &CLIENT) == want, "cut to {n}");
         let want = match n {
             0..=1 => Framed::Silent,
             _ => refused(Code::UnsuppVersion),
         };
-        assert_eq!(rt;
-            read_request(&old[..n], &CLIENT),
-            want,
+        assert!(rt;
+            read_request(&old[..n], &CLIENT) == want,
             "version 1, cut to {n}"
         );
     }

@@ -1,6 +1,6 @@
 use Rattle.std.proofs.Common.{[], sym}
 use Rattle.pcp_base.specs.declared.leases.Filter.{Filter}
-use Rattle.filter_rules.proofs.FoldLemmas.{IsFolded, emptied, there, added, said}
+use Rattle.filter_rules.proofs.FoldLemmas.{emptied, there, added, said}
 use Rattle.filter_rules.proofs.folded_and_count.Goals as goal
 use Rattle.filter_rules.proofs.folded_and_count.Goals.{then-filter-eq0, else-filter-eq0+then-not-is_in_either, else-filter-eq0+else-not-is_in_either}
 
