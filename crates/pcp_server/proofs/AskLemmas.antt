@@ -13,7 +13,8 @@ use Rattle.pcp_codec.specs.declared.requests.Common.{Common}
 use Rattle.pcp_codec.specs.declared.requests.Body.{Body}
 use Rattle.pcp_codec.specs.declared.requests.Body.TheVariants as Bodies
 use Rattle.pcp_codec.specs.Fields.{octet, u16_at}
-use Rattle.pcp_codec.specs.Framing.{Step, first_failing, frame_steps, is_silent}
+use Rattle.pcp_base.specs.Cases.{Case, first_case}
+use Rattle.pcp_codec.specs.Framing.{frame_steps, is_silent}
 use Rattle.pcp_codec.specs.Requests.{opcode_of, common_of, body_of, frame_of}
 use Rattle.pcp_server.specs.declared.verdicts.Verdict.{Verdict}
 use Rattle.pcp_server.specs.declared.verdicts.Verdict.TheVariants.{Silent}
@@ -29,10 +30,10 @@ pub u16_at-lt : (message : List ℕ) (place : ℕ) → AllByRecursion (λ x. x <
 u16_at-lt message place h = omega (arith, octet-lt message place h, octet-lt message (place + 1) h)
 
 -- where none is the first that fails, none fails
-none-fails : (steps : List Step) → first_failing steps ≡ None → AllByRecursion (λ step. step.fails ≡ false) steps
+none-fails : (steps : List (Case Refusal)) → first_case steps ≡ None → AllByRecursion (λ step. step.applies ≡ false) steps
 none-fails [] h = tt
 none-fails (step ∷ steps) h =
-    cond_both step.fails (Some step.refusal) (first_failing steps) (λ o. o ≡ None → AllByRecursion (λ (s : Step). s.fails ≡ false) (step ∷ steps))
+    cond_both step.applies (Some step.result) (first_case steps) (λ o. o ≡ None → AllByRecursion (λ (s : Case Refusal). s.applies ≡ false) (step ∷ steps))
     (λ _ e. absurd cc) (λ no e. (no, none-fails steps e)) h
 
 formed-common : (message : List ℕ) (source : Address) (lifetime : ℕ) (c : Common) → c ≡ common_of message → AllByRecursion (λ x. x < 256) message →
@@ -59,11 +60,11 @@ formed-body message source lifetime low not_peer octets =
     (λ _ h. formed-common message source lifetime (common_of message) refl octets h)
     (λ not_map h. absurd (omega (arith, eqb-false _ _ not_announce, eqb-false _ _ not_map, eqb-false _ _ not_peer))))
 
-abbrev steps_of : Config → Address → List ℕ → List Step
+abbrev steps_of : Config → Address → List ℕ → List (Case Refusal)
 steps_of config source message = frame_steps message source ++ service_steps message ++ ask_steps config source message
 
 -- Where no step fails it is a request that is served; what is known to be refused is no request of the table's.
-formed-by : (config : Config) (source : Address) (message : List ℕ) (first : Option Refusal) → first_failing (steps_of config source message) ≡ first →
+formed-by : (config : Config) (source : Address) (message : List ℕ) (first : Option Refusal) → first_case (steps_of config source message) ≡ first →
     AllByRecursion (λ x. x < 256) message → IsWellFormedAsk (asked (verdict_by config source message first))
 formed-by config source message (Some refusal) h octets = tt
 formed-by config source message None h octets =
@@ -75,7 +76,7 @@ formed-by config source message None h octets =
 pub formed-asked : (config : Config) (source : Address) (message : List ℕ) → AllByRecursion (λ x. x < 256) message → IsWellFormedAsk (asked (verdict_of config source message))
 unfolding verdict_of
 formed-asked config source message octets =
-    cond_both (is_silent message) Silent (verdict_by config source message (first_failing (steps_of config source message)))
+    cond_both (is_silent message) Silent (verdict_by config source message (first_case (steps_of config source message)))
     (λ (v : Verdict). IsWellFormedAsk (asked v))
     (λ _. tt)
-    (λ _. formed-by config source message (first_failing (steps_of config source message)) refl octets)
+    (λ _. formed-by config source message (first_case (steps_of config source message)) refl octets)

@@ -7,7 +7,8 @@ use Rattle.pcp_base.specs.declared.asks.Ask.{Ask}
 use Rattle.pcp_base.specs.declared.configs.Config.{Config}
 use Rattle.pcp_base.specs.declared.datagrams.Datagram.{Datagram}
 use Rattle.pcp_codec.specs.Fields.{octet}
-use Rattle.pcp_codec.specs.Framing.{first_failing, frame_steps, is_silent}
+use Rattle.pcp_base.specs.Cases.{first_case}
+use Rattle.pcp_codec.specs.Framing.{frame_steps, is_silent}
 use Rattle.pcp_server.specs.declared.verdicts.Verdict.{Verdict}
 use Rattle.pcp_server.specs.declared.verdicts.Verdict.TheVariants.{Silent}
 use Rattle.pcp_server.specs.Histories.{asked}
@@ -25,7 +26,7 @@ unfolding verdict_of
 verdict_silent config source message h = when_silent (is_silent message) _ h
 
 -- where it isn't silent the first failing step decides
-pub verdict_heard : (config : Config) (source : Address) (message : List ℕ) (first : Option Refusal) → is_silent message ≡ false → first_failing (frame_steps message source ++ service_steps message ++ ask_steps config source message) ≡ first → verdict_of config source message ≡ verdict_by config source message first
+pub verdict_heard : (config : Config) (source : Address) (message : List ℕ) (first : Option Refusal) → is_silent message ≡ false → first_case (frame_steps message source ++ service_steps message ++ ask_steps config source message) ≡ first → verdict_of config source message ≡ verdict_by config source message first
 unfolding verdict_of
 verdict_heard config source message first h e = when_heard (is_silent message) _ h ∙ ap (verdict_by config source message) e
 
@@ -40,7 +41,7 @@ two_octets n a b h = grind (arith, nat_tests)
 heard_verdict : (config : Config) (from : Datagram) → MatchOption (heard_ask (verdict_of config from.peer from.octets)) (is_silent from.octets ≡ true) (λ ask. (is_silent from.octets ≡ false) × (2 ≤ length from.octets) × (ask ≡ asked (verdict_of config from.peer from.octets)))
 unfolding verdict_of
 heard_verdict config from =
-    let first = first_failing (frame_steps from.octets from.peer ++ service_steps from.octets ++ ask_steps config from.peer from.octets) in
+    let first = first_case (frame_steps from.octets from.peer ++ service_steps from.octets ++ ask_steps config from.peer from.octets) in
     let long = two_octets (length from.octets) (nat_le 128 (octet from.octets 1)) (octet from.octets 0 == 2 && nat_lt (length from.octets) 24) in
     heard_by config from.peer from.octets (is_silent from.octets) first (length from.octets) long
 

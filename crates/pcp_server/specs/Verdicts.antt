@@ -14,7 +14,8 @@ use Rattle.pcp_base.specs.Pairing.{place_of}
 use Rattle.pcp_base.specs.Protocols.{protocol_of}
 use Rattle.pcp_codec.specs.declared.requests.Body.{Body}
 use Rattle.pcp_codec.specs.declared.requests.Body.TheVariants as Bodies
-use Rattle.pcp_codec.specs.Framing.{Step, first_failing, frame_steps, is_silent, unparsed}
+use Rattle.pcp_base.specs.Cases.{Case, first_case}
+use Rattle.pcp_codec.specs.Framing.{frame_steps, is_silent, unparsed}
 use Rattle.pcp_codec.specs.Requests.{opcode_of, body_of, frame_of}
 use Rattle.pcp_server.specs.declared.verdicts.Verdict.{Verdict}
 use Rattle.pcp_server.specs.declared.verdicts.Verdict.TheVariants.{Silent, Refuse, Asked}
@@ -30,17 +31,17 @@ abbrev pub parsed : Code → Refusal
 parsed code = record { code = code; parsed = true; lifetime = lifetime_of code }
 
 -- What isn't served: PEER, and anything behind a request's data. Such a request counts as not read.
-abbrev pub service_steps : List ℕ → List Step
+abbrev pub service_steps : List ℕ → List (Case Refusal)
 service_steps message =
-    (record { fails = opcode_of message == 2; refusal = unparsed UnsuppOpcode })
-    ∷ (record { fails = nat_lt (frame_of message).options (length message); refusal = unparsed UnsuppOption })
+    (record { applies = opcode_of message == 2; result = unparsed UnsuppOpcode })
+    ∷ (record { applies = nat_lt (frame_of message).options (length message); result = unparsed UnsuppOption })
     ∷ []
 
 -- what can't be asked for
-abbrev pub ask_steps : Config → Address → List ℕ → List Step
+abbrev pub ask_steps : Config → Address → List ℕ → List (Case Refusal)
 ask_steps config source message =
-    (record { fails = lacks_ports (body_of message); refusal = parsed UnsuppProtocol })
-    ∷ (record { fails = is_none (place_of config.subscribers source); refusal = parsed NotAuthorized })
+    (record { applies = lacks_ports (body_of message); result = parsed UnsuppProtocol })
+    ∷ (record { applies = is_none (place_of config.subscribers source); result = parsed NotAuthorized })
     ∷ []
 
 -- that of a number which passed the steps
@@ -80,4 +81,4 @@ unfoldable pub verdict_of : Config → Address → List ℕ → Verdict
 verdict_of config source message =
     if is_silent message then Silent
     else verdict_by config source message
-    (first_failing (frame_steps message source ++ service_steps message ++ ask_steps config source message))
+    (first_case (frame_steps message source ++ service_steps message ++ ask_steps config source message))

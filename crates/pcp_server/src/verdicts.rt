@@ -1,7 +1,7 @@
 //! The verdict on a datagram (RFC 6887, section 8.2).
 ghost use Rattle.std.specs.Prelude.{◌≡◌, ◌++◌};
 ghost use Rattle.pcp_base.specs.Codes.{lifetime_of};
-ghost use Rattle.pcp_codec.specs.Framing.{first_failing};
+ghost use Rattle.pcp_base.specs.Cases.{first_case};
 ghost use Rattle.pcp_codec.specs.Requests.{frame_of};
 ghost use Rattle.pcp_server.specs.Verdicts.{ask_of, ask_steps, asked_protocol, lacks_ports, service_steps, verdict_of};
 
@@ -54,7 +54,7 @@ pub(crate) fn refusal(code: Code, parsed: bool) -> Refusal
 /// The refusal of a request whose frame is whole: what isn't served, or can't be asked for.
 fn fault_of(config: &Config, source: &Address, octets: &[u8], frame: &Frame) -> Option<Refusal>
     requires { frame_of octets.now ≡ frame.now }
-    ensures { result ≡ first_failing (service_steps octets.now ++ ask_steps config.now source.now octets.now) }
+    ensures { result ≡ first_case (service_steps octets.now ++ ask_steps config.now source.now octets.now) }
 {
     if frame.opcode == 2 {
         Some(refusal(Code::UnsuppOpcode, false))
