@@ -35,7 +35,8 @@ is_free external t m protocol port = nat_le external.low port && nat_le port ext
 unfoldable pub pick : External → Table → ℕ → MapAsk → Option ℕ
 pick external t m ask =
     if not (ask.port == 0) && is_free external t m ask.endpoint.protocol ask.port then Some ask.port
-    else find (is_free external t m ask.endpoint.protocol) (range_with_len external.low (external.high + 1 - external.low))
+    else find (is_free external t m ask.endpoint.protocol)
+    (range_with_len external.low (external.high + 1 - external.low))
 
 -- seconds that are granted: those asked for, within the limits
 abbrev pub granted_lifetime : Config → ℕ → ℕ
@@ -48,7 +49,8 @@ answered answer = record { answer = answer; kept = None }
 -- an answer with one external port of a lease, which is kept
 abbrev pub mapped : Config → External → ℕ → MapAsk → MapLease → Decided
 mapped config external m ask lease = record {
-  answer = Mapped (granted_lifetime config ask.lifetime) (lease.external + (ask.endpoint.port - lease.internal)) external.address None;
+  answer = Mapped (granted_lifetime config ask.lifetime)
+      (lease.external + (ask.endpoint.port - lease.internal)) external.address None;
   kept = Some (record { moment = m; change = Changes.Map lease });
 }
 
@@ -79,11 +81,18 @@ abbrev pub held_cases : ℕ → MapAsk → MapLease → List (Case Decided)
 held_cases m ask lease =
     (record {
       applies = not (bytes_eq lease.nonce.0 ask.nonce.0);
-      result = answered (Refused (record { code = NotAuthorized; parsed = true; lifetime = time_left m lease }));
+      result = answered (Refused (record {
+        code = NotAuthorized;
+        parsed = true;
+        lifetime = time_left m lease;
+      }));
     })
     ∷ (record {
       applies = ask.lifetime == 0;
-      result = record { answer = Gone; kept = Some (record { moment = m; change = Changes.DropMap (first_endpoint lease) }) };
+      result = record {
+        answer = Gone;
+        kept = Some (record { moment = m; change = Changes.DropMap (first_endpoint lease) });
+      };
     })
     ∷ []
 
@@ -101,7 +110,8 @@ new_cases t m ask picked =
 -- else the lease is renewed, or granted at the pick
 abbrev pub decide_by : Config → External → Table → ℕ → MapAsk → Option MapLease → Decided
 decide_by config external t m ask (Some lease) =
-    unwrap_or (first_case (held_cases m ask lease)) (mapped config external m ask (renewed config m ask lease))
+    unwrap_or (first_case (held_cases m ask lease))
+    (mapped config external m ask (renewed config m ask lease))
 decide_by config external t m ask None =
     let picked = pick external t m ask in
     unwrap_or (first_case (new_cases t m ask picked))

@@ -32,7 +32,8 @@ asked (Asked place ask) = ask
 
 -- what the lease table decides on a datagram at m
 abbrev pub decided_on : Config → External → Table → ℕ → Datagram → Decided
-decided_on config external t m from = decide config external t m (asked (verdict_of config from.peer from.octets))
+decided_on config external t m from =
+    decide config external t m (asked (verdict_of config from.peer from.octets))
 
 -- what a record makes of a state: ports don't rest yet, as in the first format of records
 abbrev pub kept_in : State → Option Record → State
@@ -40,25 +41,33 @@ kept_in s None = s
 kept_in s (Some r) = apply_first s r
 
 abbrev pub after : ShardState → Entry → ShardState
-after shard e = record { state = kept_in shard.state e.kept; reached = e.moment; told = max shard.told e.base }
+after shard e = record {
+  state = kept_in shard.state e.kept;
+  reached = e.moment;
+  told = max shard.told e.base;
+}
 
--- The entry is the lease table's: its record and its reply are what the table decides at its moment, and
--- its moment and base don't fall.
-pub record IsAnswer (config : Config) (external : External) (shard : ShardState) (e : Entry) : Type 0 where
+-- The entry is the lease table's: its record and its reply are what the table decides at its moment,
+-- and its moment and base don't fall.
+pub record IsAnswer (config : Config) (external : External) (shard : ShardState) (e : Entry)
+    : Type 0 where
   pub heard : is_silent e.from.octets ≡ false
   pub later : shard.reached ≤ e.moment
   pub after_records : shard.state.last ≤ e.moment
   pub answer : Answer
-  pub decided : decided_on config external shard.state.table e.moment e.from ≡ record { answer = answer; kept = e.kept }
+  pub decided : decided_on config external shard.state.table e.moment e.from
+      ≡ record { answer = answer; kept = e.kept }
   pub reply : e.reply ≡ reply_text e.from.octets answer (epoch_of e.moment e.base)
   pub moment : IfSome e.kept (λ r. r.moment ≡ e.moment)
   pub base : (after shard e).state.base ≤ e.base
   pub bases : shard.told ≤ e.base
 
--- Every entry is the lease table's, in order. There is one external address, to which each request is routed.
+-- Every entry is the lease table's, in order. There is one external address, to which each request
+-- is routed.
 abbrev pub IsLegal : Config → External → ShardState → List Entry → Type 0
 IsLegal config external shard [] = ⊤
-IsLegal config external shard (e ∷ es) = IsAnswer config external shard e × IsLegal config external (after shard e) es
+IsLegal config external shard (e ∷ es) =
+    IsAnswer config external shard e × IsLegal config external (after shard e) es
 
 -- no external port has two owners, at any moment
 abbrev pub AlwaysHasOneOwner : Table → Type 0
@@ -71,7 +80,8 @@ pub record IsForLease (config : Config) (e : Entry) (l : MapLease) : Type 0 wher
   pub nonce : ask.nonce ≡ l.nonce
   pub endpoint : covers l ask.endpoint ≡ true
 
--- A live lease stays as it is, or the entry is a request with its nonce: only that renews or deletes.
+-- A live lease stays as it is, or the entry is a request with its nonce: only that renews or
+-- deletes.
 abbrev pub HasItsNonce : Config → ShardState → Entry → Type 0
 HasItsNonce config shard e = (l : MapLease) → Contains (live shard.state.table e.moment).maps l →
     Contains (after shard e).state.table.maps l ⊎ IsForLease config e l
@@ -80,4 +90,5 @@ HasItsNonce config shard e = (l : MapLease) → Contains (live shard.state.table
 abbrev pub IsSafe : Config → ShardState → List Entry → Type 0
 IsSafe config shard [] = ⊤
 IsSafe config shard (e ∷ es) =
-    AlwaysHasOneOwner (after shard e).state.table × HasItsNonce config shard e × IsSafe config (after shard e) es
+    AlwaysHasOneOwner (after shard e).state.table × HasItsNonce config shard e
+    × IsSafe config (after shard e) es

@@ -4,6 +4,7 @@ use Rattle.std.specs.List.{AllByRecursion}
 use Rattle.hex.specs.Hex.{decode_of}
 use Rattle.pcp_base.specs.AddressTexts.{IsAddressText}
 use Rattle.pcp_base.specs.declared.datagrams.Datagram.{Datagram}
+use Rattle.pcp_server.specs.declared.readers.TheConstants.{LONGEST_LINE}
 use Rattle.pcp_server.specs.declared.lines.Line.{Line}
 use Rattle.pcp_server.specs.declared.lines.Line.TheVariants.{Skip, Packet}
 
@@ -16,7 +17,8 @@ IsHexField text octets = ((text ≡ codes "-") × (octets ≡ []))
 pub record IsPacket (text : List ℕ) (moment : ℕ) (from : Datagram) : Type 0 where
   pub peer : List ℕ
   pub hex : List ℕ
-  pub spelled : text ≡ codes "packet " ++ decimal moment ++ codes " " ++ peer ++ codes " " ++ decimal from.port ++ codes " " ++ hex
+  pub spelled : text ≡ codes "packet " ++ decimal moment ++ codes " " ++ peer ++ codes " "
+      ++ decimal from.port ++ codes " " ++ hex
   pub moment_end : moment < 2 ^ 40
   pub address : IsAddressText peer from.peer
   pub port : from.port < 2 ^ 16
@@ -35,10 +37,11 @@ IsUnbroken text = AllByRecursion (λ c. ¬ (c ≡ 10)) text
 abbrev pub ended : List ℕ → List ℕ
 ended text = text ++ 10 ∷ []
 
--- texts of at most 8,192 octets stand for these lines, one for one
+-- texts that aren't too long stand for these lines, one for one
 abbrev pub AreLines : List (List ℕ) → List Line → Type 0
 AreLines [] [] = ⊤
-AreLines (text ∷ texts) (line ∷ lines) = (length text ≤ 8192) × IsLine text line × AreLines texts lines
+AreLines (text ∷ texts) (line ∷ lines) =
+    (length text ≤ LONGEST_LINE) × IsLine text line × AreLines texts lines
 AreLines [] (line ∷ lines) = ⊥
 AreLines (text ∷ texts) [] = ⊥
 
@@ -51,8 +54,8 @@ pub record LacksFeed (script rest : List ℕ) (texts : List (List ℕ)) : Type 0
   pub spelled : script ≡ flat_map ended front ++ last
   pub none_behind : rest ≡ []
 
--- The texts are the first lines of a script, and the rest comes behind them: each line ends with a line feed,
--- but that the last of the script may lack it.
+-- The texts are the first lines of a script, and the rest comes behind them: each line ends with a line
+-- feed, but that the last of the script may lack it.
 pub record AreFirst (script rest : List ℕ) (texts : List (List ℕ)) : Type 0 where
   pub unbroken : AllByRecursion IsUnbroken texts
   pub spelled : (script ≡ flat_map ended texts ++ rest) ⊎ LacksFeed script rest texts

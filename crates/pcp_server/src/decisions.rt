@@ -83,7 +83,8 @@ fn pick_port(external: &External, maps: &[MapLease], m: Moment, ask: &MapAsk) ->
 
 /// The least free port.
 fn least_free(external: &External, maps: &[MapLease], m: Moment, protocol: Protocol) -> Option<u16>
-    ensures { result ≡ find (is_free external.now (only_maps maps.now) m protocol) (range_with_len external.now.low (external.now.high + 1 - external.now.low)) }
+    ensures { result ≡ find (is_free external.now (only_maps maps.now) m protocol)
+        (range_with_len external.now.low (external.now.high + 1 - external.now.low)) }
 {
     for port in external.low..=external.high {
         if is_unowned(external, maps, m, protocol, port) {
@@ -192,7 +193,8 @@ fn decide_held(
 ) -> Decided
     requires told { lease.now.external + (ask.now.endpoint.port - lease.now.internal) < 2 ^ 16 }
     requires ports { EndsInRange lease.now }
-    ensures value { (t : Table) → result ≡ decide_by config.now external.now t m ask.now (Some lease.now) }
+    ensures value { (t : Table) →
+        result ≡ decide_by config.now external.now t m ask.now (Some lease.now) }
     ensures kept { IfSome result.kept (λ r. (r.moment ≡ m) × IsOfMaps r.change) }
 {
     if lease.nonce != ask.nonce {
@@ -213,7 +215,10 @@ fn decide_held(
 
 /// The whole lease is deleted.
 fn dropped(m: Moment, lease: &MapLease) -> Decided
-    ensures { result ≡ record { answer = Gone; kept = Some (record { moment = m; change = DropMap (first_endpoint lease.now) }) } }
+    ensures { result ≡ record {
+      answer = Gone;
+      kept = Some (record { moment = m; change = DropMap (first_endpoint lease.now) });
+    } }
 {
     Decided {
         answer: Answer::Gone,

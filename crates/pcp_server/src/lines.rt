@@ -61,7 +61,8 @@ pub(crate) fn read_line(alloc: Global, text: &[u8]) -> Result<Line, LineRefused>
 fn read_packet(alloc: Global, text: &[u8]) -> Result<(Moment, Datagram), LineRefused>
     ensures packet { IfOk result (λ p. IsPacket text.now p.0 p.1) }
     ensures octets { IfOk result (λ p. AllByRecursion (λ x. x < 256) p.1.octets) }
-    ensures refused { result ≡ Err LineRefused.NotLine → (moment : ℕ) (from : Datagram) → ¬ (IsPacket text.now moment from) }
+    ensures refused { result ≡ Err LineRefused.NotLine →
+        (moment : ℕ) (from : Datagram) → ¬ (IsPacket text.now moment from) }
 {
     let Some(fields) = fields_of(text) else {
         return Err(LineRefused::NotLine);
@@ -81,8 +82,10 @@ fn read_packet(alloc: Global, text: &[u8]) -> Result<(Moment, Datagram), LineRef
 
 /// The four fields behind `packet`, each parted from the one before by one space.
 fn fields_of(text: &[u8]) -> Option<Fields<'_>>
-    ensures fields { IfSome result (λ f. AreFields text.now f.moment.now f.peer.now f.port.now f.hex.now) }
-    ensures none { IfNone result ((moment peer port hex : List ℕ) → ¬ (AreFields text.now moment peer port hex)) }
+    ensures fields { IfSome result (λ f.
+        AreFields text.now f.moment.now f.peer.now f.port.now f.hex.now) }
+    ensures none { IfNone result
+        ((moment peer port hex : List ℕ) → ¬ (AreFields text.now moment peer port hex)) }
 {
     let rest = text.strip_prefix(b"packet ")?;
     let (moment, rest) = split_at_space(rest)?;
@@ -98,7 +101,8 @@ fn fields_of(text: &[u8]) -> Option<Fields<'_>>
 
 /// What stands before the first space, and what behind it.
 fn split_at_space(text: &[u8]) -> Option<(&[u8], &[u8])>
-    ensures parts { IfSome result (λ parts. (text.now ≡ parts.0.now ++ 32 ∷ parts.1.now) × IsWord parts.0.now) }
+    ensures parts { IfSome result (λ parts.
+        (text.now ≡ parts.0.now ++ 32 ∷ parts.1.now) × IsWord parts.0.now) }
     ensures none { IfNone result (IsWord text.now) }
 {
     let at = text.iter().position(|c| *c == b' ')?;
@@ -118,7 +122,8 @@ fn read_port(text: &[u8]) -> Option<u16>
 fn read_octets(alloc: Global, text: &[u8]) -> Result<Octets, LineRefused>
     ensures field { IfOk result (IsHexField text.now) }
     ensures octets { IfOk result (AllByRecursion (λ x. x < 256)) }
-    ensures refused { result ≡ Err LineRefused.NotLine → (octets : List ℕ) → ¬ (IsHexField text.now octets) }
+    ensures refused { result ≡ Err LineRefused.NotLine →
+        (octets : List ℕ) → ¬ (IsHexField text.now octets) }
 {
     if matches!(text, [b'-']) {
         return Ok(Octets::of(Vec::new(alloc)));

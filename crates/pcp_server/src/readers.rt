@@ -17,7 +17,7 @@ const MOST_OCTETS: u64 = 1 << 30;
 pub(crate) const PIECE: usize = 4096;
 
 // How many octets a line may have, without its line feed.
-const LONGEST: usize = 8192;
+pub(crate) const LONGEST_LINE: usize = 8192;
 
 /// How a line ended.
 #[derive(Clone, Copy, Debug, PartialEq, Eq)]
@@ -75,15 +75,14 @@ pub(crate) struct LineReader {
 }
 
 impl Model for LineReader {
-    ghost use Rattle.std.specs.Prelude.{◌^◌, ◌≤◌, drop, take};
-    ghost use Rattle.pcp_server.specs.declared.readers.TheConstants.{PIECE};
-    ghost use Rattle.pcp_server.specs.Reading.{Reading};
+    ghost use Rattle.std.specs.Prelude.{drop, take};
+    ghost use Rattle.pcp_server.specs.Reading.{HasBounds, Reading};
 
     ghost Value = { Reading };
 
     ghost view = { λ r. record { pending = drop r.start (take r.end r.buffer); used = r.used } };
 
-    ghost invariant = { λ r. (r.start ≤ r.end) × (r.end ≤ PIECE) × (r.used ≤ 2 ^ 30) };
+    ghost invariant = { λ r. HasBounds r.start r.end r.used };
 }
 
 impl LineReader {
@@ -106,8 +105,11 @@ impl LineReader {
         input: &mut S,
         text: &mut Vec<u8>,
     ) -> Result<Ending, LineFault>
-        ensures ends { IfOk result (Ends self.old self.new (S.left input.old) (S.left input.new) text.new.items) }
-        ensures stops { IfErr result (Stops self.old self.new (S.left input.old) (S.left input.new) (S.faults input.old) (S.faults input.new) text.new.items) }
+        ensures ends { IfOk result
+            (Ends self.old self.new (S.left input.old) (S.left input.new) text.new.items) }
+        ensures stops { IfErr result
+            (Stops self.old self.new (S.left input.old) (S.left input.new)
+            (S.faults input.old) (S.faults input.new) text.new.items) }
         ensures faults { S.faults input.old ≤ S.faults input.new }
     {
         text.clear();
@@ -128,7 +130,7 @@ impl LineReader {
             }
             text.push(octet)?;
             self.advance();
-            if text.len() > LONGEST {
+            if text.len() > LONGEST_LINE {
                 return Ok(Ending::Refused);
             }
         }

@@ -47,7 +47,8 @@ fn push_head(
     epoch: u32,
 ) -> Result<(), AllocError>
     requires { 2 ≤ length request.now }
-    ensures { OnOk result (reply.new.items ≡ reply.old.items ++ success_head request.now lifetime epoch) }
+    ensures { OnOk result
+        (reply.new.items ≡ reply.old.items ++ success_head request.now lifetime epoch) }
 {
     let mut head = [0; 24];
     write_head(&mut head, request[1] % 128, 0, lifetime, epoch, &[0; 12]);
@@ -61,7 +62,8 @@ fn push_data(
     external: u16,
     address: &Address,
 ) -> Result<(), AllocError>
-    ensures { OnOk result (reply.new.items ≡ reply.old.items ++ data_text common.now external address.now) }
+    ensures { OnOk result
+        (reply.new.items ≡ reply.old.items ++ data_text common.now external address.now) }
 {
     reply.extend_from_slice(&common.nonce.0)?;
     reply.extend_from_slice(&[common.protocol, 0, 0, 0])?;

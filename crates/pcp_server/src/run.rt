@@ -64,7 +64,8 @@ fn print_line(
     shard: &mut Shard,
     line: &Line,
 ) -> Result<Vec<u8>, Memory>
-    ensures { IfOk result (λ text. PrintsLine config.now external.now line.now shard.old shard.new text.items) }
+    ensures { IfOk result (λ text.
+        PrintsLine config.now external.now line.now shard.old shard.new text.items) }
 {
     let mut text = Vec::new(alloc);
     if let Line::Packet(now, from) = line {
@@ -85,8 +86,12 @@ fn answer_text<W: Sink>(
     text: &[u8],
     out: &mut W,
 ) -> Result<(), TextFault>
-    ensures ok { OnOk result (Answers config.now external.now text.now shard.old shard.new (W.held out.old) (W.held out.new)) }
-    ensures err { IfErr result (Fails config.now external.now text.now shard.old (W.held out.old) (W.held out.new) (W.faults out.old) (W.faults out.new)) }
+    ensures ok { OnOk result
+        (Answers config.now external.now text.now shard.old shard.new
+        (W.held out.old) (W.held out.new)) }
+    ensures err { IfErr result
+        (Fails config.now external.now text.now shard.old
+        (W.held out.old) (W.held out.new) (W.faults out.old) (W.faults out.new)) }
     ensures faults { W.faults out.old ≤ W.faults out.new }
 {
     let line = read_line(alloc, text)?;
@@ -129,13 +134,18 @@ impl Player {
         out: &mut W,
     ) -> Turn
         ensures turned { (start : ℕ) (script before : List ℕ) →
-            IsUnderway self.old.config self.old.external start number script before self.old.shard self.old.reader (S.left input.old) (W.held out.old) →
-            IsTurned self.old.config self.old.external start number script before self.new.shard self.new.reader (S.left input.new) (W.held out.new) result }
+            IsUnderway self.old.config self.old.external start number script before
+            self.old.shard self.old.reader (S.left input.old) (W.held out.old) →
+            IsTurned self.old.config self.old.external start number script before
+            self.new.shard self.new.reader (S.left input.new) (W.held out.new) result }
         ensures config { self.new.config ≡ self.old.config }
         ensures external { self.new.external ≡ self.old.external }
-        ensures used { result ≡ More → (self.old.reader.used < self.new.reader.used) × (self.new.reader.used ≤ 2 ^ 30) }
-        ensures read_fault { result ≡ Over ReadFault → HasRisen (S.faults input.old) (S.faults input.new) }
-        ensures write_fault { result ≡ Over WriteFault → HasRisen (W.faults out.old) (W.faults out.new) }
+        ensures used { result ≡ More →
+            (self.old.reader.used < self.new.reader.used) × (self.new.reader.used ≤ 2 ^ 30) }
+        ensures read_fault { result ≡ Over ReadFault →
+            HasRisen (S.faults input.old) (S.faults input.new) }
+        ensures write_fault { result ≡ Over WriteFault →
+            HasRisen (W.faults out.old) (W.faults out.new) }
         ensures reads { S.faults input.old ≤ S.faults input.new }
         ensures writes { W.faults out.old ≤ W.faults out.new }
         ensures words { ¬ (result ≡ Over WordsRefused) }
@@ -157,7 +167,9 @@ impl Player {
         text: &[u8],
         out: &mut W,
     ) -> Turn
-        ensures turn { EndsTurn self.old.config self.old.external number text.now ending self.old.shard self.new.shard (W.held out.old) (W.held out.new) (W.faults out.old) (W.faults out.new) result }
+        ensures turn { EndsTurn self.old.config self.old.external number text.now ending
+            self.old.shard self.new.shard (W.held out.old) (W.held out.new)
+            (W.faults out.old) (W.faults out.new) result }
         ensures config { self.new.config ≡ self.old.config }
         ensures external { self.new.external ≡ self.old.external }
         ensures reader { self.new.reader ≡ self.old.reader }
@@ -180,7 +192,9 @@ impl Player {
         out: &mut W,
         next: Turn,
     ) -> Turn
-        ensures turn { AnswersOrFails self.old.config self.old.external number text.now next self.old.shard self.new.shard (W.held out.old) (W.held out.new) (W.faults out.old) (W.faults out.new) result }
+        ensures turn { AnswersOrFails self.old.config self.old.external number text.now next
+            self.old.shard self.new.shard (W.held out.old) (W.held out.new)
+            (W.faults out.old) (W.faults out.new) result }
         ensures config { self.new.config ≡ self.old.config }
         ensures external { self.new.external ≡ self.old.external }
         ensures reader { self.new.reader ≡ self.old.reader }
@@ -202,7 +216,8 @@ impl Player {
 
 /// Plays a script from a Start at this moment.
 fn play<S: Source, W: Sink>(alloc: Global, start: Moment, input: &mut S, out: &mut W) -> Status
-    ensures played { (script before : List ℕ) → S.left input.old ≡ Some script → W.held out.old ≡ Some before →
+    ensures played { (script before : List ℕ) →
+        S.left input.old ≡ Some script → W.held out.old ≡ Some before →
         IsOver profile external start script before (S.left input.new) (W.held out.new) result }
     ensures read_fault { result ≡ ReadFault → HasRisen (S.faults input.old) (S.faults input.new) }
     ensures write_fault { result ≡ WriteFault → HasRisen (W.faults out.old) (W.faults out.new) }
@@ -228,10 +243,10 @@ fn play<S: Source, W: Sink>(alloc: Global, start: Moment, input: &mut S, out: &m
     }
 }
 
-/// Runs the command that the words are: `play CONFIG SCRIPT JOURNALS START` answers the script of `input`
-/// line by line, and writes each line's result to `out` before it reads the next. The script has at most
-/// 2^30 octets, and a line 8,192. `CONFIG`, `SCRIPT` and `JOURNALS` are the caller's to open; they aren't
-/// looked at here.
+/// Runs the command that the words are: `play CONFIG SCRIPT JOURNALS START` answers the script of
+/// `input` line by line, and writes each line's result to `out` before it looks at the next. The script
+/// has at most 2^30 octets, and a line 8,192. Octets are read 4,096 at a time, none before all that were
+/// read are used. `CONFIG`, `SCRIPT` and `JOURNALS` are the caller's to open; they aren't looked at here.
 pub fn run_once<S: Source, W: Sink>(
     alloc: Global,
     words: &[String],
@@ -239,11 +254,13 @@ pub fn run_once<S: Source, W: Sink>(
     out: &mut W,
 ) -> Status
     // The words alone decide whether they are a command; if not, nothing is read or written.
-    ensures words { (result ≡ WordsRefused) ↔ ((start : ℕ) → ¬ (IsPlay (map string_bytes words.now) start)) }
+    ensures words { (result ≡ WordsRefused)
+        ↔ ((start : ℕ) → ¬ (IsPlay (map string_bytes words.now) start)) }
     ensures untouched { result ≡ WordsRefused → (input.new ≡ input.old) × (out.new ≡ out.old) }
 
     // What was read and written, by the status, for a source and a sink that tell it.
-    ensures played { (start : ℕ) (script before : List ℕ) → IsPlay (map string_bytes words.now) start →
+    ensures played { (start : ℕ) (script before : List ℕ) →
+        IsPlay (map string_bytes words.now) start →
         S.left input.old ≡ Some script → W.held out.old ≡ Some before →
         IsOver profile external start script before (S.left input.new) (W.held out.new) result }
 

@@ -78,7 +78,9 @@ impl Shard {
         now: Moment,
         from: &Datagram,
     ) -> Result<Option<Vec<u8>>, Memory>
-        ensures { IfOk result (λ reply. IsStep config.now external.now self.old now from.now (option_map (λ r. r.items) reply) self.new) }
+        ensures { IfOk result (λ reply.
+            IsStep config.now external.now self.old now from.now (option_map (λ r. r.items) reply)
+            self.new) }
     {
         match heard(alloc, config, from) {
             None => Ok(None),
@@ -101,7 +103,8 @@ impl Shard {
         ask: &Ask,
     ) -> Result<Vec<u8>, Memory>
         requires { 2 ≤ length from.now.octets }
-        ensures { IfOk result (λ reply. IsAnswered config.now external.now self.old m from.now ask.now reply.items self.new) }
+        ensures { IfOk result (λ reply.
+            IsAnswered config.now external.now self.old m from.now ask.now reply.items self.new) }
     {
         let decided = self.decided(config, external, m, ask);
         let reply = reply_for(
@@ -148,7 +151,8 @@ impl Shard {
     /// Applies a record to the table. After `Memory` the table isn't to be used again.
     fn keep(&mut self, kept: &Record) -> Result<(), Memory>
         requires { IsOfMaps kept.now.change }
-        ensures { OnOk result (self.new ≡ record self.old { state = apply_first self.old.state kept.now }) }
+        ensures { OnOk result
+            (self.new ≡ record self.old { state = apply_first self.old.state kept.now }) }
     {
         change_maps(&mut self.maps, kept)?;
         self.last = kept.moment;
@@ -213,7 +217,8 @@ fn place_of(maps: &[MapLease], lease: &MapLease) -> Option<usize>
 
 /// Puts a lease in the place of the one with its key, or at the end.
 fn put_lease(maps: &mut Vec<MapLease>, lease: MapLease) -> Result<(), AllocError>
-    ensures ok { OnOk result (maps.new.items ≡ put (is_map_of (first_endpoint lease)) lease maps.old.items) }
+    ensures ok { OnOk result
+        (maps.new.items ≡ put (is_map_of (first_endpoint lease)) lease maps.old.items) }
     ensures err { OnErr result (maps.new.items ≡ maps.old.items) }
 {
     match place_of(maps, &lease) {
@@ -228,7 +233,8 @@ fn change_maps(maps: &mut Vec<MapLease>, kept: &Record) -> Result<(), AllocError
     requires change { IsOfMaps kept.now.change }
     requires ports { AllByRecursion EndsInRange maps.old.items }
     ensures ports { AllByRecursion EndsInRange maps.new.items }
-    ensures ok { OnOk result (only_maps maps.new.items ≡ table_changed kept.now.change (live (only_maps maps.old.items) kept.now.moment)) }
+    ensures ok { OnOk result
+        (only_maps maps.new.items ≡ table_changed kept.now.change (live (only_maps maps.old.items) kept.now.moment)) }
 {
     drop_ended(maps, kept.moment);
     match &kept.change {

@@ -661,7 +661,10 @@ fn statuses(rt: HostRuntime) -> Result<(), Fail> {
         (Status::Memory, 8, "pcp: out of memory"),
     ] {
         let message = format!(in rt.alloc(); "{status}")?;
-        assert!(rt; status.exit() == exit && message.as_str() == text, "{message}");
+        assert!(rt;
+            status.exit() == exit && message.as_str() == text,
+            "{message}"
+        );
     }
     Ok(())
 }

@@ -54,7 +54,8 @@ pub(crate) fn refusal(code: Code, parsed: bool) -> Refusal
 /// The refusal of a request whose frame is whole: what isn't served, or can't be asked for.
 fn fault_of(config: &Config, source: &Address, octets: &[u8], frame: &Frame) -> Option<Refusal>
     requires { frame_of octets.now ≡ frame.now }
-    ensures { result ≡ first_case (service_steps octets.now ++ ask_steps config.now source.now octets.now) }
+    ensures { result ≡ first_failing
+        (service_steps octets.now ++ ask_steps config.now source.now octets.now) }
 {
     if frame.opcode == 2 {
         Some(refusal(Code::UnsuppOpcode, false))
@@ -83,7 +84,11 @@ fn has_no_ports(body: &Body) -> bool
 
 /// The endpoint that a request names.
 fn endpoint(address: Address, common: &Common) -> Endpoint
-    ensures { result ≡ record { address = address; protocol = asked_protocol common.now.protocol; port = common.now.internal } }
+    ensures { result ≡ record {
+      address = address;
+      protocol = asked_protocol common.now.protocol;
+      port = common.now.internal;
+    } }
 {
     Endpoint {
         address,
