@@ -15,6 +15,7 @@ use Rattle.pcp_base.specs.Protocols.{protocol_of}
 use Rattle.pcp_codec.specs.declared.requests.Body.{Body}
 use Rattle.pcp_codec.specs.declared.requests.Body.TheVariants as Bodies
 use Rattle.pcp_base.specs.Cases.{Case, first_case}
+use Rattle.pcp_codec.specs.declared.layout.TheConstants.{PEER_OPCODE}
 use Rattle.pcp_codec.specs.Framing.{frame_steps, is_silent, unparsed}
 use Rattle.pcp_codec.specs.Requests.{opcode_of, body_of, frame_of}
 use Rattle.pcp_server.specs.declared.verdicts.Verdict.{Verdict}
@@ -33,7 +34,7 @@ parsed code = record { code = code; parsed = true; lifetime = lifetime_of code }
 -- What isn't served: PEER, and anything behind a request's data. Such a request counts as not read.
 abbrev pub service_steps : List ℕ → List (Case Refusal)
 service_steps message =
-    (record { applies = opcode_of message == 2; result = unparsed UnsuppOpcode })
+    (record { applies = opcode_of message == PEER_OPCODE; result = unparsed UnsuppOpcode })
     ∷ (record { applies = nat_lt (frame_of message).options (length message); result = unparsed UnsuppOption })
     ∷ []
 

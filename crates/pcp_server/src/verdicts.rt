@@ -8,7 +8,7 @@ ghost use Rattle.pcp_server.specs.Verdicts.{ask_of, ask_steps, asked_protocol, l
 use pcp_base::{
     Address, Ask, Code, Config, Endpoint, FilterList, MapAsk, PeerAsk, Protocol, Refusal, pair,
 };
-use pcp_codec::{Body, Common, Frame, Framed, read_request};
+use pcp_codec::{Body, Common, Frame, Framed, PEER_OPCODE, read_request};
 use std::alloc::Global;
 
 /// What a datagram is.
@@ -54,10 +54,10 @@ pub(crate) fn refusal(code: Code, parsed: bool) -> Refusal
 /// The refusal of a request whose frame is whole: what isn't served, or can't be asked for.
 fn fault_of(config: &Config, source: &Address, octets: &[u8], frame: &Frame) -> Option<Refusal>
     requires { frame_of octets.now ≡ frame.now }
-    ensures { result ≡ first_failing
+    ensures { result ≡ first_case
         (service_steps octets.now ++ ask_steps config.now source.now octets.now) }
 {
-    if frame.opcode == 2 {
+    if frame.opcode == PEER_OPCODE {
         Some(refusal(Code::UnsuppOpcode, false))
     } else if frame.options < octets.len() {
         Some(refusal(Code::UnsuppOption, false))
