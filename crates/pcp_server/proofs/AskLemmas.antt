@@ -1,11 +1,10 @@
 -- What the verdict lets through is well formed.
-use Rattle.std.specs.Prelude.{◌≡◌, refl, ℕ, zero, suc, ◌+◌, ◌<◌, ◌≤◌, ◌==◌, ◌||◌, not, false, List, [], ◌∷◌, ◌++◌, Option, Some, None, is_none}
+use Rattle.std.specs.Prelude.{◌≡◌, refl, ℕ, zero, suc, ◌+◌, ◌<◌, ◌≤◌, ◌==◌, false, List, [], ◌∷◌, ◌++◌, Option, Some, None, is_none}
 use Rattle.std.specs.List.{AllByRecursion}
 use Rattle.std.proofs.Common.{sym, subst, arith}
 use Rattle.std.proofs.lemmas.Bool.{cond_both, or_parts, eqb-false, ltb-false}
 use Rattle.pcp_base.specs.declared.addresses.Address.{Address}
 use Rattle.pcp_base.specs.declared.asks.Refusal.{Refusal}
-use Rattle.pcp_base.specs.declared.asks.Ask.{Ask}
 use Rattle.pcp_base.specs.declared.configs.Config.{Config}
 use Rattle.pcp_base.specs.Asks.{IsWellFormedAsk}
 use Rattle.pcp_base.specs.Protocols.{protocol_of}

@@ -12,16 +12,13 @@ use Rattle.pcp_base.specs.declared.records.Record.{Record}
 use Rattle.pcp_base.specs.declared.records.Change.TheVariants as Changes
 use Rattle.pcp_base.specs.declared.configs.Config.{Config}
 use Rattle.pcp_base.specs.declared.configs.External.{External}
-use Rattle.pcp_base.specs.declared.codes.Code.TheVariants.{NoResources}
-use Rattle.pcp_base.specs.declared.asks.Answer.TheVariants.{Refused, Gone}
 use Rattle.pcp_base.specs.Tables.{Table, live, covers, first_endpoint}
 use Rattle.pcp_base.specs.Owners.{owners, is_port}
 use Rattle.pcp_base.specs.Cases.{first_case}
 use Rattle.pcp_base.specs.declared.leases.TheConstants.{MOST_LEASES}
 use Rattle.pcp_base.proofs.Members.{IsIn, find-some, find-none, any-none}
 use Rattle.pcp_server.specs.declared.decisions.Decided.{Decided}
-use Rattle.pcp_server.specs.Verdicts.{parsed}
-use Rattle.pcp_server.specs.Decisions.{is_free, pick, answered, mapped, renewed, new_lease, new_cases, decide_by, covering, decide_map}
+use Rattle.pcp_server.specs.Decisions.{is_free, pick, mapped, renewed, new_lease, new_cases, decide_by, covering, decide_map}
 
 -- a port that may be given: within the range, and no live lease's
 pub record IsFreePort (external : External) (t : Table) (m : ℕ) (protocol : Protocol) (port : ℕ) : Type 0 where

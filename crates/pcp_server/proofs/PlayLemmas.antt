@@ -14,7 +14,7 @@ use Rattle.pcp_server.specs.declared.run.Turn.{Turn}
 use Rattle.pcp_server.specs.declared.run.TextFault.{TextFault}
 use Rattle.pcp_server.specs.declared.run.TextFault.TheVariants as Faults
 use Rattle.pcp_server.specs.ShardStates.{ShardState}
-use Rattle.pcp_server.specs.Reading.{Reading, rest_of, Uses, EndsByFeed, EndsLast, EndsScript, EndsRefusing, Ends, Stops, StopsForMemory, StopsReading}
+use Rattle.pcp_server.specs.Reading.{Reading, rest_of, EndsByFeed, EndsLast, EndsScript, EndsRefusing, Ends, Stops, StopsForMemory, StopsReading}
 use Rattle.pcp_server.specs.declared.readers.LineFault.{LineFault}
 use Rattle.pcp_server.specs.declared.readers.LineFault.TheVariants as LineFaults
 use Rattle.pcp_server.specs.Lines.{AreFirst, IsLine, IsUnbroken, ended}

@@ -1,5 +1,5 @@
 -- The first number of a range that passes a test.
-use Rattle.std.proofs.Common.{◌≡◌, ℕ, zero, suc, ◌+◌, ◌<◌, Bool, true, false, find, Some, refl, arith}
+use Rattle.std.proofs.Common.{◌≡◌, ℕ, suc, ◌+◌, Bool, false, find, refl}
 use Rattle.std.specs.List.{range_with_len}
 
 pub find_later : (test : ℕ → Bool) (a n m : ℕ) → n ≡ suc m → test a ≡ false → find test (range_with_len a n) ≡ find test (range_with_len (a + 1) m)

@@ -1,5 +1,5 @@
 //! What the lease table decides (RFC 6887, sections 11.3 and 15), over a plain list of leases.
-ghost use Rattle.std.specs.Prelude.{◌≡◌, ◌+◌, ◌-◌, ◌<◌, ◌^◌, [], length, nat_lt, filter, find, option_copied, IfSome};
+ghost use Rattle.std.specs.Prelude.{◌≡◌, ◌+◌, ◌-◌, ◌<◌, ◌^◌, length, nat_lt, filter, find, option_copied, IfSome};
 ghost use Rattle.std.specs.List.{AllByRecursion, list_any, range_with_len};
 ghost use Rattle.pcp_base.specs.Tables.{Table, first_endpoint, live};
 ghost use Rattle.pcp_base.specs.Owners.{is_port, owners};

@@ -1,13 +1,11 @@
 //! A script is played: line by line its requests are answered from a lease table.
 ghost use Rattle.std.specs.Prelude.{◌≡◌, ℕ, ◌+◌, ◌<◌, ◌≤◌, ◌^◌, ◌↔◌, List, Some, map, IfOk, IfErr, OnOk, string_bytes};
-ghost use Rattle.pcp_io.specs.Faults.{HasCause, HasRisen};
+ghost use Rattle.pcp_io.specs.Faults.{HasRisen};
 ghost use Rattle.pcp_server.specs.declared.lines.Line.{Line};
 ghost use Rattle.pcp_server.specs.declared.statuses.Status.TheVariants.{ReadFault, WordsRefused, WriteFault};
 ghost use Rattle.pcp_server.specs.declared.run.Turn.TheVariants.{More, Over};
-ghost use Rattle.pcp_server.specs.Lines.{IsLine};
 ghost use Rattle.pcp_server.specs.Words.{IsPlay};
 ghost use Rattle.pcp_server.specs.Profile.{external, profile};
-ghost use Rattle.pcp_server.specs.ScriptRun.{after_all, entries_of, line_text};
 ghost use Rattle.pcp_server.specs.Played.{IsOver};
 ghost use Rattle.pcp_server.specs.Playing.{Answers, AnswersOrFails, EndsTurn, Fails, IsTurned, IsUnderway, PrintsLine, status_at};
 

@@ -4,7 +4,6 @@ ghost use Rattle.pcp_base.specs.Tables.{first_endpoint, is_map_of, live, put};
 ghost use Rattle.std.specs.List.{AllByRecursion};
 ghost use Rattle.pcp_base.specs.Epoch.{epoch_of};
 ghost use Rattle.pcp_base.specs.Apply.{apply_first, table_changed};
-ghost use Rattle.pcp_codec.specs.Framing.{is_silent};
 ghost use Rattle.pcp_server.specs.OwnedPorts.{EndsInRange, IsOfMaps};
 ghost use Rattle.pcp_server.specs.Decisions.{decide as decide_on, only_maps};
 ghost use Rattle.pcp_server.specs.ScriptRun.{IsAnswered, IsHeard, IsStep, heard_ask};

@@ -1,6 +1,6 @@
 //! What no clause says: that the definitions mean these octets and texts, and that runs succeed with
 //! ample memory.
-ghost use Rattle.std.specs.Prelude.{◌≡◌, [], Some, IfOk, IfSome};
+ghost use Rattle.std.specs.Prelude.{[], Some, IfOk, IfSome};
 ghost use Rattle.pcp_server.specs.OwnedPorts.{EndsInRange};
 ghost use Rattle.pcp_server.specs.Played.{IsOver};
 ghost use Rattle.pcp_server.specs.Profile.{external, profile};
