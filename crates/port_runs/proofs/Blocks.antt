@@ -1,7 +1,7 @@
 -- What the runs of a block of flags are, and those of two blocks side by side.
 use Rattle.std.proofs.Common.{◌≡◌, ℕ, ◌+◌, ◌-◌, ◌%◌, ◌<◌, ◌≤◌, ◌⊎◌, max, Bool, true, false, List, slice_index_or, refl, sym, ◌∙◌, subst, arith, inl, inr}
 use Rattle.std.proofs.lemmas.Bool.{cases_lt}
-use Rattle.port_runs.specs.SetBetween.{IsSetBetween}
+use Rattle.port_runs.specs.Flags.{IsSetBetween}
 
 -- p flags are set from the block's first on, and not one more
 pub record IsPrefix (flags : List Bool) (a b p : ℕ) : Type 0 where

@@ -4,22 +4,18 @@ use Rattle.std.proofs.lemmas.Bool.Decides.{nat_tests}
 use Rattle.std.proofs.lemmas.Bool.{cases_lt, cases_eq}
 use Rattle.std.proofs.lemmas.List.{length-set}
 use Rattle.port_runs.specs.declared.tree.Node.{Node}
-use Rattle.port_runs.specs.Marked.{IsMarked}
-use Rattle.port_runs.specs.Empty.{empty}
-use Rattle.port_runs.specs.PairOf.{pair_of}
-use Rattle.port_runs.specs.Join.{join}
-use Rattle.port_runs.specs.NodeAt.{node_at}
-use Rattle.port_runs.specs.Joined.{IsJoined, AreJoined, AreJoinedBut}
+use Rattle.port_runs.specs.Flags.{IsMarked}
+use Rattle.port_runs.specs.Nodes.{empty_node, pair_of, join, tree_node, IsJoined, AreJoined, AreJoinedBut}
 
 -- a node does not change where another one is written
-node_at-set_other : (flags : List Bool) (nodes : List Node) (i : ℕ) (node : Node) (place : ℕ) → place ≢ i → node_at flags (slice_set nodes i node) place ≡ node_at flags nodes place
-unfolding node_at
-node_at-set_other flags nodes i node place other = rw get_or-set_other
+tree_node-set_other : (flags : List Bool) (nodes : List Node) (i : ℕ) (node : Node) (place : ℕ) → place ≢ i → tree_node flags (slice_set nodes i node) place ≡ tree_node flags nodes place
+unfolding tree_node
+tree_node-set_other flags nodes i node place other = rw get_or-set_other
 
 -- nor where the flags do not change that it is made of
-node_at-flags : (old new : List Bool) (nodes : List Node) (place : ℕ) → (32768 ≤ place → slice_index_or new (2 * place - 65536) false ≡ slice_index_or old (2 * place - 65536) false) → (32768 ≤ place → slice_index_or new (2 * place - 65536 + 1) false ≡ slice_index_or old (2 * place - 65536 + 1) false) → node_at new nodes place ≡ node_at old nodes place
-unfolding node_at
-node_at-flags old new nodes place first second =
+tree_node-flags : (old new : List Bool) (nodes : List Node) (place : ℕ) → (32768 ≤ place → slice_index_or new (2 * place - 65536) false ≡ slice_index_or old (2 * place - 65536) false) → (32768 ≤ place → slice_index_or new (2 * place - 65536 + 1) false ≡ slice_index_or old (2 * place - 65536 + 1) false) → tree_node new nodes place ≡ tree_node old nodes place
+unfolding tree_node
+tree_node-flags old new nodes place first second =
     elim (cases_lt place 32768) [
       | inl small ↦ (let is : nat_lt place 32768 ≡ true = grind (arith, nat_tests) in rw is)
       | inr large ↦ rw (first large, second large)
@@ -27,17 +23,17 @@ node_at-flags old new nodes place first second =
 
 IsJoined-set_other : (flags : List Bool) (nodes : List Node) (i : ℕ) (node : Node) (place : ℕ) → place ≢ i → 2 * place ≢ i → 2 * place + 1 ≢ i → IsJoined flags nodes place → IsJoined flags (slice_set nodes i node) place
 IsJoined-set_other flags nodes i node place here left right h =
-    get_or-set_other nodes i place node empty here
+    get_or-set_other nodes i place node empty_node here
     ∙ (h
-    ∙ sym (ap (λ (l : Node). join l (node_at flags (slice_set nodes i node) (2 * place + 1))) (node_at-set_other flags nodes i node (2 * place) left)
-    ∙ ap (λ (r : Node). join (node_at flags nodes (2 * place)) r) (node_at-set_other flags nodes i node (2 * place + 1) right)))
+    ∙ sym (ap (λ (l : Node). join l (tree_node flags (slice_set nodes i node) (2 * place + 1))) (tree_node-set_other flags nodes i node (2 * place) left)
+    ∙ ap (λ (r : Node). join (tree_node flags nodes (2 * place)) r) (tree_node-set_other flags nodes i node (2 * place + 1) right)))
 
-IsJoined-set_same : (flags : List Bool) (nodes : List Node) (place : ℕ) → 1 ≤ place → place < length nodes → IsJoined flags (slice_set nodes place (join (node_at flags nodes (2 * place)) (node_at flags nodes (2 * place + 1)))) place
+IsJoined-set_same : (flags : List Bool) (nodes : List Node) (place : ℕ) → 1 ≤ place → place < length nodes → IsJoined flags (slice_set nodes place (join (tree_node flags nodes (2 * place)) (tree_node flags nodes (2 * place + 1)))) place
 IsJoined-set_same flags nodes place some within =
-    let node = join (node_at flags nodes (2 * place)) (node_at flags nodes (2 * place + 1)) in
-    get_or-set_same nodes place node empty within
-    ∙ sym (ap (λ (l : Node). join l (node_at flags (slice_set nodes place node) (2 * place + 1))) (node_at-set_other flags nodes place node (2 * place) (omega arith))
-    ∙ ap (λ (r : Node). join (node_at flags nodes (2 * place)) r) (node_at-set_other flags nodes place node (2 * place + 1) (omega arith)))
+    let node = join (tree_node flags nodes (2 * place)) (tree_node flags nodes (2 * place + 1)) in
+    get_or-set_same nodes place node empty_node within
+    ∙ sym (ap (λ (l : Node). join l (tree_node flags (slice_set nodes place node) (2 * place + 1))) (tree_node-set_other flags nodes place node (2 * place) (omega arith))
+    ∙ ap (λ (r : Node). join (tree_node flags nodes (2 * place)) r) (tree_node-set_other flags nodes place node (2 * place + 1) (omega arith)))
 
 -- while the nodes from low to high are made anew, those before a place are done
 pub record Rejoining (low high place : ℕ) (flags : List Bool) (nodes : List Node) : Type 0 where
@@ -62,9 +58,9 @@ rejoining_ends low high place flags nodes done h = record {
 }
 
 pub rejoining_more : (low high place : ℕ) (flags : List Bool) (nodes : List Node) → low ≤ place → place ≤ high → high < 32768 → Rejoining low high place flags nodes
-    → Rejoining low high (place + 1) flags (slice_set nodes place (join (node_at flags nodes (2 * place)) (node_at flags nodes (2 * place + 1))))
+    → Rejoining low high (place + 1) flags (slice_set nodes place (join (tree_node flags nodes (2 * place)) (tree_node flags nodes (2 * place + 1))))
 rejoining_more low high place flags nodes from to small h =
-    let node = join (node_at flags nodes (2 * place)) (node_at flags nodes (2 * place + 1)) in
+    let node = join (tree_node flags nodes (2 * place)) (tree_node flags nodes (2 * place + 1)) in
     record {
       all = length-set nodes place node ∙ h.all;
       below = λ j some before out fits. elim (cases_eq j place) [
@@ -98,10 +94,10 @@ module _ (from to : ℕ) (value : Bool) (old new : List Bool) (m : IsMarked from
   joined_still : (nodes : List Node) → IsJoined old nodes j → IsJoined new nodes j
   joined_still nodes h =
       h
-      ∙ sym (ap (λ (l : Node). join l (node_at new nodes (2 * j + 1)))
-      (node_at-flags old new nodes (2 * j) (λ large. leaf_same 0 (2 * (2 * j) - 65536) (omega arith) (omega arith) (omega arith)) (λ large. leaf_same 1 (2 * (2 * j) - 65536 + 1) (omega arith) (omega arith) (omega arith)))
-      ∙ ap (λ (r : Node). join (node_at old nodes (2 * j)) r)
-      (node_at-flags old new nodes (2 * j + 1) (λ large. leaf_same 2 (2 * (2 * j + 1) - 65536) (omega arith) (omega arith) (omega arith)) (λ large. leaf_same 3 (2 * (2 * j + 1) - 65536 + 1) (omega arith) (omega arith) (omega arith))))
+      ∙ sym (ap (λ (l : Node). join l (tree_node new nodes (2 * j + 1)))
+      (tree_node-flags old new nodes (2 * j) (λ large. leaf_same 0 (2 * (2 * j) - 65536) (omega arith) (omega arith) (omega arith)) (λ large. leaf_same 1 (2 * (2 * j) - 65536 + 1) (omega arith) (omega arith) (omega arith)))
+      ∙ ap (λ (r : Node). join (tree_node old nodes (2 * j)) r)
+      (tree_node-flags old new nodes (2 * j + 1) (λ large. leaf_same 2 (2 * (2 * j + 1) - 65536) (omega arith) (omega arith) (omega arith)) (λ large. leaf_same 3 (2 * (2 * j + 1) - 65536 + 1) (omega arith) (omega arith) (omega arith))))
 
 -- flags that were marked leave each node joined but for those that lead to them
 pub joined_but_marked : (from to : ℕ) (value : Bool) (old new : List Bool) (nodes : List Node) → IsMarked from to value old new → AreJoined old nodes → AreJoinedBut ((65536 + from) / 4) ((65536 + to - 1) / 4) new nodes
@@ -113,20 +109,20 @@ joined_but_marked from to value old new nodes m h =
     }
 
 -- with no flag set and no node that tells of one, each node is joined
-module _ (flags : List Bool) (nodes : List Node) (all : length nodes ≡ 32768) (clear : (i : ℕ) → slice_index_or flags i false ≡ false) (none : (i : ℕ) → slice_index_or nodes i empty ≡ empty) where
-  node_of_none : (place : ℕ) → node_at flags nodes place ≡ empty
-  unfolding node_at pair_of
+module _ (flags : List Bool) (nodes : List Node) (all : length nodes ≡ 32768) (clear : (i : ℕ) → slice_index_or flags i false ≡ false) (none : (i : ℕ) → slice_index_or nodes i empty_node ≡ empty_node) where
+  node_of_none : (place : ℕ) → tree_node flags nodes place ≡ empty_node
+  unfolding tree_node pair_of
   node_of_none place = elim (cases_lt place 32768) [
     | inl small ↦ (let is : nat_lt place 32768 ≡ true = grind (arith, nat_tests) in rw is (none place))
     | inr large ↦ (let isnt : nat_lt place 32768 ≡ false = grind (arith, nat_tests) in rw (isnt, clear (2 * place - 65536), clear (2 * place - 65536 + 1)))
   ]
 
-  join_of_none : join empty empty ≡ empty
-  unfolding join empty
+  join_of_none : join empty_node empty_node ≡ empty_node
+  unfolding join empty_node
   join_of_none = refl
 
   pub joined_none : AreJoined flags nodes
   joined_none = record {
     all = all;
-    each = λ place some small. none place ∙ sym (ap (λ (l : Node). join l (node_at flags nodes (2 * place + 1))) (node_of_none (2 * place)) ∙ (ap (λ (r : Node). join empty r) (node_of_none (2 * place + 1)) ∙ join_of_none));
+    each = λ place some small. none place ∙ sym (ap (λ (l : Node). join l (tree_node flags nodes (2 * place + 1))) (node_of_none (2 * place)) ∙ (ap (λ (r : Node). join empty_node r) (node_of_none (2 * place + 1)) ∙ join_of_none));
   }

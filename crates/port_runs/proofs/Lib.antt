@@ -3,3 +3,5 @@ pub mod Joins
 pub mod Blocks
 pub mod Summary
 pub mod Search
+pub mod Steps
+pub mod Longest

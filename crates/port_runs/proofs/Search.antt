@@ -1,14 +1,11 @@
 -- The way down the tree to the least run.
-use Rattle.std.proofs.Common.{◌≡◌, ℕ, zero, suc, ◌+◌, ◌-◌, ◌*◌, ◌/◌, length, ◌<◌, ◌≤◌, Bool, false, List, Option, Some, None, is_some, IfSome, IfNone, slice_index_or, refl, sym, ◌∙◌, ap, subst, arith, inl, inr}
+use Rattle.std.proofs.Common.{◌≡◌, ℕ, zero, suc, ◌+◌, ◌-◌, ◌*◌, ◌/◌, length, ◌<◌, ◌≤◌, Bool, true, false, List, Option, Some, None, is_some, IfSome, IfNone, slice_index_or, refl, sym, ◌∙◌, ap, subst, arith, inl, inr}
 use Rattle.std.proofs.lemmas.Bool.{cases_lt, cases_eq}
 use Rattle.std.proofs.lemmas.List.{get_or_past}
 use Rattle.port_runs.specs.declared.tree.Node.{Node}
-use Rattle.port_runs.specs.FlagsFit.{FitsFlags}
-use Rattle.port_runs.specs.FirstOver.{IsFirstOver}
-use Rattle.port_runs.specs.Parity.{HasParity}
-use Rattle.port_runs.specs.Longest.{longest}
-use Rattle.port_runs.specs.NodeAt.{node_at}
-use Rattle.port_runs.specs.Joined.{AreJoined}
+use Rattle.port_runs.specs.Flags.{FitsFlags, HasSetRun}
+use Rattle.port_runs.specs.Nodes.{IsFirstOver, longest, tree_node, AreJoined, IsCostOfWay}
+use Rattle.port_runs.specs.Ports.{HasParity, IsLeast, IsGreatest}
 use Rattle.port_runs.proofs.Blocks.{begins_late, ends_early, set_and_not}
 use Rattle.port_runs.proofs.Summary.{IsSummary, RunAsked, longest_most, longest_met, width, width_some, width_even, block, left_place, right_place, place_small}
 
@@ -61,7 +58,7 @@ pub record Spot (flags : List Bool) (nodes : List Node) (n : ℕ) (parity : Opti
   pub half_is : half * 2 ≡ width k
   pub at : place * width k ≡ 65536 + first
   pub within : first + width k ≤ 65536
-  pub some : n ≤ longest parity (node_at flags nodes place)
+  pub some : n ≤ longest parity (tree_node flags nodes place)
   pub allowed : IfSome parity (λ remainder. remainder < 2)
   pub low : (t : ℕ) → FitsFlags flags n parity t → first ≤ t
 
@@ -73,7 +70,7 @@ allowed_of n (Some (suc zero)) node some h = omega arith
 allowed_of n (Some (suc (suc r))) node some h = absurd (omega arith)
 
 module _ (flags : List Bool) (nodes : List Node) (n : ℕ) (parity : Option ℕ) (some : 1 ≤ n) (all : length flags ≡ 65536) (clear : slice_index_or flags 0 false ≡ false) (joined : AreJoined flags nodes) where
-  root : IsSummary flags 0 65536 (node_at flags nodes 1)
+  root : IsSummary flags 0 65536 (tree_node flags nodes 1)
   root = block flags clear nodes joined 15 1 0 refl (omega arith)
 
   within_all : (t : ℕ) → FitsFlags flags n parity t → t + n ≤ 65536
@@ -82,16 +79,19 @@ module _ (flags : List Bool) (nodes : List Node) (n : ℕ) (parity : Option ℕ)
     | inl over ↦ absurd (set_and_not flags (t + n - 1) (f.run (t + n - 1) (omega arith) (omega arith)) (get_or_past flags (t + n - 1) false (omega arith)))
   ]
 
-  pub root_none : longest parity (node_at flags nodes 1) < n → (t : ℕ) → FitsFlags flags n parity t → ⊥
-  root_none short t f = absurd (omega (arith, longest_most flags 0 65536 (node_at flags nodes 1) root parity t n f.remainder (omega arith) (within_all t f) f.run))
+  pub root_none : longest parity (tree_node flags nodes 1) < n → (t : ℕ) → FitsFlags flags n parity t → ⊥
+  root_none short t f = absurd (omega (arith, longest_most flags 0 65536 (tree_node flags nodes 1) root parity t n f.remainder (omega arith) (within_all t f) f.run))
 
-  pub root_spot : n ≤ longest parity (node_at flags nodes 1) → Spot flags nodes n parity 15 1 0 32768
+  pub none_first : longest parity (tree_node flags nodes 1) < n → IsLeast (FitsFlags flags n parity) None
+  none_first short = record { fits = tt; least = tt; none = root_none short }
+
+  pub root_spot : n ≤ longest parity (tree_node flags nodes 1) → Spot flags nodes n parity 15 1 0 32768
   root_spot h = record {
     half_is = refl;
     at = refl;
     within = omega arith;
     some = h;
-    allowed = allowed_of n parity (node_at flags nodes 1) some h;
+    allowed = allowed_of n parity (tree_node flags nodes 1) some h;
     low = λ t f. omega arith;
   }
 
@@ -124,18 +124,18 @@ module _ (flags : List Bool) (nodes : List Node) (n : ℕ) (parity : Option ℕ)
     pub spot_small : place < 32768
     spot_small = place_small place (width k) first spot.at spot.within (width_some k)
 
-    pub left_summary : IsSummary flags first (first + half) (node_at flags nodes (2 * place))
+    pub left_summary : IsSummary flags first (first + half) (tree_node flags nodes (2 * place))
     left_summary = rw half_width (block flags clear nodes joined k (2 * place) first (left_place place (width k) first spot.at) (let h = spot.within in omega arith))
 
-    pub right_summary : IsSummary flags (first + half) (first + half + half) (node_at flags nodes (2 * place + 1))
+    pub right_summary : IsSummary flags (first + half) (first + half + half) (tree_node flags nodes (2 * place + 1))
     right_summary = rw half_width (block flags clear nodes joined k (2 * place + 1) (first + width k) (right_place place (width k) first spot.at) (let h = spot.within in omega arith))
 
     whole_run : RunAsked flags first (first + half + half) n parity
     whole_run =
-        let run = longest_met flags first (first + width (suc k)) (node_at flags nodes place) (block flags clear nodes joined (suc k) place first spot.at spot.within) parity n some spot.some in
+        let run = longest_met flags first (first + width (suc k)) (tree_node flags nodes place) (block flags clear nodes joined (suc k) place first spot.at spot.within) parity n some spot.some in
         record { start = run.start; from = run.from; to = (let h = run.to in omega (arith, half_width)); has = run.has; set = run.set }
 
-    pub go_left : n ≤ longest parity (node_at flags nodes (2 * place)) → Spot flags nodes n parity k (2 * place) first (half / 2)
+    pub go_left : n ≤ longest parity (tree_node flags nodes (2 * place)) → Spot flags nodes n parity k (2 * place) first (half / 2)
     go_left h = record {
       half_is = omega (arith, half_width, width_even k);
       at = left_place place (width k) first spot.at;
@@ -145,31 +145,31 @@ module _ (flags : List Bool) (nodes : List Node) (n : ℕ) (parity : Option ℕ)
       low = spot.low;
     }
 
-    module _ (short : longest parity (node_at flags nodes (2 * place)) < n) where
-      pub over_fits : (start : ℕ) → IsFirstOver (first + half - (node_at flags nodes (2 * place)).suffix) (first + half + (node_at flags nodes (2 * place + 1)).prefix) n parity start → FitsFlags flags n parity start
-      over_fits = fits_over flags n parity some first (first + half) (first + half + half) (node_at flags nodes (2 * place)) (node_at flags nodes (2 * place + 1)) left_summary right_summary short spot.low
+    module _ (short : longest parity (tree_node flags nodes (2 * place)) < n) where
+      pub over_fits : (start : ℕ) → IsFirstOver (first + half - (tree_node flags nodes (2 * place)).suffix) (first + half + (tree_node flags nodes (2 * place + 1)).prefix) n parity start → FitsFlags flags n parity start
+      over_fits = fits_over flags n parity some first (first + half) (first + half + half) (tree_node flags nodes (2 * place)) (tree_node flags nodes (2 * place + 1)) left_summary right_summary short spot.low
 
-      pub over_least : (start : ℕ) → IsFirstOver (first + half - (node_at flags nodes (2 * place)).suffix) (first + half + (node_at flags nodes (2 * place + 1)).prefix) n parity start → (t : ℕ) → FitsFlags flags n parity t → start ≤ t
-      over_least = least_over flags n parity some first (first + half) (first + half + half) (node_at flags nodes (2 * place)) (node_at flags nodes (2 * place + 1)) left_summary right_summary short spot.low
+      pub over_least : (start : ℕ) → IsFirstOver (first + half - (tree_node flags nodes (2 * place)).suffix) (first + half + (tree_node flags nodes (2 * place + 1)).prefix) n parity start → (t : ℕ) → FitsFlags flags n parity t → start ≤ t
+      over_least = least_over flags n parity some first (first + half) (first + half + half) (tree_node flags nodes (2 * place)) (tree_node flags nodes (2 * place + 1)) left_summary right_summary short spot.low
 
-      pub go_right : ((start : ℕ) → HasParity parity start → first + half ≤ start + (node_at flags nodes (2 * place)).suffix → first + half + (node_at flags nodes (2 * place + 1)).prefix < start + n) → Spot flags nodes n parity k (2 * place + 1) (first + half) (half / 2)
+      pub go_right : ((start : ℕ) → HasParity parity start → first + half ≤ start + (tree_node flags nodes (2 * place)).suffix → first + half + (tree_node flags nodes (2 * place + 1)).prefix < start + n) → Spot flags nodes n parity k (2 * place + 1) (first + half) (half / 2)
       go_right none = record {
         half_is = omega (arith, half_width, width_even k);
         at = right_place place (width k) first spot.at ∙ ap (λ w. 65536 + (first + w)) (sym half_width);
         within = (let h = spot.within in omega (arith, half_width));
-        some = longest_right flags n parity some first (first + half) (first + half + half) (node_at flags nodes (2 * place)) (node_at flags nodes (2 * place + 1)) left_summary right_summary short spot.low none whole_run;
+        some = longest_right flags n parity some first (first + half) (first + half + half) (tree_node flags nodes (2 * place)) (tree_node flags nodes (2 * place + 1)) left_summary right_summary short spot.low none whole_run;
         allowed = spot.allowed;
-        low = low_right flags n parity some first (first + half) (first + half + half) (node_at flags nodes (2 * place)) (node_at flags nodes (2 * place + 1)) left_summary right_summary short spot.low none whole_run;
+        low = low_right flags n parity some first (first + half) (first + half + half) (tree_node flags nodes (2 * place)) (tree_node flags nodes (2 * place + 1)) left_summary right_summary short spot.low none whole_run;
       }
 
     -- what was found over the middle of the two nodes that were looked at
-    module _ (left right : Node) (left_is : left ≡ node_at flags nodes (2 * place)) (right_is : right ≡ node_at flags nodes (2 * place + 1)) (short : longest parity left < n) where
-      short_at : longest parity (node_at flags nodes (2 * place)) < n
+    module _ (left right : Node) (left_is : left ≡ tree_node flags nodes (2 * place)) (right_is : right ≡ tree_node flags nodes (2 * place + 1)) (short : longest parity left < n) where
+      short_at : longest parity (tree_node flags nodes (2 * place)) < n
       short_at = subst (λ (node : Node). longest parity node < n) left_is short
 
-      first_over_at : (start : ℕ) → IsFirstOver (first + half - left.suffix) (first + half + right.prefix) n parity start → IsFirstOver (first + half - (node_at flags nodes (2 * place)).suffix) (first + half + (node_at flags nodes (2 * place + 1)).prefix) n parity start
+      first_over_at : (start : ℕ) → IsFirstOver (first + half - left.suffix) (first + half + right.prefix) n parity start → IsFirstOver (first + half - (tree_node flags nodes (2 * place)).suffix) (first + half + (tree_node flags nodes (2 * place + 1)).prefix) n parity start
       first_over_at start f =
-          subst (λ (node : Node). IsFirstOver (first + half - node.suffix) (first + half + (node_at flags nodes (2 * place + 1)).prefix) n parity start) left_is
+          subst (λ (node : Node). IsFirstOver (first + half - node.suffix) (first + half + (tree_node flags nodes (2 * place + 1)).prefix) n parity start) left_is
           (subst (λ (node : Node). IsFirstOver (first + half - left.suffix) (first + half + node.prefix) n parity start) right_is f)
 
       pub found_fits : (result : Option ℕ) → IfSome result (IsFirstOver (first + half - left.suffix) (first + half + right.prefix) n parity) → IfSome result (FitsFlags flags n parity)
@@ -180,16 +180,20 @@ module _ (flags : List Bool) (nodes : List Node) (n : ℕ) (parity : Option ℕ)
       found_least None f = tt
       found_least (Some start) f = over_least short_at start (first_over_at start f)
 
+      pub found_first : (result : Option ℕ) → is_some result ≡ true → IfSome result (IsFirstOver (first + half - left.suffix) (first + half + right.prefix) n parity) → IsLeast (FitsFlags flags n parity) result
+      found_first None there f = (cc)
+      found_first (Some start) there f = record { fits = found_fits (Some start) f; least = found_least (Some start) f; none = tt }
+
       pub none_found : ((start : ℕ) → HasParity parity start → first + half ≤ start + left.suffix → first + half + right.prefix < start + n) → Spot flags nodes n parity k (2 * place + 1) (first + half) (half / 2)
       none_found none =
           go_right short_at
-          (subst (λ (node : Node). (start : ℕ) → HasParity parity start → first + half ≤ start + node.suffix → first + half + (node_at flags nodes (2 * place + 1)).prefix < start + n) left_is
+          (subst (λ (node : Node). (start : ℕ) → HasParity parity start → first + half ≤ start + node.suffix → first + half + (tree_node flags nodes (2 * place + 1)).prefix < start + n) left_is
           (subst (λ (node : Node). (start : ℕ) → HasParity parity start → first + half ≤ start + left.suffix → first + half + node.prefix < start + n) right_is none))
 
   -- the last block is that of two flags
   module _ (place first half : ℕ) (spot : Spot flags nodes n parity 0 place first half) where
     last_run : RunAsked flags first (first + 2) n parity
-    last_run = longest_met flags first (first + 2) (node_at flags nodes place) (block flags clear nodes joined 0 place first spot.at spot.within) parity n some spot.some
+    last_run = longest_met flags first (first + 2) (tree_node flags nodes place) (block flags clear nodes joined 0 place first spot.at spot.within) parity n some spot.some
 
     last_fits : FitsFlags flags n parity last_run.start
     last_fits = record { run = last_run.set; remainder = last_run.has }
@@ -208,6 +212,44 @@ module _ (flags : List Bool) (nodes : List Node) (n : ℕ) (parity : Option ℕ)
       | inl here ↦ absurd (isnt (subst (λ (s : ℕ). FitsFlags flags n parity s) here f))
       | inr other ↦ (let low = spot.low t f in omega arith)
     ]
+
+    pub second_of_pair : (FitsFlags flags n parity first → ⊥) → IsLeast (FitsFlags flags n parity) (Some (first + 1))
+    second_of_pair isnt = record { fits = second_fits isnt; least = second_least isnt; none = tt }
+
+    pub first_of_pair : FitsFlags flags n parity first → IsLeast (FitsFlags flags n parity) (Some first)
+    first_of_pair f = record { fits = f; least = spot.low; none = tt }
+
+-- the root tells of the longest run of all
+module _ (flags : List Bool) (nodes : List Node) (parity : Option ℕ) (all : length flags ≡ 65536) (clear : slice_index_or flags 0 false ≡ false) (joined : AreJoined flags nodes) where
+  whole : IsSummary flags 0 65536 (tree_node flags nodes 1)
+  whole = block flags clear nodes joined 15 1 0 refl (omega arith)
+
+  run_of : (n : ℕ) → RunAsked flags 0 65536 n parity → HasSetRun flags parity n
+  run_of n run = (run.start, record { run = run.set; remainder = run.has })
+
+  no_longer : (n start : ℕ) → FitsFlags flags n parity start → n ≤ longest parity (tree_node flags nodes 1)
+  no_longer zero start f = omega arith
+  no_longer (suc n) start f = longest_most flags 0 65536 (tree_node flags nodes 1) whole parity start (suc n) f.remainder (omega arith) (within_all flags nodes (suc n) parity (omega arith) all clear joined start f) f.run
+
+  pub root_longest : IsGreatest (HasSetRun flags parity) (longest parity (tree_node flags nodes 1))
+  root_longest = record {
+    fits = λ some. run_of (longest parity (tree_node flags nodes 1)) (longest_met flags 0 65536 (tree_node flags nodes 1) whole parity (longest parity (tree_node flags nodes 1)) some (omega arith));
+    greatest = λ other run. no_longer other run.0 run.1;
+  }
+
+-- as a caller sees the flags
+pub longest_at_root : (flags : List Bool) (nodes : List Node) (parity : Option ℕ) (v : List Bool) → flags ≡ v → length flags ≡ 65536 → slice_index_or v 0 false ≡ false → AreJoined flags nodes → IsGreatest (HasSetRun v parity) (longest parity (tree_node flags nodes 1))
+longest_at_root flags nodes parity v seen all clear joined =
+    subst (λ (xs : List Bool). IsGreatest (HasSetRun xs parity) (longest parity (tree_node flags nodes 1))) seen
+    (root_longest flags nodes parity all (subst (λ (xs : List Bool). slice_index_or xs 0 false ≡ false) (sym seen) clear) joined)
+
+pub some_cost : {old new : ℕ} (result : Option ℕ) → IsCostOfWay old new → IfSome result (λ _. IsCostOfWay old new)
+some_cost None cost = tt
+some_cost (Some start) cost = cost
+
+pub none_cost : (P : Type 0) (result : Option ℕ) → is_some result ≡ true → IfNone result P
+none_cost P None there = (cc)
+none_cost P (Some start) there = tt
 
 pub none_when : (P : Type 0) (result : Option ℕ) → is_some result ≡ false → IfNone result P → P
 none_when P None isnt h = h

@@ -4,14 +4,9 @@ use Rattle.std.proofs.lemmas.Bool.{cases_lt, cases_eq}
 use Rattle.std.proofs.lemmas.Bool.Decides.{nat_tests}
 use Rattle.std.proofs.Math.Nat.{mul-le-mul_right}
 use Rattle.port_runs.specs.declared.tree.Node.{Node}
-use Rattle.port_runs.specs.SetBetween.{IsSetBetween}
-use Rattle.port_runs.specs.Parity.{HasParity}
-use Rattle.port_runs.specs.Empty.{empty}
-use Rattle.port_runs.specs.PairOf.{pair_of}
-use Rattle.port_runs.specs.Join.{join, add_up, extend, crossing}
-use Rattle.port_runs.specs.Longest.{longest}
-use Rattle.port_runs.specs.NodeAt.{node_at}
-use Rattle.port_runs.specs.Joined.{AreJoined}
+use Rattle.port_runs.specs.Flags.{IsSetBetween}
+use Rattle.port_runs.specs.Ports.{HasParity}
+use Rattle.port_runs.specs.Nodes.{empty_node, pair_of, join, add_up, extend, crossing, longest, tree_node, AreJoined}
 use Rattle.port_runs.proofs.Blocks.{IsPrefix, IsSuffix, RunIn, IsLongest, prefix_on, prefix_stays, suffix_on, suffix_stays, longest_joined, set_and_not}
 
 -- what a node tells of the block from a up to b
@@ -90,7 +85,7 @@ module _ (flags : List Bool) (a : ℕ) (place : a % 2 ≡ 0) where
   at i j x is same = rw same is
 
   pub pair_summary : (x y : Bool) → slice_index_or flags a false ≡ x → slice_index_or flags (a + 1) false ≡ y → IsSummary flags a (a + 2) (pair_of x y)
-  unfolding pair_of empty
+  unfolding pair_of empty_node
   pair_summary true true first second = record {
     prefix = record { within = omega arith; set = λ i low high. elim (cases_eq i a) [ inl e ↦ at i a true first e | inr ne ↦ at i (a + 1) true second (omega arith) ]; ends = λ i here small. absurd (omega arith) };
     suffix = record { within = omega arith; set = λ i low high. elim (cases_eq i a) [ inl e ↦ at i a true first e | inr ne ↦ at i (a + 1) true second (omega arith) ]; ends = λ i here large. absurd (omega arith) };
@@ -211,16 +206,16 @@ module _ (flags : List Bool) (clear : slice_index_or flags 0 false ≡ false) wh
   ]
 
   module _ (nodes : List Node) (joined : AreJoined flags nodes) where
-    node_of_pair : (i : ℕ) → 32768 ≤ i → node_at flags nodes i ≡ pair_of (slice_index_or flags (2 * i - 65536) false) (slice_index_or flags (2 * i - 65536 + 1) false)
-    unfolding node_at
+    node_of_pair : (i : ℕ) → 32768 ≤ i → tree_node flags nodes i ≡ pair_of (slice_index_or flags (2 * i - 65536) false) (slice_index_or flags (2 * i - 65536 + 1) false)
+    unfolding tree_node
     node_of_pair i large = let isnt : nat_lt i 32768 ≡ false = grind (arith, nat_tests) in rw isnt
 
-    node_of_joined : (i : ℕ) → 1 ≤ i → i < 32768 → node_at flags nodes i ≡ join (node_at flags nodes (2 * i)) (node_at flags nodes (2 * i + 1))
-    unfolding node_at
+    node_of_joined : (i : ℕ) → 1 ≤ i → i < 32768 → tree_node flags nodes i ≡ join (tree_node flags nodes (2 * i)) (tree_node flags nodes (2 * i + 1))
+    unfolding tree_node
     node_of_joined i some small = let is : nat_lt i 32768 ≡ true = grind (arith, nat_tests) in rw is (joined.each i some small)
 
     -- the place i is that of the block of so many flags from a on
-    pub block : (k i a : ℕ) → i * width k ≡ 65536 + a → a + width k ≤ 65536 → IsSummary flags a (a + width k) (node_at flags nodes i)
+    pub block : (k i a : ℕ) → i * width k ≡ 65536 + a → a + width k ≤ 65536 → IsSummary flags a (a + width k) (tree_node flags nodes i)
     block zero i a place small =
         let first : 2 * i - 65536 ≡ a = omega arith in
         rw (node_of_pair i (omega arith), first) (pair_summary flags a (omega arith) (slice_index_or flags a false) (slice_index_or flags (a + 1) false) refl refl)
@@ -228,10 +223,10 @@ module _ (flags : List Bool) (clear : slice_index_or flags 0 false ≡ false) wh
         let m = a + width k in
         let b = a + width k + width k in
         let fits : b ≤ 65536 = omega arith in
-        let left : IsSummary flags a m (node_at flags nodes (2 * i)) = block k (2 * i) a (left_place i (width k) a place) (omega arith) in
-        let right : IsSummary flags m b (node_at flags nodes (2 * i + 1)) = block k (2 * i + 1) m (right_place i (width k) a place) fits in
-        let whole : IsSummary flags a b (join (node_at flags nodes (2 * i)) (node_at flags nodes (2 * i + 1))) =
-        joined_summary flags a m b (node_at flags nodes (2 * i)) (node_at flags nodes (2 * i + 1)) left right (middle_even i (width k) a place (width_even k)) (crossing_fits a m b (node_at flags nodes (2 * i)) (node_at flags nodes (2 * i + 1)) fits left right) in
-        let node : IsSummary flags a b (node_at flags nodes i) =
+        let left : IsSummary flags a m (tree_node flags nodes (2 * i)) = block k (2 * i) a (left_place i (width k) a place) (omega arith) in
+        let right : IsSummary flags m b (tree_node flags nodes (2 * i + 1)) = block k (2 * i + 1) m (right_place i (width k) a place) fits in
+        let whole : IsSummary flags a b (join (tree_node flags nodes (2 * i)) (tree_node flags nodes (2 * i + 1))) =
+        joined_summary flags a m b (tree_node flags nodes (2 * i)) (tree_node flags nodes (2 * i + 1)) left right (middle_even i (width k) a place (width_even k)) (crossing_fits a m b (tree_node flags nodes (2 * i)) (tree_node flags nodes (2 * i + 1)) fits left right) in
+        let node : IsSummary flags a b (tree_node flags nodes i) =
         subst (λ (n : Node). IsSummary flags a b n) (sym (node_of_joined i (place_some i (width k) a place) (place_small i (width k) a place small (width_some k)))) whole in
-        subst (λ (e : ℕ). IsSummary flags a e (node_at flags nodes i)) (same_end a (width k)) node
+        subst (λ (e : ℕ). IsSummary flags a e (tree_node flags nodes i)) (same_end a (width k)) node

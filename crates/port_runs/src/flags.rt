@@ -1,10 +1,8 @@
 //! Flags of free ports, one for each of the 65,536 numbers of 16 bits.
 
 ghost use Rattle.std.specs.Prelude.{◌≡◌, ℕ, ◌+◌, ◌<◌, ◌≤◌, ◌↔◌, false, length, IsTrue, if◌then◌else◌, IfSome, IfNone, ◌%◌, nat_le, nat_lt, ◌&&◌, ◌-◌, replicate, IfOk, slice_index_or, vec_len};
-ghost use Rattle.port_runs.specs.SetBetween.{IsSetBetween};
-ghost use Rattle.port_runs.specs.Marked.{IsMarked};
-ghost use Rattle.port_runs.specs.Parity.{HasParity};
-ghost use Rattle.port_runs.specs.FlagsFit.{FitsFlags};
+ghost use Rattle.port_runs.specs.Flags.{IsMarked, FitsFlags, HasSetRun, IsSetCountAt};
+ghost use Rattle.port_runs.specs.Ports.{HasParity, IsLeast, IsGreatest};
 
 use std::alloc::{AllocError, Global};
 
@@ -20,9 +18,7 @@ pub fn cleared(alloc: Global, count: usize) -> Result<Vec<bool>, AllocError>
 /// How many flags are set from `start` on, up to `most`.
 pub fn run_at(flags: &[bool], start: usize, most: u32) -> u32
     requires { start < 65536 }
-    ensures most { result ≤ most }
-    ensures free { IsSetBetween flags.now start (start + result) }
-    ensures stops { result < most → slice_index_or flags.now (start + result) false ≡ false }
+    ensures { IsSetCountAt flags.now start most result }
 {
     let mut count = 0;
     while count < most {
@@ -68,9 +64,7 @@ pub fn fits_at(flags: &[bool], start: usize, n: u32, parity: Option<u8>) -> bool
 pub fn first_run(flags: &[bool], n: u32, parity: Option<u8>) -> Option<u16>
     requires some { 1 ≤ n }
     requires small { length flags.now ≤ 65536 }
-    ensures fits { IfSome result (FitsFlags flags.now n parity) }
-    ensures least { IfSome result (λ start. (other : ℕ) → FitsFlags flags.now n parity other → start ≤ other) }
-    ensures none { IfNone result ((other : ℕ) → ¬ FitsFlags flags.now n parity other) }
+    ensures { IsLeast (FitsFlags flags.now n parity) result }
 {
     for start in 0..flags.len() {
         if fits_at(flags, start, n, parity) {
@@ -78,4 +72,20 @@ pub fn first_run(flags: &[bool], n: u32, parity: Option<u8>) -> Option<u16>
         }
     }
     None
+}
+
+/// How many flags the longest run has that begins with the remainder by 2 that is asked.
+pub fn longest_run(flags: &[bool], parity: Option<u8>) -> u32
+    requires small { length flags.now ≤ 65536 }
+    ensures { IsGreatest (HasSetRun flags.now parity) result }
+{
+    let mut longest = 0;
+    let mut run = 0;
+    for start in (0..flags.len()).rev() {
+        run = if flags[start] { run + 1 } else { 0 };
+        if has_parity(start, parity) && run > longest {
+            longest = run;
+        }
+    }
+    longest
 }

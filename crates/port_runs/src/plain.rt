@@ -1,7 +1,6 @@
 //! The plain body of free runs: the flags of the ports are searched from the lowest on.
 
-ghost use Rattle.std.specs.Prelude.{◌≡◌, ◌≤◌, ◌<◌, ◌+◌, ◌↔◌, ◌||◌, ◌&&◌, ℕ, false, [], not, IsTrue, IfOk, IfSome, IfNone};
-ghost use Rattle.std.specs.Bool.{OnTrue, OnFalse};
+ghost use Rattle.std.specs.Prelude.{◌≡◌, ◌≤◌, ◌+◌, IfOk, IfSome, IfNone};
 
 use crate::flags;
 use pcp_base::Memory;
@@ -20,8 +19,8 @@ pub struct PlainRuns {
 
 impl Model for PlainRuns {
     ghost use Rattle.port_runs.specs.Ports.{Ports};
-    ghost use Rattle.port_runs.specs.Shown.{shown};
-    ghost use Rattle.port_runs.specs.OfRange.{AreOfRange};
+    ghost use Rattle.port_runs.specs.Flags.{shown};
+    ghost use Rattle.port_runs.specs.Flags.{AreOfRange};
 
     ghost Value = { Ports };
 
@@ -31,19 +30,13 @@ impl Model for PlainRuns {
 }
 
 impl PlainRuns {
-    ghost use Rattle.std.specs.List.Sorted.{IsStrictlyIncreasing};
-    ghost use Rattle.port_runs.specs.Ports.{Ports};
-    ghost use Rattle.port_runs.specs.Taken.{is_taken};
-    ghost use Rattle.port_runs.specs.Free.{is_free};
-    ghost use Rattle.port_runs.specs.InRun.{is_in_run};
-    ghost use Rattle.port_runs.specs.FreeRun.{IsFreeRun};
-    ghost use Rattle.port_runs.specs.Fitting.{Fits};
+    ghost use Rattle.port_runs.specs.Ports.{untaken, TakesRun, GivesRun, IsCountAt, IsFittingRun, HasFittingRun, IsLeast, IsGreatest};
 
     /// The range from `low` to `high`, with no port taken. The one error is want of memory.
     pub fn new(alloc: Global, low: u16, high: u16) -> Result<PlainRuns, Memory>
         requires some { 1 ≤ low }
         requires ordered { low ≤ high }
-        ensures { IfOk result (λ runs. runs ≡ record { low = low; high = high; taken = [] }) }
+        ensures { IfOk result (λ runs. runs ≡ untaken low high) }
     {
         let mut free = flags::cleared(alloc, PORTS)?;
         flags::mark(&mut free, low as usize, high as usize + 1, true);
@@ -55,12 +48,7 @@ impl PlainRuns {
         requires some { 1 ≤ n }
         requires low { self.old.low ≤ start }
         requires high { start + n ≤ self.old.high + 1 }
-        ensures answer { IsTrue result ↔ IsFreeRun self.old start n }
-        ensures low { self.new.low ≡ self.old.low }
-        ensures high { self.new.high ≡ self.old.high }
-        ensures taken { OnTrue result ((port : ℕ) → is_taken self.new port ≡ (is_taken self.old port || is_in_run start n port)) }
-        ensures refused { OnFalse result (self.new ≡ self.old) }
-        ensures ascending { IsStrictlyIncreasing self.new.taken }
+        ensures { TakesRun self.old start n result self.new }
     {
         let from = start as usize;
         if flags::run_at(&self.free, from, n) < n {
@@ -75,10 +63,7 @@ impl PlainRuns {
         requires some { 1 ≤ n }
         requires low { self.old.low ≤ start }
         requires high { start + n ≤ self.old.high + 1 }
-        ensures low { self.new.low ≡ self.old.low }
-        ensures high { self.new.high ≡ self.old.high }
-        ensures taken { (port : ℕ) → is_taken self.new port ≡ (is_taken self.old port && not (is_in_run start n port)) }
-        ensures ascending { IsStrictlyIncreasing self.new.taken }
+        ensures { GivesRun self.old start n self.new }
     {
         let from = start as usize;
         flags::mark(&mut self.free, from, from + n as usize, true);
@@ -86,9 +71,7 @@ impl PlainRuns {
 
     /// How many ports are free from `start` on, up to `most`.
     pub fn run_at(&self, start: u16, most: u32) -> u32
-        ensures most { result ≤ most }
-        ensures free { IsFreeRun self.now start result }
-        ensures stops { result < most → is_free self.now (start + result) ≡ false }
+        ensures { IsCountAt self.now start most result }
     {
         flags::run_at(&self.free, start as usize, most)
     }
@@ -97,10 +80,16 @@ impl PlainRuns {
     /// one. None where there is none.
     pub fn first_run(&self, n: u32, parity: Option<u8>) -> Option<u16>
         requires { 1 ≤ n }
-        ensures fits { IfSome result (Fits self.now n parity) }
-        ensures least { IfSome result (λ start. (other : ℕ) → Fits self.now n parity other → start ≤ other) }
-        ensures none { IfNone result ((other : ℕ) → ¬ Fits self.now n parity other) }
+        ensures { IsLeast (IsFittingRun self.now n parity) result }
     {
         flags::first_run(&self.free, n, parity)
+    }
+
+    /// How many ports the longest run of free ones has that begins with the remainder by 2 that
+    /// `parity` asks, if it asks one. It is 0 where there is none.
+    pub fn longest_run(&self, parity: Option<u8>) -> u32
+        ensures { IsGreatest (HasFittingRun self.now parity) result }
+    {
+        flags::longest_run(&self.free, parity)
     }
 }

@@ -18,9 +18,10 @@ enum Call {
     Give(u16, u32),
     RunAt(u16, u32, u32),
     FirstRun(u32, Option<u8>, Option<u16>),
+    LongestRun(Option<u8>, u32),
 }
 
-use Call::{FirstRun, Give, RunAt, Take};
+use Call::{FirstRun, Give, LongestRun, RunAt, Take};
 
 /// Makes a call and compares its answer.
 fn check<L: Ledger>(
@@ -51,6 +52,13 @@ fn check<L: Ledger>(
         FirstRun(n, parity, wanted) => {
             assert!(rt; n >= 1);
             assert_eq!(rt; runs.first_run(n, parity, steps), wanted, "first_run {n}");
+        }
+        LongestRun(parity, wanted) => {
+            assert_eq!(rt;
+                runs.longest_run(parity, steps),
+                wanted,
+                "longest_run {parity:?}"
+            );
         }
     }
 }
@@ -89,6 +97,10 @@ fn five_ports(rt: HostRuntime) -> Result<(), Memory> {
         FirstRun(5, Some(1), None),
         FirstRun(3, Some(0), Some(10)),
         FirstRun(1, Some(2), None),
+        LongestRun(None, 5),
+        LongestRun(Some(0), 5),
+        LongestRun(Some(1), 4),
+        LongestRun(Some(2), 0),
         RunAt(10, 9, 5),
         RunAt(12, 2, 2),
         RunAt(14, 5, 1),
@@ -97,6 +109,8 @@ fn five_ports(rt: HostRuntime) -> Result<(), Memory> {
         Take(12, 1, true),
         FirstRun(2, None, Some(10)),
         FirstRun(3, None, None),
+        LongestRun(Some(0), 2),
+        LongestRun(Some(1), 2),
         FirstRun(2, Some(1), Some(13)),
         FirstRun(1, Some(1), Some(11)),
         RunAt(10, 5, 2),
@@ -109,6 +123,7 @@ fn five_ports(rt: HostRuntime) -> Result<(), Memory> {
         FirstRun(2, Some(0), None),
         Take(13, 2, true),
         FirstRun(1, None, None),
+        LongestRun(None, 0),
         Give(11, 3),
         FirstRun(3, None, Some(11)),
         FirstRun(3, Some(0), None),
@@ -148,6 +163,8 @@ fn ends_of_the_numbers(rt: HostRuntime) -> Result<(), Memory> {
     check_all::<Brand>(&rt, rt.alloc(), Blank::new(1), 1, 1, &first)?;
     let all = [
         FirstRun(65535, None, Some(1)),
+        LongestRun(None, 65535),
+        LongestRun(Some(0), 65534),
         FirstRun(65535, Some(0), None),
         FirstRun(65534, Some(0), Some(2)),
         FirstRun(65536, None, None),
@@ -206,7 +223,7 @@ fn call_both<L: Ledger>(
     let start = 1024 + numbers.below(64512);
     let n = 1 + numbers.below(64).min(65535 - start);
     let start = start as u16;
-    match numbers.below(4) {
+    match numbers.below(5) {
         0 => {
             let parity = [None, Some(0), Some(1)][numbers.below(3) as usize];
             let found = tree.first_run(n, parity, steps);
@@ -221,7 +238,12 @@ fn call_both<L: Ledger>(
             tree.give(start, n);
             plain.give(start, n);
         }
-        _ => assert_eq!(rt; tree.run_at(start, n), plain.run_at(start, n)),
+        3 => assert_eq!(rt; tree.run_at(start, n), plain.run_at(start, n)),
+        _ => {
+            let parity = [None, Some(0), Some(1)][numbers.below(3) as usize];
+            let longest = tree.longest_run(parity, steps);
+            assert_eq!(rt; longest, plain.longest_run(parity));
+        }
     }
 }
 
@@ -235,7 +257,7 @@ fn compare<L: Ledger>(rt: &impl Abort, alloc: Global, blank: Blank) -> Result<()
     let mut tree = Runs::new(alloc, 1024, 65535)?;
     let mut plain = PlainRuns::new(alloc, 1024, 65535)?;
     let mut numbers = Numbers(1);
-    for _ in 0..20000 {
+    for _ in 0..10000 {
         call_both(rt, &mut tree, &mut plain, &mut numbers, &mut steps);
     }
     for port in 0..=65535 {

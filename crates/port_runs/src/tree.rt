@@ -5,27 +5,22 @@
 //! at 32,768 and on, are made of the flags when they are looked at. Place 0 is not used.
 
 ghost use Rattle.std.specs.Prelude.{true, false, ◌≡◌, ℕ, ◌+◌, ◌-◌, ◌/◌, ◌*◌, ◌<◌, ◌≤◌, ◌↔◌, length, IsTrue, IfOk, IfSome, IfNone, slice_index_or, vec_len};
-ghost use Rattle.port_runs.specs.Empty.{empty};
-ghost use Rattle.port_runs.specs.PairOf.{pair_of};
-ghost use Rattle.port_runs.specs.Join.{join, extend, crossing};
-ghost use Rattle.port_runs.specs.Longest.{longest};
-ghost use Rattle.port_runs.specs.NodeAt.{node_at};
-ghost use Rattle.port_runs.specs.Joined.{AreJoined, AreJoinedBut};
-ghost use Rattle.port_runs.specs.Marked.{IsMarked};
-ghost use Rattle.port_runs.specs.FlagsFit.{FitsFlags};
-ghost use Rattle.port_runs.specs.FirstOver.{IsFirstOver};
-ghost use Rattle.port_runs.specs.Parity.{HasParity};
+ghost use Rattle.port_runs.specs.Nodes.{empty_node, pair_of, join, extend, crossing, longest, tree_node, AreJoined, AreJoinedBut, IsTreeOf, IsFirstOver, IsCostOfWay};
+ghost use Rattle.port_runs.specs.Flags.{IsMarked, FitsFlags, HasSetRun, IsSetAlone, IsSetCountAt};
+ghost use Rattle.port_runs.specs.Ports.{HasParity, IsLeast, IsGreatest};
 
+use crate::flags;
 use crate::flags::{fits_at, has_parity, mark};
 use std::alloc::{AllocError, Global};
+use std::marker::Model;
 use std::sync::ledger::Ledger;
 use step_count::Steps;
 
 /// How many flags there are.
-pub const FLAGS: usize = 65536;
+const FLAGS: usize = 65536;
 
 /// How many places the nodes have that are kept.
-pub const NODES: usize = 32768;
+const NODES: usize = 32768;
 
 /// How many levels there are from the root down to the nodes of two flags.
 const LEVELS: usize = 15;
@@ -57,16 +52,16 @@ const EMPTY: Node = Node {
 };
 
 /// `count` places of nodes with no flag set.
-pub fn cleared(alloc: Global, count: usize) -> Result<Vec<Node>, AllocError>
+fn cleared(alloc: Global, count: usize) -> Result<Vec<Node>, AllocError>
     ensures all { IfOk result (λ nodes. vec_len nodes ≡ count) }
-    ensures clear { IfOk result (λ nodes. (i : ℕ) → slice_index_or nodes.items i empty ≡ empty) }
+    ensures clear { IfOk result (λ nodes. (i : ℕ) → slice_index_or nodes.items i empty_node ≡ empty_node) }
 {
     let nodes = vec![in alloc; EMPTY; count]?;
     Ok(nodes)
 }
 
 /// The node of two flags.
-#[tactic(auto, unfolding(crate::specs::PairOf::pair_of, crate::specs::Empty::empty))]
+#[tactic(auto, unfolding(crate::specs::Nodes::pair_of, crate::specs::Nodes::empty_node))]
 fn pair(first: bool, second: bool) -> Node
     ensures { result ≡ pair_of first second }
 {
@@ -118,7 +113,7 @@ fn extended(full: bool, own: u16, next: u16) -> u16
 }
 
 /// The node of two blocks side by side.
-#[tactic(auto, unfolding(crate::specs::Join::join))]
+#[tactic(auto, unfolding(crate::specs::Nodes::join))]
 fn joined(left: Node, right: Node) -> Node
     ensures { result ≡ join left right }
 {
@@ -133,12 +128,12 @@ fn joined(left: Node, right: Node) -> Node
 }
 
 /// The node at a place.
-#[tactic(auto, unfolding(crate::specs::NodeAt::node_at))]
-fn look(flags: &[bool], nodes: &[Node], place: usize) -> Node
+#[tactic(auto, unfolding(crate::specs::Nodes::tree_node))]
+fn node_of(flags: &[bool], nodes: &[Node], place: usize) -> Node
     requires place { place < 65536 }
     requires flags { length flags.now ≡ 65536 }
     requires nodes { length nodes.now ≡ 32768 }
-    ensures { result ≡ node_at flags.now nodes.now place }
+    ensures { result ≡ tree_node flags.now nodes.now place }
 {
     if place < nodes.len() {
         nodes[place]
@@ -157,14 +152,14 @@ fn rejoin(flags: &[bool], nodes: &mut [Node], low: usize, high: usize)
 {
     for place in low..high + 1 {
         nodes[place] = joined(
-            look(flags, nodes, 2 * place),
-            look(flags, nodes, 2 * place + 1),
+            node_of(flags, nodes, 2 * place),
+            node_of(flags, nodes, 2 * place + 1),
         );
     }
 }
 
 /// Makes all nodes anew of whose flags some from `from` up to `to`, which isn't among them, changed.
-pub fn refresh(flags: &[bool], nodes: &mut [Node], from: usize, to: usize)
+fn refresh(flags: &[bool], nodes: &mut [Node], from: usize, to: usize)
     requires ordered { from < to }
     requires within { to ≤ 65536 }
     requires flags { length flags.now ≡ 65536 }
@@ -182,7 +177,7 @@ pub fn refresh(flags: &[bool], nodes: &mut [Node], from: usize, to: usize)
 
 /// Sets or clears the flags from `from` up to `to`, which isn't among them, and makes their nodes
 /// anew.
-pub fn change(flags: &mut [bool], nodes: &mut [Node], from: usize, to: usize, value: bool)
+fn change(flags: &mut [bool], nodes: &mut [Node], from: usize, to: usize, value: bool)
     requires ordered { from < to }
     requires within { to ≤ 65536 }
     requires flags { length flags.old ≡ 65536 }
@@ -194,20 +189,20 @@ pub fn change(flags: &mut [bool], nodes: &mut [Node], from: usize, to: usize, va
     refresh(flags, nodes, from, to);
 }
 
-/// The node at a place, which takes a step.
-fn visit<L: Ledger>(flags: &[bool], nodes: &[Node], place: usize, steps: &mut Steps<L>) -> Node
+/// Looks at a node, which is a step. Nothing else that counts steps reads one.
+fn look<L: Ledger>(flags: &[bool], nodes: &[Node], place: usize, steps: &mut Steps<L>) -> Node
     requires place { place < 65536 }
     requires flags { length flags.now ≡ 65536 }
     requires nodes { length nodes.now ≡ 32768 }
-    ensures node { result ≡ node_at flags.now nodes.now place }
+    ensures node { result ≡ tree_node flags.now nodes.now place }
     ensures cost { steps.new ≡ steps.old + 1 }
 {
-    steps.tick(); // this node
-    look(flags, nodes, place)
+    steps.tick();
+    node_of(flags, nodes, place)
 }
 
 /// The longest run of a block that begins with the remainder by 2 that is asked.
-#[tactic(auto, unfolding(crate::specs::Longest::longest))]
+#[tactic(auto, unfolding(crate::specs::Nodes::longest))]
 fn longest_run(node: Node, parity: Option<u8>) -> u32
     ensures { result ≡ longest parity node }
 {
@@ -243,9 +238,29 @@ fn over_middle(left: Node, right: Node, middle: usize, n: u32, parity: Option<u8
     }
 }
 
-/// The least place from which `n` flags are set and that has the remainder by 2 that is asked, in
-/// at most 4 steps for each of the 17 levels. A step is one node looked at.
-pub fn first_run<L: Ledger>(
+/// Whether `n` flags are set from the first of two on, where `parity` asks no other remainder by 2
+/// than it has. It looks at both, which is a step each.
+fn fits_in_pair<L: Ledger>(
+    flags: &[bool],
+    first: usize,
+    n: u32,
+    parity: Option<u8>,
+    steps: &mut Steps<L>,
+) -> bool
+    requires { first < 65536 }
+    ensures fits { IsTrue result ↔ FitsFlags flags.now n parity first }
+    ensures cost { steps.new ≡ steps.old + 2 }
+{
+    steps.tick(); // the first flag
+    steps.tick(); // the second one
+    fits_at(flags, first, n, parity)
+}
+
+/// The least place from which `n` flags are set and that has the remainder by 2 that is asked.
+///
+/// Where there is none the root tells it. Else both nodes of each level are looked at on the way
+/// down, of 15 levels at most, and then two flags.
+fn first_run<L: Ledger>(
     flags: &[bool],
     nodes: &[Node],
     n: u32,
@@ -253,26 +268,24 @@ pub fn first_run<L: Ledger>(
     steps: &mut Steps<L>,
 ) -> Option<u16>
     requires some { 1 ≤ n }
-    requires flags { length flags.now ≡ 65536 }
     requires clear { slice_index_or flags.now 0 false ≡ false }
-    requires joined { AreJoined flags.now nodes.now }
-    ensures fits { IfSome result (FitsFlags flags.now n parity) }
-    ensures least { IfSome result (λ start. (other : ℕ) → FitsFlags flags.now n parity other → start ≤ other) }
-    ensures none { IfNone result ((other : ℕ) → ¬ FitsFlags flags.now n parity other) }
-    ensures cost { steps.new ≤ steps.old + 68 }
+    requires tree { IsTreeOf flags.now nodes.now }
+    ensures found { IsLeast (FitsFlags flags.now n parity) result }
+    ensures none { IfNone result (steps.new ≡ steps.old + 1) }
+    ensures some { IfSome result (λ _. IsCostOfWay steps.old steps.new) }
 {
-    if longest_run(visit(flags, nodes, 1, steps), parity) < n {
+    if longest_run(look(flags, nodes, 1, steps), parity) < n {
         return None;
     }
     let mut place = 1;
     let mut first = 0;
     let mut half = FLAGS / 2;
     for level in 0..LEVELS {
-        let left = visit(flags, nodes, 2 * place, steps);
+        let left = look(flags, nodes, 2 * place, steps);
+        let right = look(flags, nodes, 2 * place + 1, steps);
         if longest_run(left, parity) >= n {
             place = 2 * place;
         } else {
-            let right = visit(flags, nodes, 2 * place + 1, steps);
             let found = over_middle(left, right, first + half, n, parity);
             if found.is_some() {
                 return found;
@@ -282,12 +295,88 @@ pub fn first_run<L: Ledger>(
         }
         half /= 2;
     }
-    steps.tick(); // the first of the last two flags
-    steps.tick(); // the second one
-    let start = if fits_at(flags, first, n, parity) {
+    let start = if fits_in_pair(flags, first, n, parity, steps) {
         first
     } else {
         first + 1
     };
     Some(start as u16)
+}
+
+/// A flag for each number of 16 bits, seen as their list, and nodes that tell where runs of set
+/// flags are.
+#[derive(Drop)]
+pub struct Tree {
+    flags: Vec<bool>,
+    nodes: Vec<Node>,
+}
+
+impl Model for Tree {
+    ghost use Rattle.std.specs.Prelude.{List, Bool};
+    ghost use Rattle.port_runs.specs.Nodes.{IsTreeOf};
+
+    ghost Value = { List Bool };
+
+    ghost view = { λ t. t.flags.items };
+
+    ghost invariant = { λ t. IsTreeOf t.flags.items t.nodes.items };
+}
+
+impl Tree {
+    /// The tree whose set flags are those from `from` up to `to`, which isn't among them.
+    pub fn new(alloc: Global, from: usize, to: usize) -> Result<Tree, AllocError>
+        requires ordered { from < to }
+        requires within { to ≤ 65536 }
+        ensures { IfOk result (λ tree. IsSetAlone from to tree) }
+    {
+        let mut flags = flags::cleared(alloc, FLAGS)?;
+        let mut nodes = cleared(alloc, NODES)?;
+        change(&mut flags, &mut nodes, from, to, true);
+        Ok(Tree { flags, nodes })
+    }
+
+    /// Sets or clears the flags from `from` up to `to`, which isn't among them.
+    pub fn mark(&mut self, from: usize, to: usize, value: bool)
+        requires ordered { from < to }
+        requires within { to ≤ 65536 }
+        ensures { IsMarked from to value self.old self.new }
+    {
+        change(&mut self.flags, &mut self.nodes, from, to, value);
+    }
+
+    /// How many flags are set from `start` on, up to `most`. It reads flags alone, for callers that
+    /// count no steps.
+    pub fn run_at(&self, start: usize, most: u32) -> u32
+        requires { start < 65536 }
+        ensures { IsSetCountAt self.now start most result }
+    {
+        flags::run_at(&self.flags, start, most)
+    }
+
+    /// The least place from which `n` flags are set and that has the remainder by 2 that is asked.
+    /// A step is a node or a flag that is looked at.
+    pub fn first_run<L: Ledger>(
+        &self,
+        n: u32,
+        parity: Option<u8>,
+        steps: &mut Steps<L>,
+    ) -> Option<u16>
+        requires some { 1 ≤ n }
+        requires clear { slice_index_or self.now 0 false ≡ false }
+        ensures found { IsLeast (FitsFlags self.now n parity) result }
+        ensures none { IfNone result (steps.new ≡ steps.old + 1) }
+        ensures some { IfSome result (λ _. IsCostOfWay steps.old steps.new) }
+    {
+        first_run(&self.flags, &self.nodes, n, parity, steps)
+    }
+
+    /// How many flags the longest run has that begins with the remainder by 2 that is asked. It is
+    /// one look, at the root.
+    pub fn longest_run<L: Ledger>(&self, parity: Option<u8>, steps: &mut Steps<L>) -> u32
+        requires { slice_index_or self.now 0 false ≡ false }
+        ensures longest { IsGreatest (HasSetRun self.now parity) result }
+        ensures cost { steps.new ≡ steps.old + 1 }
+    {
+        longest_run(look(&self.flags, &self.nodes, 1, steps), parity)
+    }
 }

@@ -1,5 +1,5 @@
 use Rattle.std.proofs.Common.{ℕ, ◌<◌}
-use Rattle.port_runs.specs.FlagsFit.{FitsFlags}
+use Rattle.port_runs.specs.Flags.{FitsFlags}
 use Rattle.port_runs.proofs.flags.first_run.Given as goal
 
 abbrev pub invariant-loop-start : goal.invariant-loop-start

@@ -1,4 +1,4 @@
-use Rattle.port_runs.specs.Marked.{IsMarked}
+use Rattle.port_runs.specs.Flags.{IsMarked}
 use Rattle.port_runs.proofs.flags.mark.Given as goal
 
 abbrev pub invariant-loop-place : goal.invariant-loop-place

@@ -1,5 +1,5 @@
 use Rattle.std.proofs.Common.{◌+◌, ◌-◌, ◌≤◌}
-use Rattle.port_runs.specs.SetBetween.{IsSetBetween}
+use Rattle.port_runs.specs.Flags.{IsSetBetween}
 use Rattle.port_runs.proofs.flags.run_at.Given as goal
 
 abbrev pub invariant-loop-count : goal.invariant-loop-count

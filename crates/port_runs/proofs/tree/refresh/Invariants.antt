@@ -1,5 +1,5 @@
 use Rattle.std.proofs.Common.{◌<◌}
-use Rattle.port_runs.specs.Joined.{AreJoinedBut}
+use Rattle.port_runs.specs.Nodes.{AreJoinedBut}
 use Rattle.port_runs.proofs.tree.refresh.Given as goal
 
 abbrev pub invariant-loop-high : goal.invariant-loop-high

@@ -1,17 +1,15 @@
-use Rattle.port_runs.proofs.ShownFlags.{fits-seen, least-seen, none-seen}
+use Rattle.std.proofs.Common.{refl}
+use Rattle.port_runs.proofs.ShownFlags.{least-seen}
+use Rattle.port_runs.proofs.Steps.{few_steps, some_steps}
 use Rattle.port_runs.proofs.runs.Runs.first_run.Goals as goal
 
-pub returns-clause-fits : goal.returns-clause-fits
-returns-clause-fits g c =
+pub returns-clause-found : goal.returns-clause-found
+returns-clause-found g c =
     let a = c.self.inside in
-    fits-seen a.low a.high a.free.items c.self.invariant.of_range c.args.self.now c.self.view_is c.deref.result.now c.deref.ensures.value c.args.n c.args.parity c.first_run.result c.first_run.ensures.fits
+    least-seen a.low a.high a.tree c.self.invariant c.args.self.now c.self.view_is a.tree refl c.args.n c.args.parity c.first_run.result c.first_run.ensures.found
 
-pub returns-clause-least : goal.returns-clause-least
-returns-clause-least g c =
-    let a = c.self.inside in
-    least-seen a.low a.high a.free.items c.self.invariant.of_range c.args.self.now c.self.view_is c.deref.result.now c.deref.ensures.value c.args.n c.args.parity c.first_run.result c.first_run.ensures.least
+pub returns-clause-cost : goal.returns-clause-cost
+returns-clause-cost g c = few_steps c.args.steps.now c.first_run.new.steps c.first_run.result c.first_run.ensures.none c.first_run.ensures.some
 
-pub returns-clause-none : goal.returns-clause-none
-returns-clause-none g c =
-    let a = c.self.inside in
-    none-seen a.low a.high a.free.items c.self.invariant.of_range c.args.self.now c.self.view_is c.deref.result.now c.deref.ensures.value c.args.n c.args.parity c.first_run.result c.first_run.ensures.none
+pub returns-clause-some : goal.returns-clause-some
+returns-clause-some g c = some_steps c.args.steps.now c.first_run.new.steps c.first_run.result c.first_run.ensures.some
