@@ -3,8 +3,8 @@ use Rattle.std.proofs.Common.{◌≡◌, ℕ, ◌<◌, ◌≤◌, Option, None, 
 use Rattle.std.specs.Ordering.{nat_cmp}
 use Rattle.std.specs.FinMap.{FinMap, get}
 use Rattle.expiry_wheel.specs.declared.pair.Pair.{Pair}
-use Rattle.expiry_wheel.specs.IsNoLater.{IsNoLater}
-use Rattle.expiry_wheel.specs.IsNextDue.{IsNextDue}
+use Rattle.expiry_wheel.specs.Order.{IsNoLater}
+use Rattle.expiry_wheel.specs.Due.{IsNextDue}
 
 -- the pair is one of the map's, and none is before it; None is for the empty map
 pub record IsSoonest (expiries : FinMap nat_cmp ℕ) (best : Option Pair) : Type 0 where

@@ -2,7 +2,7 @@
 use Rattle.std.proofs.Common.{◌≡◌, ◌≢◌, ℕ, ◌+◌, ◌≤◌, cond, Option, None, Some, unwrap_or, is_some, refl, sym, ap, subst, ◌∙◌, arith, ◌==◌, inl, inr}
 use Rattle.std.specs.Option.{option_map}
 use Rattle.expiry_wheel.specs.declared.pair.Pair.{Pair}
-use Rattle.expiry_wheel.specs.AreSlots.{AreSlots, id_of, expiry_of}
+use Rattle.expiry_wheel.specs.Slots.{AreSlots, id_of, expiry_of}
 use Rattle.expiry_wheel.proofs.Maps.{same_or_not, cond_same, cond_other}
 
 -- the functions after a pair is put into a slot

@@ -12,10 +12,8 @@ use Rattle.std.proofs.lemmas.Option.{slice_get-get_or, get_or_from_slice_get}
 use Rattle.std.proofs.lemmas.Bool.{eq-eqb}
 use Rattle.std.proofs.lemmas.Grind.{common_steps}
 use Rattle.expiry_wheel.specs.declared.pair.Pair.{Pair}
-use Rattle.expiry_wheel.specs.IsTree.{node_at}
-use Rattle.expiry_wheel.specs.IsNoLater.{IsNoLater}
-use Rattle.expiry_wheel.specs.AreSlots.{AreSlots, id_of, expiry_of, expiries_in}
-use Rattle.expiry_wheel.specs.IsWheel.{IsWheel}
+use Rattle.expiry_wheel.specs.Slots.{kept_at, AreSlots, id_of, expiry_of, expiries_in, IsWheel}
+use Rattle.expiry_wheel.specs.Order.{IsNoLater}
 use Rattle.expiry_wheel.proofs.Maps.{eq_by_cmp-nat, same_or_not, below_or_not, cond_same, cond_other, one_inserted, one_removed}
 use Rattle.expiry_wheel.proofs.Next.{IsSoonest}
 use Rattle.expiry_wheel.proofs.Slots.{put_one, expiries_put, taken_out, expiries_taken_out}
@@ -47,9 +45,9 @@ pub is_at-nat : (k q : ℕ) → is_at (nat_cmp k) q ≡ (q == k)
 is_at-nat k q = eq_by_cmp-nat k q ∙ turned k q
 
 -- what stands in a slot after a write
-pub node_at-set : (tree : List (Option Pair)) (slot : ℕ) (v : Option Pair) (s : ℕ) → slot < length tree → node_at (slice_set tree slot v) s ≡ cond (s == slot) v (node_at tree s)
-node_at-set tree slot v s within = elim (same_or_not s slot) [
-  | inl e ↦ ap (node_at (slice_set tree slot v)) e ∙ get_or-set_same tree slot v None within ∙ sym (cond_same s slot _ _ e)
+pub kept_at-set : (tree : List (Option Pair)) (slot : ℕ) (v : Option Pair) (s : ℕ) → slot < length tree → kept_at (slice_set tree slot v) s ≡ cond (s == slot) v (kept_at tree s)
+kept_at-set tree slot v s within = elim (same_or_not s slot) [
+  | inl e ↦ ap (kept_at (slice_set tree slot v)) e ∙ get_or-set_same tree slot v None within ∙ sym (cond_same s slot _ _ e)
   | inr ne ↦ get_or-set_other tree slot s v None ne ∙ sym (cond_other s slot _ _ ne)
 ]
 
@@ -73,38 +71,38 @@ one_counted false true l n e is = cc
 -- a pair is put into the slot of its id
 pub wheel_put : (slots slots' : BTreeMap ℕ ℕ) (tree tree' : List (Option Pair)) (p : Pair) (slot : ℕ) → IsWheel slots tree
     → slot ≡ unwrap_or (get nat_cmp slots p.id) (btree_map_len slots)
-    → ((q : ℕ) → get nat_cmp slots' q ≡ cond (is_at (nat_cmp p.id) q) (Some slot) (get nat_cmp slots q)) → ((s : ℕ) → node_at tree' s ≡ cond (s == slot) (Some p) (node_at tree s))
+    → ((q : ℕ) → get nat_cmp slots' q ≡ cond (is_at (nat_cmp p.id) q) (Some slot) (get nat_cmp slots q)) → ((s : ℕ) → kept_at tree' s ≡ cond (s == slot) (Some p) (kept_at tree s))
     → btree_map_len slots' ≡ btree_map_len slots + cond (is_some (get nat_cmp slots p.id)) 0 1
-    → IsWheel slots' tree' × (expiries_in slots'.entries (node_at tree') ≡ fin.insert (expiries_in slots.entries (node_at tree)) p.id p.expiry)
+    → IsWheel slots' tree' × (expiries_in slots'.entries (kept_at tree') ≡ fin.insert (expiries_in slots.entries (kept_at tree)) p.id p.expiry)
 wheel_put slots slots' tree tree' p slot is first ids kept more =
     let ids' : (q : ℕ) → get nat_cmp slots' q ≡ cond (q == p.id) (Some slot) (get nat_cmp slots q) = (λ q. ids q ∙ ap (λ b. cond b (Some slot) (get nat_cmp slots q)) (is_at-nat p.id q)) in
-    let are = put_one (get nat_cmp slots) (node_at tree) slot p (get nat_cmp slots') (node_at tree') ids' kept (btree_map_len slots) (btree_map_len slots') is.paired first more in
-    let seen : expiries_in slots'.entries (node_at tree') ≡ fin.insert (expiries_in slots.entries (node_at tree)) p.id p.expiry = one_inserted _ _ p.id p.expiry (λ q.
-    get-expiries_in slots' (node_at tree') q ∙ expiries_put (get nat_cmp slots) (node_at tree) slot p (get nat_cmp slots') (node_at tree') ids' kept (btree_map_len slots') are q
-    ∙ ap (cond (q == p.id) (Some p.expiry)) (sym (get-expiries_in slots (node_at tree) q))) in
-    (record { paired = are; counted = ap fin.len seen ∙ len-insert nat_cmp_total _ p.id p.expiry ∙ one_counted _ _ _ _ (has-expiries_in slots (node_at tree) p.id) is.counted ∙ sym more }, seen)
+    let are = put_one (get nat_cmp slots) (kept_at tree) slot p (get nat_cmp slots') (kept_at tree') ids' kept (btree_map_len slots) (btree_map_len slots') is.paired first more in
+    let seen : expiries_in slots'.entries (kept_at tree') ≡ fin.insert (expiries_in slots.entries (kept_at tree)) p.id p.expiry = one_inserted _ _ p.id p.expiry (λ q.
+    get-expiries_in slots' (kept_at tree') q ∙ expiries_put (get nat_cmp slots) (kept_at tree) slot p (get nat_cmp slots') (kept_at tree') ids' kept (btree_map_len slots') are q
+    ∙ ap (cond (q == p.id) (Some p.expiry)) (sym (get-expiries_in slots (kept_at tree) q))) in
+    (record { paired = are; counted = ap fin.len seen ∙ len-insert nat_cmp_total _ p.id p.expiry ∙ one_counted _ _ _ _ (has-expiries_in slots (kept_at tree) p.id) is.counted ∙ sym more }, seen)
 
 -- a tree that keeps the same
-pub wheel_same : (slots : BTreeMap ℕ ℕ) (tree tree' : List (Option Pair)) → IsWheel slots tree → ((s : ℕ) → node_at tree' s ≡ node_at tree s) → IsWheel slots tree'
+pub wheel_same : (slots : BTreeMap ℕ ℕ) (tree tree' : List (Option Pair)) → IsWheel slots tree → ((s : ℕ) → kept_at tree' s ≡ kept_at tree s) → IsWheel slots tree'
 wheel_same slots tree tree' is same =
-    let all : node_at tree ≡ node_at tree' = (λ i s. sym (same s) i) in
+    let all : kept_at tree ≡ kept_at tree' = (λ i s. sym (same s) i) in
     record {
       paired = subst (λ (k : ℕ → Option Pair). AreSlots (get nat_cmp slots) k (btree_map_len slots)) all is.paired;
       counted = subst (λ (k : ℕ → Option Pair). fin.len (expiries_in slots.entries k) ≡ btree_map_len slots) all is.counted;
     }
 
-pub expiries_same : (slots : BTreeMap ℕ ℕ) (tree tree' : List (Option Pair)) → ((s : ℕ) → node_at tree' s ≡ node_at tree s) → expiries_in slots.entries (node_at tree') ≡ expiries_in slots.entries (node_at tree)
-expiries_same slots tree tree' same = let all : node_at tree' ≡ node_at tree = (λ i s. same s i) in ap (expiries_in slots.entries) all
+pub expiries_same : (slots : BTreeMap ℕ ℕ) (tree tree' : List (Option Pair)) → ((s : ℕ) → kept_at tree' s ≡ kept_at tree s) → expiries_in slots.entries (kept_at tree') ≡ expiries_in slots.entries (kept_at tree)
+expiries_same slots tree tree' same = let all : kept_at tree' ≡ kept_at tree = (λ i s. same s i) in ap (expiries_in slots.entries) all
 
 -- a wheel with no pair
-none_kept : (s : ℕ) → node_at (None ∷ []) s ≡ None
+none_kept : (s : ℕ) → kept_at (None ∷ []) s ≡ None
 none_kept zero = refl
 none_kept (suc s) = get_or_past [] s None (omega arith)
 
 pub wheel_new : (slots : BTreeMap ℕ ℕ) (tree : List (Option Pair)) → slots.entries ≡ [] → tree ≡ None ∷ [] → IsWheel slots tree
 wheel_new slots tree empty one =
     let ids : (q : ℕ) → get nat_cmp slots q ≡ None = (λ q. ap (lookup (is_at (nat_cmp q))) empty) in
-    let kept : (s : ℕ) → node_at tree s ≡ None = (λ s. ap (λ (t : List (Option Pair)). node_at t s) one ∙ none_kept s) in
+    let kept : (s : ℕ) → kept_at tree s ≡ None = (λ s. ap (λ (t : List (Option Pair)). kept_at t s) one ∙ none_kept s) in
     let zero_pairs : btree_map_len slots ≡ 0 = ap length empty in
     record {
       paired = record {
@@ -113,13 +111,13 @@ wheel_new slots tree empty one =
         taken = λ s none. omega arith;
         free = λ s past. kept s;
       };
-      counted = ap (λ (es : List (ℕ × ℕ)). fin.len (expiries_in es (node_at tree))) empty ∙ len-empty nat_cmp ℕ ∙ sym zero_pairs;
+      counted = ap (λ (es : List (ℕ × ℕ)). fin.len (expiries_in es (kept_at tree))) empty ∙ len-empty nat_cmp ℕ ∙ sym zero_pairs;
     }
 
 -- room is left for an id that has no slot
-pub room_left : (slots : BTreeMap ℕ ℕ) (tree : List (Option Pair)) (view : FinMap nat_cmp ℕ) (id e : ℕ) → IsWheel slots tree → expiries_in slots.entries (node_at tree) ≡ view → fin.len (fin.insert view id e) ≤ 262144 → get nat_cmp slots id ≡ None → btree_map_len slots < 262144
+pub room_left : (slots : BTreeMap ℕ ℕ) (tree : List (Option Pair)) (view : FinMap nat_cmp ℕ) (id e : ℕ) → IsWheel slots tree → expiries_in slots.entries (kept_at tree) ≡ view → fin.len (fin.insert view id e) ≤ 262144 → get nat_cmp slots id ≡ None → btree_map_len slots < 262144
 room_left slots tree view id e is seen few absent =
-    let there : fin.contains_key view id ≡ false = ap (λ m. fin.contains_key m id) (sym seen) ∙ has-expiries_in slots (node_at tree) id ∙ ap is_some absent in
+    let there : fin.contains_key view id ≡ false = ap (λ m. fin.contains_key m id) (sym seen) ∙ has-expiries_in slots (kept_at tree) id ∙ ap is_some absent in
     let many : fin.len (fin.insert view id e) ≡ fin.len view + 1 = len-insert nat_cmp_total view id e ∙ ap (λ b. cond b (fin.len view) (fin.len view + 1)) there in
     let same : fin.len view ≡ btree_map_len slots = ap fin.len (sym seen) ∙ is.counted in
     omega (arith, few, many, same)
@@ -136,7 +134,7 @@ slot_taken slots tree id slot is there = elim (below_or_not slot (btree_map_len 
 ]
 
 -- so is the last of them
-pub last_keeps : (slots : BTreeMap ℕ ℕ) (tree : List (Option Pair)) (id slot last : ℕ) → IsWheel slots tree → get nat_cmp slots id ≡ Some slot → last ≡ btree_map_len slots - 1 → node_at tree last ≢ None
+pub last_keeps : (slots : BTreeMap ℕ ℕ) (tree : List (Option Pair)) (id slot last : ℕ) → IsWheel slots tree → get nat_cmp slots id ≡ Some slot → last ≡ btree_map_len slots - 1 → kept_at tree last ≢ None
 last_keeps slots tree id slot last is there at none =
     let low = slot_taken slots tree id slot is there in
     let past = is.paired.taken last none in
@@ -144,31 +142,31 @@ last_keeps slots tree id slot last is there at none =
 
 -- the pair of an id is taken out, and the last pair moves into its slot
 pub wheel_vacated : (slots slots1 slots' : BTreeMap ℕ ℕ) (tree tree1 tree' : List (Option Pair)) (id slot last : ℕ) (m : Pair) (gone : Option ℕ) → IsWheel slots tree
-    → get nat_cmp slots id ≡ Some slot → last ≡ btree_map_len slots - 1 → node_at tree last ≡ Some m
+    → get nat_cmp slots id ≡ Some slot → last ≡ btree_map_len slots - 1 → kept_at tree last ≡ Some m
     → tree1 ≡ slice_set tree slot (Some m) → tree' ≡ slice_set tree1 last None
     → ((q : ℕ) → get nat_cmp slots1 q ≡ cond (q == m.id) (Some slot) (get nat_cmp slots q)) → btree_map_len slots1 ≡ btree_map_len slots
     → ((q : ℕ) → get nat_cmp slots' q ≡ cond (is_at (nat_cmp id) q) None (get nat_cmp slots1 q)) → gone ≡ get nat_cmp slots1 id → btree_map_len slots' + cond (is_some gone) 1 0 ≡ btree_map_len slots1
-    → IsWheel slots' tree' × (expiries_in slots'.entries (node_at tree') ≡ fin.remove (expiries_in slots.entries (node_at tree)) id)
+    → IsWheel slots' tree' × (expiries_in slots'.entries (kept_at tree') ≡ fin.remove (expiries_in slots.entries (kept_at tree)) id)
 wheel_vacated slots slots1 slots' tree tree1 tree' id slot last m gone is there at moves write1 write2 ids1 len1 ids2 gone_is len2 =
     let low = slot_taken slots tree id slot is there in
     let room = room_for slots tree is in
     let long : length tree1 ≡ length tree = ap length write1 ∙ length-set tree slot (Some m) in
     let ids' : (q : ℕ) → get nat_cmp slots' q ≡ cond (q == id) None (cond (q == m.id) (Some slot) (get nat_cmp slots q)) = (λ q. ids2 q ∙ ap (λ b. cond b None (get nat_cmp slots1 q)) (is_at-nat id q) ∙ ap (cond (q == id) None) (ids1 q)) in
-    let kept' : (s : ℕ) → node_at tree' s ≡ cond (s == last) None (cond (s == slot) (Some m) (node_at tree s)) = (λ s.
-    ap (λ (t : List (Option Pair)). node_at t s) write2 ∙ node_at-set tree1 last None s (omega (arith, long, room, low, at))
-    ∙ ap (cond (s == last) None) (ap (λ (t : List (Option Pair)). node_at t s) write1 ∙ node_at-set tree slot (Some m) s (omega (arith, room, low)))) in
+    let kept' : (s : ℕ) → kept_at tree' s ≡ cond (s == last) None (cond (s == slot) (Some m) (kept_at tree s)) = (λ s.
+    ap (λ (t : List (Option Pair)). kept_at t s) write2 ∙ kept_at-set tree1 last None s (omega (arith, long, room, low, at))
+    ∙ ap (cond (s == last) None) (ap (λ (t : List (Option Pair)). kept_at t s) write1 ∙ kept_at-set tree slot (Some m) s (omega (arith, room, low)))) in
     let count : btree_map_len slots ≡ last + 1 = omega (arith, low, at) in
-    let before : AreSlots (get nat_cmp slots) (node_at tree) (last + 1) = subst (AreSlots (get nat_cmp slots) (node_at tree)) count is.paired in
-    let after = taken_out (get nat_cmp slots) (node_at tree) id slot last m (get nat_cmp slots') (node_at tree') ids' kept' before there moves in
-    let seen : expiries_in slots'.entries (node_at tree') ≡ fin.remove (expiries_in slots.entries (node_at tree)) id = one_removed _ _ id (λ q.
-    get-expiries_in slots' (node_at tree') q ∙ expiries_taken_out (get nat_cmp slots) (node_at tree) id slot last m (get nat_cmp slots') (node_at tree') ids' kept' before there moves q
-    ∙ ap (cond (q == id) None) (sym (get-expiries_in slots (node_at tree) q))) in
+    let before : AreSlots (get nat_cmp slots) (kept_at tree) (last + 1) = subst (AreSlots (get nat_cmp slots) (kept_at tree)) count is.paired in
+    let after = taken_out (get nat_cmp slots) (kept_at tree) id slot last m (get nat_cmp slots') (kept_at tree') ids' kept' before there moves in
+    let seen : expiries_in slots'.entries (kept_at tree') ≡ fin.remove (expiries_in slots.entries (kept_at tree)) id = one_removed _ _ id (λ q.
+    get-expiries_in slots' (kept_at tree') q ∙ expiries_taken_out (get nat_cmp slots) (kept_at tree) id slot last m (get nat_cmp slots') (kept_at tree') ids' kept' before there moves q
+    ∙ ap (cond (q == id) None) (sym (get-expiries_in slots (kept_at tree) q))) in
     let found : is_some gone ≡ true = ap is_some (gone_is ∙ ids1 id ∙ ap (cond (id == m.id) (Some slot)) there ∙ both_same (id == m.id) (Some slot)) in
     let less : btree_map_len slots' ≡ last = omega (arith, ap (λ b. btree_map_len slots' + cond b 1 0) (sym found) ∙ len2, len1, count) in
-    let has : fin.contains_key (expiries_in slots.entries (node_at tree)) id ≡ true = has-expiries_in slots (node_at tree) id ∙ ap is_some there in
-    let total : fin.len (expiries_in slots'.entries (node_at tree')) ≡ fin.len (expiries_in slots.entries (node_at tree)) - 1 = ap fin.len seen ∙ len-remove nat_cmp_total _ id ∙ ap (λ b. cond b (fin.len (expiries_in slots.entries (node_at tree)) - 1) (fin.len (expiries_in slots.entries (node_at tree)))) has in (
+    let has : fin.contains_key (expiries_in slots.entries (kept_at tree)) id ≡ true = has-expiries_in slots (kept_at tree) id ∙ ap is_some there in
+    let total : fin.len (expiries_in slots'.entries (kept_at tree')) ≡ fin.len (expiries_in slots.entries (kept_at tree)) - 1 = ap fin.len seen ∙ len-remove nat_cmp_total _ id ∙ ap (λ b. cond b (fin.len (expiries_in slots.entries (kept_at tree)) - 1) (fin.len (expiries_in slots.entries (kept_at tree)))) has in (
       record {
-        paired = subst (AreSlots (get nat_cmp slots') (node_at tree')) (sym less) after;
+        paired = subst (AreSlots (get nat_cmp slots') (kept_at tree')) (sym less) after;
         counted = omega (arith, total, is.counted, count, less);
       },
       seen,
@@ -182,22 +180,22 @@ pair_of : (kept : Option Pair) (id e : ℕ) → id_of kept ≡ Some id → expir
 pair_of None id e is at = cc
 pair_of (Some p) id e is at = let same : p.id ≡ id = cc in λ i. Some (record { expiry = at i; id = same i })
 
-kept_pair : (slots : BTreeMap ℕ ℕ) (tree : List (Option Pair)) (id e : ℕ) (slot : Option ℕ) → IsWheel slots tree → get nat_cmp slots id ≡ slot → option_map (λ s. expiry_of (node_at tree s)) slot ≡ Some e
-    → (s : ℕ) × (node_at tree s ≡ Some (record { expiry = e; id = id }))
+kept_pair : (slots : BTreeMap ℕ ℕ) (tree : List (Option Pair)) (id e : ℕ) (slot : Option ℕ) → IsWheel slots tree → get nat_cmp slots id ≡ slot → option_map (λ s. expiry_of (kept_at tree s)) slot ≡ Some e
+    → (s : ℕ) × (kept_at tree s ≡ Some (record { expiry = e; id = id }))
 kept_pair slots tree id e None is there found = cc
-kept_pair slots tree id e (Some s) is there found = let at : expiry_of (node_at tree s) ≡ e = cc in (s, pair_of (node_at tree s) id e (is.paired.by_id id s there) at)
+kept_pair slots tree id e (Some s) is there found = let at : expiry_of (kept_at tree s) ≡ e = cc in (s, pair_of (kept_at tree s) id e (is.paired.by_id id s there) at)
 
-present_pair : (slots : BTreeMap ℕ ℕ) (tree : List (Option Pair)) (best : Option Pair) → IsWheel slots tree → Contains tree best → IfSome best (λ (p : Pair). fin.get (expiries_in slots.entries (node_at tree)) p.id ≡ Some p.expiry)
+present_pair : (slots : BTreeMap ℕ ℕ) (tree : List (Option Pair)) (best : Option Pair) → IsWheel slots tree → Contains tree best → IfSome best (λ (p : Pair). fin.get (expiries_in slots.entries (kept_at tree)) p.id ≡ Some p.expiry)
 present_pair slots tree None is present = tt
 present_pair slots tree (Some p) is present =
-    let stands : node_at tree present.0 ≡ Some p = get_or_from_slice_get tree present.0 (Some p) None (slice_get-get_or tree present.0 (Some p) present.1 ∙ ap Some present.2) in
+    let stands : kept_at tree present.0 ≡ Some p = get_or_from_slice_get tree present.0 (Some p) None (slice_get-get_or tree present.0 (Some p) present.1 ∙ ap Some present.2) in
     let there : get nat_cmp slots p.id ≡ Some present.0 = is.paired.by_slot p.id present.0 (ap id_of stands) in
-    get-expiries_in slots (node_at tree) p.id ∙ ap (option_map (λ s. expiry_of (node_at tree s))) there ∙ ap (λ k. Some (expiry_of k)) stands
+    get-expiries_in slots (kept_at tree) p.id ∙ ap (option_map (λ s. expiry_of (kept_at tree s))) there ∙ ap (λ k. Some (expiry_of k)) stands
 
-pub wheel_soonest : (slots : BTreeMap ℕ ℕ) (tree : List (Option Pair)) (view : FinMap nat_cmp ℕ) (best : Option Pair) → IsWheel slots tree → expiries_in slots.entries (node_at tree) ≡ view → Contains tree best → ((slot : ℕ) → IsNoLater best (node_at tree slot)) → IsSoonest view best
+pub wheel_soonest : (slots : BTreeMap ℕ ℕ) (tree : List (Option Pair)) (view : FinMap nat_cmp ℕ) (best : Option Pair) → IsWheel slots tree → expiries_in slots.entries (kept_at tree) ≡ view → Contains tree best → ((slot : ℕ) → IsNoLater best (kept_at tree slot)) → IsSoonest view best
 wheel_soonest slots tree view best is seen present first = subst (λ (m : FinMap nat_cmp ℕ). IsSoonest m best) seen (record {
   present = present_pair slots tree best is present;
   first = λ id e found.
-      let place = kept_pair slots tree id e (get nat_cmp slots id) is refl (sym (get-expiries_in slots (node_at tree) id) ∙ found) in
+      let place = kept_pair slots tree id e (get nat_cmp slots id) is refl (sym (get-expiries_in slots (kept_at tree) id) ∙ found) in
       subst (IsNoLater best) place.1 (first place.0);
 })

@@ -1,7 +1,7 @@
 //! An id with its expiry, and the order in which pairs fall due.
 
 ghost use Rattle.std.specs.Prelude.{◌≡◌, ◌↔◌, IsTrue};
-ghost use Rattle.expiry_wheel.specs.Sooner.{is_before, sooner};
+ghost use Rattle.expiry_wheel.specs.Order.{is_sooner, sooner};
 
 #[derive(Clone, Copy, Debug, PartialEq, Eq)]
 pub struct Pair {
@@ -11,8 +11,8 @@ pub struct Pair {
 
 impl Pair {
     /// Whether this pair falls due before the other: by expiry, and then by id.
-    fn is_before(&self, other: &Pair) -> bool
-        ensures { result ≡ is_before self.now other.now }
+    fn is_sooner(&self, other: &Pair) -> bool
+        ensures { result ≡ is_sooner self.now other.now }
     {
         self.expiry < other.expiry || (self.expiry == other.expiry && self.id < other.id)
     }
@@ -23,7 +23,7 @@ pub fn sooner(a: Option<Pair>, b: Option<Pair>) -> Option<Pair>
     ensures { result ≡ sooner a b }
 {
     match (a, b) {
-        (Some(p), Some(q)) => Some(if q.is_before(&p) { q } else { p }),
+        (Some(p), Some(q)) => Some(if q.is_sooner(&p) { q } else { p }),
         (Some(p), None) => Some(p),
         (None, b) => b,
     }

@@ -1,23 +1,9 @@
 //! The plain body: a list that is searched. It stands beside the fast one to compare with.
 
-ghost use Rattle.std.specs.Prelude.{
-  ◌≡◌,
-  ◌≢◌,
-  ℕ,
-  ◌<◌,
-  ◌≤◌,
-  slice_get,
-  Contains,
-  Some,
-  IfSome,
-  IfNone,
-  IfOk,
-  OnOk,
-  OnErr,
-};
+ghost use Rattle.std.specs.Prelude.{◌≡◌, ◌≢◌, ℕ, ◌<◌, ◌≤◌, slice_get, Contains, Some, IfSome, IfNone, IfOk, OnOk, OnErr};
 ghost use Rattle.std.specs.FinMap as map;
-ghost use Rattle.expiry_wheel.specs.IsNextDue.{IsNextDue};
-ghost use Rattle.expiry_wheel.specs.IsNoLater.{IsNoLater};
+ghost use Rattle.expiry_wheel.specs.Due.{IsNextDue};
+ghost use Rattle.expiry_wheel.specs.Order.{IsNoLater};
 
 use crate::MOST_PAIRS;
 use crate::pair::{Pair, sooner};
@@ -41,8 +27,8 @@ impl Model for PlainWheel {
 
     ghost coded = { map.code coded_ℕ coded_ℕ };
 
-    ghost use Rattle.expiry_wheel.specs.Expiries.{expiries_of};
-    ghost use Rattle.expiry_wheel.specs.IdsDiffer.{IdsDiffer};
+    ghost use Rattle.expiry_wheel.specs.Slots.{expiries_of};
+    ghost use Rattle.expiry_wheel.specs.Slots.{IdsDiffer};
 
     ghost view = { λ a. expiries_of a.pairs.items };
 
@@ -86,7 +72,7 @@ impl PlainWheel {
     }
 
     /// Sets the expiry of an id. The one error is want of memory, which changes nothing.
-    pub fn put(&mut self, id: u32, expiry: u64) -> Result<(), Memory>
+    pub fn put(&mut self, _alloc: Global, id: u32, expiry: u64) -> Result<(), Memory>
         requires { map.len (map.insert self.old id expiry) ≤ MOST_PAIRS }
         ensures ok { OnOk result (self.new ≡ map.insert self.old id expiry) }
         ensures err { OnErr result (self.new ≡ self.old) }
@@ -119,7 +105,7 @@ impl PlainWheel {
         ensures next { IfSome result (IsNextDue self.old m) }
         ensures taken { IfSome result (λ id. self.new ≡ map.remove self.old id) }
         ensures none { IfNone result ((id expiry : ℕ) → map.get self.old id ≡ Some expiry → m < expiry) }
-        ensures kept { IfNone result (self.new ≡ self.old) }
+        ensures unchanged { IfNone result (self.new ≡ self.old) }
     {
         let Some(next) = soonest(&self.pairs) else {
             return None;

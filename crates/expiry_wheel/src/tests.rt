@@ -76,7 +76,7 @@ fn put_both(
     ensures plain { map.len plain.new ≤ map.len plain.old + 1 }
 {
     wheel.put(alloc, id, expiry)?;
-    plain.put(id, expiry)?;
+    plain.put(alloc, id, expiry)?;
     Ok(())
 }
 

@@ -1,29 +1,8 @@
 //! A tree over slots. Each of its nodes keeps the pair that falls due first among those of the slots below it.
 
-ghost use Rattle.std.specs.Prelude.{
-  ◌≡◌,
-  ℕ,
-  ◌+◌,
-  ◌-◌,
-  ◌*◌,
-  ◌/◌,
-  ◌<◌,
-  ◌≤◌,
-  ◌∷◌,
-  ◌++◌,
-  [],
-  length,
-  vec_len,
-  replicate,
-  slice_set,
-  Contains,
-  None,
-  IfOk,
-  OnOk,
-};
-ghost use Rattle.expiry_wheel.specs.IsNoLater.{IsNoLater};
-ghost use Rattle.expiry_wheel.specs.IsTree.{IsTree, HasSlots, node_at, slots_of};
-ghost use Rattle.expiry_wheel.specs.Sooner.{sooner};
+ghost use Rattle.std.specs.Prelude.{◌≡◌, ℕ, ◌+◌, ◌-◌, ◌*◌, ◌/◌, ◌<◌, ◌≤◌, ◌∷◌, ◌++◌, [], length, vec_len, replicate, slice_set, Contains, None, IfOk, OnOk};
+ghost use Rattle.expiry_wheel.specs.Order.{IsNoLater, sooner};
+ghost use Rattle.expiry_wheel.specs.Slots.{IsTree, HasSlots, IsWayUp, kept_at, leaves_of};
 
 use crate::MOST_PAIRS;
 use crate::pair::{Pair, sooner};
@@ -44,11 +23,11 @@ pub struct Tree {
 impl Model for Tree {
     ghost use Rattle.std.specs.Prelude.{List, Option};
     ghost use Rattle.expiry_wheel.specs.declared.pair.Pair.{Pair};
-    ghost use Rattle.expiry_wheel.specs.IsTree.{IsTree, HasSlots, slots_of};
+    ghost use Rattle.expiry_wheel.specs.Slots.{IsTree, HasSlots, leaves_of};
 
     ghost Value = { List (Option Pair) };
 
-    ghost view = { λ t. slots_of t.nodes.items };
+    ghost view = { λ t. leaves_of t.nodes.items };
 
     ghost invariant = { λ t. HasSlots t.nodes.items × IsTree t.nodes.items };
 }
@@ -56,7 +35,7 @@ impl Model for Tree {
 /// Looks at a node, which is a step. Nothing else that counts steps reads one.
 fn look<L: Ledger>(nodes: &[Node], i: usize, steps: &mut Steps<L>) -> Node
     requires { i < length nodes.now }
-    ensures value { result ≡ node_at nodes.now i }
+    ensures value { result ≡ kept_at nodes.now i }
     ensures step { steps.new ≡ steps.old + 1 }
 {
     steps.tick();
@@ -67,8 +46,8 @@ fn look<L: Ledger>(nodes: &[Node], i: usize, steps: &mut Steps<L>) -> Node
 fn parent_of<L: Ledger>(nodes: &[Node], i: usize, node: Node, steps: &mut Steps<L>) -> Node
     requires inner { 1 < i }
     requires within { 2 * (i / 2) + 1 < length nodes.now }
-    requires stands { node ≡ node_at nodes.now i }
-    ensures value { result ≡ sooner (node_at nodes.now (2 * (i / 2))) (node_at nodes.now (2 * (i / 2) + 1)) }
+    requires stands { node ≡ kept_at nodes.now i }
+    ensures value { result ≡ sooner (kept_at nodes.now (2 * (i / 2))) (kept_at nodes.now (2 * (i / 2) + 1)) }
     ensures step { steps.new ≡ steps.old + 1 }
 {
     if i % 2 == 0 {
@@ -85,8 +64,8 @@ fn write<L: Ledger>(nodes: &mut [Node], leaf: usize, node: Node, steps: &mut Ste
     requires leaf { length nodes.old / 2 ≤ leaf }
     requires within { leaf < length nodes.old }
     ensures tree { IsTree nodes.new }
-    ensures slots { slots_of nodes.new ≡ slice_set (slots_of nodes.old) (leaf - length nodes.old / 2) node }
-    ensures steps { steps.new ≤ steps.old + 18 }
+    ensures slots { leaves_of nodes.new ≡ slice_set (leaves_of nodes.old) (leaf - length nodes.old / 2) node }
+    ensures steps { IsWayUp leaf steps.old steps.new }
 {
     nodes[leaf] = node;
     let mut i = leaf;
@@ -102,7 +81,7 @@ fn write<L: Ledger>(nodes: &mut [Node], leaf: usize, node: Node, steps: &mut Ste
 fn fill(nodes: &mut [Node])
     requires { HasSlots nodes.old }
     ensures tree { IsTree nodes.new }
-    ensures slots { slots_of nodes.new ≡ slots_of nodes.old }
+    ensures slots { leaves_of nodes.new ≡ leaves_of nodes.old }
 {
     for i in (1..nodes.len() / 2).rev() {
         nodes[i] = sooner(nodes[2 * i], nodes[2 * i + 1]);
@@ -125,8 +104,8 @@ fn widened(alloc: Global, nodes: &[Node], slots: usize) -> Result<Vec<Node>, All
     requires few { slots ≤ MOST_PAIRS }
     ensures len { IfOk result (λ wider. length wider.items ≡ 2 * slots) }
     ensures tree { IfOk result (λ wider. IsTree wider.items) }
-    ensures kept { IfOk result (λ wider.
-        (slot : ℕ) → node_at (slots_of wider.items) slot ≡ node_at (slots_of nodes.now) slot) }
+    ensures unchanged { IfOk result (λ wider.
+        (slot : ℕ) → kept_at (leaves_of wider.items) slot ≡ kept_at (leaves_of nodes.now) slot) }
 {
     let mut wider = Vec::with_capacity(alloc, 2 * slots)?;
     add_free(&mut wider, slots)?;
@@ -157,7 +136,8 @@ impl Tree {
     pub fn grow(&mut self, alloc: Global) -> Result<(), AllocError>
         requires { length self.old < MOST_PAIRS }
         ensures more { OnOk result (length self.old < length self.new) }
-        ensures kept { (slot : ℕ) → node_at self.new slot ≡ node_at self.old slot }
+        ensures few { length self.new ≤ 2 * length self.old }
+        ensures unchanged { (slot : ℕ) → kept_at self.new slot ≡ kept_at self.old slot }
     {
         let slots = self.nodes.len() / 2;
         let more = MOST_PAIRS.min(2 * slots);
@@ -168,7 +148,8 @@ impl Tree {
     /// What a slot keeps. It is one step.
     pub fn slot<L: Ledger>(&self, slot: usize, steps: &mut Steps<L>) -> Node
         requires { slot < length self.now }
-        ensures value { result ≡ node_at self.now slot }
+        ensures few { length self.now ≤ MOST_PAIRS }
+        ensures value { result ≡ kept_at self.now slot }
         ensures step { steps.new ≡ steps.old + 1 }
     {
         look(&self.nodes, self.nodes.len() / 2 + slot, steps)
@@ -178,7 +159,7 @@ impl Tree {
     pub fn set<L: Ledger>(&mut self, slot: usize, node: Node, steps: &mut Steps<L>)
         requires { slot < length self.old }
         ensures value { self.new ≡ slice_set self.old slot node }
-        ensures steps { steps.new ≤ steps.old + 18 }
+        ensures steps { IsWayUp (length self.old + slot) steps.old steps.new }
     {
         let slots = self.nodes.len() / 2;
         write(&mut self.nodes, slots + slot, node, steps);
@@ -187,7 +168,7 @@ impl Tree {
     /// The pair that falls due first. It is one step.
     pub fn soonest<L: Ledger>(&self, steps: &mut Steps<L>) -> Node
         ensures present { Contains self.now result }
-        ensures first { (slot : ℕ) → IsNoLater result (node_at self.now slot) }
+        ensures first { (slot : ℕ) → IsNoLater result (kept_at self.now slot) }
         ensures step { steps.new ≡ steps.old + 1 }
     {
         look(&self.nodes, 1, steps)

@@ -1,32 +1,15 @@
 //! The fast body: slots by their ids, and a tree over the slots.
+//!
+//! It is no timing wheel: of two nodes side by side the one above keeps the pair that falls due
+//! first, so that the root keeps the next.
 
-ghost use Rattle.std.specs.Prelude.{
-  ◌≡◌,
-  ◌==◌,
-  ℕ,
-  ◌+◌,
-  ◌<◌,
-  ◌≤◌,
-  if◌then◌else◌,
-  length,
-  slice_set,
-  unwrap_or,
-  Some,
-  None,
-  IsSome,
-  IfSome,
-  IfNone,
-  IfOk,
-  OnOk,
-  OnErr,
-};
+ghost use Rattle.std.specs.Bool.{OnTrue};
+ghost use Rattle.std.specs.Prelude.{◌-◌, ◌≡◌, ◌==◌, ℕ, ◌+◌, ◌<◌, ◌≤◌, if◌then◌else◌, length, slice_set, unwrap_or, Some, None, IsSome, IfSome, IfNone, IfOk, OnOk, OnErr};
 ghost use Rattle.std.specs.Ordering.{nat_cmp};
 ghost use Rattle.std.specs.BTreeMap.{get, btree_map_len};
 ghost use Rattle.std.specs.FinMap as map;
-ghost use Rattle.expiry_wheel.specs.AreSlots.{expiries_in};
-ghost use Rattle.expiry_wheel.specs.IsNextDue.{IsNextDue};
-ghost use Rattle.expiry_wheel.specs.IsTree.{node_at};
-ghost use Rattle.expiry_wheel.specs.IsWheel.{IsWheel};
+ghost use Rattle.expiry_wheel.specs.Slots.{expiries_in, kept_at, IsCostOfTaking, IsWheel};
+ghost use Rattle.expiry_wheel.specs.Due.{IsNextDue};
 
 use crate::MOST_PAIRS;
 use crate::pair::Pair;
@@ -44,7 +27,7 @@ use step_count::Steps;
 /// distinct.
 #[derive(Drop)]
 pub struct Wheel {
-    slots: BTreeMap<u32, usize>,
+    slots: BTreeMap<u32, u32>,
     tree: Tree,
 }
 
@@ -58,41 +41,39 @@ impl Model for Wheel {
 
     ghost coded = { map.code coded_ℕ coded_ℕ };
 
-    ghost use Rattle.expiry_wheel.specs.AreSlots.{expiries_in};
-    ghost use Rattle.expiry_wheel.specs.IsTree.{node_at};
-    ghost use Rattle.expiry_wheel.specs.IsWheel.{IsWheel};
+    ghost use Rattle.expiry_wheel.specs.Slots.{expiries_in, kept_at, IsWheel};
 
-    ghost view = { λ w. expiries_in w.slots.entries (node_at w.tree) };
+    ghost view = { λ w. expiries_in w.slots.entries (kept_at w.tree) };
 
     ghost invariant = { λ w. IsWheel w.slots w.tree };
 }
 
 /// The first free slot, for which the tree grows if it has none.
-fn free_slot(tree: &mut Tree, alloc: Global, taken: usize) -> Result<usize, AllocError>
+fn free_slot(tree: &mut Tree, alloc: Global, taken: usize) -> Result<u32, AllocError>
     requires within { taken ≤ length tree.old }
     requires few { taken < MOST_PAIRS }
     ensures slot { IfOk result (λ slot. slot ≡ taken) }
     ensures room { OnOk result (taken < length tree.new) }
-    ensures kept { (slot : ℕ) → node_at tree.new slot ≡ node_at tree.old slot }
+    ensures unchanged { (slot : ℕ) → kept_at tree.new slot ≡ kept_at tree.old slot }
 {
     if taken == tree.len() {
         tree.grow(alloc)?;
     }
-    Ok(taken)
+    Ok(taken as u32)
 }
 
 /// The slot of an id: its own, or else the first free one.
 fn slot_for(
-    slots: &BTreeMap<u32, usize>,
+    slots: &BTreeMap<u32, u32>,
     tree: &mut Tree,
     alloc: Global,
     id: u32,
-) -> Result<usize, AllocError>
+) -> Result<u32, AllocError>
     requires wheel { IsWheel slots.now tree.old }
     requires few { get nat_cmp slots.now id ≡ None → btree_map_len slots.now < MOST_PAIRS }
     ensures slot { IfOk result (λ slot. slot ≡ unwrap_or (get nat_cmp slots.now id) (btree_map_len slots.now)) }
     ensures room { IfOk result (λ slot. slot < length tree.new) }
-    ensures kept { (slot : ℕ) → node_at tree.new slot ≡ node_at tree.old slot }
+    ensures unchanged { (slot : ℕ) → kept_at tree.new slot ≡ kept_at tree.old slot }
 {
     match slots.get(&id).copied() {
         Some(slot) => Ok(slot),
@@ -113,7 +94,7 @@ fn set_uncounted<L: Ledger>(tree: &mut Tree, slot: usize, node: Node, blank: Bla
 }
 
 /// Gives an id that has a slot another one.
-fn relocate(slots: &mut BTreeMap<u32, usize>, id: u32, slot: usize)
+fn relocate(slots: &mut BTreeMap<u32, u32>, id: u32, slot: u32)
     requires { IsSome (get nat_cmp slots.old id) }
     ensures moved { (q : ℕ) →
         get nat_cmp slots.new q ≡ (if q == id then Some slot else get nat_cmp slots.old q) }
@@ -126,22 +107,23 @@ fn relocate(slots: &mut BTreeMap<u32, usize>, id: u32, slot: usize)
 
 /// Takes out the pair in a slot. The pair of the last taken slot moves there, so that the free ones stay last.
 fn vacate<L: Ledger>(
-    slots: &mut BTreeMap<u32, usize>,
+    slots: &mut BTreeMap<u32, u32>,
     tree: &mut Tree,
     id: u32,
-    slot: usize,
+    slot: u32,
     steps: &mut Steps<L>,
 )
     requires wheel { IsWheel slots.old tree.old }
     requires slot { get nat_cmp slots.old id ≡ Some slot }
     ensures wheel { IsWheel slots.new tree.new }
-    ensures removed { expiries_in slots.new.entries (node_at tree.new)
-        ≡ map.remove (expiries_in slots.old.entries (node_at tree.old)) id }
-    ensures steps { steps.new ≤ steps.old + 37 }
+    ensures removed { expiries_in slots.new.entries (kept_at tree.new)
+        ≡ map.remove (expiries_in slots.old.entries (kept_at tree.old)) id }
+    ensures few { length tree.old ≤ MOST_PAIRS }
+    ensures steps { IsCostOfTaking (length tree.old) slot (btree_map_len slots.old - 1) steps.old steps.new }
 {
     let last = slots.len() - 1;
     let moved = tree.slot(last, steps);
-    tree.set(slot, moved, steps);
+    tree.set(slot as usize, moved, steps);
     tree.set(last, None, steps);
     if let Some(pair) = moved {
         relocate(slots, pair.id, slot);
@@ -170,7 +152,7 @@ impl Wheel {
         self.slots.insert(id, slot)?;
         set_uncounted::<Brand>(
             &mut self.tree,
-            slot,
+            slot as usize,
             Some(Pair { expiry, id }),
             Blank::new(1),
         );
@@ -202,6 +184,7 @@ impl Wheel {
         ensures found { result ≡ map.contains_key self.old id }
         ensures removed { self.new ≡ map.remove self.old id }
         ensures steps { steps.new ≤ steps.old + 37 }
+        ensures looked { OnTrue result (steps.old < steps.new) }
     {
         let Some(slot) = self.slots.get(&id).copied() else {
             return false;
@@ -213,13 +196,16 @@ impl Wheel {
     /// Takes out the pair with the least expiry, then the least id, if that expiry is at most `m`.
     /// Else it answers `None`, and changes nothing.
     ///
-    /// A step is one node of the tree that is looked at.
+    /// A step is one node of the tree that is looked at, and the call takes at most 64. The ordered
+    /// map from ids to slots is std's, and what it looks at isn't counted.
     pub fn due<L: Ledger>(&mut self, m: u64, steps: &mut Steps<L>) -> Option<u32>
         ensures next { IfSome result (IsNextDue self.old m) }
         ensures taken { IfSome result (λ id. self.new ≡ map.remove self.old id) }
         ensures none { IfNone result ((id expiry : ℕ) → map.get self.old id ≡ Some expiry → m < expiry) }
-        ensures kept { IfNone result (self.new ≡ self.old) }
+        ensures unchanged { IfNone result (self.new ≡ self.old) }
         ensures steps { steps.new ≤ steps.old + 64 }
+        ensures root { IfNone result (steps.new ≡ steps.old + 1) }
+        ensures looked { IfSome result (λ _. steps.old + 2 ≤ steps.new) }
     {
         let Some(next) = self.tree.soonest(steps) else {
             return None;

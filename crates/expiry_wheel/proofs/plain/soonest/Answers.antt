@@ -1,8 +1,7 @@
 use Rattle.std.proofs.Common.{◌≡◌, ℕ, ◌+◌, ◌<◌, Option, Some, List, length, get_or, slice_get, Contains, IfSome, inl, inr, sym, subst, arith, below_more}
 use Rattle.std.proofs.lemmas.Option.{slice_get-get_or, slice_get_past, get_or_from_slice_get}
 use Rattle.expiry_wheel.specs.declared.pair.Pair.{Pair}
-use Rattle.expiry_wheel.specs.IsNoLater.{IsNoLater}
-use Rattle.expiry_wheel.specs.Sooner.{sooner}
+use Rattle.expiry_wheel.specs.Order.{IsNoLater, sooner}
 use Rattle.expiry_wheel.proofs.Maps.{below_or_not}
 use Rattle.expiry_wheel.proofs.Order.{IsNoLater-sooner, IsNoLater-trans, sooner-one}
 use Rattle.expiry_wheel.proofs.plain.soonest.Goals as goal

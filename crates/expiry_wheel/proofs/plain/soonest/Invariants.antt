@@ -1,5 +1,5 @@
 use Rattle.std.proofs.Common.{ℕ, ◌<◌, slice_get, Contains, IfSome}
-use Rattle.expiry_wheel.specs.IsNoLater.{IsNoLater}
+use Rattle.expiry_wheel.specs.Order.{IsNoLater}
 use Rattle.expiry_wheel.proofs.plain.soonest.Given as goal
 
 -- it is the soonest of those so far

@@ -1,7 +1,7 @@
 use Rattle.std.proofs.Common.{◌≡◌, ℕ, ◌+◌, ◌-◌, ◌*◌, ◌/◌, ◌<◌, ◌≤◌, ◌^◌, None, length, slice_set, sym, subst, ◌∙◌, arith}
 use Rattle.std.proofs.lemmas.List.{get_or-set_same}
 use Rattle.std.proofs.Math.ListN.{length-set}
-use Rattle.expiry_wheel.proofs.Trees.{parents_of_leaf, parents_above, slots_leaf, slots_below, one_more_step, few_steps}
+use Rattle.expiry_wheel.proofs.Trees.{parents_of_leaf, parents_above, slots_leaf, slots_below, one_more_step, one_less_step, way_over}
 use Rattle.expiry_wheel.proofs.tree.write.Goals as goal
 
 pub loop-i-init : goal.loop-i-init
@@ -10,13 +10,14 @@ loop-i-init g c =
     let leaf = c.args.leaf in
     let long : length (slice_set nodes leaf c.args.node) ≡ length nodes = length-set nodes leaf c.args.node in
     record {
-      positive = omega (arith, c.requires.slots.1, c.requires.leaf);
+      positive = omega (arith, c.requires.slots.some, c.requires.leaf);
       within = omega (arith, long, c.requires.within);
       kept = sym (get_or-set_same nodes leaf c.args.node None c.requires.within);
       parents = parents_of_leaf nodes leaf c.args.node c.requires.leaf c.requires.tree;
       slots = slots_leaf nodes leaf c.args.node c.requires.leaf;
       counted = omega arith;
       halved = let none : c.args.steps.now - c.args.steps.now ≡ 0 = omega arith in subst (λ t. leaf * 2 ^ t ≤ leaf) (sym none) (omega arith);
+      below = let none : c.args.steps.now - c.args.steps.now ≡ 0 = omega arith in subst (λ t. leaf < (leaf + 1) * 2 ^ t) (sym none) (omega arith);
     }
 
 pub loop-i-preserved : goal.loop-i-preserved
@@ -28,7 +29,7 @@ loop-i-preserved g c =
     let long : length (slice_set nodes j kept) ≡ length nodes = length-set nodes j kept in
     let same : length nodes ≡ length c.args.nodes.now = c.loop-i.auto.nodes ∙ length-set c.args.nodes.now c.args.leaf c.args.node in
     let positive : 0 < j = omega (arith, c.loop-i-test.true) in
-    let low : j < length nodes / 2 = omega (arith, before.within, same, c.requires.slots.0) in
+    let low : j < length nodes / 2 = omega (arith, before.within, same, c.requires.slots.whole) in
     let within : j < length nodes = omega (arith, before.within) in
     record {
       positive = positive;
@@ -39,9 +40,11 @@ loop-i-preserved g c =
       counted = omega (arith, before.counted, c.parent_of-kept.ensures.step);
       halved = let one_more : c.parent_of-kept.new.steps - c.args.steps.now ≡ c.loop-i.steps - c.args.steps.now + 1 = omega (arith, before.counted, c.parent_of-kept.ensures.step) in
           subst (λ t. j * 2 ^ t ≤ c.args.leaf) (sym one_more) (one_more_step c.loop-i.i (c.loop-i.steps - c.args.steps.now) c.args.leaf before.halved);
+      below = let one_more : c.parent_of-kept.new.steps - c.args.steps.now ≡ c.loop-i.steps - c.args.steps.now + 1 = omega (arith, before.counted, c.parent_of-kept.ensures.step) in
+          subst (λ t. c.args.leaf < (j + 1) * 2 ^ t) (sym one_more) (one_less_step c.loop-i.i (c.loop-i.steps - c.args.steps.now) c.args.leaf before.below);
     }
 
 pub returns-clause-steps : goal.returns-clause-steps
 returns-clause-steps g c =
-    let few = few_steps c.loop-i.i (c.loop-i.steps - c.args.steps.now) c.args.leaf (length c.args.nodes.now / 2) c.loop-i.invariant.positive c.loop-i.invariant.halved (omega (arith, c.requires.within, c.requires.slots.0)) c.requires.slots.2 in
-    omega (arith, few)
+    let l = c.loop-i.invariant in
+    way_over c.loop-i.i c.args.leaf c.args.steps.now c.loop-i.steps (omega (arith, l.positive, c.loop-i-test.false)) l.counted l.halved l.below

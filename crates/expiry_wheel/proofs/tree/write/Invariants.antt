@@ -1,5 +1,5 @@
-use Rattle.std.proofs.Common.{◌≡◌, ◌-◌, ◌*◌, ◌/◌, ◌<◌, ◌≤◌, ◌^◌, length, slice_set}
-use Rattle.expiry_wheel.specs.IsTree.{node_at, slots_of}
+use Rattle.std.proofs.Common.{◌≡◌, ◌+◌, ◌-◌, ◌*◌, ◌/◌, ◌<◌, ◌≤◌, ◌^◌, length, slice_set}
+use Rattle.expiry_wheel.specs.Slots.{kept_at, leaves_of}
 use Rattle.expiry_wheel.proofs.Trees.{ParentsBut}
 use Rattle.expiry_wheel.proofs.tree.write.Given as goal
 
@@ -8,11 +8,12 @@ abbrev pub invariant-loop-i : goal.invariant-loop-i
 invariant-loop-i g l = record {
   positive : 0 < l.i;
   within : l.i < length l.nodes;
-  kept : l.kept ≡ node_at l.nodes l.i;
+  kept : l.kept ≡ kept_at l.nodes l.i;
   parents : ParentsBut l.nodes (l.i / 2);
-  slots : slots_of l.nodes ≡ slice_set (slots_of l.fn.nodes) (l.leaf - length l.fn.nodes / 2) l.fn.node;
+  slots : leaves_of l.nodes ≡ slice_set (leaves_of l.fn.nodes) (l.leaf - length l.fn.nodes / 2) l.fn.node;
   counted : l.fn.steps ≤ l.steps;
   halved : l.i * 2 ^ (l.steps - l.fn.steps) ≤ l.leaf;
+  below : l.leaf < (l.i + 1) * 2 ^ (l.steps - l.fn.steps);
 }
 
 abbrev pub decreases-loop-i : goal.decreases-loop-i

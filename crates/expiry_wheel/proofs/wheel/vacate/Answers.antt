@@ -1,7 +1,7 @@
-use Rattle.std.proofs.Common.{◌≡◌, ℕ, ◌-◌, None, cond, slice_set, IsSome, refl, sym, ap, subst, ◌∙◌, arith}
+use Rattle.std.proofs.Common.{◌≡◌, ℕ, ◌+◌, ◌-◌, length, length-set, None, cond, slice_set, IsSome, refl, sym, ap, subst, ◌∙◌, arith}
 use Rattle.std.specs.Ordering.{nat_cmp}
 use Rattle.std.specs.BTreeMap.{BTreeMap, get, is_at, btree_map_len}
-use Rattle.expiry_wheel.specs.AreSlots.{id_of}
+use Rattle.expiry_wheel.specs.Slots.{id_of, IsWayUp}
 use Rattle.expiry_wheel.proofs.Wheels.{room_for, within_tree, slot_taken, last_keeps, wheel_vacated}
 use Rattle.expiry_wheel.proofs.wheel.vacate.Goals as goal
 use Rattle.expiry_wheel.proofs.wheel.vacate.Goals.{in-Some, in_default}
@@ -39,3 +39,15 @@ returns-clause-removed g c = elim c.match-moved.branch [
       (c.remove.ensures.len ∙ ap (λ (s : BTreeMap ℕ ℕ). btree_map_len s) w.slots-is)).1
   | in_default w ↦ absurd (last_keeps c.args.slots.now c.args.tree.now c.args.id c.args.slot (c.len-last.result - 1) c.requires.wheel c.requires.slot (ap (λ n. n - 1) c.len-last.ensures.len) (sym w.in_default.ensures.value))
 ]
+
+pub returns-clause-steps : goal.returns-clause-steps
+returns-clause-steps g c =
+    let slots = length c.args.tree.now in
+    let last = btree_map_len c.args.slots.now - 1 in
+    let long : length c.set.new.self ≡ slots = ap length c.set.ensures.value ∙ length-set c.args.tree.now c.args.slot c.slot-moved.result in
+    let is_last : c.len-last.result - 1 ≡ last = ap (λ n. n - 1) c.len-last.ensures.len in
+    record {
+      between = c.set.new.steps;
+      moved = subst (λ (n : ℕ). IsWayUp (slots + c.args.slot) n c.set.new.steps) c.slot-moved.ensures.step c.set.ensures.steps;
+      freed = subst (λ (n : ℕ). IsWayUp (n + last) c.set.new.steps c.set-2.new.steps) long (subst (λ (n : ℕ). IsWayUp (length c.set.new.self + n) c.set.new.steps c.set-2.new.steps) is_last c.set-2.ensures.steps);
+    }

@@ -1,4 +1,5 @@
-use Rattle.std.proofs.Common.{Some, None}
+use Rattle.std.proofs.Common.{◌≡◌, ◌<◌, Some, None, true, is_some, ap, ◌∙◌, subst, arith}
+use Rattle.std.specs.Bool.{OnTrue}
 use Rattle.expiry_wheel.proofs.Next.{next_due, none_due, nothing_there}
 use Rattle.expiry_wheel.proofs.Wheels.{wheel_soonest}
 use Rattle.expiry_wheel.proofs.wheel.Wheel.due.Goals as goal
@@ -14,3 +15,10 @@ returns-then-m-next-clause-none g c =
 pub returns-clause-next : goal.returns-clause-next
 returns-clause-next g c =
     next_due c.args.self.now c.in-Some.next c.args.m (wheel_soonest c.self.inside.slots c.self.inside.tree c.args.self.now (Some c.in-Some.next) c.self.invariant c.self.view_is c.in-Some.ensures.present c.in-Some.ensures.first) c.if-m-next.false
+
+pub returns-clause-looked : goal.returns-clause-looked
+returns-clause-looked g c =
+    let next = next_due c.args.self.now c.in-Some.next c.args.m (wheel_soonest c.self.inside.slots c.self.inside.tree c.args.self.now (Some c.in-Some.next) c.self.invariant c.self.view_is c.in-Some.ensures.present c.in-Some.ensures.first) c.if-m-next.false in
+    let there : c.take_out.result ≡ true = c.take_out.ensures.found ∙ ap is_some next.expires in
+    let looked : c.soonest.new.steps < c.take_out.new.steps = subst (λ b. OnTrue b (c.soonest.new.steps < c.take_out.new.steps)) there c.take_out.ensures.looked in
+    omega (arith, looked, c.soonest.ensures.step)

@@ -2,8 +2,8 @@ use Rattle.std.proofs.Common.{ℕ, ◌+◌, List, Option, Some, cond, is_some, a
 use Rattle.std.specs.BTreeMap.{btree_map_len}
 use Rattle.std.specs.FinMap as map
 use Rattle.expiry_wheel.specs.declared.pair.Pair.{Pair}
-use Rattle.expiry_wheel.specs.IsTree.{node_at}
-use Rattle.expiry_wheel.proofs.Wheels.{room_left, wheel_put, node_at-set}
+use Rattle.expiry_wheel.specs.Slots.{kept_at}
+use Rattle.expiry_wheel.proofs.Wheels.{room_left, wheel_put, kept_at-set}
 use Rattle.expiry_wheel.proofs.wheel.Wheel.put.Goals as goal
 
 pub slot_for-requires-clause-few : goal.slot_for-requires-clause-few
@@ -12,14 +12,14 @@ slot_for-requires-clause-few c = room_left c.self.inside.slots c.self.inside.tre
 pub invariant_of-self-2 : goal.invariant_of-self-2
 invariant_of-self-2 c =
     let p : Pair = record { expiry = c.args.expiry; id = c.args.id } in
-    let kept = (λ (s : ℕ). ap (λ (t : List (Option Pair)). node_at t s) c.set_uncounted.ensures ∙ node_at-set c.slot_for.new.tree c.in_ok-slot.slot (Some p) s c.in_ok-slot.ensures.room ∙ ap (cond (s == c.in_ok-slot.slot) (Some p)) (c.in_ok-slot.ensures.kept s)) in
+    let kept = (λ (s : ℕ). ap (λ (t : List (Option Pair)). kept_at t s) c.set_uncounted.ensures ∙ kept_at-set c.slot_for.new.tree c.in_ok-slot.slot (Some p) s c.in_ok-slot.ensures.room ∙ ap (cond (s == c.in_ok-slot.slot) (Some p)) (c.in_ok-slot.ensures.unchanged s)) in
     let more = c.in_ok-insert.ensures.len ∙ ap (λ (o : Option ℕ). btree_map_len c.self.inside.slots + cond (is_some o) 0 1) c.in_ok-insert.ensures.old in
     (wheel_put c.self.inside.slots c.insert.new.self c.self.inside.tree c.set_uncounted.new.tree p c.in_ok-slot.slot c.self.invariant c.in_ok-slot.ensures.slot c.in_ok-insert.ensures.updates.0 kept more).0
 
 pub returns-clause-ok : goal.returns-clause-ok
 returns-clause-ok c =
     let p : Pair = record { expiry = c.args.expiry; id = c.args.id } in
-    let kept = (λ (s : ℕ). ap (λ (t : List (Option Pair)). node_at t s) c.set_uncounted.ensures ∙ node_at-set c.slot_for.new.tree c.in_ok-slot.slot (Some p) s c.in_ok-slot.ensures.room ∙ ap (cond (s == c.in_ok-slot.slot) (Some p)) (c.in_ok-slot.ensures.kept s)) in
+    let kept = (λ (s : ℕ). ap (λ (t : List (Option Pair)). kept_at t s) c.set_uncounted.ensures ∙ kept_at-set c.slot_for.new.tree c.in_ok-slot.slot (Some p) s c.in_ok-slot.ensures.room ∙ ap (cond (s == c.in_ok-slot.slot) (Some p)) (c.in_ok-slot.ensures.unchanged s)) in
     let more = c.in_ok-insert.ensures.len ∙ ap (λ (o : Option ℕ). btree_map_len c.self.inside.slots + cond (is_some o) 0 1) c.in_ok-insert.ensures.old in
     (wheel_put c.self.inside.slots c.insert.new.self c.self.inside.tree c.set_uncounted.new.tree p c.in_ok-slot.slot c.self.invariant c.in_ok-slot.ensures.slot c.in_ok-insert.ensures.updates.0 kept more).1
     ∙ ap (λ m. map.insert m c.args.id c.args.expiry) c.self.view_is

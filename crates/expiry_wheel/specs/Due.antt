@@ -1,9 +1,10 @@
--- Our own: which id falls due next.
+-- Which id falls due next (our own).
 use Rattle.std.specs.Prelude.{◌≡◌, ℕ, ◌≤◌, Some}
 use Rattle.std.specs.Ordering.{nat_cmp}
 use Rattle.std.specs.FinMap.{FinMap, get}
 
--- at the moment m: the id's expiry is at most m, no other id has a lesser one, and no lesser id has the same one
+-- at the moment m: the id's expiry is at most m, no other id has a lesser one, and no lesser id has
+-- the same one
 pub record IsNextDue (expiries : FinMap nat_cmp ℕ) (m id : ℕ) : Type 0 where
   pub expiry : ℕ
   pub expires : get expiries id ≡ Some expiry
