@@ -48,11 +48,11 @@ macro_rules! sum_of_runs {
 
 /// Puts 20,000 pairs; then takes one out, the next due or one by its id, and puts it back.
 macro_rules! sum_of_wheel {
-    ($wheel:expr, [$($alloc:expr)?], $count:expr $(, $steps:expr)?) => {{
+    ($wheel:expr, $alloc:expr, $count:expr $(, $steps:expr)?) => {{
         let mut wheel = $wheel;
         let mut state = 1;
         for id in 0..20_000u32 {
-            wheel.put($($alloc,)? id, u64::from(below(1 << 30, &mut state)))?;
+            wheel.put($alloc, id, u64::from(below(1 << 30, &mut state)))?;
         }
         let mut sum = 0;
         for _ in 0..$count / 2 {
@@ -60,10 +60,10 @@ macro_rules! sum_of_wheel {
             let id = below(20_000, &mut state);
             if below(2, &mut state) == 0 {
                 if wheel.remove(id) {
-                    wheel.put($($alloc,)? id, expiry)?;
+                    wheel.put($alloc, id, expiry)?;
                 }
             } else if let Some(next) = wheel.due(u64::MAX $(, $steps)?) {
-                wheel.put($($alloc,)? next, expiry)?;
+                wheel.put($alloc, next, expiry)?;
                 sum = 31u64.wrapping_mul(sum).wrapping_add(u64::from(next));
             }
         }
@@ -90,11 +90,11 @@ fn wheel<L: Ledger>(alloc: Global, blank: Blank, count: u64) -> Result<u64, Memo
     requires some { 0 < L.parts }
 {
     let mut steps = Steps::<L>::begin(blank);
-    sum_of_wheel!(Wheel::new(alloc)?, [alloc], count, &mut steps)
+    sum_of_wheel!(Wheel::new(alloc)?, alloc, count, &mut steps)
 }
 
 fn plain_wheel(alloc: Global, count: u64) -> Result<u64, Memory> {
-    sum_of_wheel!(expiry_wheel::plain::PlainWheel::new(alloc)?, [], count)
+    sum_of_wheel!(expiry_wheel::plain::PlainWheel::new(alloc)?, alloc, count)
 }
 
 /// Makes the calls that a name stands for.

@@ -1,5 +1,5 @@
 -- The longest run, found from the last flag back.
-use Rattle.std.proofs.Common.{◌≡◌, ℕ, ◌+◌, ◌<◌, ◌≤◌, Bool, true, false, List, length, Option, slice_index_or, sym, subst, ◌∙◌, arith, inl, inr, refl, cond}
+use Rattle.std.proofs.Common.{◌≡◌, ℕ, ◌+◌, ◌<◌, ◌≤◌, Bool, true, false, List, length, Option, slice_index_or, subst, arith, inl, inr}
 use Rattle.std.proofs.lemmas.Bool.{cases_lt, cases_eq}
 use Rattle.std.proofs.lemmas.List.{get_or_past}
 use Rattle.port_runs.specs.Flags.{FitsFlags, HasSetRun, IsSetBetween}

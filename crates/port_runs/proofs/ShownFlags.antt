@@ -1,5 +1,5 @@
 -- What is shown of flags, port by port.
-use Rattle.std.proofs.Common.{◌≡◌, ℕ, zero, suc, ◌+◌, ◌-◌, ◌<◌, ◌≤◌, ◌&&◌, ◌||◌, not, Bool, true, false, List, [], slice_index_or, nat_eq, nat_le, nat_lt, refl, sym, ◌∙◌, ap, arith, IsTrue, subst, ◌↔◌, length, Option, Some, None, IfSome, IfNone}
+use Rattle.std.proofs.Common.{◌≡◌, ℕ, zero, suc, ◌+◌, ◌-◌, ◌<◌, ◌≤◌, ◌&&◌, ◌||◌, not, Bool, true, false, List, [], slice_index_or, nat_eq, nat_le, nat_lt, refl, sym, ◌∙◌, ap, arith, IsTrue, subst, ◌↔◌, length, Option, Some, None}
 use Rattle.std.proofs.lemmas.Bool.Decides.{nat_tests}
 use Rattle.std.proofs.lemmas.Map.Views.{any-filter_same}
 use Rattle.std.specs.List.{filter, list_any, range_with_len}

@@ -197,7 +197,7 @@ fn look<L: Ledger>(flags: &[bool], nodes: &[Node], place: usize, steps: &mut Ste
     ensures node { result ≡ tree_node flags.now nodes.now place }
     ensures cost { steps.new ≡ steps.old + 1 }
 {
-    steps.tick();
+    steps.tick(); // this node
     node_of(flags, nodes, place)
 }
 

@@ -26,5 +26,5 @@ loop-preserved g c = elim c.if-below-eq0.branch [
   | then-below-eq0+then-remove+in_ok-put-2 w ↦ omega (arith, put_back c.loop.wheel w.remove.new.self w.put-then-remove.new.self c.below-id.result c.from-expiry.result c.loop.invariant w.remove.ensures.removed (sym w.remove.ensures.found ∙ w.if-remove.true) w.in_ok-put-2.ensures.ok, ap map.len w.wheel-is)
   | then-below-eq0+else-remove w ↦ omega (arith, c.loop.invariant, no_more c.loop.wheel w.remove.new.self c.below-id.result w.remove.ensures.removed, ap map.len w.wheel-is)
   | else-below-eq0+in-Some+in_ok-put-3 w ↦ omega (arith, put_back c.loop.wheel w.due.new.self w.put-in-Some.new.self w.in-Some.next c.from-expiry.result c.loop.invariant w.in-Some.ensures.taken (ap is_some w.in-Some.ensures.next.expires) w.in_ok-put-3.ensures.ok, ap map.len w.wheel-is)
-  | else-below-eq0+in_default w ↦ omega (arith, c.loop.invariant, no_more_due c.loop.wheel w.due.new.self w.due.result w.due.ensures.taken w.due.ensures.kept, ap map.len w.wheel-is)
+  | else-below-eq0+in_default w ↦ omega (arith, c.loop.invariant, no_more_due c.loop.wheel w.due.new.self w.due.result w.due.ensures.taken w.due.ensures.unchanged, ap map.len w.wheel-is)
 ]

@@ -1,5 +1,4 @@
-use Rattle.std.proofs.Common.{◌≡◌, ℕ, ◌+◌, ◌-◌, ◌≤◌, true, false, sym, subst, ◌∙◌, arith}
-use Rattle.port_runs.specs.Ports.{HasParity}
+use Rattle.std.proofs.Common.{◌≡◌, ℕ, ◌+◌, ◌-◌, true, false, sym, subst, ◌∙◌, arith}
 use Rattle.port_runs.proofs.Longest.{IsRunFrom, IsLongestFrom, run_on, run_ends, longest_met, longest_stays, longest_of_all}
 use Rattle.port_runs.proofs.flags.longest_run.Goals as goal
 use Rattle.port_runs.proofs.flags.longest_run.Goals.{then-flags-start, else-flags-start, else-has_parity-via-then-has_parity+else-run-longest, else-has_parity-via-else-has_parity}

@@ -1,4 +1,3 @@
-use Rattle.std.proofs.Common.{ℕ, ◌≡◌, ◌+◌, ◌≤◌, length, false, slice_index_or}
 use Rattle.port_runs.proofs.Longest.{IsRunFrom, IsLongestFrom}
 use Rattle.port_runs.proofs.flags.longest_run.Given as goal
 

@@ -1,4 +1,4 @@
-use Rattle.std.proofs.Common.{true, false, ◌≡◌, ◌+◌, ◌-◌, ◌*◌, ◌/◌, ◌≤◌, arith, sym, ◌∙◌}
+use Rattle.std.proofs.Common.{true, false, ◌≡◌, ◌+◌, ◌-◌, ◌/◌, arith, sym, ◌∙◌}
 use Rattle.port_runs.proofs.Search.{Spot, none_first, found_first, first_of_pair, second_of_pair, some_cost, none_cost, root_spot, level_down, level_on, level_end, none_when, spot_within, spot_place, left_summary, right_summary, go_left, none_found}
 use Rattle.port_runs.proofs.tree.first_run.Goals as goal
 use Rattle.port_runs.proofs.tree.first_run.Goals.{then-longest_run-n-2, else-longest_run-n-2+else-is_some, then-fits_in_pair, else-fits_in_pair}
