@@ -1,4 +1,4 @@
--- How a wheel keeps its pairs: ids, slots, and the nodes above the slots (our own; for proofs alone).
+-- How a wheel keeps its pairs: ids, slots, and nodes above the slots (our own; for proofs alone).
 use Rattle.std.specs.Prelude.{ℕ, List, map, ◌≡◌, [], ◌∷◌, Option, None, Some, ◌==◌, if◌then◌else◌, ⊤, ◌+◌, ◌*◌, ◌/◌, ◌<◌, ◌≤◌, ◌^◌, length, drop, slice_index_or, unwrap_or}
 use Rattle.std.specs.Ordering.{nat_cmp}
 use Rattle.std.specs.FinMap.{FinMap, from_entries}
@@ -23,8 +23,8 @@ abbrev pub IdsDiffer : List Pair → Type 0
 IdsDiffer [] = ⊤
 IdsDiffer (p ∷ pairs) = (expiry_in pairs p.id ≡ None) × IdsDiffer pairs
 
--- nodes lie in a list: the root is at 1, the children of the node at i are at 2 * i and 2 * i + 1, and
--- the second half of the list are the leaves, which are the slots
+-- nodes lie in a list: the root is at 1, the children of the node at i are at 2 * i and 2 * i + 1,
+-- and the second half of the list are the leaves, which are the slots
 
 -- what stands at a node or in a slot; past the end, None
 abbrev pub kept_at : List (Option Pair) → ℕ → Option Pair
@@ -79,7 +79,8 @@ pub record IsWayUp (leaf old new : ℕ) : Type 0 where
   pub from : 2 ^ levels ≤ leaf
   pub to : leaf < 2 ^ (levels + 1)
 
--- what it costs to take a pair out: a look at the last slot, and the ways up from the slot and from the last
+-- what it costs to take a pair out: a look at the last slot, and the ways up from the slot and from
+-- the last
 pub record IsCostOfTaking (slots slot last old new : ℕ) : Type 0 where
   pub between : ℕ
   pub moved : IsWayUp (slots + slot) (old + 1) between

@@ -104,7 +104,8 @@ impl PlainWheel {
     pub fn due(&mut self, m: u64) -> Option<u32>
         ensures next { IfSome result (IsNextDue self.old m) }
         ensures taken { IfSome result (λ id. self.new ≡ map.remove self.old id) }
-        ensures none { IfNone result ((id expiry : ℕ) → map.get self.old id ≡ Some expiry → m < expiry) }
+        ensures none { IfNone result (
+            (id expiry : ℕ) → map.get self.old id ≡ Some expiry → m < expiry) }
         ensures unchanged { IfNone result (self.new ≡ self.old) }
     {
         let Some(next) = soonest(&self.pairs) else {

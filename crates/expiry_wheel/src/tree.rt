@@ -1,4 +1,5 @@
-//! A tree over slots. Each of its nodes keeps the pair that falls due first among those of the slots below it.
+//! A tree over slots. Each of its nodes keeps the pair that falls due first among those of the slots
+//! below it.
 
 ghost use Rattle.std.specs.Prelude.{◌≡◌, ℕ, ◌+◌, ◌-◌, ◌*◌, ◌/◌, ◌<◌, ◌≤◌, ◌∷◌, ◌++◌, [], length, vec_len, replicate, slice_set, Contains, None, IfOk, OnOk};
 ghost use Rattle.expiry_wheel.specs.Order.{IsNoLater, sooner};
@@ -47,7 +48,8 @@ fn parent_of<L: Ledger>(nodes: &[Node], i: usize, node: Node, steps: &mut Steps<
     requires inner { 1 < i }
     requires within { 2 * (i / 2) + 1 < length nodes.now }
     requires stands { node ≡ kept_at nodes.now i }
-    ensures value { result ≡ sooner (kept_at nodes.now (2 * (i / 2))) (kept_at nodes.now (2 * (i / 2) + 1)) }
+    ensures value { result
+        ≡ sooner (kept_at nodes.now (2 * (i / 2))) (kept_at nodes.now (2 * (i / 2) + 1)) }
     ensures step { steps.new ≡ steps.old + 1 }
 {
     if i % 2 == 0 {
@@ -64,7 +66,8 @@ fn write<L: Ledger>(nodes: &mut [Node], leaf: usize, node: Node, steps: &mut Ste
     requires leaf { length nodes.old / 2 ≤ leaf }
     requires within { leaf < length nodes.old }
     ensures tree { IsTree nodes.new }
-    ensures slots { leaves_of nodes.new ≡ slice_set (leaves_of nodes.old) (leaf - length nodes.old / 2) node }
+    ensures slots { leaves_of nodes.new
+        ≡ slice_set (leaves_of nodes.old) (leaf - length nodes.old / 2) node }
     ensures steps { IsWayUp leaf steps.old steps.new }
 {
     nodes[leaf] = node;

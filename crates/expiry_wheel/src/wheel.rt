@@ -71,7 +71,8 @@ fn slot_for(
 ) -> Result<u32, AllocError>
     requires wheel { IsWheel slots.now tree.old }
     requires few { get nat_cmp slots.now id ≡ None → btree_map_len slots.now < MOST_PAIRS }
-    ensures slot { IfOk result (λ slot. slot ≡ unwrap_or (get nat_cmp slots.now id) (btree_map_len slots.now)) }
+    ensures slot { IfOk result (λ slot.
+        slot ≡ unwrap_or (get nat_cmp slots.now id) (btree_map_len slots.now)) }
     ensures room { IfOk result (λ slot. slot < length tree.new) }
     ensures unchanged { (slot : ℕ) → kept_at tree.new slot ≡ kept_at tree.old slot }
 {
@@ -105,7 +106,8 @@ fn relocate(slots: &mut BTreeMap<u32, u32>, id: u32, slot: u32)
     }
 }
 
-/// Takes out the pair in a slot. The pair of the last taken slot moves there, so that the free ones stay last.
+/// Takes out the pair in a slot. The pair of the last taken slot moves there, so that the free ones
+/// stay last.
 fn vacate<L: Ledger>(
     slots: &mut BTreeMap<u32, u32>,
     tree: &mut Tree,
@@ -201,7 +203,8 @@ impl Wheel {
     pub fn due<L: Ledger>(&mut self, m: u64, steps: &mut Steps<L>) -> Option<u32>
         ensures next { IfSome result (IsNextDue self.old m) }
         ensures taken { IfSome result (λ id. self.new ≡ map.remove self.old id) }
-        ensures none { IfNone result ((id expiry : ℕ) → map.get self.old id ≡ Some expiry → m < expiry) }
+        ensures none { IfNone result (
+            (id expiry : ℕ) → map.get self.old id ≡ Some expiry → m < expiry) }
         ensures unchanged { IfNone result (self.new ≡ self.old) }
         ensures steps { steps.new ≤ steps.old + 64 }
         ensures root { IfNone result (steps.new ≡ steps.old + 1) }

@@ -7,7 +7,8 @@ use Rattle.std.specs.List.{filter, range_with_len}
 abbrev pub IsSetBetween : List Bool → ℕ → ℕ → Type 0
 IsSetBetween flags from to = (i : ℕ) → from ≤ i → i < to → slice_index_or flags i false ≡ true
 
--- each flag from one place up to another, which is not among them, has the value, and no other changes
+-- each flag from one place up to another, which is not among them, has the value, and no other
+-- changes
 pub record IsMarked (from to : ℕ) (value : Bool) (old new : List Bool) : Type 0 where
   pub same_length : length new ≡ length old
   pub marked : (i : ℕ) → from ≤ i → i < to → slice_index_or new i false ≡ value
@@ -19,7 +20,8 @@ pub record FitsFlags (flags : List Bool) (n : ℕ) (parity : Option ℕ) (start 
   pub run : IsSetBetween flags start (start + n)
   pub remainder : HasParity parity start
 
--- of the flags for all numbers of 16 bits those from one place up to another, which is not among them, are set
+-- of the flags for all numbers of 16 bits those from one place up to another, which is not among
+-- them, are set, and no other
 pub record IsSetAlone (from to : ℕ) (flags : List Bool) : Type 0 where
   pub whole : length flags ≡ 65536
   pub set : IsSetBetween flags from to
@@ -51,5 +53,6 @@ shown low high free =
     record {
       low = low;
       high = high;
-      taken = filter (λ port. not (slice_index_or free port false)) (range_with_len low (high + 1 - low));
+      taken =
+          filter (λ port. not (slice_index_or free port false)) (range_with_len low (high + 1 - low));
     }

@@ -52,12 +52,15 @@ unfoldable pub tree_node : List Bool → List Node → ℕ → Node
 tree_node flags nodes place =
     if nat_lt place 32768
     then slice_index_or nodes place empty_node
-    else pair_of (slice_index_or flags (2 * place - 65536) false) (slice_index_or flags (2 * place - 65536 + 1) false)
+    else pair_of
+    (slice_index_or flags (2 * place - 65536) false)
+    (slice_index_or flags (2 * place - 65536 + 1) false)
 
 -- the node at a place is that of its children
 abbrev pub IsJoined : List Bool → List Node → ℕ → Type 0
 IsJoined flags nodes place =
-    slice_index_or nodes place empty_node ≡ join (tree_node flags nodes (2 * place)) (tree_node flags nodes (2 * place + 1))
+    slice_index_or nodes place empty_node
+    ≡ join (tree_node flags nodes (2 * place)) (tree_node flags nodes (2 * place + 1))
 
 -- each node is that of its children
 pub record AreJoined (flags : List Bool) (nodes : List Node) : Type 0 where

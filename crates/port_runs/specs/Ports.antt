@@ -24,7 +24,8 @@ is_in_run start n port = nat_le start port && nat_lt port (start + n)
 
 -- the n ports from start on are free
 abbrev pub IsFreeRun : Ports → ℕ → ℕ → Type 0
-IsFreeRun ports start n = (port : ℕ) → start ≤ port → port < start + n → IsTrue (is_untaken ports port)
+IsFreeRun ports start n =
+    (port : ℕ) → start ≤ port → port < start + n → IsTrue (is_untaken ports port)
 
 -- the number has the remainder by 2 that is asked, if one is
 abbrev pub HasParity : Option ℕ → ℕ → Type 0
@@ -58,7 +59,8 @@ pub record TakesRun (old : Ports) (start n : ℕ) (took : Bool) (new : Ports) : 
   pub answer : IsTrue took ↔ IsFreeRun old start n
   pub low : new.low ≡ old.low
   pub high : new.high ≡ old.high
-  pub taken : OnTrue took ((port : ℕ) → is_taken new port ≡ (is_taken old port || is_in_run start n port))
+  pub taken :
+      OnTrue took ((port : ℕ) → is_taken new port ≡ (is_taken old port || is_in_run start n port))
   pub unchanged : OnFalse took (new ≡ old)
   pub ascending : IsStrictlyIncreasing new.taken
 

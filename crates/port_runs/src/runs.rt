@@ -34,7 +34,8 @@ impl Model for Runs {
 impl Runs {
     ghost use Rattle.port_runs.specs.Ports.{untaken, TakesRun, GivesRun, IsCountAt, IsFittingRun, HasFittingRun, IsLeast, IsGreatest};
 
-    /// The range from `low` to `high`, both of it, with no port taken. The one error is want of memory.
+    /// The range from `low` to `high`, both of it, with no port taken. The one error is want of
+    /// memory.
     pub fn new(alloc: Global, low: u16, high: u16) -> Result<Runs, Memory>
         requires some { 1 ≤ low }
         requires ordered { low ≤ high }
@@ -81,9 +82,9 @@ impl Runs {
     }
 
     /// The least start of `n` free ports that has the remainder by 2 that `parity` asks, if it asks
-    /// one. None where there is none, which takes one step, at the tree's root. Else it takes from 3
-    /// to 68 steps, at most 4 for each of the tree's 17 levels. A step is one node looked at, where
-    /// a port is a node of the lowest level.
+    /// one. None where there is none, which takes one step, at the tree's root. Else it takes from
+    /// 3 to 68 steps, at most 4 for each of the tree's 17 levels. A step is one node looked at,
+    /// where a port is a node of the lowest level.
     pub fn first_run<L: Ledger>(
         &self,
         n: u32,

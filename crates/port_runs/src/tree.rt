@@ -54,7 +54,8 @@ const EMPTY: Node = Node {
 /// `count` places of nodes with no flag set.
 fn cleared(alloc: Global, count: usize) -> Result<Vec<Node>, AllocError>
     ensures all { IfOk result (λ nodes. vec_len nodes ≡ count) }
-    ensures clear { IfOk result (λ nodes. (i : ℕ) → slice_index_or nodes.items i empty_node ≡ empty_node) }
+    ensures clear { IfOk result (λ nodes.
+        (i : ℕ) → slice_index_or nodes.items i empty_node ≡ empty_node) }
 {
     let nodes = vec![in alloc; EMPTY; count]?;
     Ok(nodes)
@@ -158,7 +159,8 @@ fn rejoin(flags: &[bool], nodes: &mut [Node], low: usize, high: usize)
     }
 }
 
-/// Makes all nodes anew of whose flags some from `from` up to `to`, which isn't among them, changed.
+/// Makes all nodes anew of whose flags some from `from` up to `to`, which isn't among them,
+/// changed.
 fn refresh(flags: &[bool], nodes: &mut [Node], from: usize, to: usize)
     requires ordered { from < to }
     requires within { to ≤ 65536 }
@@ -222,8 +224,10 @@ fn over_middle(left: Node, right: Node, middle: usize, n: u32, parity: Option<u8
     requires parity { IfSome parity (λ remainder. remainder < 2) }
     requires begins { left.suffix ≤ middle }
     requires ends { middle + right.prefix ≤ 65536 }
-    ensures found { IfSome result (IsFirstOver (middle - left.suffix) (middle + right.prefix) n parity) }
-    ensures none { IfNone result ((start : ℕ) → HasParity parity start → middle ≤ start + left.suffix → middle + right.prefix < start + n) }
+    ensures found { IfSome result (
+        IsFirstOver (middle - left.suffix) (middle + right.prefix) n parity) }
+    ensures none { IfNone result ((start : ℕ) → HasParity parity start
+        → middle ≤ start + left.suffix → middle + right.prefix < start + n) }
 {
     let begins = middle - left.suffix as usize;
     let start = if has_parity(begins, parity) {
