@@ -1,0 +1,23 @@
+-- What the rule of the word says in the words of moments (our own).
+use Rattle.std.specs.Prelude.{◌≡◌, ℕ, ◌≤◌, max, List, [], ◌∷◌, slice_index}
+use mathlib.Core.Option.{some}
+use lib.ListN.{get_elem?}
+use Rattle.atomic_table.specs.Table.{State}
+use Rattle.epoch_word.specs.declared.TheConstants.{EPOCH}
+use Rattle.epoch_word.specs.declared.views.WordView.{WordView}
+use Rattle.epoch_word.specs.Rule.{HasGreatest}
+
+-- the greatest of the first moment and all that views have raised
+abbrev pub greatest_raised : ℕ → List WordView → ℕ
+greatest_raised first [] = first
+greatest_raised first (v ∷ vs) = max v.raised (greatest_raised first vs)
+
+abbrev pub WordIsGreatest : Type 0
+WordIsGreatest =
+    (first : ℕ) (s : State ℕ WordView) → HasGreatest first s
+    → slice_index s.words EPOCH ≡ greatest_raised first s.views
+
+abbrev pub NoneHeardMore : Type 0
+NoneHeardMore =
+    (first : ℕ) (s : State ℕ WordView) → HasGreatest first s
+    → (j : ℕ) (v : WordView) → get_elem? s.views j ≡ some v → v.heard ≤ slice_index s.words EPOCH

@@ -1,0 +1,53 @@
+//! What a seat at the word's table knows, the rule of the table, and what each step tells.
+ghost use Rattle.epoch_word.specs.Rule.{TellsRaise, TellsMoment, joined_word_view, spent_word_view};
+
+use atomic_table::{Join, Play, Split, TableRule};
+
+/// What a seat knows. No value of it is made.
+pub struct WordView {
+    /// The greatest moment that was raised with it.
+    pub raised: u64,
+
+    /// The greatest moment that it was told.
+    pub heard: u64,
+}
+
+/// The rule of the table. Its key is the first moment.
+pub struct WordRule;
+
+impl<S> TableRule<S, WordView, u64> for WordRule {
+    ghost use Rattle.epoch_word.specs.Rule.{HasGreatest, first_word_view};
+
+    ghost holds = { λ first. HasGreatest first };
+
+    ghost first = { first_word_view };
+}
+
+/// The word is raised.
+pub struct Raise;
+
+impl<S> Play<S, WordView> for Raise {
+    ghost then = { TellsRaise };
+}
+
+/// The word is told.
+pub struct Tell;
+
+impl<S> Play<S, WordView> for Tell {
+    ghost then = { TellsMoment };
+}
+
+/// How a view is split, and how two are joined.
+pub struct SplitAndJoin;
+
+impl Split<WordView> for SplitAndJoin {
+    ghost left = { λ v. v };
+
+    ghost right = { λ v. v };
+}
+
+impl Join<WordView> for SplitAndJoin {
+    ghost both = { joined_word_view };
+
+    ghost spent = { spent_word_view };
+}

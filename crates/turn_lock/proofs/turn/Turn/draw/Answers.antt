@@ -1,0 +1,10 @@
+use Rattle.std.proofs.Common.{rules}
+use mathlib.Core.Option.{none}
+use Rattle.atomic_table.specs.Table.{step}
+use Rattle.turn_lock.proofs.Steps.{draws}
+use Rattle.turn_lock.proofs.turn.Turn.draw.Goals as goal
+
+pub fetch_add-requires : goal.fetch_add-requires
+fetch_add-requires g c =
+    let i = c.requires.idle in
+    (search rules, search rules, draws g.V.Kept.stands g.V.Kept.added _ _ _ (step 0 0 0 0 none) i.rests i.home i.room)

@@ -1,0 +1,7 @@
+pub mod Lengths
+pub mod Places
+pub mod Views
+pub mod Rule
+pub mod Tellings
+pub mod Passes
+pub mod Laws

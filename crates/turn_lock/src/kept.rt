@@ -1,0 +1,26 @@
+//! What a value behind a turn says of itself.
+ghost use Rattle.std.specs.Prelude.{◌≡◌, List, []};
+
+/// A value that stands for lists of entries. It need not store them.
+pub trait Kept {
+    /// An entry. No value of it is made here.
+    type Entry;
+
+    /// What else must outlive a note. No value of it is made here.
+    type Lasting;
+
+    /// Whether the value stands for a list of entries, the added ones among them.
+    ghost stands: { Self → List Self.Entry → Type 0 };
+
+    /// The entries that it has added since the last note.
+    ghost added: { Self → List Self.Entry };
+
+    /// What else must outlive a note.
+    ghost lasts: { Self → Self.Lasting };
+
+    /// Learns that the added entries were noted. It takes no memory.
+    fn noted(&mut self)
+        ensures stands { (log : List Self.Entry) → stands self.old log → stands self.new log }
+        ensures added { added self.new ≡ [] }
+        ensures lasts { lasts self.new ≡ lasts self.old };
+}
