@@ -1,5 +1,5 @@
 -- The laws.
-use Rattle.std.proofs.Common.{◌≡◌, ℕ, zero, suc, ◌+◌, ◌%◌, ◌<◌, ◌≤◌, ◌≢◌, ◌⊎◌, inl, inr, Bool, true, false, List, [], ◌∷◌, ◌++◌, length, Some, slice_get, refl, ap, sym, subst, ◌∙◌, arith, zero-le}
+use Rattle.std.proofs.Common.{◌≡◌, ℕ, zero, suc, ◌+◌, ◌%◌, ◌<◌, ◌≤◌, ◌⊎◌, inl, inr, Bool, true, false, List, [], ◌∷◌, ◌++◌, length, Some, slice_get, refl, ap, sym, subst, ◌∙◌, arith, zero-le}
 use Rattle.std.specs.Prelude.{if◌then◌else◌}
 use Rattle.std.specs.List.{range_with_len}
 use mathlib.Core.Option.{some}
@@ -14,7 +14,7 @@ use Rattle.turn_lock.specs.Places.{one_if, total, occurrences}
 use Rattle.turn_lock.specs.Rule.{HaveOwnTickets}
 use Rattle.turn_lock.specs.Views.{count_in_view, tickets_held, tickets}
 use Rattle.turn_lock.proofs.Fronts.{prefix_shorter}
-use Rattle.turn_lock.proofs.Numbers.{AreWithin, all_within}
+use Rattle.turn_lock.proofs.Numbers.{all_within}
 use Rattle.turn_lock.proofs.Sums.{occurrences-append, total_two, one_hit, one_miss, from_has}
 
 pub share_history : {X E : Type 0} (stands : X → List E → Type 0) (added : X → List E) → ViewsShareHistory X E stands added

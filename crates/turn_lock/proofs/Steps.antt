@@ -9,7 +9,7 @@ use lib.ListN.{get_elem?}
 use Rattle.std.proofs.Math.Nat.{mod-add-mod, div-le_self}
 use Rattle.std.specs.Prelude.{Option, Some}
 use Rattle.std.specs.List.{range_with_len}
-use Rattle.atomic_table.specs.Table.{State, Me, Step, Act, keeps, takes, gives, stepped, Valid, carried_after, Allows, Splits, Joins, opening}
+use Rattle.atomic_table.specs.Table.{State, Step, Act, keeps, takes, gives, stepped, Valid, carried_after, Allows, Splits, Joins, opening}
 use Rattle.atomic_table.proofs.Lists.{set_here, set_else, one_turn}
 use Rattle.turn_lock.specs.declared.views.TurnView.{TurnView}
 use Rattle.turn_lock.specs.Places.{total, occurrences}
