@@ -1,0 +1,143 @@
+-- What is kept of the ports of one protocol, seen from outside.
+use Rattle.std.proofs.Common.{◌≡◌, ℕ, ◌+◌, ◌-◌, ◌<◌, ◌≤◌, min, max, ◌&&◌, not, nat_le, Bool, true, false, cond, List, [], length, Option, Some, None, IsTrue, refl, sym, ap, subst, ◌∙◌, arith}
+use Rattle.std.proofs.lemmas.Bool.Decides.{nat_tests}
+use Rattle.port_runs.specs.Ports.{Ports, is_taken, is_untaken, is_in_run, IsFittingRun, HasFittingRun, IsLeast, IsGreatest}
+use Rattle.external_pool.specs.declared.uses.Use.{Use}
+use Rattle.external_pool.specs.declared.asks.Picked.{Picked}
+use Rattle.external_pool.specs.PortUses.{PortUses, use_at, is_in_range, is_free_use, is_vacant, with_run, all_free}
+use Rattle.external_pool.specs.declared.uses.Use.TheVariants.{Free}
+use Rattle.external_pool.specs.Choosing.{IsVacantRun, HasVacantRun, IsLongest}
+use Rattle.external_pool.specs.Kept.{IsKept}
+use Rattle.external_pool.proofs.Painted.{use_at-with_run, length-with_run, use_at-all_free}
+
+-- what isn't above a number is at most it
+pub at_most : (n most : ℕ) → (most < n → ⊥) → n ≤ most
+at_most n most none = grind (arith, none)
+
+vacant_test : (a b f : Bool) → (a && b && not ((a && b) && not f)) ≡ ((a && b) && f)
+vacant_test true true true = refl
+vacant_test true true false = refl
+vacant_test true false f = refl
+vacant_test false b f = refl
+
+module _ (low high : ℕ) (runs : Ports) (each : List Use) (kept : IsKept low high runs each) where
+  -- a free port of the runs is a vacant one
+  pub free-vacant : (port : ℕ) → is_untaken runs port ≡ is_vacant (record { low = low; high = high; each = each }) port
+  free-vacant port =
+      ap (λ (t : Bool). nat_le runs.low port && nat_le port runs.high && not t) (kept.taken port)
+      ∙ ap (λ (l : ℕ). nat_le l port && nat_le port runs.high && not (is_in_range low high port && not (is_free_use (use_at each port)))) kept.same_low
+      ∙ ap (λ (h : ℕ). nat_le low port && nat_le port h && not (is_in_range low high port && not (is_free_use (use_at each port)))) kept.same_high
+      ∙ vacant_test (nat_le low port) (nat_le port high) (is_free_use (use_at each port))
+
+  module _ (uses : PortUses) (seen : record { low = low; high = high; each = each } ≡ uses) (parity : Option ℕ) where
+    pub fitting : (n start : ℕ) → IsVacantRun uses n parity start → IsFittingRun runs n parity start
+    fitting n start is =
+        (λ port from to. subst IsTrue (sym (free-vacant port ∙ ap (λ (u : PortUses). is_vacant u port) seen)) (is.vacant port from to), is.remainder)
+
+    pub vacating : (n start : ℕ) → IsFittingRun runs n parity start → IsVacantRun uses n parity start
+    vacating n start is = record {
+      vacant = λ port from to. subst IsTrue (free-vacant port ∙ ap (λ (u : PortUses). is_vacant u port) seen) (is.0 port from to);
+      remainder = is.1;
+    }
+
+    pub least_vacant : (n : ℕ) (found : Option ℕ) → IsLeast (IsFittingRun runs n parity) found → IsLeast (IsVacantRun uses n parity) found
+    least_vacant n None is = record {
+      fits = tt;
+      least = tt;
+      none = λ other vacant. is.none other (fitting n other vacant);
+    }
+    least_vacant n (Some start) is = record {
+      fits = vacating n start is.fits;
+      least = λ other vacant. is.least other (fitting n other vacant);
+      none = tt;
+    }
+
+    pub most_vacant : (most : ℕ) → IsGreatest (HasFittingRun runs parity) most → IsGreatest (HasVacantRun uses parity) most
+    most_vacant most is = record {
+      fits = λ some. let run = is.fits some in (run.0, vacating most run.0 run.1);
+      greatest = λ other run. is.greatest other (run.0, fitting other run.0 run.1);
+    }
+
+-- a part of a vacant run is one
+fewer_vacant : (uses : PortUses) (parity : Option ℕ) (n more start : ℕ) → n ≤ more → IsVacantRun uses more parity start → IsVacantRun uses n parity start
+fewer_vacant uses parity n more start few is = record {
+  vacant = λ port from to. is.vacant port from (omega (arith, to, few));
+  remainder = is.remainder;
+}
+
+module _ (uses : PortUses) (parity : Option ℕ) (room most count : ℕ) (is : IsGreatest (HasVacantRun uses parity) most) (count_is : count ≡ min most room) where
+  no_more : (n : ℕ) → n ≤ room → HasVacantRun uses parity n → n ≤ count
+  no_more n few run = omega (arith, few, is.greatest n run, count_is)
+
+  pub longest_none : count ≡ 0 → IsLongest uses parity room None
+  longest_none zero_is n some few run = omega (arith, some, no_more n few run, zero_is)
+
+  pub longest_found : 1 ≤ count → (found : ℕ) → IsVacantRun uses count parity found → ((other : ℕ) → IsVacantRun uses count parity other → found ≤ other)
+      → IsLongest uses parity room (Some (record { start = found; count = count }))
+  longest_found some found vacant least = record {
+    some = some;
+    within = omega (arith, count_is);
+    vacant = vacant;
+    least = least;
+    greatest = no_more;
+  }
+
+  pub found_some : 1 ≤ count → ¬ ((other : ℕ) → ¬ IsVacantRun uses count parity other)
+  found_some some none =
+      let run = is.fits (omega (arith, some, count_is)) in
+      none run.0 (fewer_vacant uses parity count most run.0 (omega (arith, count_is)) run.1)
+
+-- a use with_run over the part of a run that lies in the range
+painted_tests : (r s : Bool) (value old : Use) → cond (r && s) (not (is_free_use value)) (r && not (is_free_use old)) ≡ (r && not (is_free_use (cond s value old)))
+painted_tests true true value old = refl
+painted_tests true false value old = refl
+painted_tests false s value old = refl
+
+outside_tests : (r s : Bool) (value old : Use) → (r && s) ≡ false → (r && not (is_free_use old)) ≡ (r && not (is_free_use (cond s value old)))
+outside_tests true true value old h = cc
+outside_tests true false value old h = refl
+outside_tests false s value old h = refl
+
+clipped : (low high start n from to port : ℕ) → from ≡ max start low → to ≡ min (start + n) (high + 1) → from < to → is_in_run from (to - from) port ≡ (is_in_range low high port && is_in_run start n port)
+clipped low high start n from to port e f h = grind (arith, nat_tests)
+
+apart : (low high start n from to port : ℕ) → from ≡ max start low → to ≡ min (start + n) (high + 1) → to ≤ from → (is_in_range low high port && is_in_run start n port) ≡ false
+apart low high start n from to port e f h = grind (arith, nat_tests)
+
+module _ (low high : ℕ) (runs : Ports) (each : List Use) (kept : IsKept low high runs each) (start n from to : ℕ) (value : Use) (within : start + n ≤ length each) (from_is : from ≡ max start low) (to_is : to ≡ min (start + n) (high + 1)) where
+  pub kept_settled : (new : Ports) → from < to → new.low ≡ runs.low → new.high ≡ runs.high
+      → ((port : ℕ) → is_taken new port ≡ cond (is_in_run from (to - from) port) (not (is_free_use value)) (is_taken runs port)) → IsKept low high new (with_run start n value each)
+  kept_settled new some same_low same_high taken = record {
+    all = length-with_run start n value each within ∙ kept.all;
+    same_low = same_low ∙ kept.same_low;
+    same_high = same_high ∙ kept.same_high;
+    taken = λ port. taken port
+        ∙ ap (λ (b : Bool). cond b (not (is_free_use value)) (is_taken runs port)) (clipped low high start n from to port from_is to_is some)
+        ∙ ap (cond (is_in_range low high port && is_in_run start n port) (not (is_free_use value))) (kept.taken port)
+        ∙ painted_tests (is_in_range low high port) (is_in_run start n port) value (use_at each port)
+        ∙ ap (λ (u : Use). is_in_range low high port && not (is_free_use u)) (sym (use_at-with_run start n value each within port));
+  }
+
+  pub kept_outside : to ≤ from → IsKept low high runs (with_run start n value each)
+  kept_outside none = record {
+    all = length-with_run start n value each within ∙ kept.all;
+    same_low = kept.same_low;
+    same_high = kept.same_high;
+    taken = λ port. kept.taken port
+        ∙ outside_tests (is_in_range low high port) (is_in_run start n port) value (use_at each port) (apart low high start n from to port from_is to_is none)
+        ∙ ap (λ (u : Use). is_in_range low high port && not (is_free_use u)) (sym (use_at-with_run start n value each within port));
+  }
+
+no_test : (r : Bool) → false ≡ (r && not (is_free_use Free))
+no_test true = refl
+no_test false = refl
+
+-- what is kept of a range of which no port is used
+pub kept_new : (low high count : ℕ) (runs : Ports) (each : List Use) → length each ≡ 65536 → runs ≡ record { low = low; high = high; taken = [] } → each ≡ all_free count → IsKept low high runs each
+kept_new low high count runs each all new free = record {
+  all = all;
+  same_low = ap (λ (r : Ports). r.low) new;
+  same_high = ap (λ (r : Ports). r.high) new;
+  taken = λ port. ap (λ (r : Ports). is_taken r port) new ∙ no_test (is_in_range low high port)
+      ∙ ap (λ (u : Use). is_in_range low high port && not (is_free_use u)) (sym (ap (λ (es : List Use). use_at es port) free ∙ use_at-all_free count port));
+}

@@ -1,0 +1,6 @@
+use Rattle.std.proofs.Common.{ℕ, ◌+◌, ◌<◌, IsTrue}
+use Rattle.external_pool.specs.PortUses.{is_open}
+use Rattle.external_pool.proofs.plain.is_open_run.Given as goal
+
+abbrev pub invariant-loop-i : goal.invariant-loop-i
+invariant-loop-i l = (k : ℕ) → k < l.i → IsTrue (is_open (record { low = l.low; high = l.high; each = l.each }) l.who (l.internal + k) (l.start + k))

@@ -1,0 +1,292 @@
+//! The plain body of a pool: a list for each protocol that is searched from the lowest port on, and
+//! nothing beside it.
+
+ghost use Rattle.std.specs.Prelude.{◌≡◌, ◌+◌, ◌≤◌, ◌<◌, ◌↔◌, ℕ, length, count_by, IsTrue, IfOk, IfSome, IfNone, IsOk, OnOk, OnErr, Err};
+ghost use Rattle.std.specs.Bool.{OnTrue, OnFalse};
+ghost use Rattle.port_runs.specs.Ports.{IsLeast};
+ghost use Rattle.external_pool.specs.PortUses.{is_resting, is_held_by, is_vacant, is_open, with_run, use_at};
+ghost use Rattle.external_pool.specs.Choosing.{IsVacantRun, GoesBack, IsLongest, IsPick};
+ghost use Rattle.external_pool.specs.Holdings.{use_of, ports_held, fresh_pool, with_use, NoneHeld, AllHeldBy};
+ghost use Rattle.external_pool.specs.Asking.{IsPickAnswer};
+ghost use Rattle.external_pool.specs.Plain.{plainly};
+ghost use Rattle.external_pool.specs.declared.uses.Use.TheVariants.{Free, Held, Resting};
+ghost use Rattle.external_pool.specs.declared.asks.PickRefused.TheVariants.{Quota};
+
+use crate::asks::{PickAsk, PickRefused, Picked, judge};
+use crate::side::meets;
+use crate::uses::{Use, cleared, is_free_use, is_free_to, paint};
+use pcp_base::{Address, Endpoint, Memory, Protocol};
+use std::alloc::Global;
+use std::marker::Model;
+
+/// How many numbers a port may have.
+const PORTS: usize = 65536;
+
+/// The external ports of one address, with the same clauses as [`Pool`](crate::Pool).
+#[derive(Drop)]
+pub struct PlainPool {
+    low: u16,
+    high: u16,
+    quota: u32,
+    tcp: Vec<Use>,
+    udp: Vec<Use>,
+}
+
+impl Model for PlainPool {
+    ghost use Rattle.external_pool.specs.Holdings.{Holdings};
+    ghost use Rattle.external_pool.specs.Plain.{plainly, ArePlain};
+
+    ghost Value = { Holdings };
+
+    ghost view = { λ a. plainly a.low a.high a.quota a.tcp.items a.udp.items };
+
+    ghost invariant = { λ a. ArePlain a.tcp.items a.udp.items };
+}
+
+/// Whether the address holds it.
+fn is_of(value: Use, who: &Address) -> bool
+    ensures { result ≡ is_held_by who.now value }
+{
+    match value {
+        Use::Free => false,
+        Use::Held(holder) => holder == *who,
+        Use::Resting(_, _) => false,
+    }
+}
+
+/// How many of these ports the address holds.
+fn count(each: &[Use], who: &Address) -> usize
+    ensures { result ≡ count_by (is_held_by who.now) each.now }
+{
+    each.iter().filter(|value| is_of(**value, who)).count()
+}
+
+/// Whether the `n` ports from `start` on are vacant.
+fn is_vacant_run(low: u16, high: u16, each: &[Use], start: u16, n: u32) -> bool
+    requires { length each.now ≡ 65536 }
+    ensures { IsTrue result ↔ ((port : ℕ) → start ≤ port → port < start + n → IsTrue (is_vacant (record { low = low; high = high; each = each.now }) port)) }
+{
+    for i in 0..n {
+        let port = u64::from(start) + u64::from(i);
+        if port < u64::from(low) || port > u64::from(high) || !is_free_use(each[port as usize]) {
+            return false;
+        }
+    }
+    true
+}
+
+/// Whether the `n` ports from `start` on are open to the endpoints that they would be given to.
+fn is_open_run(
+    low: u16,
+    high: u16,
+    each: &[Use],
+    who: &Address,
+    internal: u16,
+    start: u16,
+    n: u32,
+) -> bool
+    requires { length each.now ≡ 65536 }
+    ensures { IsTrue result ↔ ((i : ℕ) → i < n → IsTrue (is_open (record { low = low; high = high; each = each.now }) who.now (internal + i) (start + i))) }
+{
+    for i in 0..n {
+        let port = u64::from(start) + u64::from(i);
+        if port < u64::from(low)
+            || port > u64::from(high)
+            || !is_free_to(each[port as usize], who, u64::from(internal) + u64::from(i))
+        {
+            return false;
+        }
+    }
+    true
+}
+
+/// The least start of `n` vacant ports that meets the parity asked.
+fn first_vacant(low: u16, high: u16, each: &[Use], n: u32, parity: Option<u8>) -> Option<u16>
+    requires some { 1 ≤ n }
+    requires all { length each.now ≡ 65536 }
+    ensures { IsLeast (IsVacantRun (record { low = low; high = high; each = each.now }) n parity) result }
+{
+    for port in usize::from(low)..usize::from(high) + 1 {
+        let start = port as u16;
+        if meets(start, parity) && is_vacant_run(low, high, each, start, n) {
+            return Some(start);
+        }
+    }
+    None
+}
+
+/// The longest run of vacant ports, of at most `room`, and of those the one with the least start.
+fn longest(low: u16, high: u16, each: &[Use], room: u32, parity: Option<u8>) -> Option<Picked>
+    requires { length each.now ≡ 65536 }
+    ensures { IsLongest (record { low = low; high = high; each = each.now }) parity room result }
+{
+    for less in 0..room {
+        let count = room - less;
+        if let Some(start) = first_vacant(low, high, each, count, parity) {
+            return Some(Picked { start, count });
+        }
+    }
+    None
+}
+
+/// The ports to pick.
+fn choose(
+    low: u16,
+    high: u16,
+    each: &[Use],
+    who: &Address,
+    ask: &PickAsk,
+    room: u32,
+) -> Option<Picked>
+    requires { length each.now ≡ 65536 }
+    ensures { IsPick (record { low = low; high = high; each = each.now }) who.now ask.now.internal ask.now.suggested ask.now.parity room result }
+{
+    if ask.suggested != 0 {
+        if meets(ask.suggested, ask.parity) {
+            if is_open_run(low, high, each, who, ask.internal, ask.suggested, room) {
+                return Some(Picked {
+                    start: ask.suggested,
+                    count: room,
+                });
+            }
+        }
+    }
+    longest(low, high, each, room, ask.parity)
+}
+
+/// Gives ports of one protocol this use.
+fn mark(tcp: &mut [Use], udp: &mut [Use], protocol: Protocol, start: u16, n: u32, value: Use)
+    requires end { start + n ≤ 65536 }
+    requires tcp { length tcp.old ≡ 65536 }
+    requires udp { length udp.old ≡ 65536 }
+    ensures { (low high quota : ℕ) → plainly low high quota tcp.new udp.new ≡ with_use protocol start n value (plainly low high quota tcp.old udp.old) }
+{
+    match protocol {
+        Protocol::Tcp => paint(tcp, start as usize, n as usize, value),
+        Protocol::Udp => paint(udp, start as usize, n as usize, value),
+    }
+}
+
+impl PlainPool {
+    /// The range from `low` to `high` of pool_of protocols. The one error is want of memory.
+    pub fn new(alloc: Global, low: u16, high: u16, quota: u32) -> Result<PlainPool, Memory>
+        requires some { 1 ≤ low }
+        requires ordered { low ≤ high }
+        ensures { IfOk result (λ pool. pool ≡ fresh_pool low high quota) }
+    {
+        Ok(PlainPool {
+            low,
+            high,
+            quota,
+            tcp: cleared(alloc, PORTS)?,
+            udp: cleared(alloc, PORTS)?,
+        })
+    }
+
+    /// The ports that an address would be given.
+    pub fn pick(
+        &self,
+        who: &Address,
+        protocol: Protocol,
+        ask: &PickAsk,
+    ) -> Result<Picked, PickRefused>
+        requires room { 1 ≤ ask.now.room }
+        requires asked { 1 ≤ ask.now.asked }
+        ensures { IsPickAnswer self.now who.now protocol ask.now result }
+    {
+        let owned = count(&self.tcp, who) as u32 + count(&self.udp, who) as u32;
+        if owned >= self.quota {
+            return Err(PickRefused::Quota(owned));
+        }
+        let room = ask.room.min(self.quota - owned);
+        let choice = match protocol {
+            Protocol::Tcp => choose(self.low, self.high, &self.tcp, who, ask, room),
+            Protocol::Udp => choose(self.low, self.high, &self.udp, who, ask, room),
+        };
+        judge(ask, choice)
+    }
+
+    /// Marks `n` ports that aren't held as held, and ends their rest.
+    pub fn hold(
+        &mut self,
+        who: &Address,
+        protocol: Protocol,
+        start: u16,
+        n: u32,
+    ) -> Result<(), Memory>
+        requires from { 1 ≤ start }
+        requires some { 1 ≤ n }
+        requires end { start + n ≤ 65536 }
+        requires none_held { NoneHeld self.old protocol start n }
+        ensures ok { OnOk result (self.new ≡ with_use protocol start n (Held who.now) self.old) }
+        ensures err { OnErr result (self.new ≡ self.old) }
+    {
+        mark(
+            &mut self.tcp,
+            &mut self.udp,
+            protocol,
+            start,
+            n,
+            Use::Held(*who),
+        );
+        Ok(())
+    }
+
+    /// Ends what an address holds of `n` ports.
+    pub fn release(&mut self, _who: &Address, protocol: Protocol, start: u16, n: u32)
+        requires from { 1 ≤ start }
+        requires some { 1 ≤ n }
+        requires end { start + n ≤ 65536 }
+        requires held { AllHeldBy self.old _who.now protocol start n }
+        ensures { self.new ≡ with_use protocol start n Free self.old }
+    {
+        mark(&mut self.tcp, &mut self.udp, protocol, start, n, Use::Free);
+    }
+
+    /// Marks a port as resting for the endpoint that owned it last.
+    pub fn rest(&mut self, external: u16, last: &Endpoint) -> Result<(), Memory>
+        requires { use_of self.old last.now.protocol external ≡ Free }
+        ensures ok { IsOk result }
+        ensures rests { self.new ≡ with_use last.now.protocol external 1 (Resting last.now.address last.now.port) self.old }
+    {
+        mark(
+            &mut self.tcp,
+            &mut self.udp,
+            last.protocol,
+            external,
+            1,
+            Use::Resting(last.address, last.port),
+        );
+        Ok(())
+    }
+
+    /// What a port is used for.
+    pub fn use_of(&self, protocol: Protocol, port: u16) -> Use
+        ensures { result ≡ use_of self.now protocol port }
+    {
+        match protocol {
+            Protocol::Tcp => self.tcp[port as usize],
+            Protocol::Udp => self.udp[port as usize],
+        }
+    }
+
+    /// Ends the rest of a port; false where it doesn't rest.
+    pub fn wake(&mut self, protocol: Protocol, external: u16) -> bool
+        ensures answer { result ≡ is_resting (use_of self.old protocol external) }
+        ensures woken { OnTrue result (self.new ≡ with_use protocol external 1 Free self.old) }
+        ensures unchanged { OnFalse result (self.new ≡ self.old) }
+    {
+        let Use::Resting(_, _) = self.use_of(protocol, external) else {
+            return false;
+        };
+        mark(
+            &mut self.tcp,
+            &mut self.udp,
+            protocol,
+            external,
+            1,
+            Use::Free,
+        );
+        true
+    }
+}

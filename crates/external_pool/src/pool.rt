@@ -1,0 +1,178 @@
+//! The pool of pool_of protocols.
+
+ghost use Rattle.std.specs.Prelude.{◌≡◌, ◌+◌, ◌≤◌, ◌<◌, ℕ, IfOk, IsOk, OnOk, OnErr, Err};
+ghost use Rattle.std.specs.Bool.{OnTrue, OnFalse};
+ghost use Rattle.external_pool.specs.PortUses.{is_resting};
+ghost use Rattle.external_pool.specs.Holdings.{uses_of, use_of, ports_held, fresh_pool, with_use, pool_of, NoneHeld, AllHeldBy};
+ghost use Rattle.external_pool.specs.Asking.{IsPickAnswer};
+ghost use Rattle.external_pool.specs.declared.uses.Use.TheVariants.{Free, Held, Resting};
+ghost use Rattle.external_pool.specs.declared.asks.PickRefused.TheVariants.{Quota};
+
+use crate::asks::{PickAsk, PickRefused, Picked, judge};
+use crate::counts::{count_of, lower, raise};
+use crate::side::Side;
+use crate::uses::Use;
+use pcp_base::{Address, Endpoint, Memory, Protocol};
+use std::alloc::Global;
+use std::collections::BTreeMap;
+use std::marker::Model;
+
+/// The external ports of one address: who holds which, and for whom others rest.
+///
+/// It is seen as its quota and, for each protocol, the range and what each port is used for.
+#[derive(Drop)]
+pub struct Pool {
+    quota: u32,
+    tcp: Side,
+    udp: Side,
+    counts: BTreeMap<[u8; 16], u32>,
+}
+
+impl Model for Pool {
+    ghost use Rattle.external_pool.specs.Holdings.{Holdings, pool_of};
+    ghost use Rattle.external_pool.specs.Kept.{IsCounted};
+
+    ghost Value = { Holdings };
+
+    ghost view = { λ a. pool_of a.quota a.tcp a.udp };
+
+    ghost invariant = { λ a. IsCounted (pool_of a.quota a.tcp a.udp) a.counts };
+}
+
+/// Gives ports of one protocol this use.
+fn mark(tcp: &mut Side, udp: &mut Side, protocol: Protocol, start: u16, n: u32, value: Use)
+    requires { start + n ≤ 65536 }
+    ensures { (quota : ℕ) → pool_of quota tcp.new udp.new ≡ with_use protocol start n value (pool_of quota tcp.old udp.old) }
+{
+    match protocol {
+        Protocol::Tcp => tcp.mark(start, n, value),
+        Protocol::Udp => udp.mark(start, n, value),
+    }
+}
+
+impl Pool {
+    /// The range from `low` to `high` of pool_of protocols, of which no port is held and none rests. No
+    /// address may own more ports than the quota. The one error is want of memory.
+    pub fn new(alloc: Global, low: u16, high: u16, quota: u32) -> Result<Pool, Memory>
+        requires some { 1 ≤ low }
+        requires ordered { low ≤ high }
+        ensures { IfOk result (λ pool. pool ≡ fresh_pool low high quota) }
+    {
+        Ok(Pool {
+            quota,
+            tcp: Side::new(alloc, low, high)?,
+            udp: Side::new(alloc, low, high)?,
+            counts: BTreeMap::new(alloc),
+        })
+    }
+
+    /// The ports of a protocol.
+    fn side(&self, protocol: Protocol) -> &Side
+        ensures { result.now ≡ uses_of self.now protocol }
+    {
+        match protocol {
+            Protocol::Tcp => &self.tcp,
+            Protocol::Udp => &self.udp,
+        }
+    }
+
+    /// The ports that an address would be given.
+    pub fn pick(
+        &self,
+        who: &Address,
+        protocol: Protocol,
+        ask: &PickAsk,
+    ) -> Result<Picked, PickRefused>
+        requires room { 1 ≤ ask.now.room }
+        requires asked { 1 ≤ ask.now.asked }
+        ensures { IsPickAnswer self.now who.now protocol ask.now result }
+    {
+        let owned = count_of(&self.counts, who);
+        if owned >= self.quota {
+            return Err(PickRefused::Quota(owned));
+        }
+        let room = ask.room.min(self.quota - owned);
+        let choice = self
+            .side(protocol)
+            .pick(who, ask.internal, ask.suggested, room, ask.parity);
+        judge(ask, choice)
+    }
+
+    /// Marks `n` ports that aren't held as held, and ends their rest. A port outside the range counts
+    /// for the quota alone. The one error is want of memory, which changes nothing.
+    pub fn hold(
+        &mut self,
+        _alloc: Global,
+        who: &Address,
+        protocol: Protocol,
+        start: u16,
+        n: u32,
+    ) -> Result<(), Memory>
+        requires from { 1 ≤ start }
+        requires some { 1 ≤ n }
+        requires end { start + n ≤ 65536 }
+        requires none_held { NoneHeld self.old protocol start n }
+        ensures ok { OnOk result (self.new ≡ with_use protocol start n (Held who.now) self.old) }
+        ensures err { OnErr result (self.new ≡ self.old) }
+    {
+        raise(&mut self.counts, who, n)?;
+        mark(
+            &mut self.tcp,
+            &mut self.udp,
+            protocol,
+            start,
+            n,
+            Use::Held(*who),
+        );
+        Ok(())
+    }
+
+    /// Ends what an address holds of `n` ports.
+    pub fn release(&mut self, who: &Address, protocol: Protocol, start: u16, n: u32)
+        requires from { 1 ≤ start }
+        requires some { 1 ≤ n }
+        requires end { start + n ≤ 65536 }
+        requires held { AllHeldBy self.old who.now protocol start n }
+        ensures { self.new ≡ with_use protocol start n Free self.old }
+    {
+        lower(&mut self.counts, who, n);
+        mark(&mut self.tcp, &mut self.udp, protocol, start, n, Use::Free);
+    }
+
+    /// Marks a port as resting for the endpoint that owned it last.
+    pub fn rest(&mut self, _alloc: Global, external: u16, last: &Endpoint) -> Result<(), Memory>
+        requires { use_of self.old last.now.protocol external ≡ Free }
+        ensures ok { IsOk result }
+        ensures rests { self.new ≡ with_use last.now.protocol external 1 (Resting last.now.address last.now.port) self.old }
+    {
+        mark(
+            &mut self.tcp,
+            &mut self.udp,
+            last.protocol,
+            external,
+            1,
+            Use::Resting(last.address, last.port),
+        );
+        Ok(())
+    }
+
+    /// Ends the rest of a port; false where it doesn't rest.
+    pub fn wake(&mut self, protocol: Protocol, external: u16) -> bool
+        ensures answer { result ≡ is_resting (use_of self.old protocol external) }
+        ensures woken { OnTrue result (self.new ≡ with_use protocol external 1 Free self.old) }
+        ensures unchanged { OnFalse result (self.new ≡ self.old) }
+    {
+        let Use::Resting(_, _) = self.side(protocol).use_at(external) else {
+            return false;
+        };
+        mark(
+            &mut self.tcp,
+            &mut self.udp,
+            protocol,
+            external,
+            1,
+            Use::Free,
+        );
+        true
+    }
+}

@@ -1,0 +1,211 @@
+//! The ports of one protocol: what each is used for, and which of the range are vacant.
+
+ghost use Rattle.std.specs.Prelude.{◌≡◌, ◌+◌, ◌-◌, ◌≤◌, ◌<◌, ◌↔◌, ℕ, not, IsTrue, IfOk, IfSome, IfNone, if◌then◌else◌};
+ghost use Rattle.port_runs.specs.Ports.{is_taken, is_in_run, HasParity, IsFittingRun, HasFittingRun, IsLeast, IsGreatest};
+ghost use Rattle.external_pool.specs.PortUses as the;
+ghost use Rattle.external_pool.specs.Choosing.{IsVacantRun, HasVacantRun, GoesBack, IsLongest, IsPick};
+
+use crate::asks::Picked;
+use crate::uses::{Use, cleared, is_free_use, is_free_to, paint};
+use pcp_base::{Address, Memory};
+use port_runs::Runs;
+use std::alloc::Global;
+use std::marker::{Brand, Model};
+use std::sync::ledger::{Blank, Ledger};
+use step_count::Steps;
+
+/// How many numbers a port may have.
+const PORTS: usize = 65536;
+
+/// The ports of one protocol: a use for each number of 16 bits, and a tree of the range's vacant ones.
+#[derive(Drop)]
+pub struct Side {
+    low: u16,
+    high: u16,
+    runs: Runs,
+    each: Vec<Use>,
+}
+
+impl Model for Side {
+    ghost use Rattle.external_pool.specs.PortUses.{PortUses};
+    ghost use Rattle.external_pool.specs.Kept.{IsKept};
+
+    ghost Value = { PortUses };
+
+    ghost view = { λ a. record { low = a.low; high = a.high; each = a.each.items } };
+
+    ghost invariant = { λ a. IsKept a.low a.high a.runs a.each.items };
+}
+
+/// Marks ports of the range as vacant or not.
+fn settle(runs: &mut Runs, start: u16, n: u32, vacant: bool)
+    requires some { 1 ≤ n }
+    requires low { runs.old.low ≤ start }
+    requires high { start + n ≤ runs.old.high + 1 }
+    ensures low { runs.new.low ≡ runs.old.low }
+    ensures high { runs.new.high ≡ runs.old.high }
+    ensures taken { (port : ℕ) → is_taken runs.new port ≡ (if is_in_run start n port then not vacant else is_taken runs.old port) }
+{
+    runs.give(start, n);
+    if !vacant {
+        runs.take(start, n);
+    }
+}
+
+/// The least start of a free run, for a caller that counts no steps.
+fn first_run<L: Ledger>(runs: &Runs, n: u32, parity: Option<u8>, blank: Blank) -> Option<u16>
+    requires name { blank.name ≡ L.name }
+    requires parts { blank.parts ≡ L.parts }
+    requires part { 0 < L.parts }
+    requires some { 1 ≤ n }
+    ensures { IsLeast (IsFittingRun runs.now n parity) result }
+{
+    let mut steps = Steps::<L>::begin(blank);
+    runs.first_run(n, parity, &mut steps)
+}
+
+/// How long the longest free run is, for a caller that counts no steps.
+fn longest_run<L: Ledger>(runs: &Runs, parity: Option<u8>, blank: Blank) -> u32
+    requires name { blank.name ≡ L.name }
+    requires parts { blank.parts ≡ L.parts }
+    requires part { 0 < L.parts }
+    ensures { IsGreatest (HasFittingRun runs.now parity) result }
+{
+    let mut steps = Steps::<L>::begin(blank);
+    runs.longest_run(parity, &mut steps)
+}
+
+/// Whether a port has the remainder by 2 that is asked, if one is.
+pub fn meets(port: u16, parity: Option<u8>) -> bool
+    ensures { IsTrue result ↔ HasParity parity port }
+{
+    match parity {
+        Some(remainder) => port % 2 == u16::from(remainder),
+        None => true,
+    }
+}
+
+impl Side {
+    /// A range of which no port is used. The one error is want of memory.
+    pub fn new(alloc: Global, low: u16, high: u16) -> Result<Side, Memory>
+        requires some { 1 ≤ low }
+        requires ordered { low ≤ high }
+        ensures { IfOk result (λ side. side ≡ record { low = low; high = high; each = the.all_free 65536 }) }
+    {
+        Ok(Side {
+            low,
+            high,
+            runs: Runs::new(alloc, low, high)?,
+            each: cleared(alloc, PORTS)?,
+        })
+    }
+
+    /// Gives the `n` ports from `start` on this use.
+    pub fn mark(&mut self, start: u16, n: u32, value: Use)
+        requires { start + n ≤ 65536 }
+        ensures { self.new ≡ the.with_uses start n value self.old }
+    {
+        paint(&mut self.each, start as usize, n as usize, value);
+        let from = start.max(self.low);
+        let to = (u32::from(start) + n).min(u32::from(self.high) + 1);
+        if u32::from(from) < to {
+            settle(&mut self.runs, from, to - u32::from(from), is_free_use(value));
+        }
+    }
+
+    /// What a port is used for.
+    pub fn use_at(&self, port: u16) -> Use
+        ensures { result ≡ the.use_at self.now.each port }
+    {
+        self.each[port as usize]
+    }
+
+    /// Whether a port is open to an endpoint.
+    fn is_open(&self, who: &Address, internal: u64, port: u64) -> bool
+        ensures { result ≡ the.is_open self.now who.now internal port }
+    {
+        if port < u64::from(self.low) || port > u64::from(self.high) {
+            return false;
+        }
+        is_free_to(self.each[port as usize], who, internal)
+    }
+
+    /// Whether each of the `n` ports from `start` on is open to the endpoint that it would be given
+    /// to, and the parity asked is met.
+    fn goes_back(
+        &self,
+        who: &Address,
+        internal: u16,
+        start: u16,
+        n: u32,
+        parity: Option<u8>,
+    ) -> bool
+        ensures { IsTrue result ↔ GoesBack self.now who.now internal parity start n }
+    {
+        if !meets(start, parity) {
+            return false;
+        }
+        for i in 0..n {
+            if !self.is_open(
+                who,
+                u64::from(internal) + u64::from(i),
+                u64::from(start) + u64::from(i),
+            ) {
+                return false;
+            }
+        }
+        true
+    }
+
+    /// The least start of `n` vacant ports that meets the parity asked.
+    fn first_vacant(&self, n: u32, parity: Option<u8>) -> Option<u16>
+        requires { 1 ≤ n }
+        ensures { IsLeast (IsVacantRun self.now n parity) result }
+    {
+        first_run::<Brand>(&self.runs, n, parity, Blank::new(1))
+    }
+
+    /// How many ports the longest run of vacant ones has whose start meets the parity asked.
+    fn most_vacant(&self, parity: Option<u8>) -> u32
+        ensures { IsGreatest (HasVacantRun self.now parity) result }
+    {
+        longest_run::<Brand>(&self.runs, parity, Blank::new(1))
+    }
+
+    /// The longest run of vacant ports, of at most `room`, and of those the one with the least start.
+    fn longest(&self, room: u32, parity: Option<u8>) -> Option<Picked>
+        ensures { IsLongest self.now parity room result }
+    {
+        let count = self.most_vacant(parity).min(room);
+        if count == 0 {
+            return None;
+        }
+        let Some(start) = self.first_vacant(count, parity) else {
+            return None;
+        };
+        Some(Picked { start, count })
+    }
+
+    /// The ports to pick: those suggested, where each can go back to its endpoint, and else the
+    /// longest run.
+    pub fn pick(
+        &self,
+        who: &Address,
+        internal: u16,
+        suggested: u16,
+        room: u32,
+        parity: Option<u8>,
+    ) -> Option<Picked>
+        ensures { IsPick self.now who.now internal suggested parity room result }
+    {
+        if suggested != 0 {
+            if self.goes_back(who, internal, suggested, room, parity) {
+                return Some(Picked {
+                    start: suggested,
+                    count: room,
+                });
+            }
+        }
+        self.longest(room, parity)
+    }
+}
