@@ -61,7 +61,7 @@ module _ (start n : ℕ) (each : List Use) (within : start + n ≤ length each) 
   pub use_at-part : (i : ℕ) → i < n → use_at (part start n each) i ≡ use_at each (start + i)
   use_at-part i few = get_or-take n (drop start each) i Free few ∙ get_or-drop start each i Free
 
-  -- what is counted of those with_run over goes, and what is with_run comes
+  -- what is counted of those painted over goes, and what is painted comes
   pub count_painted : (p : Use → Bool) (value : Use) → count_by p (with_run start n value each) + count_by p (part start n each) ≡ count_by p each + cond (p value) n 0
   count_painted p value =
       let f : Use → ℕ = λ x. cond (p x) 1 0 in

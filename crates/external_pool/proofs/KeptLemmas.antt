@@ -87,7 +87,7 @@ module _ (uses : PortUses) (parity : Option ℕ) (room most count : ℕ) (is : I
       let run = is.fits (omega (arith, some, count_is)) in
       none run.0 (fewer_vacant uses parity count most run.0 (omega (arith, count_is)) run.1)
 
--- a use with_run over the part of a run that lies in the range
+-- a use painted over the part of a run that lies in the range
 painted_tests : (r s : Bool) (value old : Use) → cond (r && s) (not (is_free_use value)) (r && not (is_free_use old)) ≡ (r && not (is_free_use (cond s value old)))
 painted_tests true true value old = refl
 painted_tests true false value old = refl

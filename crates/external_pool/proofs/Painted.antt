@@ -1,4 +1,4 @@
--- PortUses after some of them were with_run.
+-- Uses after some of them were painted.
 use Rattle.std.proofs.Common.{◌≡◌, ℕ, zero, suc, ◌+◌, ◌-◌, ◌<◌, ◌≤◌, ◌&&◌, nat_le, nat_lt, Bool, true, false, cond, List, ◌++◌, length, take, drop, replicate, refl, sym, ap, ◌∙◌, arith, length-take-le, length-append, length-drop, get_or-take, get_or-drop, Vec}
 use Rattle.std.proofs.lemmas.List.{get_or-append_right, with_items_is, length-replicate, get_or_append_left, get_or-replicate}
 use Rattle.std.proofs.lemmas.Bool.Decides.{nat_tests}
@@ -55,7 +55,7 @@ module _ (start n : ℕ) (value : Use) (each : List Use) (within : start + n ≤
   pub use_at-with_run : (port : ℕ) → use_at (with_run start n value each) port ≡ cond (is_in_run start n port) value (use_at each port)
   use_at-with_run port = by_tests (nat_le start port) (nat_lt port (start + n)) port refl refl
 
--- what stands in a vector after its slice was with_run
+-- what stands in a vector after its slice was painted
 pub painted_items : {Z : Type 0} (v : Vec Use Z) (old new : List Use) (start n : ℕ) (value : Use) → old ≡ v.items → new ≡ with_run start n value old → start + n ≤ length v.items → (with_items v new).items ≡ with_run start n value v.items
 painted_items v old new start n value same is within =
     let new_is : new ≡ with_run start n value v.items = is ∙ ap (with_run start n value) same in

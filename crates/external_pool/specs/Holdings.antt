@@ -3,7 +3,7 @@ use Rattle.std.specs.Prelude.{◌≡◌, ℕ, ◌+◌, ◌<◌, ◌≤◌, count
 use Rattle.pcp_base.specs.declared.addresses.Address.{Address}
 use Rattle.pcp_base.specs.declared.leases.Protocol.{Protocol}
 use Rattle.pcp_base.specs.declared.leases.Protocol.TheVariants.{Tcp, Udp}
-use Rattle.external_pool.specs.PortUses.{PortUses, all_free, use_at, is_held, is_held_by, with_uses}
+use Rattle.external_pool.specs.PortUses.{PortUses, uses_over, all_free, use_at, is_held, is_held_by, with_uses}
 use Rattle.external_pool.specs.declared.uses.Use.{Use}
 use Rattle.external_pool.specs.declared.uses.Use.TheVariants.{Held}
 
@@ -19,16 +19,17 @@ uses_of pool Udp = pool.udp
 abbrev pub use_of : Holdings → Protocol → ℕ → Use
 use_of pool protocol port = use_at (uses_of pool protocol).each port
 
--- how many ports the address holds, of pool_of protocols, those outside the range too
+-- how many ports the address holds, of both protocols, those outside the range too
 abbrev pub ports_held : Holdings → Address → ℕ
-ports_held pool who = count_by (is_held_by who) pool.tcp.each + count_by (is_held_by who) pool.udp.each
+ports_held pool who =
+    count_by (is_held_by who) pool.tcp.each + count_by (is_held_by who) pool.udp.each
 
 -- no port is held, and none rests
 abbrev pub fresh_pool : ℕ → ℕ → ℕ → Holdings
 fresh_pool low high quota = record {
   quota = quota;
-  tcp = record { low = low; high = high; each = all_free 65536 };
-  udp = record { low = low; high = high; each = all_free 65536 };
+  tcp = uses_over low high (all_free 65536);
+  udp = uses_over low high (all_free 65536);
 }
 
 -- the n ports from start on have this use, and nothing else changes
@@ -37,10 +38,12 @@ with_use Tcp start n value pool = record pool { tcp = with_uses start n value po
 with_use Udp start n value pool = record pool { udp = with_uses start n value pool.udp }
 
 abbrev pub NoneHeld : Holdings → Protocol → ℕ → ℕ → Type 0
-NoneHeld pool protocol start n = (port : ℕ) → start ≤ port → port < start + n → is_held (use_of pool protocol port) ≡ false
+NoneHeld pool protocol start n =
+    (port : ℕ) → start ≤ port → port < start + n → is_held (use_of pool protocol port) ≡ false
 
 abbrev pub AllHeldBy : Holdings → Address → Protocol → ℕ → ℕ → Type 0
-AllHeldBy pool who protocol start n = (port : ℕ) → start ≤ port → port < start + n → use_of pool protocol port ≡ Held who
+AllHeldBy pool who protocol start n =
+    (port : ℕ) → start ≤ port → port < start + n → use_of pool protocol port ≡ Held who
 
 abbrev pub pool_of : ℕ → PortUses → PortUses → Holdings
 pool_of quota tcp udp = record { quota = quota; tcp = tcp; udp = udp }

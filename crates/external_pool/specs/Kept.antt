@@ -1,4 +1,5 @@
--- What is kept beside the uses of ports: the taken ports of the range, and how many ports each address holds (our own).
+-- What is kept beside the uses of ports: which of the range are taken, and how many ports each
+-- address holds (our own).
 use Rattle.std.specs.Prelude.{◌≡◌, ℕ, ◌&&◌, not, List, length}
 use Rattle.std.specs.Ordering.{nat_cmp}
 use Rattle.std.specs.Cmp.Lexicographic.{slice_cmp}

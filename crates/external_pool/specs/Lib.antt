@@ -2,6 +2,8 @@ pub mod PortUses
 pub mod Choosing
 pub mod Asking
 pub mod Holdings
+pub mod Calls
 pub mod Kept
 pub mod Plain
-pub mod OnePick
+pub mod PoolOf
+pub mod Laws

@@ -11,6 +11,10 @@ pub record PortUses : Type 0 where
   pub high : ℕ
   pub each : List Use
 
+-- a range, and these uses
+abbrev pub uses_over : ℕ → ℕ → List Use → PortUses
+uses_over low high each = record { low = low; high = high; each = each }
+
 -- no port is used
 unfoldable pub all_free : ℕ → List Use
 all_free count = replicate count Free
@@ -45,15 +49,18 @@ is_free_to who internal (Resting last port) = same_address last who && port == i
 
 -- in the range, held by nobody and at rest for nobody
 abbrev pub is_vacant : PortUses → ℕ → Bool
-is_vacant uses port = is_in_range uses.low uses.high port && is_free_use (use_at uses.each port)
+is_vacant uses port =
+    is_in_range uses.low uses.high port && is_free_use (use_at uses.each port)
 
 -- in the range, held by nobody and at rest for no other endpoint
 abbrev pub is_open : PortUses → Address → ℕ → ℕ → Bool
-is_open uses who internal port = is_in_range uses.low uses.high port && is_free_to who internal (use_at uses.each port)
+is_open uses who internal port =
+    is_in_range uses.low uses.high port && is_free_to who internal (use_at uses.each port)
 
 -- the n ports from start on have this use, and the others stay
 abbrev pub with_run : ℕ → ℕ → Use → List Use → List Use
-with_run start n value each = take start each ++ (replicate n value ++ drop (start + n) each)
+with_run start n value each =
+    take start each ++ (replicate n value ++ drop (start + n) each)
 
 abbrev pub with_uses : ℕ → ℕ → Use → PortUses → PortUses
 with_uses start n value uses = record uses { each = with_run start n value uses.each }
@@ -62,3 +69,9 @@ abbrev pub is_resting : Use → Bool
 is_resting Free = false
 is_resting (Held who) = false
 is_resting (Resting last internal) = true
+
+-- at rest for this address and internal port
+abbrev pub is_resting_for : Address → ℕ → Use → Bool
+is_resting_for who internal Free = false
+is_resting_for who internal (Held holder) = false
+is_resting_for who internal (Resting last port) = same_address last who && port == internal

@@ -22,8 +22,10 @@ pub fn count_of(counts: &BTreeMap<[u8; 16], u32>, who: &Address) -> u32
 pub fn raise(counts: &mut BTreeMap<[u8; 16], u32>, who: &Address, n: u32) -> Result<(), Memory>
     requires { count_held counts.old who.now + n < 2 ^ 32 }
     ensures ok { OnOk result ((other : Address) →
-        count_held counts.new other ≡ count_held counts.old other + (if same_address who.now other then n else 0)) }
-    ensures err { OnErr result ((other : Address) → count_held counts.new other ≡ count_held counts.old other) }
+        count_held counts.new other
+        ≡ count_held counts.old other + (if same_address who.now other then n else 0)) }
+    ensures err { OnErr result ((other : Address) →
+        count_held counts.new other ≡ count_held counts.old other) }
 {
     let count = count_of(counts, who) + n;
     counts.insert(who.0, count)?;
@@ -34,7 +36,8 @@ pub fn raise(counts: &mut BTreeMap<[u8; 16], u32>, who: &Address, n: u32) -> Res
 fn overwrite(counts: &mut BTreeMap<[u8; 16], u32>, who: &Address, count: u32)
     requires { IsSome (get (slice_cmp nat_cmp) counts.old who.now.0) }
     ensures { (other : List ℕ) → get (slice_cmp nat_cmp) counts.new other
-        ≡ (if is_at (slice_cmp nat_cmp who.now.0) other then Some count else get (slice_cmp nat_cmp) counts.old other) }
+        ≡ (if is_at (slice_cmp nat_cmp who.now.0) other then Some count
+          else get (slice_cmp nat_cmp) counts.old other) }
 {
     if let Some(place) = counts.get_mut(&who.0) {
         *place = count;
@@ -45,7 +48,8 @@ fn overwrite(counts: &mut BTreeMap<[u8; 16], u32>, who: &Address, count: u32)
 pub fn lower(counts: &mut BTreeMap<[u8; 16], u32>, who: &Address, n: u32)
     requires { n ≤ count_held counts.old who.now }
     ensures { (other : Address) →
-        count_held counts.new other ≡ count_held counts.old other - (if same_address who.now other then n else 0) }
+        count_held counts.new other
+        ≡ count_held counts.old other - (if same_address who.now other then n else 0) }
 {
     let count = count_of(counts, who) - n;
     if count == 0 {

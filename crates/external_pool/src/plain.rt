@@ -1,26 +1,22 @@
 //! The plain body of a pool: a list for each protocol that is searched from the lowest port on, and
 //! nothing beside it.
 
-ghost use Rattle.std.specs.Prelude.{◌≡◌, ◌+◌, ◌≤◌, ◌<◌, ◌↔◌, ℕ, length, count_by, IsTrue, IfOk, IfSome, IfNone, IsOk, OnOk, OnErr, Err};
-ghost use Rattle.std.specs.Bool.{OnTrue, OnFalse};
+ghost use Rattle.std.specs.Prelude.{◌≡◌, ◌+◌, ◌≤◌, ◌<◌, ◌↔◌, ℕ, length, count_by, IsTrue, IfOk};
 ghost use Rattle.port_runs.specs.Ports.{IsLeast};
-ghost use Rattle.external_pool.specs.PortUses.{is_resting, is_held_by, is_vacant, is_open, with_run, use_at};
-ghost use Rattle.external_pool.specs.Choosing.{IsVacantRun, GoesBack, IsLongest, IsPick};
-ghost use Rattle.external_pool.specs.Holdings.{use_of, ports_held, fresh_pool, with_use, NoneHeld, AllHeldBy};
+ghost use Rattle.external_pool.specs.PortUses.{uses_over, is_held_by, is_vacant, is_open};
+ghost use Rattle.external_pool.specs.Choosing.{IsVacantRun, IsLongest, IsPick};
+ghost use Rattle.external_pool.specs.Holdings.{use_of, fresh_pool, with_use};
 ghost use Rattle.external_pool.specs.Asking.{IsPickAnswer};
+ghost use Rattle.external_pool.specs.Calls.{IsAsk, MayHold, MayRelease, HoldsPorts, RestsPort, WakesPort};
 ghost use Rattle.external_pool.specs.Plain.{plainly};
-ghost use Rattle.external_pool.specs.declared.uses.Use.TheVariants.{Free, Held, Resting};
-ghost use Rattle.external_pool.specs.declared.asks.PickRefused.TheVariants.{Quota};
+ghost use Rattle.external_pool.specs.declared.uses.Use.TheVariants.{Free};
 
 use crate::asks::{PickAsk, PickRefused, Picked, judge};
 use crate::side::meets;
-use crate::uses::{Use, cleared, is_free_use, is_free_to, paint};
+use crate::uses::{PORTS, Use, cleared, is_free_use, is_free_to, paint};
 use pcp_base::{Address, Endpoint, Memory, Protocol};
 use std::alloc::Global;
 use std::marker::Model;
-
-/// How many numbers a port may have.
-const PORTS: usize = 65536;
 
 /// The external ports of one address, with the same clauses as [`Pool`](crate::Pool).
 #[derive(Drop)]
@@ -64,7 +60,8 @@ fn count(each: &[Use], who: &Address) -> usize
 /// Whether the `n` ports from `start` on are vacant.
 fn is_vacant_run(low: u16, high: u16, each: &[Use], start: u16, n: u32) -> bool
     requires { length each.now ≡ 65536 }
-    ensures { IsTrue result ↔ ((port : ℕ) → start ≤ port → port < start + n → IsTrue (is_vacant (record { low = low; high = high; each = each.now }) port)) }
+    ensures { IsTrue result ↔ ((port : ℕ) → start ≤ port → port < start + n →
+        IsTrue (is_vacant (uses_over low high each.now) port)) }
 {
     for i in 0..n {
         let port = u64::from(start) + u64::from(i);
@@ -86,7 +83,8 @@ fn is_open_run(
     n: u32,
 ) -> bool
     requires { length each.now ≡ 65536 }
-    ensures { IsTrue result ↔ ((i : ℕ) → i < n → IsTrue (is_open (record { low = low; high = high; each = each.now }) who.now (internal + i) (start + i))) }
+    ensures { IsTrue result ↔ ((i : ℕ) → i < n →
+        IsTrue (is_open (uses_over low high each.now) who.now (internal + i) (start + i))) }
 {
     for i in 0..n {
         let port = u64::from(start) + u64::from(i);
@@ -104,7 +102,7 @@ fn is_open_run(
 fn first_vacant(low: u16, high: u16, each: &[Use], n: u32, parity: Option<u8>) -> Option<u16>
     requires some { 1 ≤ n }
     requires all { length each.now ≡ 65536 }
-    ensures { IsLeast (IsVacantRun (record { low = low; high = high; each = each.now }) n parity) result }
+    ensures { IsLeast (IsVacantRun (uses_over low high each.now) n parity) result }
 {
     for port in usize::from(low)..usize::from(high) + 1 {
         let start = port as u16;
@@ -118,7 +116,7 @@ fn first_vacant(low: u16, high: u16, each: &[Use], n: u32, parity: Option<u8>) -
 /// The longest run of vacant ports, of at most `room`, and of those the one with the least start.
 fn longest(low: u16, high: u16, each: &[Use], room: u32, parity: Option<u8>) -> Option<Picked>
     requires { length each.now ≡ 65536 }
-    ensures { IsLongest (record { low = low; high = high; each = each.now }) parity room result }
+    ensures { IsLongest (uses_over low high each.now) parity room result }
 {
     for less in 0..room {
         let count = room - less;
@@ -139,7 +137,8 @@ fn choose(
     room: u32,
 ) -> Option<Picked>
     requires { length each.now ≡ 65536 }
-    ensures { IsPick (record { low = low; high = high; each = each.now }) who.now ask.now.internal ask.now.suggested ask.now.parity room result }
+    ensures { IsPick (uses_over low high each.now) who.now
+        ask.now.internal ask.now.suggested ask.now.parity room result }
 {
     if ask.suggested != 0 {
         if meets(ask.suggested, ask.parity) {
@@ -159,7 +158,8 @@ fn mark(tcp: &mut [Use], udp: &mut [Use], protocol: Protocol, start: u16, n: u32
     requires end { start + n ≤ 65536 }
     requires tcp { length tcp.old ≡ 65536 }
     requires udp { length udp.old ≡ 65536 }
-    ensures { (low high quota : ℕ) → plainly low high quota tcp.new udp.new ≡ with_use protocol start n value (plainly low high quota tcp.old udp.old) }
+    ensures { (low high quota : ℕ) → plainly low high quota tcp.new udp.new
+        ≡ with_use protocol start n value (plainly low high quota tcp.old udp.old) }
 {
     match protocol {
         Protocol::Tcp => paint(tcp, start as usize, n as usize, value),
@@ -168,7 +168,7 @@ fn mark(tcp: &mut [Use], udp: &mut [Use], protocol: Protocol, start: u16, n: u32
 }
 
 impl PlainPool {
-    /// The range from `low` to `high` of pool_of protocols. The one error is want of memory.
+    /// The range from `low` to `high` of both protocols. The one error is want of memory.
     pub fn new(alloc: Global, low: u16, high: u16, quota: u32) -> Result<PlainPool, Memory>
         requires some { 1 ≤ low }
         requires ordered { low ≤ high }
@@ -190,8 +190,7 @@ impl PlainPool {
         protocol: Protocol,
         ask: &PickAsk,
     ) -> Result<Picked, PickRefused>
-        requires room { 1 ≤ ask.now.room }
-        requires asked { 1 ≤ ask.now.asked }
+        requires { IsAsk ask.now }
         ensures { IsPickAnswer self.now who.now protocol ask.now result }
     {
         let owned = count(&self.tcp, who) as u32 + count(&self.udp, who) as u32;
@@ -214,12 +213,8 @@ impl PlainPool {
         start: u16,
         n: u32,
     ) -> Result<(), Memory>
-        requires from { 1 ≤ start }
-        requires some { 1 ≤ n }
-        requires end { start + n ≤ 65536 }
-        requires none_held { NoneHeld self.old protocol start n }
-        ensures ok { OnOk result (self.new ≡ with_use protocol start n (Held who.now) self.old) }
-        ensures err { OnErr result (self.new ≡ self.old) }
+        requires { MayHold self.old protocol start n }
+        ensures { HoldsPorts self.old who.now protocol start n result self.new }
     {
         mark(
             &mut self.tcp,
@@ -234,10 +229,7 @@ impl PlainPool {
 
     /// Ends what an address holds of `n` ports.
     pub fn release(&mut self, _who: &Address, protocol: Protocol, start: u16, n: u32)
-        requires from { 1 ≤ start }
-        requires some { 1 ≤ n }
-        requires end { start + n ≤ 65536 }
-        requires held { AllHeldBy self.old _who.now protocol start n }
+        requires { MayRelease self.old _who.now protocol start n }
         ensures { self.new ≡ with_use protocol start n Free self.old }
     {
         mark(&mut self.tcp, &mut self.udp, protocol, start, n, Use::Free);
@@ -246,8 +238,7 @@ impl PlainPool {
     /// Marks a port as resting for the endpoint that owned it last.
     pub fn rest(&mut self, external: u16, last: &Endpoint) -> Result<(), Memory>
         requires { use_of self.old last.now.protocol external ≡ Free }
-        ensures ok { IsOk result }
-        ensures rests { self.new ≡ with_use last.now.protocol external 1 (Resting last.now.address last.now.port) self.old }
+        ensures { RestsPort self.old external last.now result self.new }
     {
         mark(
             &mut self.tcp,
@@ -272,9 +263,7 @@ impl PlainPool {
 
     /// Ends the rest of a port; false where it doesn't rest.
     pub fn wake(&mut self, protocol: Protocol, external: u16) -> bool
-        ensures answer { result ≡ is_resting (use_of self.old protocol external) }
-        ensures woken { OnTrue result (self.new ≡ with_use protocol external 1 Free self.old) }
-        ensures unchanged { OnFalse result (self.new ≡ self.old) }
+        ensures { WakesPort self.old protocol external result self.new }
     {
         let Use::Resting(_, _) = self.use_of(protocol, external) else {
             return false;

@@ -1,12 +1,10 @@
-//! The pool of pool_of protocols.
+//! The pool of both protocols.
 
-ghost use Rattle.std.specs.Prelude.{◌≡◌, ◌+◌, ◌≤◌, ◌<◌, ℕ, IfOk, IsOk, OnOk, OnErr, Err};
-ghost use Rattle.std.specs.Bool.{OnTrue, OnFalse};
-ghost use Rattle.external_pool.specs.PortUses.{is_resting};
-ghost use Rattle.external_pool.specs.Holdings.{uses_of, use_of, ports_held, fresh_pool, with_use, pool_of, NoneHeld, AllHeldBy};
+ghost use Rattle.std.specs.Prelude.{◌≡◌, ◌+◌, ◌≤◌, ℕ, IfOk};
+ghost use Rattle.external_pool.specs.Holdings.{uses_of, use_of, fresh_pool, with_use, pool_of};
 ghost use Rattle.external_pool.specs.Asking.{IsPickAnswer};
-ghost use Rattle.external_pool.specs.declared.uses.Use.TheVariants.{Free, Held, Resting};
-ghost use Rattle.external_pool.specs.declared.asks.PickRefused.TheVariants.{Quota};
+ghost use Rattle.external_pool.specs.Calls.{IsAsk, MayHold, MayRelease, HoldsPorts, RestsPort, WakesPort};
+ghost use Rattle.external_pool.specs.declared.uses.Use.TheVariants.{Free};
 
 use crate::asks::{PickAsk, PickRefused, Picked, judge};
 use crate::counts::{count_of, lower, raise};
@@ -42,7 +40,8 @@ impl Model for Pool {
 /// Gives ports of one protocol this use.
 fn mark(tcp: &mut Side, udp: &mut Side, protocol: Protocol, start: u16, n: u32, value: Use)
     requires { start + n ≤ 65536 }
-    ensures { (quota : ℕ) → pool_of quota tcp.new udp.new ≡ with_use protocol start n value (pool_of quota tcp.old udp.old) }
+    ensures { (quota : ℕ) → pool_of quota tcp.new udp.new
+        ≡ with_use protocol start n value (pool_of quota tcp.old udp.old) }
 {
     match protocol {
         Protocol::Tcp => tcp.mark(start, n, value),
@@ -51,7 +50,7 @@ fn mark(tcp: &mut Side, udp: &mut Side, protocol: Protocol, start: u16, n: u32, 
 }
 
 impl Pool {
-    /// The range from `low` to `high` of pool_of protocols, of which no port is held and none rests. No
+    /// The range from `low` to `high` of both protocols, of which no port is held and none rests. No
     /// address may own more ports than the quota. The one error is want of memory.
     pub fn new(alloc: Global, low: u16, high: u16, quota: u32) -> Result<Pool, Memory>
         requires some { 1 ≤ low }
@@ -83,8 +82,7 @@ impl Pool {
         protocol: Protocol,
         ask: &PickAsk,
     ) -> Result<Picked, PickRefused>
-        requires room { 1 ≤ ask.now.room }
-        requires asked { 1 ≤ ask.now.asked }
+        requires { IsAsk ask.now }
         ensures { IsPickAnswer self.now who.now protocol ask.now result }
     {
         let owned = count_of(&self.counts, who);
@@ -108,12 +106,8 @@ impl Pool {
         start: u16,
         n: u32,
     ) -> Result<(), Memory>
-        requires from { 1 ≤ start }
-        requires some { 1 ≤ n }
-        requires end { start + n ≤ 65536 }
-        requires none_held { NoneHeld self.old protocol start n }
-        ensures ok { OnOk result (self.new ≡ with_use protocol start n (Held who.now) self.old) }
-        ensures err { OnErr result (self.new ≡ self.old) }
+        requires { MayHold self.old protocol start n }
+        ensures { HoldsPorts self.old who.now protocol start n result self.new }
     {
         raise(&mut self.counts, who, n)?;
         mark(
@@ -129,10 +123,7 @@ impl Pool {
 
     /// Ends what an address holds of `n` ports.
     pub fn release(&mut self, who: &Address, protocol: Protocol, start: u16, n: u32)
-        requires from { 1 ≤ start }
-        requires some { 1 ≤ n }
-        requires end { start + n ≤ 65536 }
-        requires held { AllHeldBy self.old who.now protocol start n }
+        requires { MayRelease self.old who.now protocol start n }
         ensures { self.new ≡ with_use protocol start n Free self.old }
     {
         lower(&mut self.counts, who, n);
@@ -142,8 +133,7 @@ impl Pool {
     /// Marks a port as resting for the endpoint that owned it last.
     pub fn rest(&mut self, _alloc: Global, external: u16, last: &Endpoint) -> Result<(), Memory>
         requires { use_of self.old last.now.protocol external ≡ Free }
-        ensures ok { IsOk result }
-        ensures rests { self.new ≡ with_use last.now.protocol external 1 (Resting last.now.address last.now.port) self.old }
+        ensures { RestsPort self.old external last.now result self.new }
     {
         mark(
             &mut self.tcp,
@@ -158,9 +148,7 @@ impl Pool {
 
     /// Ends the rest of a port; false where it doesn't rest.
     pub fn wake(&mut self, protocol: Protocol, external: u16) -> bool
-        ensures answer { result ≡ is_resting (use_of self.old protocol external) }
-        ensures woken { OnTrue result (self.new ≡ with_use protocol external 1 Free self.old) }
-        ensures unchanged { OnFalse result (self.new ≡ self.old) }
+        ensures { WakesPort self.old protocol external result self.new }
     {
         let Use::Resting(_, _) = self.side(protocol).use_at(external) else {
             return false;

@@ -6,16 +6,13 @@ ghost use Rattle.external_pool.specs.PortUses as the;
 ghost use Rattle.external_pool.specs.Choosing.{IsVacantRun, HasVacantRun, GoesBack, IsLongest, IsPick};
 
 use crate::asks::Picked;
-use crate::uses::{Use, cleared, is_free_use, is_free_to, paint};
+use crate::uses::{PORTS, Use, cleared, is_free_use, is_free_to, paint};
 use pcp_base::{Address, Memory};
 use port_runs::Runs;
 use std::alloc::Global;
 use std::marker::{Brand, Model};
 use std::sync::ledger::{Blank, Ledger};
 use step_count::Steps;
-
-/// How many numbers a port may have.
-const PORTS: usize = 65536;
 
 /// The ports of one protocol: a use for each number of 16 bits, and a tree of the range's vacant ones.
 #[derive(Drop)]
@@ -44,7 +41,8 @@ fn settle(runs: &mut Runs, start: u16, n: u32, vacant: bool)
     requires high { start + n ≤ runs.old.high + 1 }
     ensures low { runs.new.low ≡ runs.old.low }
     ensures high { runs.new.high ≡ runs.old.high }
-    ensures taken { (port : ℕ) → is_taken runs.new port ≡ (if is_in_run start n port then not vacant else is_taken runs.old port) }
+    ensures taken { (port : ℕ) → is_taken runs.new port
+        ≡ (if is_in_run start n port then not vacant else is_taken runs.old port) }
 {
     runs.give(start, n);
     if !vacant {
@@ -90,7 +88,7 @@ impl Side {
     pub fn new(alloc: Global, low: u16, high: u16) -> Result<Side, Memory>
         requires some { 1 ≤ low }
         requires ordered { low ≤ high }
-        ensures { IfOk result (λ side. side ≡ record { low = low; high = high; each = the.all_free 65536 }) }
+        ensures { IfOk result (λ side. side ≡ the.uses_over low high (the.all_free 65536)) }
     {
         Ok(Side {
             low,

@@ -1,9 +1,9 @@
-//! Calls of pool_of bodies at once: tables whose answers are worked out by hand, and a long run.
+//! Calls of both bodies at once: tables whose answers are worked out by hand, and a long run.
 
 ghost use Rattle.std.specs.Prelude.{◌≡◌, ◌+◌, ◌≤◌, ◌<◌, ℕ, OnOk};
 ghost use Rattle.std.specs.Bool.{OnTrue};
-ghost use Rattle.external_pool.specs.PortUses.{is_held};
-ghost use Rattle.external_pool.specs.Holdings.{use_of, NoneHeld, AllHeldBy};
+ghost use Rattle.external_pool.specs.Holdings.{NoneHeld, AllHeldBy};
+ghost use Rattle.external_pool.specs.Calls.{ArePorts};
 ghost use Rattle.external_pool.specs.declared.uses.Use.TheVariants.{Free};
 
 use crate::plain::PlainPool;
@@ -96,12 +96,12 @@ fn all_held(plain: &PlainPool, who: &Address, protocol: Protocol, start: u16, n:
 
 /// Whether these are the `n` ports from `start` on.
 fn are_ports(start: u16, n: u32) -> bool
-    ensures { OnTrue result ((1 ≤ start) × (1 ≤ n) × (start + n ≤ 65536)) }
+    ensures { OnTrue result (ArePorts start n) }
 {
     start >= 1 && n >= 1 && u64::from(start) + u64::from(n) <= 65536
 }
 
-/// Makes a call of pool_of bodies, and compares the answers.
+/// Makes a call of both bodies, and compares the answers.
 fn make(
     rt: &impl Abort,
     alloc: Global,
@@ -114,6 +114,7 @@ fn make(
 {
     match *call {
         Pick(who, protocol, ask, wanted) => {
+            assert!(rt; ask.room >= 1 && ask.asked >= 1);
             assert!(rt; pool.pick(&host(who), protocol, &ask) == wanted, "pick");
             assert!(rt;
                 plain.pick(&host(who), protocol, &ask) == wanted,
@@ -347,7 +348,7 @@ impl Numbers {
     }
 }
 
-/// Holds ports in pool_of bodies, where none of them is held.
+/// Holds ports in both bodies, where none of them is held.
 fn hold_both(
     alloc: Global,
     pool: &mut Pool,
@@ -371,7 +372,7 @@ fn hold_both(
     Ok(())
 }
 
-/// Releases ports in pool_of bodies, where the address holds all of them.
+/// Releases ports in both bodies, where the address holds all of them.
 fn release_both(
     pool: &mut Pool,
     plain: &mut PlainPool,
@@ -392,7 +393,7 @@ fn release_both(
     }
 }
 
-/// Lets a port rest in pool_of bodies, where it isn't used.
+/// Lets a port rest in both bodies, where it isn't used.
 fn rest_both(
     alloc: Global,
     pool: &mut Pool,
@@ -411,7 +412,7 @@ fn rest_both(
     Ok(())
 }
 
-/// Makes a call of pool_of bodies, and compares the answers. What is picked is mostly held.
+/// Makes a call of both bodies, and compares the answers. What is picked is mostly held.
 fn call_both(
     rt: &impl Abort,
     alloc: Global,

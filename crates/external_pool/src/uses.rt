@@ -6,6 +6,9 @@ ghost use Rattle.external_pool.specs.PortUses as the;
 use pcp_base::Address;
 use std::alloc::{AllocError, Global};
 
+/// How many numbers a port may have.
+pub const PORTS: usize = 65536;
+
 /// What a port is used for.
 #[derive(Clone, Copy, Debug, PartialEq, Eq)]
 pub enum Use {
