@@ -1,5 +1,5 @@
 -- Counts of the ports that addresses hold, after a change of uses.
-use Rattle.std.proofs.Common.{◌≡◌, ℕ, zero, suc, ◌+◌, ◌-◌, ◌*◌, ◌<◌, ◌≤◌, Bool, true, false, cond, List, [], ◌∷◌, ◌++◌, length, take, drop, replicate, refl, sym, ap, ◌∙◌, arith, length-take-le, length-drop, get_or-take, get_or-drop, take-append-drop, unwrap_or, count_by}
+use Rattle.std.proofs.Common.{◌≡◌, ℕ, zero, suc, ◌+◌, ◌-◌, ◌*◌, ◌<◌, ◌≤◌, ◌&&◌, Bool, true, false, cond, List, [], ◌∷◌, ◌++◌, length, take, drop, replicate, refl, sym, ap, ◌∙◌, arith, length-take-le, length-drop, get_or-take, get_or-drop, take-append-drop, unwrap_or, count_by}
 use Rattle.std.proofs.lemmas.List.{drop-drop, length-replicate}
 use Rattle.std.proofs.lemmas.List.Sums.{sum_by-append, sum_by-cons}
 use Rattle.std.proofs.lemmas.List.Folds.{sum_by-replicate}
@@ -11,13 +11,14 @@ use Rattle.std.specs.Map.{lookup}
 use Rattle.pcp_base.specs.declared.addresses.Address.{Address}
 use Rattle.pcp_base.specs.declared.leases.Protocol.{Protocol}
 use Rattle.pcp_base.specs.declared.leases.Protocol.TheVariants.{Tcp, Udp}
-use Rattle.pcp_base.specs.Tables.{same_address}
+use Rattle.pcp_base.specs.Tables.{same_address, same_protocol}
+use Rattle.port_runs.specs.Ports.{is_in_run}
 use Rattle.external_pool.specs.declared.uses.Use.{Use}
 use Rattle.external_pool.specs.declared.uses.Use.TheVariants.{Free, Held, Resting}
 use Rattle.external_pool.specs.PortUses.{all_free, use_at, is_held, is_held_by, with_run}
-use Rattle.external_pool.specs.Holdings.{Holdings, uses_of, use_of, ports_held, with_use, NoneHeld, AllHeldBy}
+use Rattle.external_pool.specs.Holdings.{Holdings, IsWhole, uses_of, use_of, ports_held, fresh_pool, with_use, NoneHeld, AllHeldBy}
 use Rattle.external_pool.specs.Kept.{count_held, IsCounted}
-use Rattle.external_pool.proofs.Painted.{length-with_run}
+use Rattle.external_pool.proofs.Painted.{length-with_run, use_at-with_run}
 
 -- uses that a test tells alike
 one_more : (b : Bool) (n : ℕ) → cond b 1 0 + cond b n 0 ≡ cond b (suc n) 0
@@ -87,14 +88,30 @@ not_by who (Resting last port) h = refl
 pub count_held-none : (counts : BTreeMap (List ℕ) ℕ) (who : Address) → counts.entries ≡ [] → count_held counts who ≡ 0
 count_held-none counts who e = ap (λ (es : List (List ℕ × ℕ)). unwrap_or (lookup (is_at (slice_cmp nat_cmp who.0)) es) 0) e
 
-module _ (pool : Holdings) (counts : BTreeMap (List ℕ) ℕ) (is : IsCounted pool counts) where
-  all_of : (protocol : Protocol) → length (uses_of pool protocol).each ≡ 65536
-  all_of Tcp = is.tcp_all
-  all_of Udp = is.udp_all
+-- a pool has a use for each port number
+pub fresh-whole : (low high quota : ℕ) → IsWhole (fresh_pool low high quota)
+fresh-whole low high quota = record { tcp = length-all_free 65536; udp = length-all_free 65536 }
 
+all_of : (pool : Holdings) (protocol : Protocol) → IsWhole pool → length (uses_of pool protocol).each ≡ 65536
+all_of pool Tcp whole = whole.tcp
+all_of pool Udp whole = whole.udp
+
+pub with_use-whole : (pool : Holdings) (protocol : Protocol) (start n : ℕ) (value : Use) → IsWhole pool → start + n ≤ 65536 → IsWhole (with_use protocol start n value pool)
+with_use-whole pool Tcp start n value whole within = record { tcp = length-with_run start n value pool.tcp.each (omega (arith, within, whole.tcp)) ∙ whole.tcp; udp = whole.udp }
+with_use-whole pool Udp start n value whole within = record { tcp = whole.tcp; udp = length-with_run start n value pool.udp.each (omega (arith, within, whole.udp)) ∙ whole.udp }
+
+-- what each port is used for after some got a use
+pub use_of-with_use : (pool : Holdings) (protocol : Protocol) (start n : ℕ) (value : Use) → IsWhole pool → start + n ≤ 65536 → (other : Protocol) (port : ℕ)
+    → use_of (with_use protocol start n value pool) other port ≡ cond (same_protocol protocol other && is_in_run start n port) value (use_of pool other port)
+use_of-with_use pool Tcp start n value whole within Tcp port = use_at-with_run start n value pool.tcp.each (omega (arith, within, whole.tcp)) port
+use_of-with_use pool Tcp start n value whole within Udp port = refl
+use_of-with_use pool Udp start n value whole within Tcp port = refl
+use_of-with_use pool Udp start n value whole within Udp port = use_at-with_run start n value pool.udp.each (omega (arith, within, whole.udp)) port
+
+module _ (pool : Holdings) (counts : BTreeMap (List ℕ) ℕ) (is : IsCounted pool counts) where
   module _ (protocol : Protocol) (start n : ℕ) (within : start + n ≤ 65536) where
     short : start + n ≤ length (uses_of pool protocol).each
-    short = omega (arith, within, all_of protocol)
+    short = omega (arith, within, all_of pool protocol is.whole)
 
     none_in : NoneHeld pool protocol start n → (who : Address) → count_by (is_held_by who) (part start n (uses_of pool protocol).each) ≡ 0
     none_in none who = count_alike (is_held_by who) false (part start n (uses_of pool protocol).each) (λ i few.
@@ -112,20 +129,11 @@ module _ (pool : Holdings) (counts : BTreeMap (List ℕ) ℕ) (is : IsCounted po
   owned_marked Tcp start n value within who = omega (arith, count_painted start n pool.tcp.each (short Tcp start n within) (is_held_by who) value)
   owned_marked Udp start n value within who = omega (arith, count_painted start n pool.udp.each (short Udp start n within) (is_held_by who) value)
 
-  still_tcp : (protocol : Protocol) (start n : ℕ) (value : Use) → start + n ≤ 65536 → length (with_use protocol start n value pool).tcp.each ≡ 65536
-  still_tcp Tcp start n value within = length-with_run start n value pool.tcp.each (short Tcp start n within) ∙ is.tcp_all
-  still_tcp Udp start n value within = is.tcp_all
-
-  still_udp : (protocol : Protocol) (start n : ℕ) (value : Use) → start + n ≤ 65536 → length (with_use protocol start n value pool).udp.each ≡ 65536
-  still_udp Tcp start n value within = is.udp_all
-  still_udp Udp start n value within = length-with_run start n value pool.udp.each (short Udp start n within) ∙ is.udp_all
-
   -- ports that nobody held are held by an address
   pub counted_held : (who : Address) (protocol : Protocol) (start n : ℕ) → start + n ≤ 65536 → NoneHeld pool protocol start n → (new : BTreeMap (List ℕ) ℕ)
       → ((other : Address) → count_held new other ≡ count_held counts other + cond (same_address who other) n 0) → IsCounted (with_use protocol start n (Held who) pool) new
   counted_held who protocol start n within none new more = record {
-    tcp_all = still_tcp protocol start n (Held who) within;
-    udp_all = still_udp protocol start n (Held who) within;
+    whole = with_use-whole pool protocol start n (Held who) is.whole within;
     counted = λ other. omega (arith, more other, is.counted other, owned_marked protocol start n (Held who) within other, none_in protocol start n within none other);
   }
 
@@ -133,8 +141,7 @@ module _ (pool : Holdings) (counts : BTreeMap (List ℕ) ℕ) (is : IsCounted po
   pub counted_released : (who : Address) (protocol : Protocol) (start n : ℕ) → start + n ≤ 65536 → AllHeldBy pool who protocol start n → (new : BTreeMap (List ℕ) ℕ)
       → ((other : Address) → count_held new other ≡ count_held counts other - cond (same_address who other) n 0) → IsCounted (with_use protocol start n Free pool) new
   counted_released who protocol start n within all new fewer = record {
-    tcp_all = still_tcp protocol start n Free within;
-    udp_all = still_udp protocol start n Free within;
+    whole = with_use-whole pool protocol start n Free is.whole within;
     counted = λ other. omega (arith, fewer other, is.counted other, owned_marked protocol start n Free within other, all_in protocol start n within who all other);
   }
 
@@ -147,8 +154,7 @@ module _ (pool : Holdings) (counts : BTreeMap (List ℕ) ℕ) (is : IsCounted po
   -- ports that nobody held are still held by nobody
   pub counted_rested : (protocol : Protocol) (start n : ℕ) (value : Use) → start + n ≤ 65536 → NoneHeld pool protocol start n → is_held value ≡ false → IsCounted (with_use protocol start n value pool) counts
   counted_rested protocol start n value within none unheld = record {
-    tcp_all = still_tcp protocol start n value within;
-    udp_all = still_udp protocol start n value within;
+    whole = with_use-whole pool protocol start n value is.whole within;
     counted = λ other.
         let nothing : cond (is_held_by other value) n 0 ≡ 0 = ap (λ (b : Bool). cond b n 0) (not_by other value unheld) in
         omega (arith, is.counted other, owned_marked protocol start n value within other, none_in protocol start n within none other, nothing);

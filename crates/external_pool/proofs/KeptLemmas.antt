@@ -3,7 +3,6 @@ use Rattle.std.proofs.Common.{◌≡◌, ℕ, ◌+◌, ◌-◌, ◌<◌, ◌≤�
 use Rattle.std.proofs.lemmas.Bool.Decides.{nat_tests}
 use Rattle.port_runs.specs.Ports.{Ports, is_taken, is_untaken, is_in_run, IsFittingRun, HasFittingRun, IsLeast, IsGreatest}
 use Rattle.external_pool.specs.declared.uses.Use.{Use}
-use Rattle.external_pool.specs.declared.asks.Picked.{Picked}
 use Rattle.external_pool.specs.PortUses.{PortUses, use_at, is_in_range, is_free_use, is_vacant, with_run, all_free}
 use Rattle.external_pool.specs.declared.uses.Use.TheVariants.{Free}
 use Rattle.external_pool.specs.Choosing.{IsVacantRun, HasVacantRun, IsLongest}

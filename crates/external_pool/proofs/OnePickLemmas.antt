@@ -1,6 +1,5 @@
 -- There is at most one pick.
-use Rattle.std.proofs.Common.{◌≡◌, ℕ, ◌<◌, ◌≤◌, Bool, true, false, Option, Some, None, refl, sym, ap, ◌∙◌, subst, arith, ltb, ◌⊎◌, inl, inr}
-use Rattle.std.proofs.lemmas.Grind.{common_steps}
+use Rattle.std.proofs.Common.{◌≡◌, ℕ, ◌≤◌, Option, Some, None, refl, sym, ap, ◌∙◌, subst, arith, inl, inr}
 use Rattle.pcp_base.specs.declared.addresses.Address.{Address}
 use Rattle.external_pool.specs.PortUses.{PortUses}
 use Rattle.external_pool.specs.Choosing.{IsVacantRun, IsPick, IsLongest, IsLongestRun}

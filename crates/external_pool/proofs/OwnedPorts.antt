@@ -1,20 +1,20 @@
 -- In the pool of a state an address holds as many ports as its live leases own.
-use Rattle.std.specs.Prelude.{◌≡◌, refl, ℕ, zero, suc, ◌+◌, ◌<◌, ◌&&◌, ◌||◌, ◌==◌, Bool, true, false, List, [], ◌∷◌, length, filter, count_by}
-use Rattle.std.proofs.Common.{ap, sym, ◌∙◌, cond, arith, inl, inr}
+use Rattle.std.specs.Prelude.{◌≡◌, refl, ℕ, zero, suc, ◌+◌, ◌<◌, ◌&&◌, ◌||◌, ◌==◌, Bool, true, false, List, [], ◌∷◌, length, count_by}
+use Rattle.std.proofs.Common.{ap, ◌∙◌, cond, arith, inl, inr}
 use Rattle.std.proofs.lemmas.List.Sums.{sum_by-cons}
 use Rattle.std.proofs.lemmas.Bool.Decides.{nat_tests}
 use Rattle.pcp_base.specs.declared.addresses.Address.{Address}
 use Rattle.pcp_base.specs.declared.leases.Protocol.{Protocol}
 use Rattle.pcp_base.specs.declared.leases.Protocol.TheVariants.{Tcp, Udp}
 use Rattle.pcp_base.specs.declared.leases.Owner.{Owner}
-use Rattle.pcp_base.specs.Tables.{live, same_protocol, same_address}
-use Rattle.pcp_base.specs.Owners.{owners, is_port, is_owned, owned, different_ports}
+use Rattle.pcp_base.specs.Tables.{live, same_protocol}
+use Rattle.pcp_base.specs.Owners.{is_owned, owned, different_ports}
 use Rattle.pcp_base.specs.States.{State}
 use Rattle.pcp_base.proofs.Members.{IsIn}
 use Rattle.pcp_base.proofs.EndLemmas.{some-owned}
 use Rattle.external_pool.specs.declared.uses.Use.{Use}
 use Rattle.external_pool.specs.PortUses.{use_at, is_held_by}
-use Rattle.external_pool.specs.Holdings.{Holdings, uses_of, use_of, ports_held}
+use Rattle.external_pool.specs.Holdings.{Holdings, uses_of, ports_held}
 use Rattle.external_pool.specs.PoolOf.{IsPoolOf, owners_at}
 
 -- how many of the numbers below n pass a test

@@ -1,6 +1,6 @@
 -- In the pool of a state a port is vacant or open where the state says so.
-use Rattle.std.specs.Prelude.{◌≡◌, refl, ℕ, ◌↔◌, ◌&&◌, ◌==◌, not, Bool, true, false, List, filter, IsTrue}
-use Rattle.std.proofs.Common.{ap, sym, ◌∙◌, subst}
+use Rattle.std.specs.Prelude.{◌≡◌, refl, ℕ, ◌↔◌, ◌&&◌, ◌==◌, not, Bool, true, false, List, IsTrue}
+use Rattle.std.proofs.Common.{ap, sym, ◌∙◌}
 use Rattle.std.proofs.lemmas.Bool.{and_parts, and_from, eqb-true, eq-eqb}
 use Rattle.pcp_base.specs.declared.addresses.Address.{Address}
 use Rattle.pcp_base.specs.declared.leases.Protocol.{Protocol}
@@ -14,7 +14,6 @@ use Rattle.pcp_base.specs.Ends.{resting, rests, rests_for, is_end_of}
 use Rattle.pcp_base.specs.States.{State}
 use Rattle.pcp_base.proofs.Same.{same_address-Decides, same_endpoint-Decides}
 use Rattle.pcp_base.proofs.Members.{IsIn, IsIn-filter, filter-IsIn, any-some, some-any}
-use Rattle.pcp_base.proofs.EndLemmas.{owned-some}
 use Rattle.pcp_base.proofs.RestLaws.{protocol_number-same}
 use Rattle.external_pool.specs.declared.uses.Use.{Use}
 use Rattle.external_pool.specs.declared.uses.Use.TheVariants.{Free, Held, Resting}
@@ -54,9 +53,12 @@ module _ (pool : Holdings) (s : State) (m : ℕ) (is : IsPoolOf pool s m) (proto
       let protocols : x.endpoint.protocol ≡ protocol = protocol_number-same x.endpoint.protocol protocol (eqb-true (protocol_number x.endpoint.protocol) (protocol_number protocol) parts.0) in
       let whole : x.endpoint ≡ record { address = x.endpoint.address; protocol = protocol; port = x.endpoint.port } =
       ap (λ (p : Protocol). record { address = x.endpoint.address; protocol = p; port = x.endpoint.port }) protocols in
-      let named = and_from _ _ ((same_endpoint-Decides x.endpoint (record { address = x.endpoint.address; protocol = protocol; port = x.endpoint.port })).1 whole) parts.1 in
-      (x.endpoint.address, x.endpoint.port, is.rests x.endpoint.address x.endpoint.port protocol port
-      ∙ some-any (λ (e : End). same_endpoint e.endpoint (record { address = x.endpoint.address; protocol = protocol; port = x.endpoint.port }) && e.external == port) (resting s m) x found.1 named)
+      let named = and_from _ _ ((same_endpoint-Decides x.endpoint (record { address = x.endpoint.address; protocol = protocol; port = x.endpoint.port })).1 whole) parts.1 in (
+        x.endpoint.address,
+        x.endpoint.port,
+        is.rests x.endpoint.address x.endpoint.port protocol port
+            ∙ some-any (λ (e : End). same_endpoint e.endpoint (record { address = x.endpoint.address; protocol = protocol; port = x.endpoint.port }) && e.external == port) (resting s m) x found.1 named,
+      )
 
   resting-rests : (who : Address) (internal : ℕ) → is_resting_for who internal (use_of pool protocol port) ≡ true → rests s m protocol port ≡ true
   resting-rests who internal h =

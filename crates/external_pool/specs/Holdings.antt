@@ -1,5 +1,5 @@
 -- What a pool has: who holds which ports, and for whom others rest (our own).
-use Rattle.std.specs.Prelude.{◌≡◌, ℕ, ◌+◌, ◌<◌, ◌≤◌, count_by, false}
+use Rattle.std.specs.Prelude.{◌≡◌, ℕ, ◌+◌, ◌<◌, ◌≤◌, count_by, length, false}
 use Rattle.pcp_base.specs.declared.addresses.Address.{Address}
 use Rattle.pcp_base.specs.declared.leases.Protocol.{Protocol}
 use Rattle.pcp_base.specs.declared.leases.Protocol.TheVariants.{Tcp, Udp}
@@ -11,6 +11,11 @@ pub record Holdings : Type 0 where
   pub quota : ℕ
   pub tcp : PortUses
   pub udp : PortUses
+
+-- both protocols have a use for each port number of 16 bits
+pub record IsWhole (pool : Holdings) : Type 0 where
+  pub tcp : length pool.tcp.each ≡ 65536
+  pub udp : length pool.udp.each ≡ 65536
 
 abbrev pub uses_of : Holdings → Protocol → PortUses
 uses_of pool Tcp = pool.tcp

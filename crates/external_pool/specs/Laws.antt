@@ -1,17 +1,19 @@
 -- The laws of picks, and of a pool that is the pool of a state (our own).
-use Rattle.std.specs.Prelude.{◌≡◌, ℕ, ◌↔◌, ◌&&◌, not, IsTrue, true, false, Option}
+use Rattle.std.specs.Prelude.{◌≡◌, ℕ, ◌+◌, ◌≤◌, ◌↔◌, ◌&&◌, if◌then◌else◌, not, IsTrue, true, false, Option}
 use Rattle.pcp_base.specs.declared.addresses.Address.{Address}
 use Rattle.pcp_base.specs.declared.leases.Protocol.{Protocol}
 use Rattle.pcp_base.specs.declared.leases.Endpoint.{Endpoint}
-use Rattle.pcp_base.specs.Tables.{live}
+use Rattle.pcp_base.specs.Tables.{live, same_protocol}
 use Rattle.pcp_base.specs.Owners.{owners, is_owned, owned}
 use Rattle.pcp_base.specs.Ends.{rests, rests_for}
 use Rattle.pcp_base.specs.States.{State}
+use Rattle.port_runs.specs.Ports.{is_in_run}
 use Rattle.external_pool.specs.PortUses.{PortUses, is_in_range, is_vacant, is_open}
-use Rattle.external_pool.specs.Holdings.{Holdings, uses_of, ports_held}
+use Rattle.external_pool.specs.Holdings.{Holdings, IsWhole, uses_of, use_of, with_use, fresh_pool, ports_held}
 use Rattle.external_pool.specs.Choosing.{IsPick}
 use Rattle.external_pool.specs.PoolOf.{IsPoolOf}
 use Rattle.external_pool.specs.declared.asks.Picked.{Picked}
+use Rattle.external_pool.specs.declared.uses.Use.{Use}
 
 -- there is at most one pick
 abbrev pub PicksAreOne : Type 0
@@ -46,3 +48,19 @@ abbrev pub PoolsTellOpen : Type 0
 PoolsTellOpen = (pool : Holdings) (s : State) (m : ℕ) (e : Endpoint) (port : ℕ) →
     IsPoolOf pool s m →
     IsTrue (is_open (uses_of pool e.protocol) e.address e.port port) ↔ IsOpenTo pool s m e port
+
+-- A pool has a use for each port number from its beginning on.
+abbrev pub NewPoolsAreWhole : Type 0
+NewPoolsAreWhole = (low high quota : ℕ) → IsWhole (fresh_pool low high quota)
+
+abbrev pub PoolsStayWhole : Type 0
+PoolsStayWhole = (pool : Holdings) (protocol : Protocol) (start n : ℕ) (value : Use) →
+    IsWhole pool → start + n ≤ 65536 → IsWhole (with_use protocol start n value pool)
+
+-- what each port is used for after some ports got a use
+abbrev pub UsesChangeInARun : Type 0
+UsesChangeInARun = (pool : Holdings) (protocol : Protocol) (start n : ℕ) (value : Use) →
+    IsWhole pool → start + n ≤ 65536 → (other : Protocol) (port : ℕ) →
+    use_of (with_use protocol start n value pool) other port
+    ≡ (if same_protocol protocol other && is_in_run start n port then value
+    else use_of pool other port)

@@ -37,7 +37,7 @@ fn overwrite(counts: &mut BTreeMap<[u8; 16], u32>, who: &Address, count: u32)
     requires { IsSome (get (slice_cmp nat_cmp) counts.old who.now.0) }
     ensures { (other : List ℕ) → get (slice_cmp nat_cmp) counts.new other
         ≡ (if is_at (slice_cmp nat_cmp who.now.0) other then Some count
-          else get (slice_cmp nat_cmp) counts.old other) }
+        else get (slice_cmp nat_cmp) counts.old other) }
 {
     if let Some(place) = counts.get_mut(&who.0) {
         *place = count;

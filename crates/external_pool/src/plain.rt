@@ -13,7 +13,7 @@ ghost use Rattle.external_pool.specs.declared.uses.Use.TheVariants.{Free};
 
 use crate::asks::{PickAsk, PickRefused, Picked, judge};
 use crate::side::meets;
-use crate::uses::{PORTS, Use, cleared, is_free_use, is_free_to, paint};
+use crate::uses::{PORTS, Use, cleared, is_free_to, is_free_use, paint};
 use pcp_base::{Address, Endpoint, Memory, Protocol};
 use std::alloc::Global;
 use std::marker::Model;

@@ -6,7 +6,7 @@ ghost use Rattle.external_pool.specs.PortUses as the;
 ghost use Rattle.external_pool.specs.Choosing.{IsVacantRun, HasVacantRun, GoesBack, IsLongest, IsPick};
 
 use crate::asks::Picked;
-use crate::uses::{PORTS, Use, cleared, is_free_use, is_free_to, paint};
+use crate::uses::{PORTS, Use, cleared, is_free_to, is_free_use, paint};
 use pcp_base::{Address, Memory};
 use port_runs::Runs;
 use std::alloc::Global;
@@ -107,7 +107,12 @@ impl Side {
         let from = start.max(self.low);
         let to = (u32::from(start) + n).min(u32::from(self.high) + 1);
         if u32::from(from) < to {
-            settle(&mut self.runs, from, to - u32::from(from), is_free_use(value));
+            settle(
+                &mut self.runs,
+                from,
+                to - u32::from(from),
+                is_free_use(value),
+            );
         }
     }
 

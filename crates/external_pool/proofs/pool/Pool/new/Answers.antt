@@ -5,8 +5,10 @@ use Rattle.external_pool.proofs.pool.Pool.new.Goals as goal
 
 pub invariant_of-result : goal.invariant_of-result
 invariant_of-result c = record {
-  tcp_all = ap (λ (u : PortUses). length u.each) c.in_ok-new.ensures ∙ length-all_free 65536;
-  udp_all = ap (λ (u : PortUses). length u.each) c.in_ok-new-2.ensures ∙ length-all_free 65536;
+  whole = record {
+    tcp = ap (λ (u : PortUses). length u.each) c.in_ok-new.ensures ∙ length-all_free 65536;
+    udp = ap (λ (u : PortUses). length u.each) c.in_ok-new-2.ensures ∙ length-all_free 65536;
+  };
   counted = λ who.
       let tcp : count_by (is_held_by who) c.in_ok-new.field-0.each ≡ 0 = ap (λ (u : PortUses). count_by (is_held_by who) u.each) c.in_ok-new.ensures ∙ count-all_free who 65536 in
       let udp : count_by (is_held_by who) c.in_ok-new-2.field-0.each ≡ 0 = ap (λ (u : PortUses). count_by (is_held_by who) u.each) c.in_ok-new-2.ensures ∙ count-all_free who 65536 in
