@@ -75,7 +75,11 @@ impl Pool {
         }
     }
 
-    /// The ports that an address would be given.
+    /// The ports that an address would be given. They are those suggested, where each of them is open
+    /// to the endpoint that it would go to and the first meets the parity asked. Else they are the
+    /// longest run of vacant ports whose first meets it, of at most the room and of what the quota
+    /// leaves, and of these runs the one with the least start. The refusal is the first of
+    /// [`PickRefused`] that applies. The ask is for at least one port, with room for one.
     pub fn pick(
         &self,
         who: &Address,
@@ -96,8 +100,9 @@ impl Pool {
         judge(ask, choice)
     }
 
-    /// Marks `n` ports that aren't held as held, and ends their rest. A port outside the range counts
-    /// for the quota alone. The one error is want of memory, which changes nothing.
+    /// Marks the `n` ports from `start` on, of 1 to 65535 and at least one, as held, and ends their
+    /// rest. Nobody holds them before. A port outside the range counts for the quota alone. The one
+    /// error is want of memory, which changes nothing.
     pub fn hold(
         &mut self,
         _alloc: Global,
@@ -121,7 +126,7 @@ impl Pool {
         Ok(())
     }
 
-    /// Ends what an address holds of `n` ports.
+    /// Ends the hold of the `n` ports from `start` on, all of which the address holds.
     pub fn release(&mut self, who: &Address, protocol: Protocol, start: u16, n: u32)
         requires { MayRelease self.old who.now protocol start n }
         ensures { self.new ≡ with_use protocol start n Free self.old }
@@ -130,7 +135,8 @@ impl Pool {
         mark(&mut self.tcp, &mut self.udp, protocol, start, n, Use::Free);
     }
 
-    /// Marks a port as resting for the endpoint that owned it last.
+    /// Marks a port that isn't held and doesn't rest as resting for the endpoint that owned it last.
+    /// It takes no memory, and so is never refused.
     pub fn rest(&mut self, _alloc: Global, external: u16, last: &Endpoint) -> Result<(), Memory>
         requires { use_of self.old last.now.protocol external ≡ Free }
         ensures { RestsPort self.old external last.now result self.new }
