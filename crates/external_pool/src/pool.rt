@@ -50,8 +50,8 @@ fn mark(tcp: &mut Side, udp: &mut Side, protocol: Protocol, start: u16, n: u32, 
 }
 
 impl Pool {
-    /// The range from `low` to `high` of both protocols, of which no port is held and none rests. No
-    /// address may own more ports than the quota. The one error is want of memory.
+    /// The range from `low` to `high` of both protocols, of which no port is held and none rests.
+    /// No address may own more ports than the quota. The one error is want of memory.
     pub fn new(alloc: Global, low: u16, high: u16, quota: u32) -> Result<Pool, Memory>
         requires some { 1 ≤ low }
         requires ordered { low ≤ high }
@@ -75,10 +75,10 @@ impl Pool {
         }
     }
 
-    /// The ports that an address would be given. They are those suggested, where each of them is open
-    /// to the endpoint that it would go to and the first meets the parity asked. Else they are the
-    /// longest run of vacant ports whose first meets it, of at most the room and of what the quota
-    /// leaves, and of these runs the one with the least start. The refusal is the first of
+    /// The ports that an address would be given. They are those suggested, where each of them is
+    /// open to the endpoint that it would go to and the first meets the parity asked. Else they are
+    /// the longest run of vacant ports whose first meets it, of at most the room and of what the
+    /// quota leaves, and of these runs the one with the least start. The refusal is the first of
     /// [`PickRefused`] that applies. The ask is for at least one port, with room for one.
     pub fn pick(
         &self,
@@ -135,8 +135,8 @@ impl Pool {
         mark(&mut self.tcp, &mut self.udp, protocol, start, n, Use::Free);
     }
 
-    /// Marks a port that isn't held and doesn't rest as resting for the endpoint that owned it last.
-    /// It takes no memory, and so is never refused.
+    /// Marks a port that isn't held and doesn't rest as resting for the endpoint that owned it
+    /// last. It takes no memory, and so is never refused.
     pub fn rest(&mut self, _alloc: Global, external: u16, last: &Endpoint) -> Result<(), Memory>
         requires { use_of self.old last.now.protocol external ≡ Free }
         ensures { RestsPort self.old external last.now result self.new }

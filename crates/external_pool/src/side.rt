@@ -175,7 +175,8 @@ impl Side {
         longest_run::<Brand>(&self.runs, parity, Blank::new(1))
     }
 
-    /// The longest run of vacant ports, of at most `room`, and of these the one with the least start.
+    /// The longest run of vacant ports, of at most `room`, and of these the one with the least
+    /// start.
     fn longest(&self, room: u32, parity: Option<u8>) -> Option<Picked>
         ensures { IsLongest self.now parity room result }
     {
