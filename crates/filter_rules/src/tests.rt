@@ -32,6 +32,10 @@ fn list_of(filters: &[Filter]) -> Filters {
     list
 }
 
+fn folded(old: &[Filter], new: &[Filter]) -> Result<Filters, Excess> {
+    fold_filters(&list_of(old), new)
+}
+
 #[test]
 fn folds(rt: HostRuntime) {
     let nine = [
@@ -45,48 +49,21 @@ fn folds(rt: HostRuntime) {
         at(8),
         at(9),
     ];
-    let nine_then_none = [
-        at(1),
-        at(2),
-        at(3),
-        at(4),
-        at(5),
-        at(6),
-        at(7),
-        at(8),
-        at(9),
-        NONE,
-        NET,
-    ];
-    let cases: [(&[Filter], &[Filter], &[Filter]); 7] = [
-        (&[], &[], &[]),
-        (&[HOST], &[NONE, NET], &[NET]),
-        (&[HOST], &[NET], &[HOST, NET]),
-        (&[HOST], &[NET, HOST, NET], &[HOST, NET]),
-        (&[HOST], &[NONE, HOST], &[HOST]),
-        (&nine[..8], &[at(3)], &nine[..8]),
-        (&[], &nine_then_none, &[NET]),
-    ];
-    for (old, new, want) in cases {
-        assert!(rt; fold_filters(&list_of(old), new) == Ok(list_of(want)));
-    }
-    assert!(rt; fold_filters(&list_of(&nine[..8]), &[at(3), at(9), at(9)]) == Err(Excess(9)));
-    assert!(rt; fold_filters(&list_of(&[HOST, NET]), &nine) == Err(Excess(11)));
+    assert!(rt; folded(&[HOST], &[NONE, NET]) == Ok(list_of(&[NET])));
+    assert!(rt; folded(&[HOST], &[NET, HOST, NET]) == Ok(list_of(&[HOST, NET])));
+    assert!(rt; folded(&nine[..8], &[at(3)]) == Ok(list_of(&nine[..8])));
+    assert!(rt; folded(&nine[..8], &[at(3), at(9), at(9)]) == Err(Excess(9)));
+    assert!(rt; folded(&[HOST, NET], &nine) == Err(Excess(11)));
+    assert!(rt; folded(&nine[..8], &[at(9), NONE, HOST]) == Ok(list_of(&[HOST])));
 }
 
 #[test]
 fn peers(rt: HostRuntime) {
     let host = Address::v4(198, 51, 100, 7);
     let near = Address::v4(203, 0, 113, 9);
-    let cases: [(&[Filter], Address, u16, bool); 6] = [
-        (&[], host, 9, true),
-        (&[NET], host, 53, false),
-        (&[NET], near, 53, true),
-        (&[NET], near, 54, false),
-        (&[NET, HOST], host, 9, true),
-        (&[HOST], near, 0, false),
-    ];
-    for (filters, remote, port, want) in cases {
-        assert!(rt; allows(&list_of(filters), &remote, port) == want);
-    }
+    assert!(rt; allows(&Filters::none(), &host, 9));
+    assert!(rt; allows(&list_of(&[NET, HOST]), &host, 9));
+    assert!(rt; allows(&list_of(&[NET]), &near, 53));
+    assert!(rt; !allows(&list_of(&[NET]), &near, 54));
+    assert!(rt; !allows(&list_of(&[NET]), &host, 53));
 }

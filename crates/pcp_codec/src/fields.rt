@@ -7,14 +7,14 @@ ghost use Rattle.pcp_codec.specs.Requests.{opcode_of};
 use crate::layout::R_BIT;
 
 /// The octet at a place.
-pub(crate) fn octet_of(message: &[u8], place: usize) -> u8
+pub fn octet_of(message: &[u8], place: usize) -> u8
     ensures { result ≡ octet message.now place }
 {
     message.get(place).copied().unwrap_or(0)
 }
 
 /// The `N` octets from a place on.
-pub(crate) fn octets_of<const N: usize>(message: &[u8], place: usize) -> [u8; N]
+pub fn octets_of<const N: usize>(message: &[u8], place: usize) -> [u8; N]
     requires { place + N < 2 ^ 64 }
     ensures { result ≡ octets_at message.now place N }
 {
@@ -24,7 +24,7 @@ pub(crate) fn octets_of<const N: usize>(message: &[u8], place: usize) -> [u8; N]
 }
 
 /// The number of two octets from a place on.
-pub(crate) fn u16_of(message: &[u8], place: usize) -> u16
+pub fn u16_of(message: &[u8], place: usize) -> u16
     requires { place + 2 < 2 ^ 64 }
     ensures { result ≡ u16_at message.now place }
 {

@@ -7,13 +7,14 @@ mod layout;
 mod replies;
 mod requests;
 
+pub use fields::{octet_of, octets_of, u16_of};
 pub use layout::{
     ADDRESS_PLACE, ANNOUNCE_OPCODE, CLIENT_PLACE, EXTERNAL_PLACE, HEAD_OCTETS, INTERNAL_PLACE,
     LAST_PLACE, LIFETIME_PLACE, MAP_OCTETS, MAP_OPCODE, MESSAGE_OCTETS, NONCE_PLACE, PEER_OCTETS,
     PEER_OPCODE, PROTOCOL_PLACE, R_BIT, REMOTE_PLACE, REMOTE_PORT_PLACE, VERSION,
 };
 pub use replies::{write_head, write_refusal};
-pub use requests::{Body, Common, Frame, Framed, read_common, read_request};
+pub use requests::{Body, Common, Frame, Framed, read_body, read_common, read_request};
 
 #[cfg(test)]
 mod tests;

@@ -143,8 +143,9 @@ fn data_len(octets: &[u8]) -> usize
     }
 }
 
-/// The body of a request.
-fn read_body(octets: &[u8]) -> Body
+/// The opcode of a message with its data, where it has an opcode of 0 to 2 and room for the data. Octets
+/// past its end read as zero.
+pub fn read_body(octets: &[u8]) -> Body
     ensures { result ≡ body_of octets.now }
 {
     match opcode_in(octets) {

@@ -1,0 +1,117 @@
+//! When announcements come, and what updates say.
+use super::*;
+use pcp_base::{Address, Endpoint, Filters, MapLease, Moment, Nonce, PeerLease, Protocol};
+use std::test::Fail;
+
+// the times of the ten announcements after a rise, and times just before them
+static TIMES: [(u64, bool); 20] = [
+    (5_000, true),
+    (5_249, false),
+    (5_250, true),
+    (5_749, false),
+    (5_750, true),
+    (6_749, false),
+    (6_750, true),
+    (8_749, false),
+    (8_750, true),
+    (12_749, false),
+    (12_750, true),
+    (20_749, false),
+    (20_750, true),
+    (36_749, false),
+    (36_750, true),
+    (68_749, false),
+    (68_750, true),
+    (132_749, false),
+    (132_750, true),
+    (900_000, false),
+];
+
+#[test]
+fn announcements(rt: HostRuntime) -> Result<(), Fail> {
+    let base = Moment::of(2).ok_or("base")?;
+    let later = Moment::of(901).ok_or("later")?;
+    let mut out = [0; 24];
+    let mut announcer = Announcer::new(base, false, 5_000);
+    assert!(rt; !announcer.due(6_000, &mut out));
+    let mut announcer = Announcer::new(base, true, 5_000);
+    for (now_ms, due) in &TIMES {
+        announcer.seen(base, *now_ms);
+        assert!(rt; announcer.due(*now_ms, &mut out) == *due, "at {now_ms}");
+    }
+    // 132 seconds less the base
+    let mut want = [0; 24];
+    want[0] = 2;
+    want[1] = 0x80;
+    want[11] = 130;
+    assert!(rt; out == want);
+    // a new rise, and a time that goes back
+    announcer.seen(later, 910_000);
+    want[11] = 9;
+    assert!(rt; announcer.due(3, &mut out));
+    assert!(rt; out == want);
+    Ok(())
+}
+
+const NONCE: Nonce = Nonce([0, 1, 2, 3, 4, 5, 6, 7, 8, 9, 10, 11]);
+
+// the update of a lease that was granted to 10.0.0.5 for UDP port 5000 and has 3110 seconds left
+static UPDATE: [u8; 60] = [
+    2, 0x81, 0, 0, 0, 0, 0x0c, 0x26, 0, 0, 0, 0, 0, 0, 0, 0, 0, 0, 0, 0, 0, 0, 0, 0, 0, 1, 2, 3, 4,
+    5, 6, 7, 8, 9, 10, 11, 0x11, 0, 0, 0, 0x13, 0x88, 4, 0, 0, 0, 0, 0, 0, 0, 0, 0, 0, 0, 0xff,
+    0xff, 192, 0, 2, 0x4d,
+];
+
+// what a PEER lease to 198.51.100.7, port 53, adds
+static REMOTE: [u8; 20] = [
+    0, 53, 0, 0, 0, 0, 0, 0, 0, 0, 0, 0, 0, 0, 0xff, 0xff, 198, 51, 100, 7,
+];
+
+// what a lease of five ports adds
+static SET: [u8; 12] = [130, 0, 0, 5, 0, 5, 0x13, 0x88, 0, 0, 0, 0];
+
+#[test]
+fn updates(rt: HostRuntime) -> Result<(), Fail> {
+    let alloc = rt.alloc();
+    let granted = Moment::of(1_010).ok_or("granted")?;
+    let m = Moment::of(1_500).ok_or("m")?;
+    let new = Address::v4(192, 0, 2, 77);
+    let mut map = MapLease {
+        address: Address::v4(10, 0, 0, 5),
+        protocol: Protocol::Udp,
+        internal: 5000,
+        count: 1,
+        external: 1024,
+        nonce: NONCE,
+        granted,
+        expiry: 4_610,
+        filters: Filters::none(),
+    };
+    let peer = PeerLease {
+        endpoint: Endpoint {
+            address: map.address,
+            protocol: Protocol::Udp,
+            port: 5000,
+        },
+        external: 1024,
+        remote: Address::v4(198, 51, 100, 7),
+        remote_port: 53,
+        nonce: NONCE,
+        granted,
+        expiry: 4_610,
+    };
+    let mut out = Vec::new(alloc);
+    write_map_update(alloc, &mut out, &map, &new, m, m)?;
+    assert!(rt; out.as_slice() == UPDATE.as_slice());
+    map.count = 5;
+    write_map_update(alloc, &mut out, &map, &new, m, m)?;
+    assert!(rt; out[60..120] == UPDATE[..]);
+    assert!(rt; out[120..] == SET[..]);
+    let mut out = Vec::new(alloc);
+    write_peer_update(alloc, &mut out, &peer, &new, m, m)?;
+    assert!(rt; out.len() == 80);
+    assert!(rt; out[1] == 0x82);
+    assert!(rt; out[2..60] == UPDATE[2..]);
+    assert!(rt; out[60..] == REMOTE[..]);
+    Ok(())
+}

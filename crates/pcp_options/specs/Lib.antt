@@ -1,0 +1,7 @@
+pub mod Asking
+pub mod Options
+pub mod Raw
+pub mod Replies
+pub mod Responses
+pub mod Steps
+pub mod Verdicts

@@ -1,0 +1,21 @@
+//! The options of Port Control Protocol messages (RFC 6887, section 13; PORT_SET: RFC 7753), the whole
+//! verdict on a datagram, and the replies to requests.
+#![tactic(auto)]
+
+mod layout;
+mod options;
+mod replies;
+mod verdicts;
+
+pub use layout::{
+    FILTER_CODE, FILTER_OCTETS, FILTER_PORT_PLACE, FILTER_PREFIX_PLACE, FILTER_REMOTE_PLACE,
+    FIRST_OPTIONAL_CODE, LONGEST_PREFIX, OPTION_HEAD_OCTETS, PORT_SET_CODE, PORT_SET_OCTETS,
+    PREFER_FAILURE_CODE, PREFER_FAILURE_OCTETS, SET_FIRST_PLACE, SET_PARITY_PLACE, SET_SIZE_PLACE,
+    THIRD_PARTY_CODE, THIRD_PARTY_OCTETS,
+};
+pub use options::{Item, Items, OptionsRefused, read_options};
+pub use replies::{write_reply, write_success};
+pub use verdicts::{Verdict, judge};
+
+#[cfg(test)]
+mod tests;

@@ -1,0 +1,162 @@
+//! That verdicts and replies mean these octets, and that calls succeed with ample memory.
+use super::*;
+use pcp_base::{
+    Address, Answer, Code, Config, Externals, PortSet, Prefix, Prefixes, Subscriber, Subscribers,
+};
+use pcp_codec::{Framed, read_request};
+use std::alloc::{AllocError, Global};
+use std::test::Fail;
+
+// MAP of UDP port 5000 from 10.0.0.5, for an hour
+static REQUEST: [u8; 60] = [
+    2, 1, 0, 0, 0, 0, 0x0e, 0x10, 0, 0, 0, 0, 0, 0, 0, 0, 0, 0, 0xff, 0xff, 10, 0, 0, 5, 0, 1, 2,
+    3, 4, 5, 6, 7, 8, 9, 10, 11, 17, 0, 0, 0, 0x13, 0x88, 0, 0, 0, 0, 0, 0, 0, 0, 0, 0, 0, 0, 0xff,
+    0xff, 0, 0, 0, 0,
+];
+
+// THIRD_PARTY 10.0.0.9, an option that is passed over, FILTER 198.51.100.7 with prefix 128 and port 53,
+// PREFER_FAILURE, PORT_SET of 8 ports from 5000 on with parity; reserved octets and padding are set
+static OPTIONS: [u8; 68] = [
+    1, 9, 0, 16, 0, 0, 0, 0, 0, 0, 0, 0, 0, 0, 0xff, 0xff, 10, 0, 0, 9, 200, 0, 0, 1, 5, 6, 7, 8,
+    3, 0, 0, 20, 7, 128, 0, 53, 0, 0, 0, 0, 0, 0, 0, 0, 0, 0, 0xff, 0xff, 198, 51, 100, 7, 2, 3, 0,
+    0, 130, 0, 0, 5, 0, 8, 0x13, 0x88, 0xff, 9, 9, 9,
+];
+
+// the reply to both together: 5 ports from 4998 on, of 192.0.2.1 from 1024 on
+static REPLY: [u8; 120] = [
+    2, 0x81, 0, 0, 0, 0, 0x0e, 0x10, 0, 0, 0, 10, 0, 0, 0, 0, 0, 0, 0, 0, 0, 0, 0, 0, 0, 1, 2, 3,
+    4, 5, 6, 7, 8, 9, 10, 11, 17, 0, 0, 0, 0x13, 0x88, 4, 0, 0, 0, 0, 0, 0, 0, 0, 0, 0, 0, 0xff,
+    0xff, 192, 0, 2, 1, 1, 0, 0, 16, 0, 0, 0, 0, 0, 0, 0, 0, 0, 0, 0xff, 0xff, 10, 0, 0, 9, 3, 0,
+    0, 20, 0, 128, 0, 53, 0, 0, 0, 0, 0, 0, 0, 0, 0, 0, 0xff, 0xff, 198, 51, 100, 7, 2, 0, 0, 0,
+    130, 0, 0, 5, 0, 5, 0x13, 0x86, 1, 0, 0, 0,
+];
+
+static ONES: [u8; 1040] = [1; 1040];
+
+static LONG: [u8; 1044] = [0; 1044];
+
+static ITSELF: [u8; 20] = [
+    1, 0, 0, 16, 0, 0, 0, 0, 0, 0, 0, 0, 0, 0, 0xff, 0xff, 10, 0, 0, 5,
+];
+
+#[derive(Clone, Copy, Debug, PartialEq, Eq)]
+enum Outcome {
+    Silent,
+    Refused(Code, bool),
+    Asked,
+}
+
+fn outcome_of(verdict: &Verdict) -> Outcome {
+    match verdict {
+        Verdict::Silent => Outcome::Silent,
+        Verdict::Refuse(refusal) => Outcome::Refused(refusal.code, refusal.parsed),
+        Verdict::Asked { .. } => Outcome::Asked,
+    }
+}
+
+// 10.0.0.0/8 behind one external address; 10.0.0.5 may ask for others
+fn config(alloc: Global) -> Result<Config, AllocError> {
+    let host = Prefix {
+        bits: 128,
+        address: Address::v4(10, 0, 0, 5),
+    };
+    let row = Subscriber {
+        prefix: Prefix {
+            bits: 104,
+            address: Address::v4(10, 0, 0, 0),
+        },
+        external: 0,
+    };
+    Ok(Config {
+        quota: 64,
+        lifetime_min: 120,
+        lifetime_max: 86400,
+        third_party: Prefixes::of(vec![in alloc; host]?),
+        externals: Externals::of(Vec::new(alloc)),
+        subscribers: Subscribers::of(vec![in alloc; row]?),
+    })
+}
+
+#[test]
+fn verdicts(rt: HostRuntime) -> Result<(), Fail> {
+    let alloc = rt.alloc();
+    let config = config(alloc)?;
+    let source = Address::v4(10, 0, 0, 5);
+    // what stands behind the request, and the verdict
+    let cases: [(&[u8], Outcome); 9] = [
+        (&[], Outcome::Asked),
+        (&[127, 0, 0, 0], Outcome::Refused(Code::UnsuppOption, false)),
+        (&[200, 0, 0, 0], Outcome::Asked),
+        (
+            &[200, 0, 0, 8],
+            Outcome::Refused(Code::MalformedOption, false),
+        ),
+        (
+            &[127, 0, 0, 1],
+            Outcome::Refused(Code::MalformedOption, false),
+        ),
+        (&ONES, Outcome::Refused(Code::MalformedOption, false)),
+        (&LONG, Outcome::Refused(Code::MalformedRequest, false)),
+        (&ITSELF, Outcome::Refused(Code::MalformedRequest, true)),
+        (&OPTIONS, Outcome::Asked),
+    ];
+    for (options, want) in cases {
+        let mut message = REQUEST.to_vec(alloc)?;
+        message.extend_from_slice(options)?;
+        let verdict = judge(alloc, &config, &source, &message)?;
+        assert!(rt; outcome_of(&verdict) == want);
+    }
+    Ok(())
+}
+
+#[test]
+fn replies(rt: HostRuntime) -> Result<(), Fail> {
+    let alloc = rt.alloc();
+    let config = config(alloc)?;
+    let source = Address::v4(10, 0, 0, 5);
+    let mut message = REQUEST.to_vec(alloc)?;
+    message.extend_from_slice(&OPTIONS)?;
+    if let Framed::Whole(frame) = read_request(&message, &source) {
+        let items = read_options(alloc, &frame, &message)?;
+        assert!(rt; items.items().len() == 4);
+    }
+    let Verdict::Asked { shard, ask, items } = judge(alloc, &config, &source, &message)? else {
+        return Err("refused".into());
+    };
+    assert!(rt; shard == 0);
+    let answer = Answer::Mapped {
+        lifetime: 3600,
+        external: 1024,
+        address: Address::v4(192, 0, 2, 1),
+        set: Some(PortSet {
+            size: 5,
+            first: 4998,
+            parity: true,
+        }),
+    };
+    let mut out = Vec::new(alloc);
+    write_reply(alloc, &mut out, &message, &ask, &items, &answer, 10)?;
+    assert!(rt; out.as_slice() == REPLY.as_slice());
+    Ok(())
+}
+
+// Where whole options end in the request with options: behind 0, 20, 28, 52, 56 and 68 octets.
+#[test]
+fn cut_requests(rt: HostRuntime) -> Result<(), Fail> {
+    let alloc = rt.alloc();
+    let config = config(alloc)?;
+    let source = Address::v4(10, 0, 0, 5);
+    let mut message = REQUEST.to_vec(alloc)?;
+    message.extend_from_slice(&OPTIONS)?;
+    for n in 0..=128 {
+        let verdict = judge(alloc, &config, &source, &message[..n])?;
+        let want = match n {
+            0..=23 => Outcome::Silent,
+            60 | 80 | 88 | 112 | 116 | 128 => Outcome::Asked,
+            64.. if n % 4 == 0 => Outcome::Refused(Code::MalformedOption, false),
+            _ => Outcome::Refused(Code::MalformedRequest, false),
+        };
+        assert!(rt; outcome_of(&verdict) == want, "cut to {n}");
+    }
+    Ok(())
+}

@@ -1,0 +1,234 @@
+//! The verdict on a datagram (RFC 6887, section 8.2).
+ghost use Rattle.std.specs.Prelude.{◌≡◌, ◌++◌, ℕ, Option, Some, None, [], Result, Ok, Err, length, option_map, if◌then◌else◌, IfOk, OnErr};
+ghost use Rattle.std.specs.List.{list_any};
+ghost use Rattle.pcp_base.specs.Cases.{first_case};
+ghost use Rattle.pcp_base.specs.Pairing.{holds};
+ghost use Rattle.pcp_codec.specs.Framing.{unparsed};
+ghost use Rattle.pcp_options.specs.Asking.{ask_by, endpoint_of, seen_of, with_filters};
+ghost use Rattle.pcp_options.specs.Options.{found_in, items_of};
+ghost use Rattle.pcp_options.specs.Verdicts.{IsAsked, asked_for, later_steps, parsed, third_steps, verdict_by, verdict_of};
+
+use crate::options::{Items, Seen, check_options, collect_filters, collect_items, options_text};
+use pcp_base::{
+    Address, Ask, Code, Config, Endpoint, Filter, FilterList, MapAsk, Memory, PeerAsk, Protocol,
+    Refusal, pair,
+};
+use pcp_codec::{Body, Common, Frame, Framed, read_request};
+use std::alloc::Global;
+
+/// What a datagram is.
+#[derive(Debug, Drop)]
+pub enum Verdict {
+    /// Nothing that is answered.
+    Silent,
+    /// A request that is refused before the lease table is asked.
+    Refuse(Refusal),
+    /// A request to the lease table of an external address.
+    Asked {
+        /// The index of the external address.
+        shard: u32,
+        /// What is asked for.
+        ask: Ask,
+        /// The processed options, in order.
+        items: Items,
+    },
+}
+
+/// The verdict on a datagram of any length from `source`: the first of nine steps that fails decides
+/// (RFC 6887, section 8.2; the order is our own). Memory is taken, and can be wanting, only for a request
+/// that no step refuses.
+pub fn judge(
+    alloc: Global,
+    config: &Config,
+    source: &Address,
+    octets: &[u8],
+) -> Result<Verdict, Memory>
+    ensures ok { IfOk result (λ verdict. verdict ≡ verdict_of config.now source.now octets.now) }
+    ensures memory { OnErr result (IsAsked (verdict_of config.now source.now octets.now)) }
+{
+    match read_request(octets, source) {
+        Framed::Silent => Ok(Verdict::Silent),
+        Framed::Refuse(refusal) => Ok(Verdict::Refuse(refusal)),
+        Framed::Whole(frame) => {
+            let text = options_text(&frame, octets);
+            judge_frame(alloc, config, source, &frame, text)
+        }
+    }
+}
+
+/// The verdict on a request whose frame was read, and that has this text behind its data.
+fn judge_frame(
+    alloc: Global,
+    config: &Config,
+    source: &Address,
+    frame: &Frame,
+    text: &[u8],
+) -> Result<Verdict, Memory>
+    ensures ok { IfOk result (λ verdict. verdict ≡ verdict_by config.now source.now frame.now
+        (items_of (found_in text.now))
+        (first_case (later_steps config.now source.now frame.now (found_in text.now)))) }
+    ensures memory { OnErr result (IsAsked (verdict_by config.now source.now frame.now
+        (items_of (found_in text.now))
+        (first_case (later_steps config.now source.now frame.now (found_in text.now))))) }
+{
+    let seen = match check_options(frame, text) {
+        Ok(seen) => seen,
+        Err(code) => return Ok(Verdict::Refuse(refusal(code, false))),
+    };
+    if let Some(code) = third_fault(config, source, seen.third) {
+        return Ok(Verdict::Refuse(refusal(code, true)));
+    }
+    judge_asking(
+        alloc,
+        config,
+        frame,
+        text,
+        &seen,
+        seen.third.unwrap_or(*source),
+    )
+}
+
+/// The verdict on a request that no step before the ask refuses, and that is for this address.
+fn judge_asking(
+    alloc: Global,
+    config: &Config,
+    frame: &Frame,
+    text: &[u8],
+    seen: &Seen,
+    subject: Address,
+) -> Result<Verdict, Memory>
+    requires { seen.now ≡ seen_of (items_of (found_in text.now)) }
+    ensures ok { IfOk result (λ verdict. verdict
+        ≡ asked_for config.now frame.now (items_of (found_in text.now)) subject) }
+    ensures memory { OnErr result (IsAsked (asked_for config.now frame.now
+        (items_of (found_in text.now)) subject)) }
+{
+    let ask = match ask_without_filters(alloc, subject, frame, seen) {
+        Ok(ask) => ask,
+        Err(code) => return Ok(Verdict::Refuse(refusal(code, true))),
+    };
+    let Some(shard) = pair(config, &subject) else {
+        return Ok(Verdict::Refuse(refusal(Code::NotAuthorized, true)));
+    };
+    let items = collect_items(alloc, text)?;
+    let filters = collect_filters(alloc, &items)?;
+    Ok(Verdict::Asked {
+        shard,
+        ask: ask_with(ask, filters),
+        items: Items::of(items),
+    })
+}
+
+/// A refusal with the lifetime of its code.
+fn refusal(code: Code, read: bool) -> Refusal
+    ensures { result ≡ if read then parsed code else unparsed code }
+{
+    Refusal {
+        code,
+        parsed: read,
+        lifetime: code.lifetime(),
+    }
+}
+
+/// The code with which THIRD_PARTY is refused.
+fn third_fault(config: &Config, source: &Address, third: Option<Address>) -> Option<Code>
+    ensures { option_map parsed result ≡ first_case (third_steps config.now source.now third) }
+{
+    let third = third?;
+    if !may_ask_for_others(config, source) {
+        Some(Code::UnsuppOption)
+    } else if third == *source {
+        Some(Code::MalformedRequest)
+    } else {
+        None
+    }
+}
+
+/// Whether the host may use THIRD_PARTY.
+fn may_ask_for_others(config: &Config, source: &Address) -> bool
+    ensures { result ≡ list_any (λ p. holds p source.now) config.now.third_party }
+{
+    config
+        .third_party
+        .items()
+        .iter()
+        .any(|prefix| prefix.holds(source))
+}
+
+/// The endpoint that a request names; none where its protocol isn't mapped, or its internal port is 0.
+fn endpoint_in(address: Address, common: &Common) -> Option<Endpoint>
+    ensures { result ≡ endpoint_of address common.now }
+{
+    let protocol = Protocol::of(common.protocol)?;
+    if common.internal == 0 {
+        return None;
+    }
+    Some(Endpoint {
+        address,
+        protocol,
+        port: common.internal,
+    })
+}
+
+/// What a request asks for, still without its filters, or the code of what can't be asked for.
+fn ask_without_filters(
+    alloc: Global,
+    address: Address,
+    frame: &Frame,
+    seen: &Seen,
+) -> Result<Ask, Code>
+    ensures { result ≡ ask_by address frame.now.lifetime frame.now.body seen.now [] }
+{
+    match &frame.body {
+        Body::Announce => Ok(Ask::Announce),
+        Body::Map(common) => {
+            let Some(endpoint) = endpoint_in(address, common) else {
+                return Err(Code::UnsuppProtocol);
+            };
+            Ok(Ask::Map(MapAsk {
+                endpoint,
+                nonce: common.nonce,
+                lifetime: frame.lifetime,
+                port: common.external,
+                address: common.address,
+                prefer: seen.prefers,
+                set: seen.set,
+                filters: FilterList::of(Vec::new(alloc)),
+            }))
+        }
+        Body::Peer {
+            common,
+            remote_port,
+            remote,
+        } => {
+            let Some(endpoint) = endpoint_in(address, common) else {
+                return Err(Code::UnsuppProtocol);
+            };
+            if *remote_port == 0 {
+                return Err(Code::MalformedRequest);
+            }
+            Ok(Ask::Peer(PeerAsk {
+                endpoint,
+                nonce: common.nonce,
+                lifetime: frame.lifetime,
+                port: common.external,
+                address: common.address,
+                remote: *remote,
+                remote_port: *remote_port,
+            }))
+        }
+    }
+}
+
+/// The ask with these filters, where it is for MAP.
+fn ask_with(ask: Ask, filters: Vec<Filter>) -> Ask
+    ensures { result ≡ with_filters ask filters.items }
+{
+    match ask {
+        Ask::Map(map) => Ask::Map(MapAsk {
+            filters: FilterList::of(filters),
+            ..map
+        }),
+        other => other,
+    }
+}
