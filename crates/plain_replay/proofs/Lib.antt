@@ -1,0 +1,7 @@
+pub mod AgreeLemmas
+pub mod EndPlaces
+pub mod FirstLaws
+pub mod Listing
+pub mod NewLeases
+pub mod Puts
+pub mod RenewalLemmas

@@ -1,0 +1,386 @@
+//! Records with the state that each leaves, in both formats.
+
+use super::PlainReplay;
+use pcp_base::{
+    Address, Change, End, Endpoint, Filters, MapLease, Moment, Nonce, PeerLease, Protocol, Record,
+    Replay,
+};
+use std::alloc::Global;
+use std::test::*;
+
+/// A change of the host 10.0.0.H, whose internal port is 5000, over UDP.
+#[derive(Clone, Copy, Debug)]
+enum Act {
+    Start,
+    /// Host, external port, moment granted, expiry.
+    Map(u8, u16, u64, u64),
+    /// The same for a peer at 198.51.100.7, port 443.
+    Peer(u8, u16, u64, u64),
+    DropMap(u8),
+    DropPeer(u8),
+    Lose,
+    Mark,
+    /// Host, external port, end.
+    Rest(u8, u16, u64),
+    /// 192.0.2.N
+    Renumber(u8),
+}
+
+/// A record at a moment, whether it fits, and what the state is after it: the number of MAP and of PEER
+/// leases, the ends (host, external port, end), the base, and the N of the address.
+#[derive(Clone, Copy, Debug)]
+struct Row(
+    u64,
+    Act,
+    bool,
+    [usize; 2],
+    &'static [(u8, u16, u64)],
+    u64,
+    Option<u8>,
+);
+
+const OVER: &[(u8, u16, u64)] = &[(5, 1024, 1130)];
+
+static ROWS: [Row; 26] = [
+    Row(1000, Act::Mark, false, [0, 0], &[], 0, None),
+    Row(1000, Act::Start, true, [0, 0], &[], 1000, None),
+    Row(1000, Act::Renumber(1), true, [0, 0], &[], 1000, Some(1)),
+    // A lease of 120 seconds ends at 1130; its port rests for its host until 1250.
+    Row(
+        1010,
+        Act::Map(5, 1024, 1010, 1130),
+        true,
+        [1, 0],
+        &[],
+        1000,
+        Some(1),
+    ),
+    Row(1009, Act::Mark, false, [1, 0], &[], 1000, Some(1)),
+    Row(1129, Act::Mark, true, [1, 0], &[], 1000, Some(1)),
+    Row(1130, Act::DropMap(5), false, [1, 0], &[], 1000, Some(1)),
+    Row(1130, Act::Mark, true, [0, 0], OVER, 1000, Some(1)),
+    Row(
+        1249,
+        Act::Map(6, 1024, 1249, 4849),
+        false,
+        [0, 0],
+        OVER,
+        1000,
+        Some(1),
+    ),
+    Row(
+        1249,
+        Act::Map(6, 1025, 1249, 4849),
+        true,
+        [1, 0],
+        OVER,
+        1000,
+        Some(1),
+    ),
+    Row(
+        1249,
+        Act::Map(5, 1024, 1249, 4849),
+        true,
+        [2, 0],
+        &[],
+        1000,
+        Some(1),
+    ),
+    // An endpoint has one port for all its leases, and it is owned until the last of them goes.
+    Row(
+        1250,
+        Act::Peer(5, 1026, 1250, 4850),
+        false,
+        [2, 0],
+        &[],
+        1000,
+        Some(1),
+    ),
+    Row(
+        1250,
+        Act::Peer(5, 1024, 1250, 4850),
+        true,
+        [2, 1],
+        &[],
+        1000,
+        Some(1),
+    ),
+    Row(1260, Act::DropMap(5), true, [1, 1], &[], 1000, Some(1)),
+    Row(
+        1270,
+        Act::DropPeer(5),
+        true,
+        [1, 0],
+        &[(5, 1024, 1270)],
+        1000,
+        Some(1),
+    ),
+    Row(
+        1270,
+        Act::Rest(7, 1024, 1270),
+        false,
+        [1, 0],
+        &[(5, 1024, 1270)],
+        1000,
+        Some(1),
+    ),
+    Row(
+        1270,
+        Act::Rest(7, 1025, 1270),
+        false,
+        [1, 0],
+        &[(5, 1024, 1270)],
+        1000,
+        Some(1),
+    ),
+    Row(
+        1389,
+        Act::Mark,
+        true,
+        [1, 0],
+        &[(5, 1024, 1270)],
+        1000,
+        Some(1),
+    ),
+    Row(1390, Act::Mark, true, [1, 0], &[], 1000, Some(1)),
+    Row(
+        1390,
+        Act::Rest(7, 1026, 1270),
+        false,
+        [1, 0],
+        &[],
+        1000,
+        Some(1),
+    ),
+    Row(
+        1390,
+        Act::Rest(7, 1026, 1271),
+        true,
+        [1, 0],
+        &[(7, 1026, 1271)],
+        1000,
+        Some(1),
+    ),
+    Row(
+        1390,
+        Act::Renumber(1),
+        true,
+        [1, 0],
+        &[(7, 1026, 1271)],
+        1000,
+        Some(1),
+    ),
+    Row(
+        1390,
+        Act::Renumber(2),
+        true,
+        [1, 0],
+        &[(7, 1026, 1271)],
+        1390,
+        Some(2),
+    ),
+    Row(
+        1390,
+        Act::Start,
+        false,
+        [1, 0],
+        &[(7, 1026, 1271)],
+        1390,
+        Some(2),
+    ),
+    // A lease with another expiry is renewed, and one on another port isn't.
+    Row(
+        1390,
+        Act::Map(6, 1027, 1249, 9000),
+        false,
+        [1, 0],
+        &[(7, 1026, 1271)],
+        1390,
+        Some(2),
+    ),
+    Row(1391, Act::Lose, true, [0, 0], &[], 1391, Some(2)),
+];
+
+// At the end of the rest another host may have the port.
+static FREED: [Row; 3] = [
+    Row(1000, Act::Start, true, [0, 0], &[], 1000, None),
+    Row(
+        1010,
+        Act::Map(5, 1024, 1010, 1130),
+        true,
+        [1, 0],
+        &[],
+        1000,
+        None,
+    ),
+    Row(
+        1250,
+        Act::Map(6, 1024, 1250, 4850),
+        true,
+        [1, 0],
+        &[],
+        1000,
+        None,
+    ),
+];
+
+// The first format has no ends and no address.
+static FIRST: [Row; 8] = [
+    Row(1000, Act::Start, true, [0, 0], &[], 1000, None),
+    Row(1000, Act::Renumber(1), false, [0, 0], &[], 1000, None),
+    Row(
+        1010,
+        Act::Map(5, 1024, 1010, 1130),
+        true,
+        [1, 0],
+        &[],
+        1000,
+        None,
+    ),
+    Row(
+        1010,
+        Act::Map(6, 1024, 1010, 1130),
+        false,
+        [1, 0],
+        &[],
+        1000,
+        None,
+    ),
+    Row(
+        1130,
+        Act::Map(6, 1024, 1130, 1250),
+        true,
+        [1, 0],
+        &[],
+        1000,
+        None,
+    ),
+    Row(1140, Act::DropMap(6), true, [0, 0], &[], 1000, None),
+    Row(
+        1140,
+        Act::Rest(7, 1026, 1130),
+        false,
+        [0, 0],
+        &[],
+        1000,
+        None,
+    ),
+    Row(1141, Act::Lose, true, [0, 0], &[], 1141, None),
+];
+
+fn endpoint(host: u8) -> Endpoint {
+    Endpoint {
+        address: Address::v4(10, 0, 0, host),
+        protocol: Protocol::Udp,
+        port: 5000,
+    }
+}
+
+fn moment(seconds: u64) -> Result<Moment, Fail> {
+    Ok(Moment::of(seconds).ok_or("no moment")?)
+}
+
+fn map(host: u8, external: u16, granted: Moment, expiry: u64) -> MapLease {
+    let first = endpoint(host);
+    MapLease {
+        address: first.address,
+        protocol: first.protocol,
+        internal: first.port,
+        count: 1,
+        external,
+        nonce: Nonce([7; 12]),
+        granted,
+        expiry,
+        filters: Filters::none(),
+    }
+}
+
+fn peer(host: u8, external: u16, granted: Moment, expiry: u64) -> PeerLease {
+    PeerLease {
+        endpoint: endpoint(host),
+        external,
+        remote: Address::v4(198, 51, 100, 7),
+        remote_port: 443,
+        nonce: Nonce([7; 12]),
+        granted,
+        expiry,
+    }
+}
+
+fn change(act: Act) -> Result<Change, Fail> {
+    Ok(match act {
+        Act::Start => Change::Start,
+        Act::Map(host, port, at, expiry) => Change::Map(map(host, port, moment(at)?, expiry)),
+        Act::Peer(host, port, at, expiry) => Change::Peer(peer(host, port, moment(at)?, expiry)),
+        Act::DropMap(host) => Change::DropMap(endpoint(host)),
+        Act::DropPeer(host) => {
+            Change::DropPeer(endpoint(host), Address::v4(198, 51, 100, 7), 443)
+        }
+        Act::Lose => Change::Lose,
+        Act::Mark => Change::Mark,
+        Act::Rest(host, external, end) => Change::Rest(endpoint(host), external, end),
+        Act::Renumber(n) => Change::Renumber(Address::v4(192, 0, 2, n)),
+    })
+}
+
+fn is_end(rest: &End, want: (u8, u16, u64)) -> bool {
+    rest.endpoint == endpoint(want.0) && rest.external == want.1 && rest.end == want.2
+}
+
+/// Whether the state is the row's.
+fn is_told(replay: &PlainReplay, row: &Row) -> bool {
+    let [maps, peers] = row.3;
+    let ends = replay.ends();
+    replay.maps().len() == maps
+        && replay.peers().len() == peers
+        && ends.len() == row.4.len()
+        && ends
+            .iter()
+            .zip(row.4)
+            .all(|(rest, want)| is_end(rest, *want))
+        && replay.base().get() == row.5
+        && replay.address() == row.6.map(|n| Address::v4(192, 0, 2, n))
+}
+
+fn record(row: &Row) -> Result<Record, Fail> {
+    Ok(Record {
+        moment: moment(row.0)?,
+        change: change(row.1)?,
+    })
+}
+
+/// The moment of the first row that comes out otherwise.
+fn first_other(alloc: Global, rows: &[Row]) -> Result<Option<u64>, Fail> {
+    let mut replay = PlainReplay::new(alloc);
+    for row in rows {
+        if replay.admit(alloc, &record(row)?)? != row.2 || !is_told(&replay, row) {
+            return Ok(Some(row.0));
+        }
+    }
+    Ok(None)
+}
+
+/// The same by the rules of the first format, in a replay that was cleared.
+fn first_other_in_first(alloc: Global, rows: &[Row]) -> Result<Option<u64>, Fail> {
+    let mut replay = PlainReplay::new(alloc);
+    replay.admit(alloc, &record(&ROWS[1])?)?;
+    replay.clear();
+    for row in rows {
+        if replay.admit_first(alloc, &record(row)?)? != row.2 || !is_told(&replay, row) {
+            return Ok(Some(row.0));
+        }
+    }
+    Ok(None)
+}
+
+#[test]
+fn records_leave_these_states(rt: HostRuntime) -> Result<(), Fail> {
+    assert!(rt; first_other(rt.alloc(), &ROWS)? == None);
+    assert!(rt; first_other(rt.alloc(), &FREED)? == None);
+    assert!(rt; first_other_in_first(rt.alloc(), &FIRST)? == None);
+    let mut replay = PlainReplay::new(rt.alloc());
+    assert!(rt; !replay.is_started() && replay.last().get() == 0);
+    assert!(rt; replay.admit(rt.alloc(), &record(&ROWS[1])?)?);
+    assert!(rt; replay.is_started() && replay.last().get() == 1000);
+    Ok(())
+}
