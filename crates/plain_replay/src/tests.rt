@@ -1,4 +1,6 @@
 //! Records with the state that each leaves, in both formats.
+ghost use Rattle.std.specs.Prelude.{OnOk};
+ghost use Rattle.pcp_base.specs.Reached.{IsReached, IsReachedFirst};
 
 use super::PlainReplay;
 use pcp_base::{
@@ -342,18 +344,36 @@ fn is_told(replay: &PlainReplay, row: &Row) -> bool {
         && replay.address() == row.6.map(|n| Address::v4(192, 0, 2, n))
 }
 
-fn record(row: &Row) -> Result<Record, Fail> {
-    Ok(Record {
+/// Whether the record of the row is admitted.
+fn admits(alloc: Global, replay: &mut PlainReplay, row: &Row) -> Result<bool, Fail>
+    requires { IsReached replay.old }
+    ensures { OnOk result (IsReached replay.new) }
+{
+    let kept = Record {
         moment: moment(row.0)?,
         change: change(row.1)?,
-    })
+    };
+    Ok(replay.admit(alloc, &kept)?)
+}
+
+/// The same by the rules of the first format.
+fn admits_first(alloc: Global, replay: &mut PlainReplay, row: &Row) -> Result<bool, Fail>
+    requires { IsReachedFirst replay.old }
+    ensures { OnOk result (IsReachedFirst replay.new) }
+{
+    let kept = Record {
+        moment: moment(row.0)?,
+        change: change(row.1)?,
+    };
+    Ok(replay.admit_first(alloc, &kept)?)
 }
 
 /// The moment of the first row that comes out otherwise.
 fn first_other(alloc: Global, rows: &[Row]) -> Result<Option<u64>, Fail> {
     let mut replay = PlainReplay::new(alloc);
     for row in rows {
-        if replay.admit(alloc, &record(row)?)? != row.2 || !is_told(&replay, row) {
+        let fits = admits(alloc, &mut replay, row)?;
+        if fits != row.2 || !is_told(&replay, row) {
             return Ok(Some(row.0));
         }
     }
@@ -363,10 +383,11 @@ fn first_other(alloc: Global, rows: &[Row]) -> Result<Option<u64>, Fail> {
 /// The same by the rules of the first format, in a replay that was cleared.
 fn first_other_in_first(alloc: Global, rows: &[Row]) -> Result<Option<u64>, Fail> {
     let mut replay = PlainReplay::new(alloc);
-    replay.admit(alloc, &record(&ROWS[1])?)?;
+    admits(alloc, &mut replay, &ROWS[1])?;
     replay.clear();
     for row in rows {
-        if replay.admit_first(alloc, &record(row)?)? != row.2 || !is_told(&replay, row) {
+        let fits = admits_first(alloc, &mut replay, row)?;
+        if fits != row.2 || !is_told(&replay, row) {
             return Ok(Some(row.0));
         }
     }
@@ -380,7 +401,7 @@ fn records_leave_these_states(rt: HostRuntime) -> Result<(), Fail> {
     assert!(rt; first_other_in_first(rt.alloc(), &FIRST)? == None);
     let mut replay = PlainReplay::new(rt.alloc());
     assert!(rt; !replay.is_started() && replay.last().get() == 0);
-    assert!(rt; replay.admit(rt.alloc(), &record(&ROWS[1])?)?);
-    assert!(rt; replay.is_started() && replay.last().get() == 1000);
+    let fits = admits(rt.alloc(), &mut replay, &ROWS[1])?;
+    assert!(rt; fits && replay.is_started() && replay.last().get() == 1000);
     Ok(())
 }

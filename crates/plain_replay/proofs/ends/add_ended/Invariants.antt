@@ -1,4 +1,4 @@
-use Rattle.std.proofs.Common.{◌≡◌, ◌++◌, flat_map, map, take, ℕ, ◌+◌, List, filter, not}
+use Rattle.std.proofs.Common.{◌≡◌, ◌++◌, map, take}
 use Rattle.pcp_base.specs.Ends.{end_at}
 use Rattle.plain_replay.proofs.ends.add_ended.Given as goal
 

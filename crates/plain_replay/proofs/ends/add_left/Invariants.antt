@@ -1,4 +1,4 @@
-use Rattle.std.proofs.Common.{◌≡◌, ◌++◌, flat_map, map, take, ℕ, ◌+◌, List, filter, not}
+use Rattle.std.proofs.Common.{◌≡◌, filter, not}
 use Rattle.std.specs.Prelude.{vec_len}
 use Rattle.pcp_base.specs.Ends.{with_ends, is_owned_by}
 use Rattle.plain_replay.proofs.ends.add_left.Given as goal

@@ -1,4 +1,4 @@
-use Rattle.std.proofs.Common.{◌≡◌, ◌++◌, flat_map, map, take, ℕ, ◌+◌, List, filter, not}
+use Rattle.std.proofs.Common.{◌≡◌, flat_map, map, take}
 use Rattle.pcp_base.specs.Ends.{end_at}
 use Rattle.pcp_base.specs.Owners.{map_owners}
 use Rattle.plain_replay.proofs.ends.ends_of_maps.Given as goal

@@ -1,4 +1,4 @@
-use Rattle.std.proofs.Common.{◌≡◌, ◌++◌, flat_map, map, take, ℕ, ◌+◌, List, filter, not}
+use Rattle.std.proofs.Common.{◌≡◌, ◌++◌, map, take}
 use Rattle.pcp_base.specs.Owners.{peer_owner}
 use Rattle.plain_replay.proofs.owners.add_owners_of_peers.Given as goal
 

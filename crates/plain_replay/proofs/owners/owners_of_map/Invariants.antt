@@ -1,4 +1,4 @@
-use Rattle.std.proofs.Common.{◌≡◌, ◌++◌, flat_map, map, take, ℕ, ◌+◌, List, filter, not}
+use Rattle.std.proofs.Common.{◌≡◌, map}
 use Rattle.std.specs.List.{range_with_len}
 use Rattle.pcp_base.specs.Owners.{map_owner}
 use Rattle.plain_replay.proofs.owners.owners_of_map.Given as goal
