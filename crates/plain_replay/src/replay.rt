@@ -324,7 +324,7 @@ impl PlainReplay {
         self.is_started = begins(&kept.change) || self.is_started;
     }
 
-    /// Applies a record. After `Memory` nothing has changed.
+    /// Applies a record.
     fn apply(&mut self, alloc: Global, kept: &Record) -> Result<(), Memory>
         requires { IsWellFormedRecord kept.now }
         ensures { OnOk result (self.new ≡ apply self.old kept.now) }
@@ -335,7 +335,7 @@ impl PlainReplay {
         Ok(())
     }
 
-    /// Applies a record of the first format. After `Memory` nothing has changed.
+    /// Applies a record of the first format.
     fn apply_first(&mut self, alloc: Global, kept: &Record) -> Result<(), Memory>
         requires { IsWellFormedRecord kept.now }
         ensures { OnOk result (self.new ≡ apply_first self.old kept.now) }
