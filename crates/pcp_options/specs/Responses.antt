@@ -1,10 +1,16 @@
 -- Responses, apart from reading and from writing (RFC 6887, section 7.2).
-use Rattle.std.specs.Prelude.{◌≡◌, ℕ, ◌+◌, ◌%◌, ◌^◌, ◌<◌, ◌≤◌, List, ◌∷◌, ◌++◌, length}
+use Rattle.std.specs.Prelude.{◌≡◌, ℕ, ◌+◌, ◌%◌, ◌^◌, ◌<◌, ◌≤◌, List, ◌∷◌, ◌++◌, length, map, ⊤}
+use Rattle.std.specs.List.{AllByRecursion}
 use Rattle.std.specs.Int.{to_be_bytes, w32}
 use Rattle.pcp_codec.specs.declared.layout.TheConstants.{VERSION, R_BIT, MESSAGE_OCTETS}
+use Rattle.pcp_codec.specs.declared.requests.Common.{Common}
 use Rattle.pcp_codec.specs.declared.requests.Body.{Body}
+use Rattle.pcp_codec.specs.declared.requests.Body.TheVariants.{Announce, Map, Peer}
 use Rattle.pcp_codec.specs.Packets.{IsData}
-use Rattle.pcp_options.specs.Options.{WholeOption, AreOptions}
+use Rattle.pcp_options.specs.declared.options.Item.{Item}
+use Rattle.pcp_options.specs.declared.options.Item.TheVariants.{ThirdParty, PreferFailure, Filter, PortSet}
+use Rattle.pcp_options.specs.Options.{WholeOption, AreOptions, option_of}
+use Rattle.pcp_options.specs.Replies.{opcode_of_body, success_text}
 
 -- A success: version 2, the R bit with the opcode, a reserved octet, code 0, lifetime, epoch, 12 reserved octets,
 -- data, options, in whole words and at most 1100 octets.
@@ -21,3 +27,25 @@ pub record IsSuccess (message : List ℕ) (opcode lifetime epoch : ℕ) (body : 
   pub numbers_fit : (lifetime < 2 ^ 32) × (epoch < 2 ^ 32)
   pub words : length message % 4 ≡ 0
   pub most : length message ≤ MESSAGE_OCTETS
+
+-- the numbers and addresses of a body, and of an item, as their types hold them
+abbrev pub FitsCommon : Common → Type 0
+FitsCommon c = (length c.nonce.0 ≡ 12) × (length c.address.0 ≡ 16) × (c.internal < 2 ^ 16) × (c.external < 2 ^ 16)
+
+abbrev pub FitsBody : Body → Type 0
+FitsBody Announce = ⊤
+FitsBody (Map c) = FitsCommon c
+FitsBody (Peer c port remote) = FitsCommon c × (port < 2 ^ 16) × (length remote.0 ≡ 16)
+
+abbrev pub FitsItem : Item → Type 0
+FitsItem (ThirdParty a) = length a.0 ≡ 16
+FitsItem PreferFailure = ⊤
+FitsItem (Filter f) = (length f.remote.0 ≡ 16) × (f.port < 2 ^ 16)
+FitsItem (PortSet set) = (set.size < 2 ^ 16) × (set.first < 2 ^ 16)
+
+-- a success that is written is one of the grammar, with the same opcode, lifetime, epoch, body and options
+abbrev pub SuccessesAreResponses : Type 0
+SuccessesAreResponses =
+    (lifetime epoch : ℕ) (body : Body) (items : List Item) → lifetime < 2 ^ 32 → epoch < 2 ^ 32 → FitsBody body
+    → AllByRecursion FitsItem items → length (success_text lifetime epoch body items) ≤ MESSAGE_OCTETS
+    → IsSuccess (success_text lifetime epoch body items) (opcode_of_body body) lifetime epoch body (map option_of items)
