@@ -74,17 +74,20 @@ common-is c h = record {
 data-is : (body : Body) → FitsBody body → IsData (opcode_of_body body) (body_text body) body
 data-is Announce h = (refl, refl)
 data-is (Map c) h = (refl, common-is c h)
-data-is (Peer c port remote) h = (refl, record {
-  front = common_text c;
-  common = common-is c h.0;
-  reserved = 0 ∷ 0 ∷ [];
-  two = refl;
-  spelled = first_of (simp append_assoc, search (rules, append_assoc));
-  sixteen = h.2;
-  port_fits = h.1;
-})
+data-is (Peer c port remote) h = (
+  refl,
+  record {
+    front = common_text c;
+    common = common-is c h.0;
+    reserved = 0 ∷ 0 ∷ [];
+    two = refl;
+    spelled = first_of (simp append_assoc, search (rules, append_assoc));
+    sixteen = h.2;
+    port_fits = h.1;
+  },
+)
 
-common-size : (c : Common) → FitsCommon c → length (common_text c) ≡ 36
+pub common-size : (c : Common) → FitsCommon c → length (common_text c) ≡ 36
 common-size c h =
     let nonce = h.0 in
     let address = h.1 in
@@ -102,7 +105,7 @@ body-words (Peer c port remote) h =
     let e = length-append (common_text c) (remote_text port remote) in
     omega (arith, e, size, sixteen)
 
-success-size : (opcode lifetime epoch : ℕ) (fields text : List ℕ) → length (head opcode 0 lifetime epoch (replicate 12 0) ++ fields ++ text) ≡ 24 + length fields + length text
+pub success-size : (opcode lifetime epoch : ℕ) (fields text : List ℕ) → length (head opcode 0 lifetime epoch (replicate 12 0) ++ fields ++ text) ≡ 24 + length fields + length text
 success-size opcode lifetime epoch fields text =
     let h = length-append (head opcode 0 lifetime epoch (replicate 12 0) ++ fields) text in
     let g = length-append (head opcode 0 lifetime epoch (replicate 12 0)) fields in

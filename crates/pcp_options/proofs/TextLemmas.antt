@@ -26,7 +26,7 @@ pub filter-text : (f : Filters.Filter) → length f.remote.0 ≡ 16 → option_t
 filter-text f h = text-20 3 (0 ∷ f.prefix ∷ to_be_bytes w16 f.port ++ f.remote.0) (omega (arith, h))
 
 -- the options of a success, one after the other
-told-step : (told : Option Item) (rest : List Item) → options_text (map option_of (cons_option told rest)) ≡ told_option told ++ options_text (map option_of rest)
+pub told-step : (told : Option Item) (rest : List Item) → options_text (map option_of (cons_option told rest)) ≡ told_option told ++ options_text (map option_of rest)
 told-step None rest = refl
 told-step (Some item) rest = refl
 

@@ -56,16 +56,16 @@ split-found text behind content rest claimed few padded start h b n f p s c r =
     rw (content-is, rest-is, b, n) (first-found text h)
 
 -- what an option says, by its code
-abbrev third_in : FoundOption → Address
+abbrev pub third_in : FoundOption → Address
 third_in o = record { 0 = octets_at o.content 0 16 }
 
-abbrev filter_in : FoundOption → Filters.Filter
+abbrev pub filter_in : FoundOption → Filters.Filter
 filter_in o = record { prefix = octet o.content 1; port = u16_at o.content 2; remote = record { 0 = octets_at o.content 4 16 } }
 
-abbrev set_in : FoundOption → Sets.PortSet
+abbrev pub set_in : FoundOption → Sets.PortSet
 set_in o = record { size = u16_at o.content 0; first = u16_at o.content 2; parity = octet o.content 4 % 2 == 1 }
 
-abbrev item_by : Bool → Bool → Bool → Bool → Address → Filters.Filter → Sets.PortSet → Option Item
+abbrev pub item_by : Bool → Bool → Bool → Bool → Address → Filters.Filter → Sets.PortSet → Option Item
 item_by a b c d t f s = cond a (Some (ThirdParty t)) (cond b (Some PreferFailure) (cond c (Some (Filter f)) (cond d (Some (PortSet s)) None)))
 
 third-step : (a b c d : Bool) (t : Address) (f : Filters.Filter) (s : Sets.PortSet) (items : List Item) → is_some (third_of (cons_option (item_by a b c d t f s) items)) ≡ (a || is_some (third_of items))

@@ -1,8 +1,14 @@
 //! What holds of every text that is written. A proof that needs a law calls its function.
-ghost use Rattle.pcp_options.specs.Responses.{SuccessesAreResponses};
+ghost use Rattle.pcp_options.specs.Responses.{RepliesAreResponses, SuccessesAreResponses};
 
 /// A success that is written, of at most [`MESSAGE_OCTETS`](pcp_codec::MESSAGE_OCTETS), is one of the
 /// grammar of messages, with the same opcode, lifetime, epoch, body and options.
 pub fn successes_are_responses()
     ensures { SuccessesAreResponses }
+{}
+
+/// The reply to a request that is asked is a response of the grammar of messages, with the fields of the
+/// request and of the answer.
+pub fn replies_are_responses()
+    ensures { RepliesAreResponses }
 {}
