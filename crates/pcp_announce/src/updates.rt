@@ -31,7 +31,15 @@ pub fn write_map_update(
             first: lease.internal,
             parity: false,
         };
-        write_success(alloc, out, lifetime, epoch, &body, Some(set), &[Item::PortSet(set)])
+        write_success(
+            alloc,
+            out,
+            lifetime,
+            epoch,
+            &body,
+            Some(set),
+            &[Item::PortSet(set)],
+        )
     } else {
         write_success(alloc, out, lifetime, epoch, &body, None, &[])
     }

@@ -1,3 +1,4 @@
+pub mod OptionLaws
 pub mod ReplyLaws
 pub mod ResponseLaws
 pub mod TextLemmas

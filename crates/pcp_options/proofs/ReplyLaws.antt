@@ -35,8 +35,8 @@ use Rattle.pcp_options.specs.Options.{FoundOption, fill, found_after, found_in, 
 use Rattle.pcp_options.specs.Steps.{is_again, option_steps, steps_after, options_steps}
 use Rattle.pcp_options.specs.Asking.{third_of, subject_of, ask_of}
 use Rattle.pcp_options.specs.Verdicts.{behind_data, options_in, third_steps, later_steps, request_steps, asked_by, verdict_by, verdict_of}
-use Rattle.pcp_options.specs.Replies.{IsJudged, assigned, body_text, common_text, remote_text, opcode_of_body, reply_text, success_text, told_item, told_items, told_text}
-use Rattle.pcp_options.specs.Responses.{AreOctets, FitsAnswer, FitsBody, FitsCommon, FitsItem, FitsSet, IsError, IsResponseTo, IsSuccess, IsSuccessOf, RepliesAreResponses}
+use Rattle.pcp_options.specs.Replies.{assigned, body_text, common_text, remote_text, opcode_of_body, reply_text, success_text, told_item, told_items, told_text}
+use Rattle.pcp_options.specs.Responses.{AreOctets, FitsAnswer, FitsBody, FitsCommon, FitsItem, FitsSet, IsError, IsResponseTo, IsSuccessOf, RepliesAreResponses}
 use Rattle.pcp_options.proofs.WalkLemmas.{after-drop, third_in, filter_in, set_in, item_by}
 use Rattle.pcp_options.proofs.TextLemmas.{told-step}
 use Rattle.pcp_options.proofs.ResponseLaws.{common-size, success-size, success-is}

@@ -1,23 +1,22 @@
 -- A success that is written is one of the grammar.
 use Rattle.std.specs.Int.{to_be_bytes, w16, w32}
 use Rattle.std.specs.List.{AllByRecursion}
-use Rattle.std.specs.Prelude.{replicate, ⊤}
-use Rattle.std.proofs.Common.{◌≡◌, ℕ, ◌+◌, ◌%◌, ◌^◌, ◌<◌, ◌≤◌, List, [], ◌∷◌, ◌++◌, length, map, refl, ap, sym, ◌∙◌, subst, arith, rules, length-append}
+use Rattle.std.specs.Prelude.{replicate}
+use Rattle.std.proofs.Common.{◌≡◌, ℕ, ◌+◌, ◌%◌, ◌^◌, ◌<◌, List, [], ◌∷◌, ◌++◌, length, map, refl, ap, sym, subst, arith, rules, length-append}
 use Rattle.std.proofs.lemmas.List.{append_assoc, length-replicate}
-use Rattle.pcp_base.specs.declared.addresses.Address.{Address}
 use Rattle.pcp_codec.specs.declared.requests.Common.{Common}
 use Rattle.pcp_codec.specs.declared.requests.Body.{Body}
 use Rattle.pcp_codec.specs.declared.requests.Body.TheVariants.{Announce, Map, Peer}
-use Rattle.pcp_codec.specs.Packets.{IsCommon, IsPeer, IsData}
+use Rattle.pcp_codec.specs.Packets.{IsCommon, IsData}
 use Rattle.pcp_codec.specs.Replies.{head}
 use Rattle.pcp_options.specs.declared.options.Item.{Item}
 use Rattle.pcp_options.specs.declared.options.Item.TheVariants.{ThirdParty, PreferFailure, Filter, PortSet}
 use Rattle.pcp_options.specs.Options.{WholeOption, AreOptions, fill, option_of, option_text, options_text}
-use Rattle.pcp_options.specs.Replies.{opcode_of_body, common_text, remote_text, body_text, success_text}
-use Rattle.pcp_options.specs.Responses.{IsSuccess, FitsCommon, FitsBody, FitsItem, SuccessesAreResponses}
+use Rattle.pcp_options.specs.Replies.{opcode_of_body, common_text, remote_text, body_text}
+use Rattle.pcp_options.specs.Responses.{FitsCommon, FitsBody, FitsItem, SuccessesAreResponses}
 
 -- options that are written are spelled so
-options-spelled : (os : List WholeOption) → AllByRecursion (λ o. length o.content < 2 ^ 16) os → AreOptions (options_text os) os
+pub options-spelled : (os : List WholeOption) → AllByRecursion (λ o. length o.content < 2 ^ 16) os → AreOptions (options_text os) os
 options-spelled [] h = refl
 options-spelled (o ∷ os) (fits, more) = (
   0,
@@ -36,7 +35,7 @@ short PreferFailure h = omega arith
 short (Filter f) h = let k = h.0 in omega (arith, k)
 short (PortSet set) h = omega arith
 
-all-short : (items : List Item) → AllByRecursion FitsItem items → AllByRecursion (λ o. length o.content < 2 ^ 16) (map option_of items)
+pub all-short : (items : List Item) → AllByRecursion FitsItem items → AllByRecursion (λ o. length o.content < 2 ^ 16) (map option_of items)
 all-short [] h = tt
 all-short (item ∷ items) (fits, more) = (short item fits, all-short items more)
 

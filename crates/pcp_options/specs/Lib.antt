@@ -1,4 +1,5 @@
 pub mod Asking
+pub mod Laws
 pub mod Options
 pub mod Raw
 pub mod Replies

@@ -1,10 +1,9 @@
 -- The reply to a request (RFC 6887, sections 7.2, 11.1, 12.1, 13 and 14.1; its details are our own).
-use Rattle.std.specs.Prelude.{ℕ, List, [], ◌∷◌, ◌++◌, map, replicate, filter_map, option_map, Option, Some, None, is_some, IsTrue, ◌≡◌, ⊤}
+use Rattle.std.specs.Prelude.{ℕ, List, [], ◌∷◌, ◌++◌, map, replicate, filter_map, option_map, Option, Some, None, ◌≡◌}
 use Rattle.std.specs.Int.{to_be_bytes, w16}
 use Rattle.pcp_base.specs.declared.addresses.Address.{Address}
 use Rattle.pcp_base.specs.declared.asks.PortSet as Sets
 use Rattle.pcp_base.specs.declared.asks.Ask.{Ask}
-use Rattle.pcp_base.specs.declared.asks.Ask.TheVariants as Asks
 use Rattle.pcp_base.specs.declared.asks.Answer.{Answer}
 use Rattle.pcp_base.specs.declared.asks.Answer.TheVariants.{Refused, Announced, Gone, Mapped, Peered}
 use Rattle.pcp_base.specs.declared.configs.Config.{Config}
@@ -85,18 +84,3 @@ reply_text message items (Peered lifetime external address) epoch =
 abbrev pub IsJudged : List ℕ → Ask → List Item → Type 0
 IsJudged message ask items =
     (config : Config) × (source : Address) × (place : ℕ) × (verdict_of config source message ≡ Asked place ask items)
-
--- a set is told only where one was asked for
-abbrev pub IsSetTold : Option Sets.PortSet → Option Sets.PortSet → Type 0
-IsSetTold None asked = ⊤
-IsSetTold (Some set) asked = IsTrue (is_some asked)
-
--- the answer is one to this ask
-abbrev pub IsAnswerTo : Ask → Answer → Type 0
-IsAnswerTo ask (Refused refusal) = ⊤
-IsAnswerTo Asks.Announce Announced = ⊤
-IsAnswerTo (Asks.Map ask) Gone = ⊤
-IsAnswerTo (Asks.Map ask) (Mapped lifetime external address set) = IsSetTold set ask.set
-IsAnswerTo (Asks.Peer ask) Gone = ⊤
-IsAnswerTo (Asks.Peer ask) (Peered lifetime external address) = ⊤
-IsAnswerTo ask answer = ⊥

@@ -1,4 +1,5 @@
 //! What holds of every text that is written. A proof that needs a law calls its function.
+ghost use Rattle.pcp_options.specs.Laws.{FoundAreOptions, ItemsAreRead, OptionsAreFound};
 ghost use Rattle.pcp_options.specs.Responses.{RepliesAreResponses, SuccessesAreResponses};
 
 /// A success that is written, of at most [`MESSAGE_OCTETS`](pcp_codec::MESSAGE_OCTETS), is one of the
@@ -11,4 +12,12 @@ pub fn successes_are_responses()
 /// request and of the answer.
 pub fn replies_are_responses()
     ensures { RepliesAreResponses }
+{}
+
+/// The options that stand in octets are those that the grammar of options spells, in both directions;
+/// and items that are written are read again.
+pub fn options_are_of_the_grammar()
+    ensures found { OptionsAreFound }
+    ensures spelled { FoundAreOptions }
+    ensures again { ItemsAreRead }
 {}
