@@ -29,8 +29,8 @@ abbrev pub counted : Schedule → ℕ → ℕ
 counted s now = max s.last now
 
 -- a greater base begins anew
-abbrev pub seen_by : Schedule → ℕ → ℕ → Schedule
-seen_by s base now =
+abbrev pub after_seen : Schedule → ℕ → ℕ → Schedule
+after_seen s base now =
     if nat_lt s.base base then record { base = base; since = counted s now; made = 0; last = counted s now }
     else record s { base = base; last = counted s now }
 
@@ -43,8 +43,8 @@ abbrev pub is_due : Schedule → ℕ → Bool
 is_due s now = nat_lt s.made ANNOUNCEMENTS && nat_le (s.since + wait_of s.made) (counted s now)
 
 -- one is made where it is due
-abbrev pub asked_by : Schedule → ℕ → Schedule
-asked_by s now = record s { made = if is_due s now then s.made + 1 else s.made; last = counted s now }
+abbrev pub after_due : Schedule → ℕ → Schedule
+after_due s now = record s { made = if is_due s now then s.made + 1 else s.made; last = counted s now }
 
 -- an announcement: the head of a success with lifetime 0
 abbrev pub announcement : Schedule → ℕ → List ℕ

@@ -2,7 +2,7 @@
 ghost use Rattle.std.specs.Prelude.{◌≡◌, ◌+◌, ◌*◌, ◌/◌, ◌^◌, ◌<◌, ◌≤◌, ◌&&◌, nat_lt, nat_le, if◌then◌else◌};
 ghost use Rattle.pcp_base.specs.Epoch.{epoch_of};
 ghost use Rattle.pcp_announce.specs.declared.announcer.TheConstants.{ANNOUNCEMENTS};
-ghost use Rattle.pcp_announce.specs.Schedules.{announcement, asked_by, begun, is_due, seen_by, wait_of};
+ghost use Rattle.pcp_announce.specs.Schedules.{announcement, after_due, begun, is_due, after_seen, wait_of};
 
 use pcp_base::{Moment, epoch};
 use pcp_codec::{ANNOUNCE_OPCODE, write_head};
@@ -52,7 +52,7 @@ impl Announcer {
     /// Sees a base. One that is greater than that before begins the announcements anew.
     pub fn seen(&mut self, base: Moment, now_ms: u64)
         requires { now_ms < 1000 * 2 ^ 40 }
-        ensures { self.new ≡ seen_by self.old base now_ms }
+        ensures { self.new ≡ after_seen self.old base now_ms }
     {
         self.last = self.last.max(now_ms);
         if base.get() > self.base.get() {
@@ -69,7 +69,7 @@ impl Announcer {
     pub fn due(&mut self, now_ms: u64, out: &mut [u8; 24]) -> bool
         requires { now_ms < 1000 * 2 ^ 40 }
         ensures due { result ≡ is_due self.old now_ms }
-        ensures made { self.new ≡ asked_by self.old now_ms }
+        ensures made { self.new ≡ after_due self.old now_ms }
         ensures head { out.new ≡ (if is_due self.old now_ms then announcement self.old now_ms else out.old) }
     {
         self.last = self.last.max(now_ms);
