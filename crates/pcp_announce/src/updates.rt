@@ -19,7 +19,8 @@ pub fn write_map_update(
     base: Moment,
 ) -> Result<(), Memory>
     requires { m < lease.now.expiry }
-    ensures ok { OnOk result (out.new.items ≡ out.old.items ++ map_update lease.now address.now m base) }
+    ensures ok { OnOk result (out.new.items
+        ≡ out.old.items ++ map_update lease.now address.now m base) }
     ensures err { OnErr result (out.new.items ≡ out.old.items) }
 {
     let body = map_body(lease, address);
@@ -57,7 +58,8 @@ pub fn write_peer_update(
     base: Moment,
 ) -> Result<(), Memory>
     requires { m < lease.now.expiry }
-    ensures ok { OnOk result (out.new.items ≡ out.old.items ++ peer_update lease.now address.now m base) }
+    ensures ok { OnOk result (out.new.items
+        ≡ out.old.items ++ peer_update lease.now address.now m base) }
     ensures err { OnErr result (out.new.items ≡ out.old.items) }
 {
     let body = peer_body(lease, address);
