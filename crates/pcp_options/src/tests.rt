@@ -31,10 +31,6 @@ static REPLY: [u8; 120] = [
     130, 0, 0, 5, 0, 5, 0x13, 0x86, 1, 0, 0, 0,
 ];
 
-static ONES: [u8; 1040] = [1; 1040];
-
-static LONG: [u8; 1044] = [0; 1044];
-
 static ITSELF: [u8; 20] = [
     1, 0, 0, 16, 0, 0, 0, 0, 0, 0, 0, 0, 0, 0, 0xff, 0xff, 10, 0, 0, 5,
 ];
@@ -83,7 +79,7 @@ fn verdicts(rt: HostRuntime) -> Result<(), Fail> {
     let config = config(alloc)?;
     let source = Address::v4(10, 0, 0, 5);
     // what stands behind the request, and the verdict
-    let cases: [(&[u8], Outcome); 9] = [
+    let cases: [(&[u8], Outcome); 7] = [
         (&[], Outcome::Asked),
         (&[127, 0, 0, 0], Outcome::Refused(Code::UnsuppOption, false)),
         (&[200, 0, 0, 0], Outcome::Asked),
@@ -95,8 +91,6 @@ fn verdicts(rt: HostRuntime) -> Result<(), Fail> {
             &[127, 0, 0, 1],
             Outcome::Refused(Code::MalformedOption, false),
         ),
-        (&ONES, Outcome::Refused(Code::MalformedOption, false)),
-        (&LONG, Outcome::Refused(Code::MalformedRequest, false)),
         (&ITSELF, Outcome::Refused(Code::MalformedRequest, true)),
         (&OPTIONS, Outcome::Asked),
     ];
@@ -105,6 +99,16 @@ fn verdicts(rt: HostRuntime) -> Result<(), Fail> {
         message.extend_from_slice(options)?;
         let verdict = judge(alloc, &config, &source, &message)?;
         assert!(rt; outcome_of(&verdict) == want);
+    }
+    // 1040 octets of THIRD_PARTY's code, and a request of 1104 octets
+    for (length, octet, code) in [
+        (1100, 1, Code::MalformedOption),
+        (1104, 0, Code::MalformedRequest),
+    ] {
+        let mut message = REQUEST.to_vec(alloc)?;
+        message.resize(length, octet)?;
+        let verdict = judge(alloc, &config, &source, &message)?;
+        assert!(rt; outcome_of(&verdict) == Outcome::Refused(code, false));
     }
     Ok(())
 }
