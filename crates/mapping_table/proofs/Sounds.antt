@@ -1,0 +1,23 @@
+-- Sound leases, of which some are taken out.
+use Rattle.std.proofs.Common.{◌≡◌, ℕ, ◌≤◌, Bool, List, [], ◌∷◌, length, Result, Ok, Err, OnOk, OnErr, filter, subst, sym, cond, arith}
+use Rattle.std.specs.List.{AllByRecursion}
+use Rattle.pcp_base.proofs.Members.{All-filter, EachTwo-filter}
+use Rattle.pcp_base.proofs.TableLemmas.{length-fewer}
+use Rattle.pcp_base.specs.declared.leases.TheConstants.{MOST_LEASES}
+use Rattle.pcp_base.specs.declared.leases.MapLease.{MapLease}
+use Rattle.pcp_base.specs.Tables.{IsMapLease, EachTwo}
+use Rattle.mapping_table.specs.MapLists.{AreSeparate, AreSoundMaps}
+
+pub AreSoundMaps-filter : (p : MapLease → Bool) (ls : List MapLease) → AreSoundMaps ls → AreSoundMaps (filter p ls)
+AreSoundMaps-filter p ls h =
+    let fewer : length (filter p ls) ≤ length ls = length-fewer p ls in
+    record {
+      leases = All-filter IsMapLease p ls h.leases;
+      separate = EachTwo-filter AreSeparate p ls h.separate;
+      few = omega (arith, fewer, h.few);
+    }
+
+-- the leases are those put, or as before
+pub AreSoundMaps-put : {T E : Type 0} (old put new : List MapLease) (r : Result T E) → OnOk r (new ≡ put) → OnErr r (new ≡ old) → AreSoundMaps old → AreSoundMaps put → AreSoundMaps new
+AreSoundMaps-put old put new (Ok v) ok err before after = subst AreSoundMaps (sym ok) after
+AreSoundMaps-put old put new (Err e) ok err before after = subst AreSoundMaps (sym err) before

@@ -1,0 +1,93 @@
+-- What is asked of a list of MAP leases, in the order granted, and what it must keep to (our own; a
+-- MAP lease is a mapping of RFC 6887, section 11).
+use Rattle.std.specs.Prelude.{◌≡◌, ℕ, ◌+◌, ◌<◌, ◌≤◌, ◌&&◌, nat_le, nat_lt, not, Bool, false, List, ◌++◌, length, filter, find, count_by, IsTrue, Option, Some, None, if◌then◌else◌, IfSome, IfNone, Result, OnOk, OnErr}
+use Rattle.std.specs.List.{AllByRecursion, list_any}
+use Rattle.pcp_base.specs.declared.leases.TheConstants.{MOST_LEASES}
+use Rattle.pcp_base.specs.declared.leases.Protocol.{Protocol}
+use Rattle.pcp_base.specs.declared.leases.Endpoint.{Endpoint}
+use Rattle.pcp_base.specs.declared.leases.MapLease.{MapLease}
+use Rattle.pcp_base.specs.Tables.{EachTwo, IsMapLease, covers, first_endpoint, is_map_of, put, same_address, same_protocol}
+
+-- whether the lease is live at m
+abbrev pub is_live_map : ℕ → MapLease → Bool
+is_live_map m l = nat_lt m l.expiry
+
+-- whether the lease owns the external port
+abbrev pub owns : Protocol → ℕ → MapLease → Bool
+owns protocol port l =
+    same_protocol l.protocol protocol && nat_le l.external port && nat_lt port (l.external + l.count)
+
+-- the lease that covers the endpoint
+abbrev pub map_covering : Endpoint → List MapLease → Option MapLease
+map_covering e ls = find (λ l. covers l e) ls
+
+-- the lease that owns the external port
+abbrev pub map_owning : Protocol → ℕ → List MapLease → Option MapLease
+map_owning protocol port ls = find (owns protocol port) ls
+
+-- the lease with this key: its first endpoint
+abbrev pub map_with_key : Endpoint → List MapLease → Option MapLease
+map_with_key key ls = find (is_map_of key) ls
+
+-- the first lease that isn't live at m
+abbrev pub first_dead_map : ℕ → List MapLease → Option MapLease
+first_dead_map m ls = find (λ l. not (is_live_map m l)) ls
+
+-- whether a lease covers this port of the endpoint's address and protocol
+abbrev pub is_covered : Endpoint → List MapLease → ℕ → Bool
+is_covered e ls port =
+    list_any (λ l. covers l (record { address = e.address; protocol = e.protocol; port = port })) ls
+
+-- the least covered port above the endpoint's, None exactly where there is none
+pub record IsNextCovered (e : Endpoint) (ls : List MapLease) (result : Option ℕ) : Type 0 where
+  pub above : IfSome result (λ port. e.port < port)
+  pub covered : IfSome result (λ port. IsTrue (is_covered e ls port))
+  pub least : IfSome result (λ port.
+      (other : ℕ) → e.port < other → IsTrue (is_covered e ls other) → port ≤ other)
+  pub none : IfNone result ((other : ℕ) → e.port < other → is_covered e ls other ≡ false)
+
+-- whether the n ports from a on and the k ports from b on have one in common
+abbrev pub runs_meet : (a n b k : ℕ) → Bool
+runs_meet a n b k = nat_lt a (b + k) && nat_lt b (a + n)
+
+-- no endpoint is covered by both leases, and no external port is owned by both
+pub record AreSeparate (a b : MapLease) : Type 0 where
+  pub inside : (same_address a.address b.address && same_protocol a.protocol b.protocol
+      && runs_meet a.internal a.count b.internal b.count) ≡ false
+  pub outside : (same_protocol a.protocol b.protocol
+      && runs_meet a.external a.count b.external b.count) ≡ false
+
+-- the MAP leases of a sound table
+pub record AreSoundMaps (ls : List MapLease) : Type 0 where
+  pub leases : AllByRecursion IsMapLease ls
+  pub separate : EachTwo AreSeparate ls
+  pub few : length ls ≤ MOST_LEASES
+
+-- the leases with one more, in the place of the one with its key, or at the end
+abbrev pub with_map : MapLease → List MapLease → List MapLease
+with_map l ls = put (is_map_of (first_endpoint l)) l ls
+
+-- the lease is put; where that fails, nothing changes
+pub record PutsMap {X E : Type 0} (old : List MapLease) (l : MapLease) (result : Result X E)
+    (new : List MapLease) : Type 0 where
+  pub ok : OnOk result (new ≡ with_map l old)
+  pub err : OnErr result (new ≡ old)
+
+-- the lease with this key is told and taken out, and the others stay
+pub record RemovesMap (old : List MapLease) (key : Endpoint) (result : Option MapLease)
+    (new : List MapLease) : Type 0 where
+  pub answer : result ≡ map_with_key key old
+  pub removed : new ≡ filter (λ l. not (is_map_of key l)) old
+
+-- the leases that are live at m stand behind the old ones, in the order granted; where that fails,
+-- nothing changes
+pub record CopiesLiveMaps {X E : Type 0} (ls : List MapLease) (m : ℕ) (old : List MapLease)
+    (result : Result X E) (new : List MapLease) : Type 0 where
+  pub ok : OnOk result (new ≡ old ++ filter (is_live_map m) ls)
+  pub err : OnErr result (new ≡ old)
+
+-- the lesser of two, of which each may be missing
+abbrev pub lesser : Option ℕ → Option ℕ → Option ℕ
+lesser None b = b
+lesser (Some a) None = Some a
+lesser (Some a) (Some b) = if nat_le a b then Some a else Some b

@@ -1,0 +1,204 @@
+//! The plain body: a list that is searched, and nothing beside it.
+
+ghost use Rattle.std.specs.Prelude.{◌≡◌, [], ◌∷◌, filter, find, count_by, position, not, IfOk, OnOk, OnErr};
+ghost use Rattle.std.specs.Option.{option_copied};
+ghost use Rattle.std.specs.List.{AllByRecursion};
+ghost use Rattle.pcp_base.specs.Tables.{is_map_of, IsMapLease};
+ghost use Rattle.mapping_table.specs.MapLists.{is_live_map, owns, map_covering, map_owning, map_with_key, first_dead_map, IsNextCovered, AreSoundMaps, lesser, with_map, PutsMap, RemovesMap, CopiesLiveMaps};
+
+use pcp_base::{Endpoint, MapLease, Memory, Moment, Protocol};
+use std::alloc::{AllocError, Global};
+use std::marker::Model;
+
+/// MAP leases in the order granted, with the same clauses as `MapTable`.
+#[derive(Drop)]
+pub struct PlainMapTable {
+    leases: Vec<MapLease>,
+}
+
+impl Model for PlainMapTable {
+    ghost use Rattle.std.specs.Prelude.{List};
+    ghost use Rattle.pcp_base.specs.declared.leases.MapLease.{MapLease};
+    ghost use Rattle.mapping_table.specs.MapLists.{AreSoundMaps};
+
+    ghost Value = { List MapLease };
+
+    ghost view = { λ t. t.leases.items };
+
+    ghost invariant = { λ t. AreSoundMaps t.leases.items };
+}
+
+/// Whether the lease owns the external port.
+fn owns(lease: &MapLease, protocol: Protocol, port: u16) -> bool
+    ensures { result ≡ owns protocol port lease.now }
+{
+    lease.protocol == protocol
+        && lease.external <= port
+        && u32::from(port) < u32::from(lease.external) + u32::from(lease.count)
+}
+
+/// Whether this is the key of the lease: its first endpoint.
+fn has_key(lease: &MapLease, key: &Endpoint) -> bool
+    ensures { result ≡ is_map_of key.now lease.now }
+{
+    lease.first_endpoint() == *key
+}
+
+/// The lease with this key.
+fn lease_with<'a>(leases: &'a [MapLease], key: &Endpoint) -> Option<&'a MapLease>
+    ensures { option_copied result ≡ map_with_key key.now leases.now }
+{
+    leases.iter().find(|lease| has_key(lease, key))
+}
+
+/// Takes out the leases with this key.
+fn drop_from(leases: &mut Vec<MapLease>, key: &Endpoint)
+    ensures { leases.new.items ≡ filter (λ l. not (is_map_of key.now l)) leases.old.items }
+{
+    leases.retain(|lease| !has_key(lease, key));
+}
+
+/// The place of the lease with this key.
+fn place_of(leases: &[MapLease], key: &Endpoint) -> Option<usize>
+    ensures { result ≡ position (is_map_of key.now) leases.now }
+{
+    leases.iter().position(|lease| has_key(lease, key))
+}
+
+/// Puts a lease in the place of the one with its key, or at the end.
+fn put_into(leases: &mut Vec<MapLease>, lease: MapLease) -> Result<(), AllocError>
+    ensures ok { OnOk result (leases.new.items ≡ with_map lease leases.old.items) }
+    ensures err { OnErr result (leases.new.items ≡ leases.old.items) }
+{
+    match place_of(leases, &lease.first_endpoint()) {
+        Some(place) => leases[place] = lease,
+        None => leases.push(lease)?,
+    }
+    Ok(())
+}
+
+/// The leases that are live at `m`.
+fn live_of(alloc: Global, leases: &[MapLease], m: Moment) -> Result<Vec<MapLease>, AllocError>
+    ensures { IfOk result (λ v. v.items ≡ filter (is_live_map m) leases.now) }
+{
+    leases
+        .iter()
+        .copied()
+        .filter(|lease| lease.is_live(m))
+        .collect(alloc)
+}
+
+/// The least port above the endpoint's that the lease covers.
+fn next_of(lease: &MapLease, endpoint: &Endpoint) -> Option<u16>
+    requires { IsMapLease lease.now }
+    ensures { IsNextCovered endpoint.now (lease.now ∷ []) result }
+{
+    let last = u32::from(lease.internal) + u32::from(lease.count) - 1;
+    if lease.address != endpoint.address
+        || lease.protocol != endpoint.protocol
+        || last <= u32::from(endpoint.port)
+    {
+        return None;
+    }
+    if lease.internal > endpoint.port {
+        return Some(lease.internal);
+    }
+    Some(endpoint.port + 1)
+}
+
+/// The lesser of two ports, of which each may be missing.
+fn lesser(first: Option<u16>, second: Option<u16>) -> Option<u16>
+    ensures { result ≡ lesser first second }
+{
+    match (first, second) {
+        (Some(a), Some(b)) => if a <= b { Some(a) } else { Some(b) },
+        (Some(a), None) => Some(a),
+        (None, b) => b,
+    }
+}
+
+/// The least port above the endpoint's that a lease covers.
+fn next_in(leases: &[MapLease], endpoint: &Endpoint) -> Option<u16>
+    requires { AllByRecursion IsMapLease leases.now }
+    ensures { IsNextCovered endpoint.now leases.now result }
+{
+    match leases {
+        [] => None,
+        [first, rest @ ..] => lesser(next_of(first, endpoint), next_in(rest, endpoint)),
+    }
+}
+
+impl PlainMapTable {
+    /// A table without a lease. The one error is want of memory.
+    pub fn new(alloc: Global) -> Result<PlainMapTable, Memory>
+        ensures { IfOk result (λ table. table ≡ []) }
+    {
+        Ok(PlainMapTable {
+            leases: Vec::new(alloc),
+        })
+    }
+
+    /// The lease that covers the endpoint.
+    pub fn find(&self, endpoint: &Endpoint) -> Option<&MapLease>
+        ensures { option_copied result ≡ map_covering endpoint.now self.now }
+    {
+        self.leases.iter().find(|lease| lease.covers(endpoint))
+    }
+
+    /// The lease that owns the external port.
+    pub fn by_external(&self, protocol: Protocol, port: u16) -> Option<&MapLease>
+        ensures { option_copied result ≡ map_owning protocol port self.now }
+    {
+        self.leases.iter().find(|lease| owns(lease, protocol, port))
+    }
+
+    /// The least internal port above the endpoint's that a lease of its address and protocol covers.
+    pub fn next_internal(&self, endpoint: &Endpoint) -> Option<u16>
+        ensures { IsNextCovered endpoint.now self.now result }
+    {
+        next_in(&self.leases, endpoint)
+    }
+
+    /// Puts a lease in the place of the one with its key, or at the end. The one error is want of
+    /// memory, which changes nothing.
+    pub fn put(&mut self, _alloc: Global, lease: MapLease) -> Result<(), Memory>
+        requires { AreSoundMaps (with_map lease self.old) }
+        ensures { PutsMap self.old lease result self.new }
+    {
+        put_into(&mut self.leases, lease)?;
+        Ok(())
+    }
+
+    /// Takes out the lease with this first endpoint.
+    pub fn remove(&mut self, key: &Endpoint) -> Option<MapLease>
+        ensures { RemovesMap self.old key.now result self.new }
+    {
+        let found = lease_with(&self.leases, key).copied();
+        drop_from(&mut self.leases, key);
+        found
+    }
+
+    /// How many leases are live at `m`.
+    pub fn live(&self, m: Moment) -> u32
+        ensures { result ≡ count_by (is_live_map m) self.now }
+    {
+        self.leases.iter().filter(|lease| lease.is_live(m)).count() as u32
+    }
+
+    /// The first lease that isn't live at `m`, in the order granted.
+    pub fn ended(&self, m: Moment) -> Option<&MapLease>
+        ensures { option_copied result ≡ first_dead_map m self.now }
+    {
+        self.leases.iter().find(|lease| !lease.is_live(m))
+    }
+
+    /// Appends the leases that are live at `m`, in the order granted. The one error is want of
+    /// memory, which changes nothing.
+    pub fn copy_live(&self, alloc: Global, m: Moment, out: &mut Vec<MapLease>) -> Result<(), Memory>
+        ensures { CopiesLiveMaps self.now m out.old.items result out.new.items }
+    {
+        let mut live = live_of(alloc, &self.leases, m)?;
+        out.append(&mut live)?;
+        Ok(())
+    }
+}
