@@ -1,1 +1,3 @@
 pub mod MapLists
+pub mod Orders
+pub mod Kept

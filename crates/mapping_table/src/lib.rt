@@ -1,4 +1,9 @@
 //! The MAP leases of an external address, in the order granted (RFC 6887, section 11).
 #![tactic(auto)]
 
+mod keys;
+mod owning;
 pub mod plain;
+mod table;
+
+pub use table::MapTable;

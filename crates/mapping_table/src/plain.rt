@@ -4,8 +4,9 @@ ghost use Rattle.std.specs.Prelude.{◌≡◌, [], ◌∷◌, filter, find, coun
 ghost use Rattle.std.specs.Option.{option_copied};
 ghost use Rattle.std.specs.List.{AllByRecursion};
 ghost use Rattle.pcp_base.specs.Tables.{is_map_of, IsMapLease};
-ghost use Rattle.mapping_table.specs.MapLists.{is_live_map, owns, map_covering, map_owning, map_with_key, first_dead_map, IsNextCovered, AreSoundMaps, lesser, with_map, PutsMap, RemovesMap, CopiesLiveMaps};
+ghost use Rattle.mapping_table.specs.MapLists.{is_live_map, map_covering, map_owning, map_with_key, first_dead_map, IsNextCovered, AreSoundMaps, lesser, with_map, PutsMap, RemovesMap, CopiesLiveMaps};
 
+use crate::owning::owns;
 use pcp_base::{Endpoint, MapLease, Memory, Moment, Protocol};
 use std::alloc::{AllocError, Global};
 use std::marker::Model;
@@ -26,15 +27,6 @@ impl Model for PlainMapTable {
     ghost view = { λ t. t.leases.items };
 
     ghost invariant = { λ t. AreSoundMaps t.leases.items };
-}
-
-/// Whether the lease owns the external port.
-fn owns(lease: &MapLease, protocol: Protocol, port: u16) -> bool
-    ensures { result ≡ owns protocol port lease.now }
-{
-    lease.protocol == protocol
-        && lease.external <= port
-        && u32::from(port) < u32::from(lease.external) + u32::from(lease.count)
 }
 
 /// Whether this is the key of the lease: its first endpoint.
@@ -136,6 +128,13 @@ impl PlainMapTable {
         Ok(PlainMapTable {
             leases: Vec::new(alloc),
         })
+    }
+
+    /// The leases, in the order granted.
+    pub fn leases(&self) -> &[MapLease]
+        ensures { result.now ≡ self.now }
+    {
+        &self.leases
     }
 
     /// The lease that covers the endpoint.

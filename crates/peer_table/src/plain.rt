@@ -169,6 +169,13 @@ impl PlainPeerTable {
         })
     }
 
+    /// The leases, in the order granted.
+    pub fn leases(&self) -> &[PeerLease]
+        ensures { result.now ≡ self.now }
+    {
+        &self.leases
+    }
+
     /// The lease with this endpoint, remote address and remote port.
     pub fn find(&self, endpoint: &Endpoint, remote: &Address, port: u16) -> Option<&PeerLease>
         ensures { option_copied result ≡ peer_with_key endpoint.now remote.now port self.now }

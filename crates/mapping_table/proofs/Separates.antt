@@ -1,0 +1,65 @@
+-- Of sound leases one at most covers an endpoint, and one at most owns a port.
+use Rattle.std.proofs.Common.{◌≡◌, ℕ, ◌+◌, ◌<◌, ◌≤◌, ◌&&◌, nat_le, nat_lt, Bool, true, false, List, [], ◌∷◌, refl, sym, ap, ◌∙◌, subst, Some, arith}
+use Rattle.std.specs.List.{AllByRecursion}
+use Rattle.std.specs.Ordering.{nat_cmp}
+use Rattle.std.specs.BTreeMap.{BTreeMap, get, values}
+use Rattle.std.proofs.lemmas.Bool.{and_parts, and_from, ltb-true, leb-true, lt-ltb, le-leb}
+use Rattle.pcp_base.specs.declared.leases.Protocol.{Protocol}
+use Rattle.pcp_base.specs.declared.leases.Endpoint.{Endpoint}
+use Rattle.pcp_base.specs.declared.leases.MapLease.{MapLease}
+use Rattle.pcp_base.specs.Tables.{EachTwo, IsMapLease, covers, first_endpoint, same_address, same_protocol}
+use Rattle.pcp_base.proofs.Members.{All-weaker}
+use Rattle.pcp_base.proofs.Same.{same_address-Decides, same_protocol-Decides}
+use Rattle.pcp_base.proofs.TableLemmas.{IsCovered, IsCovered-from_covers}
+use Rattle.mapping_table.specs.MapLists.{owns, runs_meet, AreSeparate, AreSoundMaps}
+use Rattle.mapping_table.proofs.Entries.{one_passes, All-at}
+
+each_weaker : {X : Type 0} (R S : X → X → Type 0) → ((x y : X) → R x y → S x y) → (xs : List X) → EachTwo R xs → EachTwo S xs
+each_weaker R S f [] h = tt
+each_weaker R S f (x ∷ xs) h = (All-weaker (R x) (S x) (f x) xs h.0, each_weaker R S f xs h.1)
+
+-- what `owns` says
+pub record IsOwned (l : MapLease) (of : Protocol) (port : ℕ) : Type 0 where
+  pub protocol : l.protocol ≡ of
+  pub from : l.external ≤ port
+  pub below : port < l.external + l.count
+
+pub IsOwned-from_owns : (l : MapLease) (protocol : Protocol) (port : ℕ) → owns protocol port l ≡ true → IsOwned l protocol port
+IsOwned-from_owns l protocol port h =
+    let a = and_parts _ _ h in let b = and_parts _ _ a.0 in record {
+      protocol = (same_protocol-Decides l.protocol protocol).0 b.0;
+      from = leb-true l.external port b.1;
+      below = ltb-true port (l.external + l.count) a.1;
+    }
+
+pub owns-from_IsOwned : (l : MapLease) (protocol : Protocol) (port : ℕ) → l.protocol ≡ protocol → l.external ≤ port → port < l.external + l.count → owns protocol port l ≡ true
+owns-from_IsOwned l protocol port same from below =
+    and_from _ _ (and_from _ _ ((same_protocol-Decides l.protocol protocol).1 same) (le-leb l.external port from)) (lt-ltb port (l.external + l.count) below)
+
+meet : (p a n b k : ℕ) → a ≤ p → p < a + n → b ≤ p → p < b + k → runs_meet a n b k ≡ true
+meet p a n b k h1 h2 h3 h4 = and_from _ _ (lt-ltb a (b + k) (omega (arith, h1, h4))) (lt-ltb b (a + n) (omega (arith, h2, h3)))
+
+clash : (b : Bool) → b ≡ true → b ≡ false → ⊥
+clash b h k = let no : true ≡ false = sym h ∙ k in cc
+
+cover_apart : (e : Endpoint) (a b : MapLease) → AreSeparate a b → covers a e ≡ true → covers b e ≡ true → ⊥
+cover_apart e a b h ca cb =
+    let x = IsCovered-from_covers a e ca in let y = IsCovered-from_covers b e cb in
+    clash _ (and_from _ _ (and_from _ _ ((same_address-Decides a.address b.address).1 (x.address ∙ sym y.address)) ((same_protocol-Decides a.protocol b.protocol).1 (x.protocol ∙ sym y.protocol)))
+    (meet e.port a.internal a.count b.internal b.count x.from x.below y.from y.below)) h.inside
+
+own_apart : (protocol : Protocol) (port : ℕ) (a b : MapLease) → AreSeparate a b → owns protocol port a ≡ true → owns protocol port b ≡ true → ⊥
+own_apart protocol port a b h ca cb =
+    let x = IsOwned-from_owns a protocol port ca in let y = IsOwned-from_owns b protocol port cb in
+    clash _ (and_from _ _ ((same_protocol-Decides a.protocol b.protocol).1 (x.protocol ∙ sym y.protocol))
+    (meet port a.external a.count b.external b.count x.from x.below y.from y.below)) h.outside
+
+module _ (leases : BTreeMap ℕ MapLease) (sound : AreSoundMaps (values leases)) where
+  pub one_covers : (e : Endpoint) (n m : ℕ) (x y : MapLease) → get nat_cmp leases n ≡ Some x → get nat_cmp leases m ≡ Some y → covers x e ≡ true → covers y e ≡ true → n ≡ m
+  one_covers e n m x y a b = one_passes (λ l. covers l e) leases.entries n m x y (each_weaker AreSeparate (λ p q. covers p e ≡ true → covers q e ≡ true → ⊥) (cover_apart e) (values leases) sound.separate) a b
+
+  pub one_owns : (protocol : Protocol) (port n m : ℕ) (x y : MapLease) → get nat_cmp leases n ≡ Some x → get nat_cmp leases m ≡ Some y → owns protocol port x ≡ true → owns protocol port y ≡ true → n ≡ m
+  one_owns protocol port n m x y a b = one_passes (owns protocol port) leases.entries n m x y (each_weaker AreSeparate (λ p q. owns protocol port p ≡ true → owns protocol port q ≡ true → ⊥) (own_apart protocol port) (values leases) sound.separate) a b
+
+  pub lease_is : (n : ℕ) (l : MapLease) → get nat_cmp leases n ≡ Some l → IsMapLease l
+  lease_is n l h = All-at IsMapLease leases.entries n l sound.leases h

@@ -1,0 +1,16 @@
+use Rattle.std.proofs.Common.{refl, ℕ, List, Some, IsSome, IfSome, slice_get, subst, sym}
+use Rattle.std.specs.declared.ops.Bound.TheVariants.{Included, Unbounded}
+use Rattle.std.specs.BTreeMap.Range.{IsEntryInRange, IsInRange, IsLeBy}
+use Rattle.std.specs.BTreeMap.{get}
+use Rattle.mapping_table.specs.Orders.{Place, place_cmp}
+use Rattle.mapping_table.proofs.keys.first_place.Goals as goal
+
+pub returns : goal.returns
+returns c =
+    let part = c.range.ensures.in_range tt in
+    let entry = subst (λ (l : List (Place × ℕ)). IfSome (slice_get l 0) (IsEntryInRange place_cmp (Included c.args.place) Unbounded c.args.keys.now)) c.in-Some.ensures.steps part.1 in
+    record {
+      found = subst IsSome (sym entry.1) refl;
+      from = entry.0.0;
+      least = λ q above some. subst (λ (l : List (Place × ℕ)). IfSome (slice_get l 0) (λ e. IsLeBy place_cmp e.0 q)) c.in-Some.ensures.steps (part.2 q (above, tt) some);
+    }
