@@ -48,7 +48,7 @@ cover_apart e a b h ca cb =
     clash _ (and_from _ _ (and_from _ _ ((same_address-Decides a.address b.address).1 (x.address ∙ sym y.address)) ((same_protocol-Decides a.protocol b.protocol).1 (x.protocol ∙ sym y.protocol)))
     (meet e.port a.internal a.count b.internal b.count x.from x.below y.from y.below)) h.inside
 
-own_apart : (protocol : Protocol) (port : ℕ) (a b : MapLease) → AreSeparate a b → owns protocol port a ≡ true → owns protocol port b ≡ true → ⊥
+pub own_apart : (protocol : Protocol) (port : ℕ) (a b : MapLease) → AreSeparate a b → owns protocol port a ≡ true → owns protocol port b ≡ true → ⊥
 own_apart protocol port a b h ca cb =
     let x = IsOwned-from_owns a protocol port ca in let y = IsOwned-from_owns b protocol port cb in
     clash _ (and_from _ _ ((same_protocol-Decides a.protocol b.protocol).1 (x.protocol ∙ sym y.protocol))

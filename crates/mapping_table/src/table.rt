@@ -8,7 +8,7 @@ ghost use Rattle.std.specs.BTreeMap.{get, is_at, values, IsOrdered};
 ghost use Rattle.pcp_base.specs.declared.leases.MapLease.{MapLease};
 ghost use Rattle.mapping_table.specs.MapLists.{is_live_map, map_covering, map_owning, first_dead_map, IsNextCovered, AreSoundMaps, with_map, PutsMap, RemovesMap, CopiesLiveMaps};
 ghost use Rattle.mapping_table.specs.Orders.{Place, port_cmp, place_cmp};
-ghost use Rattle.mapping_table.specs.Kept.{place_of_lease, port_of_lease};
+ghost use Rattle.mapping_table.specs.Kept.{place_of_lease, port_of_lease, IsIndexed};
 
 use crate::keys::{Place, Port, first_place, last_place, last_port, place_of, port_at};
 use crate::owning::owns;
@@ -124,6 +124,72 @@ fn relocate(
     Ok(())
 }
 
+/// The leases that are live at `m`, in the order of their numbers.
+fn live_of(
+    alloc: Global,
+    leases: &BTreeMap<u64, MapLease>,
+    m: Moment,
+) -> Result<Vec<MapLease>, AllocError>
+    ensures { IfOk result (λ v. v.items ≡ filter (is_live_map m) (values leases.now)) }
+{
+    leases
+        .values()
+        .copied()
+        .filter(|lease| lease.is_live(m))
+        .collect(alloc)
+}
+
+/// Appends a lease whose key has no number.
+fn append(
+    next: u64,
+    leases: &mut BTreeMap<u64, MapLease>,
+    keys: &mut BTreeMap<Place, u64>,
+    ports: &mut BTreeMap<Port, u64>,
+    lease: MapLease,
+) -> Result<(), AllocError>
+    requires indexed { IsIndexed next leases.old keys.old ports.old }
+    requires free { get place_cmp keys.old (place_of_lease lease) ≡ None }
+    requires sound { AreSoundMaps (with_map lease (values leases.old)) }
+    ensures indexed { OnOk result (IsIndexed (next + 1) leases.new keys.new ports.new) }
+    ensures put { OnOk result (values leases.new ≡ with_map lease (values leases.old)) }
+    ensures still_indexed { OnErr result (IsIndexed next leases.new keys.new ports.new) }
+    ensures unchanged { OnErr result (values leases.new ≡ values leases.old) }
+{
+    let place = place_of_first(&lease);
+    let port = port_of(&lease);
+    enter(keys, ports, place, port, next)?;
+    if let Err(error) = leases.insert(next, lease) {
+        leave(keys, ports, place, port);
+        return Err(error.into());
+    }
+    Ok(())
+}
+
+/// Puts a lease in the place of the one with its key, which has this number.
+fn replace(
+    number: u64,
+    leases: &mut BTreeMap<u64, MapLease>,
+    keys: &BTreeMap<Place, u64>,
+    ports: &mut BTreeMap<Port, u64>,
+    lease: MapLease,
+) -> Result<(), AllocError>
+    requires held { IsSome (get nat_cmp leases.old number) }
+    requires key { get place_cmp keys.now (place_of_lease lease) ≡ Some number }
+    requires sound { AreSoundMaps (with_map lease (values leases.old)) }
+    ensures indexed { OnOk result ((next : ℕ) → IsIndexed next leases.old keys.now ports.old →
+        IsIndexed next leases.new keys.now ports.new) }
+    ensures put { OnOk result ((next : ℕ) → IsIndexed next leases.old keys.now ports.old →
+        values leases.new ≡ with_map lease (values leases.old)) }
+    ensures still_indexed { OnErr result ((next : ℕ) → IsIndexed next leases.old keys.now ports.old →
+        IsIndexed next leases.new keys.now ports.new) }
+    ensures unchanged { OnErr result (values leases.new ≡ values leases.old) }
+{
+    let from = port_of(&leases[&number]);
+    relocate(ports, from, port_of(&lease), number)?;
+    overwrite(leases, number, lease);
+    Ok(())
+}
+
 impl MapTable {
     /// A table without a lease. The one error is want of memory.
     pub fn new(alloc: Global) -> Result<MapTable, Memory>
@@ -186,5 +252,60 @@ impl MapTable {
         ensures { option_copied result ≡ first_dead_map m self.now }
     {
         self.leases.values().find(|lease| !lease.is_live(m))
+    }
+
+    /// Puts a lease in the place of the one with its key, or at the end. The one error is want of
+    /// memory, which changes nothing.
+    pub fn put(&mut self, _alloc: Global, lease: MapLease) -> Result<(), Memory>
+        requires { AreSoundMaps (with_map lease self.old) }
+        ensures { PutsMap self.old lease result self.new }
+    {
+        let Some(number) = self.keys.get(&place_of_first(&lease)).copied() else {
+            let Some(after) = self.next.checked_add(1) else {
+                return Err(Memory);
+            };
+            append(
+                self.next,
+                &mut self.leases,
+                &mut self.keys,
+                &mut self.ports,
+                lease,
+            )?;
+            self.next = after;
+            return Ok(());
+        };
+        replace(
+            number,
+            &mut self.leases,
+            &self.keys,
+            &mut self.ports,
+            lease,
+        )?;
+        Ok(())
+    }
+
+    /// Takes out the lease with this first endpoint.
+    pub fn remove(&mut self, key: &Endpoint) -> Option<MapLease>
+        ensures { RemovesMap self.old key.now result self.new }
+    {
+        let place = place_of(key);
+        let Some(number) = self.keys.get(&place).copied() else {
+            return None;
+        };
+        let Some(lease) = self.leases.remove(&number) else {
+            return None;
+        };
+        leave(&mut self.keys, &mut self.ports, place, port_of(&lease));
+        Some(lease)
+    }
+
+    /// Appends the leases that are live at `m`, in the order granted. The one error is want of
+    /// memory, which changes nothing.
+    pub fn copy_live(&self, alloc: Global, m: Moment, out: &mut Vec<MapLease>) -> Result<(), Memory>
+        ensures { CopiesLiveMaps self.now m out.old.items result out.new.items }
+    {
+        let mut live = live_of(alloc, &self.leases, m)?;
+        out.append(&mut live)?;
+        Ok(())
     }
 }
