@@ -183,10 +183,10 @@ module _ (next : ℕ) (L : BTreeMap ℕ MapLease) (K : BTreeMap Place ℕ) (P : 
       port_step false e = none_by (get port_cmp P (port_of_lease l)) (λ k a.
           let from = h.ported.from (port_of_lease l) k a in
           let other : is_at (nat_cmp n) k ≡ false = number_other n k (λ same.
-              let is : x ≡ from.0 = some_one (get nat_cmp L k) x from.0 (ap (get nat_cmp L) (sym same) ∙ at_n) from.1 in
-              let ports : port_of_lease x ≡ port_of_lease l = ap port_of_lease is ∙ from.2 in
-              let yes : is_at (port_cmp (port_of_lease x)) (port_of_lease l) ≡ true = ap (is_at (port_cmp (port_of_lease x))) (sym ports) ∙ at_self port_total (port_of_lease x) in
-              let no : true ≡ false = sym yes ∙ e in absurd (cc)) in
+          let is : x ≡ from.0 = some_one (get nat_cmp L k) x from.0 (ap (get nat_cmp L) (sym same) ∙ at_n) from.1 in
+          let ports : port_of_lease x ≡ port_of_lease l = ap port_of_lease is ∙ from.2 in
+          let yes : is_at (port_cmp (port_of_lease x)) (port_of_lease l) ≡ true = ap (is_at (port_cmp (port_of_lease x))) (sym ports) ∙ at_self port_total (port_of_lease x) in
+          let no : true ≡ false = sym yes ∙ e in absurd (cc)) in
           let stays : get nat_cmp L' k ≡ Some from.0 = el k ∙ ap (λ t. cond t (Some l) (get nat_cmp L k)) other ∙ from.1 in
           let same : n ≡ k = sym (same_ports L' old_sound k n from.0 l stays at_n' from.2) in
           let yes : is_at (nat_cmp n) k ≡ true = ap (λ (z : ℕ). is_at (nat_cmp n) z) (sym same) ∙ number_self n in

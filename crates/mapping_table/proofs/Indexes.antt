@@ -22,8 +22,8 @@ module _ {X K : Type 0} (key : X → K) (same : K → K → Bool) (exact : (k q 
     to_added n x false e free k =
         let old : f (key x) ≡ Some n = h.to n x k in
         let no : same (key y) (key x) ≡ false = false_by (same (key y) (key x)) (λ t.
-            let q : key y ≡ key x = exact (key y) (key x) t in
-            let both : None ≡ Some n = sym free ∙ ap f q ∙ old in absurd (cc)) in
+        let q : key y ≡ key x = exact (key y) (key x) t in
+        let both : None ≡ Some n = sym free ∙ ap f q ∙ old in absurd (cc)) in
         ap (λ t. cond t (Some m) (f (key x))) no ∙ old
 
     from_added : (k : K) (n : ℕ) (b : Bool) → same (key y) k ≡ b → a m ≡ None → cond b (Some m) (f k) ≡ Some n → (x : X) × (cond (is_at (nat_cmp m) n) (Some y) (a n) ≡ Some x) × (key x ≡ k)
@@ -33,7 +33,7 @@ module _ {X K : Type 0} (key : X → K) (same : K → K → Bool) (exact : (k q 
     from_added k n false e free r =
         let old = h.from k n r in
         let no : is_at (nat_cmp m) n ≡ false = number_other m n (λ same_number.
-            let both : None ≡ Some old.0 = sym free ∙ ap a same_number ∙ old.1 in absurd (cc)) in
+        let both : None ≡ Some old.0 = sym free ∙ ap a same_number ∙ old.1 in absurd (cc)) in
         (old.0, ap (λ t. cond t (Some y) (a n)) no ∙ old.1, old.2)
 
     -- one more value
@@ -49,11 +49,11 @@ module _ {X K : Type 0} (key : X → K) (same : K → K → Bool) (exact : (k q 
     to_removed n x false e is k =
         let old : f (key x) ≡ Some n = h.to n x k in
         let no : same (key y) (key x) ≡ false = false_by (same (key y) (key x)) (λ t.
-            let q : key y ≡ key x = exact (key y) (key x) t in
-            let both : Some m ≡ Some n = sym (h.to m y is) ∙ ap f q ∙ old in
-            let one : m ≡ n = cc in
-            let yes : is_at (nat_cmp m) n ≡ true = ap (λ (z : ℕ). is_at (nat_cmp m) z) (sym one) ∙ number_self m in
-            absurd (let clash : true ≡ false = sym yes ∙ e in cc)) in
+        let q : key y ≡ key x = exact (key y) (key x) t in
+        let both : Some m ≡ Some n = sym (h.to m y is) ∙ ap f q ∙ old in
+        let one : m ≡ n = cc in
+        let yes : is_at (nat_cmp m) n ≡ true = ap (λ (z : ℕ). is_at (nat_cmp m) z) (sym one) ∙ number_self m in
+        absurd (let clash : true ≡ false = sym yes ∙ e in cc)) in
         ap (λ t. cond t None (f (key x))) no ∙ old
 
     from_removed : (k : K) (n : ℕ) (b : Bool) → same (key y) k ≡ b → a m ≡ Some y → cond b None (f k) ≡ Some n → (x : X) × (cond (is_at (nat_cmp m) n) None (a n) ≡ Some x) × (key x ≡ k)
@@ -61,11 +61,11 @@ module _ {X K : Type 0} (key : X → K) (same : K → K → Bool) (exact : (k q 
     from_removed k n false e is r =
         let old = h.from k n r in
         let no : is_at (nat_cmp m) n ≡ false = number_other m n (λ one.
-            let both : Some y ≡ Some old.0 = sym is ∙ ap a one ∙ old.1 in
-            let same_value : y ≡ old.0 = cc in
-            let q : key y ≡ k = ap key same_value ∙ old.2 in
-            let yes : same (key y) k ≡ true = ap (same (key y)) (sym q) ∙ self (key y) in
-            absurd (let clash : true ≡ false = sym yes ∙ e in cc)) in
+        let both : Some y ≡ Some old.0 = sym is ∙ ap a one ∙ old.1 in
+        let same_value : y ≡ old.0 = cc in
+        let q : key y ≡ k = ap key same_value ∙ old.2 in
+        let yes : same (key y) k ≡ true = ap (same (key y)) (sym q) ∙ self (key y) in
+        absurd (let clash : true ≡ false = sym yes ∙ e in cc)) in
         (old.0, ap (λ t. cond t None (a n)) no ∙ old.1, old.2)
 
     -- one value less

@@ -1,5 +1,6 @@
 pub mod Changes
 pub mod Entries
+pub mod Nexts
 pub mod OrderLaws
 pub mod Indexes
 pub mod Lookups

@@ -47,15 +47,15 @@ module _ (next : ℕ) (leases : BTreeMap ℕ MapLease) (keys : BTreeMap Place �
       let one : from.0 ≡ l = some_one (get nat_cmp leases k) from.0 l from.1 b in
       let place : place_of_lease l ≡ last.0 = ap place_of_lease (sym one) ∙ from.2 in
       let below : is_gt (place_cmp (place_of_lease x) last.0) ≡ false = flip place_total last.0 (place_of_lease x)
-          (last.1.greatest (place_of_lease x) (covering_place e x c) (some_is (get place_cmp keys (place_of_lease x)) n (h.keyed.to n x a))) in
+      (last.1.greatest (place_of_lease x) (covering_place e x c) (some_is (get place_cmp keys (place_of_lease x)) n (h.keyed.to n x a))) in
       let below_l : is_gt (place_cmp (place_of_lease x) (place_of_lease l)) ≡ false = subst (λ (p : Place). is_gt (place_cmp (place_of_lease x) p) ≡ false) (sym place) below in
       let l_below : is_gt (place_cmp (place_of_lease l) (place_of e)) ≡ false = subst (λ (p : Place). is_gt (place_cmp p (place_of e)) ≡ false) (sym place) last.1.up_to in
       let between = places_between (place_of_lease x) (place_of_lease l) (place_of e) (ap (λ a'. a'.0) cx.address) (ap (λ p. (port_at p 0).0) cx.protocol) below_l l_below in
       let at_l : place_of (record { address = e.address; protocol = e.protocol; port = l.internal }) ≡ place_of (first_endpoint l) =
-          ap (λ (z : List ℕ). (z, port_at e.protocol l.internal)) (sym between.0) ∙ ap (λ (z : ℕ). (l.address.0, (z, l.internal))) (sym between.1) in
+      ap (λ (z : List ℕ). (z, port_at e.protocol l.internal)) (sym between.0) ∙ ap (λ (z : ℕ). (l.address.0, (z, l.internal))) (sym between.1) in
       let same = place_of-one (record { address = e.address; protocol = e.protocol; port = l.internal }) (first_endpoint l) at_l in
       let x_covers : covers x (record { address = e.address; protocol = e.protocol; port = l.internal }) ≡ true = covers-from_IsCovered x (record { address = e.address; protocol = e.protocol; port = l.internal })
-          (record { address = cx.address; protocol = cx.protocol; from = between.2; below = (let u = between.3 in omega (arith, u, cx.below)) }) in
+      (record { address = cx.address; protocol = cx.protocol; from = between.2; below = (let u = between.3 in omega (arith, u, cx.below)) }) in
       let x_first : covers x (first_endpoint l) ≡ true = subst (λ (z : Endpoint). covers x z ≡ true) same x_covers in
       let l_first : covers l (first_endpoint l) ≡ true = covers-first l (lease_is leases h.numbered.sound k l b).ports.some in
       let number : n ≡ k = one_covers leases h.numbered.sound (first_endpoint l) n k x l a b x_first l_first in
@@ -81,7 +81,7 @@ module _ (next : ℕ) (leases : BTreeMap ℕ MapLease) (keys : BTreeMap Place �
       let one : from.0 ≡ l = some_one (get nat_cmp leases k) from.0 l from.1 b in
       let place : port_of_lease l ≡ last.0 = ap port_of_lease (sym one) ∙ from.2 in
       let below : is_gt (port_cmp (port_of_lease x) last.0) ≡ false = flip port_total last.0 (port_of_lease x)
-          (last.1.greatest (port_of_lease x) (owning_port protocol port x c) (some_is (get port_cmp ports (port_of_lease x)) n (h.ported.to n x a))) in
+      (last.1.greatest (port_of_lease x) (owning_port protocol port x c) (some_is (get port_cmp ports (port_of_lease x)) n (h.ported.to n x a))) in
       let below_l : is_gt (port_cmp (port_of_lease x) (port_of_lease l)) ≡ false = subst (λ (p : ℕ × ℕ). is_gt (port_cmp (port_of_lease x) p) ≡ false) (sym place) below in
       let l_below : is_gt (port_cmp (port_of_lease l) (port_at protocol port)) ≡ false = subst (λ (p : ℕ × ℕ). is_gt (port_cmp p (port_at protocol port)) ≡ false) (sym place) last.1.up_to in
       let between = ports_between (port_of_lease x) (port_of_lease l) (port_at protocol port) (ap (λ p. (port_at p 0).0) cx.protocol) below_l l_below in

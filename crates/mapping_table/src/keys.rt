@@ -1,5 +1,6 @@
 //! Numbers of leases by the keys under which they are looked up.
-ghost use Rattle.std.specs.Prelude.{◌≡◌};
+ghost use Rattle.std.specs.Prelude.{◌≡◌, ◌↔◌, IsTrue};
+ghost use Rattle.pcp_base.specs.Protocols.{protocol_number};
 ghost use Rattle.mapping_table.specs.Orders.{port_at, place_of, port_cmp, place_cmp, IsLast, IsFirst};
 
 use pcp_base::{Endpoint, Protocol};
@@ -24,6 +25,23 @@ pub(crate) fn place_of(endpoint: &Endpoint) -> Place
         endpoint.address.0,
         port_at(endpoint.protocol, endpoint.port),
     )
+}
+
+/// Whether the place has the address and the protocol of the endpoint.
+pub(crate) fn is_beside(place: Place, endpoint: &Endpoint) -> bool
+    ensures { IsTrue result ↔ ((place.0 ≡ endpoint.now.address.0)
+        × (place.1.0 ≡ protocol_number endpoint.now.protocol)) }
+{
+    let (address, (protocol, _)) = place;
+    address == endpoint.address.0 && protocol == endpoint.protocol.number()
+}
+
+/// The port of a place.
+pub(crate) fn port_in(place: Place) -> u16
+    ensures { result ≡ place.1.1 }
+{
+    let (_, (_, port)) = place;
+    port
 }
 
 /// The number at the last place up to this one.

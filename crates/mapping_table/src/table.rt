@@ -10,7 +10,9 @@ ghost use Rattle.mapping_table.specs.MapLists.{is_live_map, map_covering, map_ow
 ghost use Rattle.mapping_table.specs.Orders.{Place, port_cmp, place_cmp};
 ghost use Rattle.mapping_table.specs.Kept.{place_of_lease, port_of_lease, IsIndexed};
 
-use crate::keys::{Place, Port, first_place, last_place, last_port, place_of, port_at};
+use crate::keys::{
+    Place, Port, first_place, is_beside, last_place, last_port, place_of, port_at, port_in,
+};
 use crate::owning::owns;
 use pcp_base::{Endpoint, MapLease, Memory, Moment, Protocol};
 use std::alloc::{AllocError, Global};
@@ -254,6 +256,31 @@ impl MapTable {
         self.leases.values().find(|lease| !lease.is_live(m))
     }
 
+    /// The least internal port above the endpoint's that a lease of its address and protocol covers.
+    pub fn next_internal(&self, endpoint: &Endpoint) -> Option<u16>
+        ensures { IsNextCovered endpoint.now self.now result }
+    {
+        let keys = &self.keys;
+        if endpoint.port == u16::MAX {
+            return None;
+        }
+        let above = Endpoint {
+            port: endpoint.port + 1,
+            ..*endpoint
+        };
+        if let Some(_) = self.find(&above) {
+            return Some(above.port);
+        }
+        let Some(first) = first_place(keys, place_of(&above)) else {
+            return None;
+        };
+        if is_beside(first, endpoint) {
+            Some(port_in(first))
+        } else {
+            None
+        }
+    }
+
     /// Puts a lease in the place of the one with its key, or at the end. The one error is want of
     /// memory, which changes nothing.
     pub fn put(&mut self, _alloc: Global, lease: MapLease) -> Result<(), Memory>
@@ -274,13 +301,7 @@ impl MapTable {
             self.next = after;
             return Ok(());
         };
-        replace(
-            number,
-            &mut self.leases,
-            &self.keys,
-            &mut self.ports,
-            lease,
-        )?;
+        replace(number, &mut self.leases, &self.keys, &mut self.ports, lease)?;
         Ok(())
     }
 
