@@ -1,5 +1,5 @@
 -- Indexed leases after a call.
-use Rattle.std.proofs.Common.{◌≡◌, ℕ, ◌+◌, ◌<◌, ◌≤◌, Bool, true, false, not, cond, List, [], ◌∷◌, ◌++◌, filter, find, Option, Some, None, IsSome, refl, sym, ap, ◌∙◌, subst, arith}
+use Rattle.std.proofs.Common.{◌≡◌, ℕ, ◌+◌, ◌<◌, Bool, true, false, not, cond, List, [], ◌∷◌, ◌++◌, filter, Option, Some, None, IsSome, refl, sym, ap, ◌∙◌, subst, arith}
 use Rattle.std.specs.List.{AllByRecursion}
 use Rattle.std.specs.Ordering.{nat_cmp}
 use Rattle.std.specs.List.Sorted.{IsStrictlySortedBy}
@@ -10,10 +10,10 @@ use Rattle.pcp_base.specs.declared.leases.MapLease.{MapLease}
 use Rattle.pcp_base.specs.Tables.{EachTwo, IsMapLease, first_endpoint, is_map_of}
 use Rattle.pcp_base.proofs.Same.{same_endpoint-Decides}
 use Rattle.pcp_base.proofs.TableLemmas.{put-end, key-same, key-own}
-use Rattle.mapping_table.specs.MapLists.{owns, AreSeparate, AreSoundMaps, with_map, map_with_key}
+use Rattle.mapping_table.specs.MapLists.{AreSeparate, AreSoundMaps, with_map, map_with_key}
 use Rattle.mapping_table.specs.Orders.{Place, place_of, port_cmp, place_cmp}
-use Rattle.mapping_table.specs.Kept.{IsIndex, place_of_lease, port_of_lease, AreNumbered, IsIndexed}
-use Rattle.mapping_table.proofs.Entries.{All-at, number_same, number_self, number_other, false_by, values_append, insert_last, keys_below, none_passes, passes_at, set_value-put, remove_entry-filter, find_is, find_none}
+use Rattle.mapping_table.specs.Kept.{place_of_lease, port_of_lease, IsIndexed}
+use Rattle.mapping_table.proofs.Entries.{All-at, number_same, number_self, number_other, values_append, insert_last, keys_below, none_passes, passes_at, set_value-put, remove_entry-filter, find_is, find_none}
 use Rattle.mapping_table.proofs.OrderLaws.{at_self, at_exact, port_total, port_exact, place_total, place_exact, place_of-one, protocol_one}
 use Rattle.mapping_table.proofs.Indexes.{index_same, index_added, index_removed}
 use Rattle.mapping_table.proofs.Separates.{owns-from_IsOwned, own_apart, one_owns, lease_is}

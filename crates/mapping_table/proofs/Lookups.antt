@@ -1,18 +1,18 @@
 -- What is found by the indexes.
-use Rattle.std.proofs.Common.{◌≡◌, ℕ, ◌+◌, ◌<◌, ◌≤◌, Bool, true, false, List, Option, Some, None, IsSome, refl, sym, ap, ◌∙◌, subst, find, arith}
-use Rattle.std.specs.Ordering.{nat_cmp, is_gt, is_lt}
+use Rattle.std.proofs.Common.{◌≡◌, ℕ, Bool, true, false, List, Option, Some, None, IsSome, refl, sym, ap, ◌∙◌, subst, arith}
+use Rattle.std.specs.Ordering.{nat_cmp, is_gt}
 use Rattle.std.specs.BTreeMap.{BTreeMap, get, values}
 use Rattle.pcp_base.specs.declared.leases.Protocol.{Protocol}
 use Rattle.pcp_base.specs.declared.leases.Endpoint.{Endpoint}
 use Rattle.pcp_base.specs.declared.leases.MapLease.{MapLease}
 use Rattle.pcp_base.specs.Tables.{covers, first_endpoint}
-use Rattle.pcp_base.proofs.TableLemmas.{IsCovered, IsCovered-from_covers, covers-from_IsCovered, covers-first}
+use Rattle.pcp_base.proofs.TableLemmas.{IsCovered-from_covers, covers-from_IsCovered, covers-first}
 use Rattle.mapping_table.specs.MapLists.{owns, map_covering, map_owning}
-use Rattle.mapping_table.specs.Orders.{Place, port_at, place_of, port_cmp, place_cmp, IsLastKey, IsLast}
-use Rattle.mapping_table.specs.Kept.{IsIndex, place_of_lease, port_of_lease, AreNumbered, IsIndexed}
+use Rattle.mapping_table.specs.Orders.{Place, port_at, place_of, port_cmp, place_cmp, IsLast}
+use Rattle.mapping_table.specs.Kept.{place_of_lease, port_of_lease, IsIndexed}
 use Rattle.mapping_table.proofs.Entries.{find_is, find_none}
 use Rattle.mapping_table.proofs.OrderLaws.{flip, port_total, place_total, place_of-one, protocol_one, ports_between, ports_up_to, places_between, places_up_to}
-use Rattle.mapping_table.proofs.Separates.{IsOwned, IsOwned-from_owns, owns-from_IsOwned, one_covers, one_owns, lease_is}
+use Rattle.mapping_table.proofs.Separates.{IsOwned-from_owns, owns-from_IsOwned, one_covers, one_owns, lease_is}
 
 some_is : {X : Type 0} (o : Option X) (x : X) → o ≡ Some x → IsSome o
 some_is o x h = subst IsSome (sym h) refl

@@ -1,19 +1,17 @@
 -- The least covered port above an endpoint's, by the first endpoints of leases.
-use Rattle.std.proofs.Common.{◌≡◌, ℕ, ◌+◌, ◌<◌, ◌≤◌, ◌↔◌, ◌⊎◌, ltb, Bool, true, false, List, Option, Some, None, IsSome, IsTrue, refl, sym, ap, ◌∙◌, subst, inl, inr, find, arith}
+use Rattle.std.proofs.Common.{◌≡◌, ℕ, ◌+◌, ◌<◌, ◌≤◌, ◌⊎◌, ltb, Bool, true, false, List, Option, Some, None, IsSome, refl, sym, ap, ◌∙◌, subst, inl, inr, arith}
 use Rattle.std.specs.Ordering.{nat_cmp, is_gt}
 use Rattle.std.specs.BTreeMap.{BTreeMap, get, values}
 use Rattle.std.proofs.lemmas.Cmp.{tied_itself}
 use Rattle.std.proofs.lemmas.Grind.{common_steps}
-use Rattle.pcp_base.specs.declared.leases.Protocol.{Protocol}
 use Rattle.pcp_base.specs.declared.leases.Endpoint.{Endpoint}
 use Rattle.pcp_base.specs.declared.leases.MapLease.{MapLease}
 use Rattle.pcp_base.specs.Protocols.{protocol_number}
 use Rattle.pcp_base.specs.Tables.{covers, first_endpoint}
-use Rattle.pcp_base.proofs.Members.{IsIn}
 use Rattle.pcp_base.proofs.TableLemmas.{IsCovered, IsCovered-from_covers, covers-from_IsCovered, covers-first}
 use Rattle.mapping_table.specs.MapLists.{map_covering, is_covered, IsNextCovered}
 use Rattle.mapping_table.specs.Orders.{Place, place_of, place_cmp, IsFirstKey, IsFirst}
-use Rattle.mapping_table.specs.Kept.{IsIndex, place_of_lease, IsIndexed}
+use Rattle.mapping_table.specs.Kept.{place_of_lease, IsIndexed}
 use Rattle.mapping_table.proofs.Entries.{false_by, any_in, any_at, find_in, find_none_at, entry_at}
 use Rattle.mapping_table.proofs.OrderLaws.{place_total, place_of-one, places_between, places_up_to}
 use Rattle.mapping_table.proofs.Separates.{lease_is}

@@ -1,16 +1,15 @@
 -- Of sound leases one at most covers an endpoint, and one at most owns a port.
-use Rattle.std.proofs.Common.{◌≡◌, ℕ, ◌+◌, ◌<◌, ◌≤◌, ◌&&◌, nat_le, nat_lt, Bool, true, false, List, [], ◌∷◌, refl, sym, ap, ◌∙◌, subst, Some, arith}
-use Rattle.std.specs.List.{AllByRecursion}
+use Rattle.std.proofs.Common.{◌≡◌, ℕ, ◌+◌, ◌<◌, ◌≤◌, Bool, true, false, List, [], ◌∷◌, sym, ◌∙◌, Some, arith}
 use Rattle.std.specs.Ordering.{nat_cmp}
 use Rattle.std.specs.BTreeMap.{BTreeMap, get, values}
 use Rattle.std.proofs.lemmas.Bool.{and_parts, and_from, ltb-true, leb-true, lt-ltb, le-leb}
 use Rattle.pcp_base.specs.declared.leases.Protocol.{Protocol}
 use Rattle.pcp_base.specs.declared.leases.Endpoint.{Endpoint}
 use Rattle.pcp_base.specs.declared.leases.MapLease.{MapLease}
-use Rattle.pcp_base.specs.Tables.{EachTwo, IsMapLease, covers, first_endpoint, same_address, same_protocol}
+use Rattle.pcp_base.specs.Tables.{EachTwo, IsMapLease, covers}
 use Rattle.pcp_base.proofs.Members.{All-weaker}
 use Rattle.pcp_base.proofs.Same.{same_address-Decides, same_protocol-Decides}
-use Rattle.pcp_base.proofs.TableLemmas.{IsCovered, IsCovered-from_covers}
+use Rattle.pcp_base.proofs.TableLemmas.{IsCovered-from_covers}
 use Rattle.mapping_table.specs.MapLists.{owns, runs_meet, AreSeparate, AreSoundMaps}
 use Rattle.mapping_table.proofs.Entries.{one_passes, All-at}
 

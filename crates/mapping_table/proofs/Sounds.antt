@@ -1,11 +1,9 @@
 -- Sound leases, of which some are taken out.
-use Rattle.std.proofs.Common.{◌≡◌, ℕ, ◌≤◌, Bool, List, [], ◌∷◌, length, Result, Ok, Err, OnOk, OnErr, filter, subst, sym, cond, arith}
-use Rattle.std.specs.List.{AllByRecursion}
+use Rattle.std.proofs.Common.{◌≡◌, ◌≤◌, Bool, List, length, Result, Ok, Err, OnOk, OnErr, filter, subst, sym, arith}
 use Rattle.pcp_base.proofs.Members.{All-filter, EachTwo-filter}
 use Rattle.pcp_base.proofs.TableLemmas.{length-fewer}
-use Rattle.pcp_base.specs.declared.leases.TheConstants.{MOST_LEASES}
 use Rattle.pcp_base.specs.declared.leases.MapLease.{MapLease}
-use Rattle.pcp_base.specs.Tables.{IsMapLease, EachTwo}
+use Rattle.pcp_base.specs.Tables.{IsMapLease}
 use Rattle.mapping_table.specs.MapLists.{AreSeparate, AreSoundMaps}
 
 pub AreSoundMaps-filter : (p : MapLease → Bool) (ls : List MapLease) → AreSoundMaps ls → AreSoundMaps (filter p ls)

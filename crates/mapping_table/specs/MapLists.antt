@@ -1,6 +1,6 @@
 -- What is asked of a list of MAP leases, in the order granted, and what it must keep to (our own; a
 -- MAP lease is a mapping of RFC 6887, section 11).
-use Rattle.std.specs.Prelude.{◌≡◌, ℕ, ◌+◌, ◌<◌, ◌≤◌, ◌&&◌, nat_le, nat_lt, not, Bool, false, List, ◌++◌, length, filter, find, count_by, IsTrue, Option, Some, None, if◌then◌else◌, IfSome, IfNone, Result, OnOk, OnErr}
+use Rattle.std.specs.Prelude.{◌≡◌, ℕ, ◌+◌, ◌<◌, ◌≤◌, ◌&&◌, nat_le, nat_lt, not, Bool, false, List, ◌++◌, length, filter, find, IsTrue, Option, Some, None, if◌then◌else◌, IfSome, IfNone, Result, OnOk, OnErr}
 use Rattle.std.specs.List.{AllByRecursion, list_any}
 use Rattle.pcp_base.specs.declared.leases.TheConstants.{MOST_LEASES}
 use Rattle.pcp_base.specs.declared.leases.Protocol.{Protocol}

@@ -1,10 +1,10 @@
 -- Sound leases, of which some are taken out.
-use Rattle.std.proofs.Common.{◌≡◌, ℕ, ◌≤◌, Bool, List, length, filter, count_by, arith}
+use Rattle.std.proofs.Common.{◌≤◌, Bool, List, length, filter, count_by, arith}
 use Rattle.pcp_base.proofs.Members.{All-filter, EachTwo-filter}
 use Rattle.pcp_base.proofs.TableLemmas.{length-fewer, count-filter}
-use Rattle.pcp_base.specs.declared.leases.TheConstants.{MOST_LEASES, MOST_PEERS}
+use Rattle.pcp_base.specs.declared.leases.TheConstants.{MOST_PEERS}
 use Rattle.pcp_base.specs.declared.leases.PeerLease.{PeerLease}
-use Rattle.pcp_base.specs.Tables.{IsPeerLease, EachTwo, names}
+use Rattle.pcp_base.specs.Tables.{IsPeerLease, names}
 use Rattle.peer_table.specs.PeerLists.{AreFellows, AreSoundPeers}
 
 pub AreSoundPeers-filter : (p : PeerLease → Bool) (ls : List PeerLease) → AreSoundPeers ls → AreSoundPeers (filter p ls)

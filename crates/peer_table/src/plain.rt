@@ -56,9 +56,7 @@ fn place_of(leases: &[PeerLease], new: &PeerLease) -> Option<usize>
     ensures { result ≡
         position (is_peer_of new.now.endpoint new.now.remote new.now.remote_port) leases.now }
 {
-    leases
-        .iter()
-        .position(|lease| lease.is_of(&new.endpoint, &new.remote, new.remote_port))
+    leases.iter().position(|lease| lease.is_of(&new.endpoint, &new.remote, new.remote_port))
 }
 
 /// Puts a lease in the place of the one with its key, or at the end.
@@ -250,7 +248,12 @@ impl PlainPeerTable {
 
     /// Appends the leases that are live at `m`, in the order granted. The one error is want of
     /// memory, which changes nothing.
-    pub fn copy_live(&self, alloc: Global, m: Moment, out: &mut Vec<PeerLease>) -> Result<(), Memory>
+    pub fn copy_live(
+        &self,
+        alloc: Global,
+        m: Moment,
+        out: &mut Vec<PeerLease>,
+    ) -> Result<(), Memory>
         ensures { CopiesLivePeers self.now m out.old.items result out.new.items }
     {
         let mut live = live_of(alloc, &self.leases, m)?;

@@ -1,7 +1,6 @@
-use Rattle.std.proofs.Common.{refl, ℕ, List, Some, IsSome, IfSome, slice_get, subst, sym}
+use Rattle.std.proofs.Common.{refl, ℕ, List, IsSome, IfSome, slice_get, subst, sym}
 use Rattle.std.specs.declared.ops.Bound.TheVariants.{Included, Unbounded}
-use Rattle.std.specs.BTreeMap.Range.{IsEntryInRange, IsInRange, IsLeBy}
-use Rattle.std.specs.BTreeMap.{get}
+use Rattle.std.specs.BTreeMap.Range.{IsEntryInRange, IsLeBy}
 use Rattle.mapping_table.specs.Orders.{Place, place_cmp}
 use Rattle.mapping_table.proofs.keys.first_place.Goals as goal
 

@@ -1,6 +1,6 @@
 use Rattle.std.proofs.Common.{sym, ap, ◌∙◌, cond, None}
 use Rattle.std.specs.BTreeMap.{get, is_at}
-use Rattle.mapping_table.specs.Orders.{Place, place_cmp}
+use Rattle.mapping_table.specs.Orders.{place_cmp}
 use Rattle.mapping_table.proofs.OrderLaws.{at_exact, place_exact}
 use Rattle.mapping_table.proofs.Changes.{undone}
 use Rattle.mapping_table.proofs.table.enter.Goals as goal

@@ -1,4 +1,4 @@
-use Rattle.std.proofs.Common.{◌≡◌, not, subst, sym}
+use Rattle.std.proofs.Common.{not, subst, sym}
 use Rattle.pcp_base.specs.Tables.{is_map_of}
 use Rattle.mapping_table.specs.MapLists.{AreSoundMaps}
 use Rattle.mapping_table.proofs.Sounds.{AreSoundMaps-filter}

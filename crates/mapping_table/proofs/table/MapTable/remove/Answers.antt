@@ -1,4 +1,4 @@
-use Rattle.std.proofs.Common.{◌≡◌, ℕ, List, Some, None, not, filter, cond, sym, ap, ◌∙◌, subst}
+use Rattle.std.proofs.Common.{◌≡◌, ℕ, List, None, not, filter, cond, sym, ap, ◌∙◌, subst}
 use Rattle.std.specs.Ordering.{nat_cmp}
 use Rattle.std.specs.BTreeMap.{get, is_at}
 use Rattle.pcp_base.specs.Tables.{is_map_of}

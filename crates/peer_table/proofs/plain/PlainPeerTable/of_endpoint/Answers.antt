@@ -1,6 +1,4 @@
-use Rattle.std.proofs.Common.{◌≡◌, ◌∙◌, sym, ap, find, Some, None, rules}
-use Rattle.std.specs.Option.{option_copied}
-use Rattle.pcp_base.specs.declared.leases.PeerLease.{PeerLease}
+use Rattle.std.proofs.Common.{◌≡◌, find, Some, None, rules}
 use Rattle.peer_table.specs.PeerLists.{is_live_of}
 use Rattle.peer_table.proofs.Finds.{none_counted, port_use-found}
 use Rattle.peer_table.proofs.plain.PlainPeerTable.of_endpoint.Goals as goal
