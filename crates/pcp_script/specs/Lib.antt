@@ -1,0 +1,5 @@
+pub mod FieldTexts
+pub mod Fields
+pub mod Lines
+pub mod Results
+pub mod Words

@@ -1,0 +1,11 @@
+//! Scripts: what their lines ask for and what they put out.
+#![tactic(auto)]
+
+mod fields;
+mod lines;
+mod results;
+#[cfg(test)]
+mod tests;
+
+pub use lines::{LONGEST_LINE, Line, LineRefused, read_line};
+pub use results::{LineResult, write_result};

@@ -1,0 +1,253 @@
+//! What lines mean and put out, and that calls succeed with ample memory.
+use super::*;
+use pcp_base::{
+    Address, Config, Datagram, Endpoint, External, Externals, Octets, Owner, OwnerList, Prefixes,
+    Protocol, Subscribers,
+};
+use std::alloc::{AllocError, Global};
+use std::test::Fail;
+
+// What a line stands for, without the octets of its datagram.
+#[derive(Clone, Copy, Debug, PartialEq, Eq)]
+enum Shown {
+    Refused,
+    Skip,
+    // the moment, the peer, its port and how many octets came
+    Packet(u64, Address, u16, usize),
+    // the moment, the shard, the protocol, the port, the remote address and its port
+    Look(u64, u32, Protocol, u16, Address, u16),
+    Lose(u64, u32),
+    Owners(u64, u32),
+}
+
+fn summary_of(line: &Result<Line, LineRefused>) -> Shown {
+    match line {
+        Err(_) => Shown::Refused,
+        Ok(Line::Skip) => Shown::Skip,
+        Ok(Line::Packet(moment, from)) => Shown::Packet(
+            moment.get(),
+            from.peer,
+            from.port,
+            from.octets.items().len(),
+        ),
+        Ok(
+            Line::Look {
+                moment,
+                shard,
+                protocol,
+                port,
+                remote,
+                remote_port,
+            },
+        ) => Shown::Look(
+            moment.get(),
+            *shard,
+            *protocol,
+            *port,
+            *remote,
+            *remote_port,
+        ),
+        Ok(Line::Lose(moment, shard)) => Shown::Lose(moment.get(), *shard),
+        Ok(Line::Owners(moment, shard)) => Shown::Owners(moment.get(), *shard),
+    }
+}
+
+// 10.0.0.5
+const HOST: Address = Address([0, 0, 0, 0, 0, 0, 0, 0, 0, 0, 0xff, 0xff, 10, 0, 0, 5]);
+
+// 192.0.2.1 and 2001:db8::1 are external
+fn config(alloc: Global) -> Result<Config, AllocError> {
+    let externals = vec![in alloc;
+        External {
+            address: Address::v4(192, 0, 2, 1),
+            low: 1024,
+            high: 65535,
+        },
+        External {
+            address: Address([0x20, 1, 0x0d, 0xb8, 0, 0, 0, 0, 0, 0, 0, 0, 0, 0, 0, 1]),
+            low: 1024,
+            high: 65535,
+        },
+    ]?;
+    Ok(Config {
+        quota: 64,
+        lifetime_min: 120,
+        lifetime_max: 86_400,
+        third_party: Prefixes::of(Vec::new(alloc)),
+        externals: Externals::of(externals),
+        subscribers: Subscribers::of(Vec::new(alloc)),
+    })
+}
+
+static CASES: [(&[u8], Shown); 47] = [
+    (b"", Shown::Skip),
+    (b"#", Shown::Skip),
+    (b"# x  y", Shown::Skip),
+    (b" ", Shown::Refused),
+    (b"packet 0 10.0.0.5 0 -", Shown::Packet(0, HOST, 0, 0)),
+    (
+        b"packet 1099511627775 00000000000000000000FFFF0A000005 65535 aBCd",
+        Shown::Packet(1_099_511_627_775, HOST, 65_535, 2),
+    ),
+    (b"packet x", Shown::Refused),
+    (b"packet 1010 10.0.0.5 40000", Shown::Refused),
+    (b"packet 1010  10.0.0.5 40000 02", Shown::Refused),
+    (b"packet 1010 10.0.0.5 40000 02 ", Shown::Refused),
+    (b" packet 1010 10.0.0.5 40000 02", Shown::Refused),
+    (b"packet 1099511627776 10.0.0.5 40000 02", Shown::Refused),
+    (b"packet 01010 10.0.0.5 40000 02", Shown::Refused),
+    (b"packet 1010 10.0.0.256 40000 02", Shown::Refused),
+    (b"packet 1010 10.0.0.5 65536 02", Shown::Refused),
+    (b"packet 1010 10.0.0.5 40000 ", Shown::Refused),
+    (b"packet 1010 10.0.0.5 40000 020", Shown::Refused),
+    (b"packet 1010 10.0.0.5 40000 0g", Shown::Refused),
+    (b"Packet 1010 10.0.0.5 40000 02", Shown::Refused),
+    (
+        b"look 0 192.0.2.1 6 1 10.0.0.5 0",
+        Shown::Look(0, 0, Protocol::Tcp, 1, HOST, 0),
+    ),
+    (
+        b"look 1099511627775 20010DB8000000000000000000000001 17 65535 10.0.0.5 65535",
+        Shown::Look(1_099_511_627_775, 1, Protocol::Udp, 65_535, HOST, 65_535),
+    ),
+    (
+        b"look 1099511627776 192.0.2.1 6 1 10.0.0.5 0",
+        Shown::Refused,
+    ),
+    (b"look 0 192.0.2.2 6 1 10.0.0.5 0", Shown::Refused),
+    (b"look 0 192.0.2.1 1 1 10.0.0.5 0", Shown::Refused),
+    (b"look 0 192.0.2.1 06 1 10.0.0.5 0", Shown::Refused),
+    (b"look 0 192.0.2.1 6 0 10.0.0.5 0", Shown::Refused),
+    (b"look 0 192.0.2.1 6 65536 10.0.0.5 0", Shown::Refused),
+    (b"look 0 192.0.2.1 6 1 10.0.0 0", Shown::Refused),
+    (b"look 0 192.0.2.1 6 1 10.0.0.5 65536", Shown::Refused),
+    (b"look 0 192.0.2.1 6 1 10.0.0.5", Shown::Refused),
+    (b"look 0 192.0.2.1 6 1 10.0.0.5 0 0", Shown::Refused),
+    (b"find 0 192.0.2.1 6 1 10.0.0.5 0", Shown::Refused),
+    (b"lose 0 192.0.2.1", Shown::Lose(0, 0)),
+    (
+        b"lose 1099511627775 20010db8000000000000000000000001",
+        Shown::Lose(1_099_511_627_775, 1),
+    ),
+    (b"lose 1099511627776 192.0.2.1", Shown::Refused),
+    (b"lose 0 192.0.2.2", Shown::Refused),
+    (b"lose 0 192.0.2.1 ", Shown::Refused),
+    (b"lose 0", Shown::Refused),
+    (b"lose", Shown::Refused),
+    (b"loses 0 192.0.2.1", Shown::Refused),
+    (
+        b"owners 0 00000000000000000000ffffc0000201",
+        Shown::Owners(0, 0),
+    ),
+    (
+        b"owners 1099511627775 20010db8000000000000000000000001",
+        Shown::Owners(1_099_511_627_775, 1),
+    ),
+    (b"owners 1099511627776 192.0.2.1", Shown::Refused),
+    (b"owners -1 192.0.2.1", Shown::Refused),
+    (b"owners 0 2001:db8::1", Shown::Refused),
+    (b"owners 0 192.0.2.1 0", Shown::Refused),
+    (b"owner 0 192.0.2.1", Shown::Refused),
+];
+
+#[test]
+fn lines_of_a_script(rt: HostRuntime) -> Result<(), Fail> {
+    let config = config(rt.alloc())?;
+    for (text, want) in &CASES {
+        let line = summary_of(&read_line(rt.alloc(), &config, text));
+        assert!(rt; line == *want, "{}", text.escape_ascii());
+    }
+    Ok(())
+}
+
+static HASHES: [u8; 8_193] = [b'#'; 8_193];
+
+static ZEROS: [u8; 4_098] = [b'0'; 4_098];
+
+#[test]
+fn longest_lines(rt: HostRuntime) -> Result<(), Fail> {
+    let config = config(rt.alloc())?;
+    assert!(rt;
+        summary_of(&read_line(rt.alloc(), &config, &HASHES[..LONGEST_LINE])) == Shown::Skip
+    );
+    assert!(rt; summary_of(&read_line(rt.alloc(), &config, &HASHES)) == Shown::Refused);
+    let cases = [
+        (4_096, Shown::Packet(7, HOST, 9, 2_048)),
+        (4_098, Shown::Refused),
+    ];
+    for (digits, want) in cases {
+        let mut text = Vec::new(rt.alloc());
+        text.extend_from_slice(b"packet 7 10.0.0.5 9 ")?;
+        text.extend_from_slice(&ZEROS[..digits])?;
+        assert!(rt;
+            summary_of(&read_line(rt.alloc(), &config, &text)) == want,
+            "{digits}"
+        );
+    }
+    Ok(())
+}
+
+static RESULTS: &[u8] = b"silent
+reply 10.0.0.5 40000 0281ff
+reply 20010db8000000000000000000000001 0 -
+none
+owner 10.0.0.5 17 5000
+lost 0
+lost 4294967295
+owners 0
+own 6 1024 10.0.0.5 5000
+own 17 65535 10.0.0.5 1
+owners 2
+";
+
+#[test]
+fn results_of_lines(rt: HostRuntime) -> Result<(), Fail> {
+    let alloc = rt.alloc();
+    let udp = Endpoint {
+        address: HOST,
+        protocol: Protocol::Udp,
+        port: 5000,
+    };
+    let tcp = Endpoint {
+        address: HOST,
+        protocol: Protocol::Tcp,
+        port: 5000,
+    };
+    let owners = vec![in alloc;
+        Owner {
+            protocol: Protocol::Tcp,
+            external: 1024,
+            endpoint: tcp,
+        },
+        Owner {
+            protocol: Protocol::Udp,
+            external: 65_535,
+            endpoint: Endpoint { port: 1, ..udp },
+        },
+    ]?;
+    let results = vec![in alloc;
+        LineResult::Silent,
+        LineResult::Reply(Datagram {
+            peer: HOST,
+            port: 40_000,
+            octets: Octets::of(vec![in alloc; 2, 0x81, 0xff]?),
+        }),
+        LineResult::Reply(Datagram {
+            peer: Address([0x20, 1, 0x0d, 0xb8, 0, 0, 0, 0, 0, 0, 0, 0, 0, 0, 0, 1]),
+            port: 0,
+            octets: Octets::of(Vec::new(alloc)),
+        }),
+        LineResult::Owner(None),
+        LineResult::Owner(Some(udp)),
+        LineResult::Lost(0),
+        LineResult::Lost(u32::MAX),
+        LineResult::Owners(OwnerList::of(Vec::new(alloc))),
+        LineResult::Owners(OwnerList::of(owners)),
+    ]?;
+    let mut out = Vec::new(alloc);
+    for result in &results {
+        write_result(alloc, &mut out, result)?;
+    }
+    assert!(rt; out.as_slice() == RESULTS);
+    Ok(())
+}
