@@ -160,28 +160,25 @@ fn lines_of_a_script(rt: HostRuntime) -> Result<(), Fail> {
     Ok(())
 }
 
-static HASHES: [u8; 8_193] = [b'#'; 8_193];
-
-static ZEROS: [u8; 4_098] = [b'0'; 4_098];
-
 #[test]
 fn longest_lines(rt: HostRuntime) -> Result<(), Fail> {
     let config = config(rt.alloc())?;
-    assert!(rt;
-        summary_of(&read_line(rt.alloc(), &config, &HASHES[..LONGEST_LINE])) == Shown::Skip
-    );
-    assert!(rt; summary_of(&read_line(rt.alloc(), &config, &HASHES)) == Shown::Refused);
+    let mut comment = Vec::new(rt.alloc());
+    comment.resize(LONGEST_LINE, b'#')?;
+    assert!(rt; summary_of(&read_line(rt.alloc(), &config, &comment)) == Shown::Skip);
+    comment.push(b'#')?;
+    assert!(rt; summary_of(&read_line(rt.alloc(), &config, &comment)) == Shown::Refused);
     let cases = [
-        (4_096, Shown::Packet(7, HOST, 9, 2_048)),
-        (4_098, Shown::Refused),
+        (20 + 4_096, Shown::Packet(7, HOST, 9, 2_048)),
+        (20 + 4_098, Shown::Refused),
     ];
-    for (digits, want) in cases {
+    for (octets, want) in cases {
         let mut text = Vec::new(rt.alloc());
         text.extend_from_slice(b"packet 7 10.0.0.5 9 ")?;
-        text.extend_from_slice(&ZEROS[..digits])?;
+        text.resize(octets, b'0')?;
         assert!(rt;
             summary_of(&read_line(rt.alloc(), &config, &text)) == want,
-            "{digits}"
+            "{octets}"
         );
     }
     Ok(())
