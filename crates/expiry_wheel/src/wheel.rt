@@ -121,7 +121,8 @@ fn vacate<L: Ledger>(
     ensures removed { expiries_in slots.new.entries (kept_at tree.new)
         ≡ map.remove (expiries_in slots.old.entries (kept_at tree.old)) id }
     ensures few { length tree.old ≤ MOST_PAIRS }
-    ensures steps { IsCostOfTaking (length tree.old) slot (btree_map_len slots.old - 1) steps.old steps.new }
+    ensures steps { IsCostOfTaking (length tree.old) slot (btree_map_len slots.old - 1)
+        steps.old steps.new }
 {
     let last = slots.len() - 1;
     let moved = tree.slot(last, steps);

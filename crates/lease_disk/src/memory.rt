@@ -33,7 +33,11 @@ impl Model for MemoryDisk {
 
     ghost Value = { DiskInMemory };
 
-    ghost view = { λ d. record { steps = steps_of d.changes.items; room = d.room; calls = d.calls } };
+    ghost view = { λ d. record {
+      steps = steps_of d.changes.items;
+      room = d.room;
+      calls = d.calls;
+    } };
 
     ghost invariant = { λ d. IsMadeBy (steps_of d.changes.items) d.room d.octets.items };
 }
@@ -63,7 +67,8 @@ impl MemoryDisk {
     /// Names a device call that is to fail. Device calls are numbered from 0, those that fail too;
     /// all from number 2^64 - 1 on have that number.
     pub fn fail_at(&mut self, _alloc: Global, call: u64) -> Result<(), Memory>
-        ensures ok { OnOk result (self.new ≡ record self.old { calls = with_failing self.old.calls call }) }
+        ensures ok { OnOk result (self.new
+            ≡ record self.old { calls = with_failing self.old.calls call }) }
         ensures err { OnErr result (self.new ≡ self.old) }
     {
         self.calls.fail_at(call)
@@ -81,7 +86,8 @@ impl MemoryDisk {
     /// with `ff` for each octet that was written since the last sync. No call of it is named to fail.
     #[tactic(auto, using(crate::proofs::ReplayLemmas::image_by_is, crate::proofs::ReplayLemmas::image_by_fits))]
     pub fn stopped(&self, alloc: Global, choice: u8) -> Result<MemoryDisk, Memory>
-        ensures choice { IfOk result (λ disk. disk ≡ disk_with (image_by self.now.steps choice) self.now.room) }
+        ensures choice { IfOk result (λ disk. disk
+            ≡ disk_with (image_by self.now.steps choice) self.now.room) }
         ensures image { IsImage self.now.steps (image_by self.now.steps choice) }
     {
         let octets = image(alloc, &self.changes, choice)?;
@@ -122,7 +128,8 @@ impl MemoryDisk {
 
     /// Cuts the octets to this length. After an error nothing has changed.
     fn shorten(&mut self, size: u64) -> Result<(), AllocError>
-        ensures ok { OnOk result (self.new ≡ record self.old { steps = CutTo size ∷ self.old.steps }) }
+        ensures ok { OnOk result (self.new
+            ≡ record self.old { steps = CutTo size ∷ self.old.steps }) }
         ensures err { OnErr result (self.new ≡ self.old) }
     {
         self.changes.push(Change::CutTo(size as usize))?;
@@ -182,8 +189,10 @@ impl LeaseDisk for MemoryDisk {
         ensures most { IfOk result (λ size. size ≤ 2 ^ 62) }
         ensures size { IfOk result (λ size. size ≡ length (octets_after self.old.steps)) }
         ensures fails { IsErr result ↔ IsNamed self.old.calls }
-        ensures call { OnOk result (self.new ≡ record self.old { calls = with_call self.old.calls }) }
-        ensures fault { OnErr result (self.new ≡ record self.old { calls = with_fault self.old.calls }) }
+        ensures call { OnOk result (self.new
+            ≡ record self.old { calls = with_call self.old.calls }) }
+        ensures fault { OnErr result (self.new
+            ≡ record self.old { calls = with_fault self.old.calls }) }
     {
         if self.calls.begin() {
             return Err(self.calls.fail());
@@ -199,8 +208,10 @@ impl LeaseDisk for MemoryDisk {
         ensures rest { IfOk result (λ n. drop n piece.new ≡ drop n piece.old) }
         ensures piece { OnErr result (piece.new ≡ piece.old) }
         ensures fails { IsErr result ↔ IsNamed self.old.calls }
-        ensures call { OnOk result (self.new ≡ record self.old { calls = with_call self.old.calls }) }
-        ensures fault { OnErr result (self.new ≡ record self.old { calls = with_fault self.old.calls }) }
+        ensures call { OnOk result (self.new
+            ≡ record self.old { calls = with_call self.old.calls }) }
+        ensures fault { OnErr result (self.new
+            ≡ record self.old { calls = with_fault self.old.calls }) }
     {
         if self.calls.begin() {
             return Err(self.calls.fail());
@@ -235,7 +246,8 @@ impl LeaseDisk for MemoryDisk {
     }
 
     fn cut(&mut self, length: u64) -> Result<(), Failed>
-        ensures fault { IsNamed self.old.calls → self.new ≡ record self.old { calls = with_fault self.old.calls } }
+        ensures fault { IsNamed self.old.calls
+            → self.new ≡ record self.old { calls = with_fault self.old.calls } }
         ensures refused { IsNamed self.old.calls → IsErr result }
         ensures starved { OnErr result
             (IsNamed self.old.calls
@@ -256,7 +268,8 @@ impl LeaseDisk for MemoryDisk {
     }
 
     fn sync(&mut self) -> Result<(), Failed>
-        ensures fault { IsNamed self.old.calls → self.new ≡ record self.old { calls = with_fault self.old.calls } }
+        ensures fault { IsNamed self.old.calls
+            → self.new ≡ record self.old { calls = with_fault self.old.calls } }
         ensures refused { IsNamed self.old.calls → IsErr result }
         ensures starved { OnErr result
             (IsNamed self.old.calls

@@ -84,7 +84,8 @@ fn put_rest(
     external: u16,
     end: u64,
 ) -> Result<(), AllocError>
-    ensures ok { OnOk result (out.new.items ≡ out.old.items ++ rest_text endpoint.now external end) }
+    ensures ok { OnOk result (out.new.items
+        ≡ out.old.items ++ rest_text endpoint.now external end) }
     ensures value { OnOk result (IsEndpoint endpoint.now) }
 {
     out.push(endpoint.protocol.number())?;

@@ -31,7 +31,12 @@ impl Model for Announcer {
 
     ghost view = { λ a. record { base = a.base; since = a.since; made = a.made; last = a.last } };
 
-    ghost invariant = { λ a. IsSchedule (record { base = a.base; since = a.since; made = a.made; last = a.last }) };
+    ghost invariant = { λ a. IsSchedule (record {
+      base = a.base;
+      since = a.since;
+      made = a.made;
+      last = a.last;
+    }) };
 }
 
 impl Announcer {
@@ -70,7 +75,8 @@ impl Announcer {
         requires { now_ms < 1000 * 2 ^ 40 }
         ensures due { result ≡ is_due self.old now_ms }
         ensures made { self.new ≡ after_due self.old now_ms }
-        ensures head { out.new ≡ (if is_due self.old now_ms then announcement self.old now_ms else out.old) }
+        ensures head { out.new
+            ≡ (if is_due self.old now_ms then announcement self.old now_ms else out.old) }
     {
         self.last = self.last.max(now_ms);
         let is_due = self.made < ANNOUNCEMENTS && self.since + wait_of(self.made) <= self.last;

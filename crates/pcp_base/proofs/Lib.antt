@@ -4,6 +4,7 @@ pub mod Decimals
 pub mod EndFacts
 pub mod EndLemmas
 pub mod EndOrder
+pub mod FirstRoomLaws
 pub mod Members
 pub mod PrefixLemmas
 pub mod RestLaws

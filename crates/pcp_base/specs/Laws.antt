@@ -13,7 +13,7 @@ use Rattle.pcp_base.specs.Records.{IsWellFormedChange}
 use Rattle.pcp_base.specs.Apply.{empties, table_changed, table_2, deleted, ends_changed, ends_3, apply, apply_first, state_of, state_of_first}
 use Rattle.pcp_base.specs.Sound.{Sound, SoundState}
 use Rattle.pcp_base.specs.Fits.{IsAllowed, IsRested, Fits, FitsFirst, AllFit, AllFitFirst}
-use Rattle.pcp_base.specs.Rooms.{HasRoom, Suits}
+use Rattle.pcp_base.specs.Rooms.{HasRoom, Suits, SuitsFirst}
 use Rattle.pcp_base.specs.Snapshots.{snapshot}
 use Rattle.pcp_base.specs.Reached.{IsReached, IsReachedFirst}
 
@@ -50,6 +50,10 @@ RoomDecides = (t : Table) (m : ℕ) (change : Change) → Sound t → IsWellForm
 -- so a record fits after a sound state exactly where it suits it
 abbrev pub SuitingFits : Type 0
 SuitingFits = (s : State) (r : Record) → SoundState s → Fits s r ↔ Suits s r
+
+-- in the first format too
+abbrev pub SuitingFitsFirst : Type 0
+SuitingFitsFirst = (s : State) (r : Record) → Sound s.table → FitsFirst s r ↔ SuitsFirst s r
 
 -- ---- ends and rests
 

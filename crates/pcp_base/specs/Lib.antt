@@ -14,6 +14,7 @@ pub mod Pairing
 pub mod Protocols
 pub mod Reached
 pub mod Records
+pub mod Refusals
 pub mod Rooms
 pub mod Snapshots
 pub mod Sound

@@ -13,7 +13,7 @@ use Rattle.pcp_base.specs.Owners.{map_owners, peer_owner, owners}
 use Rattle.pcp_base.specs.States.{State}
 use Rattle.pcp_base.specs.Records.{IsWellFormedRecord}
 use Rattle.pcp_base.specs.Apply.{is_start}
-use Rattle.pcp_base.specs.Fits.{IsAllowed, IsRested}
+use Rattle.pcp_base.specs.Fits.{IsAllowed, IsRested, IsOfFirst}
 
 -- A port of both has one owner, and an endpoint of both has one port.
 pub record Agree (os ps : List Owner) : Type 0 where
@@ -46,3 +46,20 @@ pub record Suits (s : State) (r : Record) : Type 0 where
   pub allowed : IsAllowed (live s.table r.moment) r.change
   pub rested : IsRested s r.moment r.change
   pub room : HasRoom (live s.table r.moment) r.change
+
+-- whatever leases there are
+pub record IsNext (s : State) (r : Record) : Type 0 where
+  pub formed : IsWellFormedRecord r
+  pub first : is_start r.change ≡ not s.started
+  pub later : s.last ≤ r.moment
+
+-- whatever ends there are
+pub record SuitsTable (s : State) (r : Record) : Type 0 where
+  pub next : IsNext s r
+  pub allowed : IsAllowed (live s.table r.moment) r.change
+  pub room : HasRoom (live s.table r.moment) r.change
+
+-- the same in the first format: what `FitsFirst` asks, with room in place of soundness
+pub record SuitsFirst (s : State) (r : Record) : Type 0 where
+  pub of_first : IsOfFirst r.change
+  pub table : SuitsTable s r

@@ -129,7 +129,8 @@ impl Address {
 // its octets are read and so known to be octets.
 fn is_v4(octets: &[u8; 16]) -> bool
     ensures value { result ≡ starts_with nat_eq octets.now v4_front }
-    ensures read_again { let a : Address = record { 0 = octets.now } in IsAddressText (address_text a) a }
+    ensures read_again { let a : Address = record { 0 = octets.now }
+        in IsAddressText (address_text a) a }
 {
     octets.starts_with(&Address::V4_FRONT)
 }
@@ -174,7 +175,8 @@ impl Prefix {
 fn around_slash(text: &[u8]) -> Option<(&[u8], &[u8])>
     ensures parts { IfSome result (λ p. text.now ≡ p.0.now ++ codes "/" ++ p.1.now) }
     ensures first { IfSome result (λ p. All (λ c. (c == 47) ≡ false) p.0.now) }
-    ensures none { IfNone result ((front back : List ℕ) → ¬ (text.now ≡ front ++ codes "/" ++ back)) }
+    ensures none { IfNone result ((front back : List ℕ)
+        → ¬ (text.now ≡ front ++ codes "/" ++ back)) }
 {
     let slash = text.iter().position(|octet| *octet == b'/')?;
     Some((&text[..slash], &text[slash + 1..]))

@@ -1,5 +1,5 @@
 //! What holds of the states that fitting records make. A proof that needs a law calls its function.
-ghost use Rattle.pcp_base.specs.Laws.{RecordsReach, ReachedIsKept, FirstRecordsReach, FirstReachedIsKept, PortsHaveOneOwner, TablesDecide, RoomDecides, SuitingFits, EndsAtAMoment, PortsRestForOne, RestingIsUnowned, MarksTellRests, EndsComeInSteps, RecordsComeLast, SnapshotsStand};
+ghost use Rattle.pcp_base.specs.Laws.{RecordsReach, ReachedIsKept, FirstRecordsReach, FirstReachedIsKept, PortsHaveOneOwner, TablesDecide, RoomDecides, SuitingFits, SuitingFitsFirst, EndsAtAMoment, PortsRestForOne, RestingIsUnowned, MarksTellRests, EndsComeInSteps, RecordsComeLast, SnapshotsStand};
 
 /// A state that records which fit have made is sound: no lease owns a port with an end, each lease is
 /// live at the last moment, and no end is older than 120 seconds. Each record that fits keeps this.
@@ -25,10 +25,11 @@ pub fn tables_decide()
 {}
 
 /// A sound table stays sound under an allowed change exactly where it has room for it, and so a record
-/// fits after a sound state exactly where it suits it.
+/// fits after a sound state exactly where it suits it, in both formats.
 pub fn new_leases_need_room()
     ensures sound { RoomDecides }
     ensures fits { SuitingFits }
+    ensures fits_first { SuitingFitsFirst }
 {}
 
 /// Which ends there are at a moment.

@@ -31,7 +31,8 @@ pub trait Replay {
     fn admit(&mut self, alloc: Global, kept: &Record) -> Result<bool, Memory>
         requires { replaying self.old }
         ensures fits { result ≡ Ok true → Fits (state self.old) kept.now }
-        ensures applied { result ≡ Ok true → state self.new ≡ apply (state self.old) kept.now }
+        ensures applied { result ≡ Ok true
+            → state self.new ≡ apply (state self.old) kept.now }
         ensures refused { result ≡ Ok false → ¬ (Fits (state self.old) kept.now) }
         ensures unchanged { result ≡ Ok false → state self.new ≡ state self.old }
         ensures ready { OnOk result (replaying self.new) };
@@ -40,7 +41,8 @@ pub trait Replay {
     fn admit_first(&mut self, alloc: Global, kept: &Record) -> Result<bool, Memory>
         requires { replaying_first self.old }
         ensures fits { result ≡ Ok true → FitsFirst (state self.old) kept.now }
-        ensures applied { result ≡ Ok true → state self.new ≡ apply_first (state self.old) kept.now }
+        ensures applied { result ≡ Ok true
+            → state self.new ≡ apply_first (state self.old) kept.now }
         ensures refused { result ≡ Ok false → ¬ (FitsFirst (state self.old) kept.now) }
         ensures unchanged { result ≡ Ok false → state self.new ≡ state self.old }
         ensures ready { OnOk result (replaying_first self.new) };

@@ -11,7 +11,7 @@ use Rattle.pcp_codec.specs.declared.requests.Framed.TheVariants.{Whole}
 use Rattle.pcp_codec.specs.Fields.{octet, octets_at, u16_at, u32_at}
 use Rattle.pcp_codec.specs.Requests.{opcode_of, data_length, common_of}
 use Rattle.pcp_codec.specs.Framing.{reading_of}
-use Rattle.pcp_codec.specs.Packets.{IsCommon, IsPeer, IsData, IsRequest}
+use Rattle.pcp_codec.specs.Packets.{IsCommon, IsPeerData, IsData, IsRequest}
 use Rattle.pcp_codec.proofs.FieldLemmas.{octets_at-all, octets_at-append, octets_at-split, length-octets_at, u16_at-fits, u32_at-fits, u16_at-spelled, u32_at-spelled}
 use Rattle.pcp_codec.proofs.FramingLemmas.{passed, passes}
 
@@ -40,7 +40,7 @@ common-spelled message fits = record {
   ports_fit = (u16_at-fits message fits 40, u16_at-fits message fits 42);
 }
 
-peer-spelled : (message : List ℕ) → IsOctets message → IsPeer (octets_at message 24 56) (common_of message) (u16_at message 60) (record { 0 = octets_at message 64 16 })
+peer-spelled : (message : List ℕ) → IsOctets message → IsPeerData (octets_at message 24 56) (common_of message) (u16_at message 60) (record { 0 = octets_at message 64 16 })
 peer-spelled message fits = record {
   front = octets_at message 24 36;
   common = common-spelled message fits;
@@ -117,7 +117,7 @@ peer_cells c reserved port between remote = common_cells c reserved ++ to_be_byt
 peer-text : (port n m r s a b : List ℕ) → m ≡ n → s ≡ r → b ≡ a → n ++ port ++ r ++ a ≡ m ++ port ++ s ++ b
 peer-text port n m r s a b x y z = rw (x, y, z) refl
 
-peer-cells : (fields : List ℕ) (c : Common) (port : ℕ) (remote : Address) (h : IsPeer fields c port remote) → fields ≡ peer_cells c h.common.reserved port h.reserved remote.0
+peer-cells : (fields : List ℕ) (c : Common) (port : ℕ) (remote : Address) (h : IsPeerData fields c port remote) → fields ≡ peer_cells c h.common.reserved port h.reserved remote.0
 peer-cells fields c port remote h =
     h.spelled ∙ peer-text (to_be_bytes w16 port)
     h.front (common_cells c h.common.reserved) h.reserved (octets_at h.reserved 0 2) remote.0 (octets_at remote.0 0 16)
@@ -129,7 +129,7 @@ peer_with c port remote = Peer c port (record { 0 = remote })
 peer-same : (c d : Common) (i j : ℕ) (a : List ℕ) (remote : Address) → d ≡ c → j ≡ i → a ≡ remote.0 → peer_with d j a ≡ Peer c i remote
 peer-same c d i j a remote x y z = rw (x, y, z) refl
 
-peer-back : (front fields rest : List ℕ) (c : Common) (port : ℕ) (remote : Address) → IsPeer fields c port remote → body_with 2 (octets_at front 0 24 ++ fields ++ rest) ≡ Peer c port remote
+peer-back : (front fields rest : List ℕ) (c : Common) (port : ℕ) (remote : Address) → IsPeerData fields c port remote → body_with 2 (octets_at front 0 24 ++ fields ++ rest) ≡ Peer c port remote
 peer-back front fields rest c port remote h =
     let tail = to_be_bytes w16 port ++ octets_at h.reserved 0 2 ++ octets_at remote.0 0 16 ++ rest in
     ap (λ text. body_with 2 (octets_at front 0 24 ++ text ++ rest)) (peer-cells fields c port remote h)

@@ -1,11 +1,10 @@
 -- The first five steps of the verdict on a datagram (RFC 6887, section 8.2; their order is our own).
-use Rattle.std.specs.Prelude.{ℕ, ◌+◌, ◌%◌, ◌==◌, ◌&&◌, ◌||◌, nat_lt, nat_le, not, Bool, false, bytes_eq, List, [], ◌∷◌, length, Option, Some, None, if◌then◌else◌}
+use Rattle.std.specs.Prelude.{ℕ, ◌+◌, ◌%◌, ◌==◌, ◌&&◌, ◌||◌, nat_lt, nat_le, not, Bool, bytes_eq, List, [], ◌∷◌, length, Option, Some, None, if◌then◌else◌}
 use Rattle.pcp_base.specs.declared.addresses.Address.{Address}
-use Rattle.pcp_base.specs.declared.codes.Code.{Code}
 use Rattle.pcp_base.specs.declared.codes.Code.TheVariants.{UnsuppVersion, MalformedRequest, UnsuppOpcode, AddressMismatch}
 use Rattle.pcp_base.specs.declared.asks.Refusal.{Refusal}
 use Rattle.pcp_base.specs.Cases.{Case, first_case}
-use Rattle.pcp_base.specs.Codes.{lifetime_of}
+use Rattle.pcp_base.specs.Refusals.{unparsed}
 use Rattle.pcp_codec.specs.declared.layout.TheConstants.{VERSION, R_BIT, PEER_OPCODE, MESSAGE_OCTETS, HEAD_OCTETS, CLIENT_PLACE}
 use Rattle.pcp_codec.specs.declared.requests.Frame.{Frame}
 use Rattle.pcp_codec.specs.declared.requests.Framed.{Framed}
@@ -17,10 +16,6 @@ use Rattle.pcp_codec.specs.Requests.{opcode_of, data_length, frame_of}
 abbrev pub is_silent : List ℕ → Bool
 is_silent message = nat_lt (length message) 2 || nat_le R_BIT (octet message 1)
     || (octet message 0 == VERSION && nat_lt (length message) HEAD_OCTETS)
-
--- a request that is refused before it is understood
-abbrev pub unparsed : Code → Refusal
-unparsed code = record { code = code; parsed = false; lifetime = lifetime_of code }
 
 -- whether a request has too many octets, or no whole words (section 7)
 abbrev pub is_of_wrong_size : List ℕ → Bool

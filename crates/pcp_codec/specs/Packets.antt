@@ -19,7 +19,7 @@ pub record IsCommon (fields : List ℕ) (c : Common) : Type 0 where
   pub ports_fit : (c.internal < 2 ^ 16) × (c.external < 2 ^ 16)
 
 -- PEER (section 12.1): the same, and then remote port, 2 reserved octets, remote address
-pub record IsPeer (fields : List ℕ) (c : Common) (port : ℕ) (remote : Address) : Type 0 where
+pub record IsPeerData (fields : List ℕ) (c : Common) (port : ℕ) (remote : Address) : Type 0 where
   pub front : List ℕ
   pub common : IsCommon front c
   pub reserved : List ℕ
@@ -32,7 +32,7 @@ pub record IsPeer (fields : List ℕ) (c : Common) (port : ℕ) (remote : Addres
 abbrev pub IsData : ℕ → List ℕ → Body → Type 0
 IsData opcode fields Announce = (opcode ≡ ANNOUNCE_OPCODE) × (fields ≡ [])
 IsData opcode fields (Map c) = (opcode ≡ MAP_OPCODE) × IsCommon fields c
-IsData opcode fields (Peer c port remote) = (opcode ≡ PEER_OPCODE) × IsPeer fields c port remote
+IsData opcode fields (Peer c port remote) = (opcode ≡ PEER_OPCODE) × IsPeerData fields c port remote
 
 -- version 2, the R bit 0 with the opcode, 2 reserved octets, lifetime, client address, data, options
 -- (section 7.1), in whole words and at most 1100 octets (section 7)

@@ -75,7 +75,8 @@ pub fn write_refusal(
     epoch: u32,
 ) -> Result<(), Memory>
     requires { 2 ≤ length request.now }
-    ensures ok { OnOk result (out.new.items ≡ out.old.items ++ refusal_text request.now refusal epoch) }
+    ensures ok { OnOk result (out.new.items
+        ≡ out.old.items ++ refusal_text request.now refusal epoch) }
     ensures err { OnErr result (out.new.items ≡ out.old.items) }
 {
     let mut reply = [0; MESSAGE_OCTETS];

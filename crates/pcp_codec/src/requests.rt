@@ -3,7 +3,8 @@ ghost use Rattle.std.specs.Prelude.{◌≡◌, ℕ, ◌≤◌, List, drop};
 ghost use Rattle.pcp_base.specs.Cases.{first_case};
 ghost use Rattle.pcp_codec.specs.Packets.{IsRequest};
 ghost use Rattle.pcp_codec.specs.Requests.{opcode_of, data_length, common_of, body_of};
-ghost use Rattle.pcp_codec.specs.Framing.{frame_steps, reading_of, unparsed};
+ghost use Rattle.pcp_base.specs.Refusals.{unparsed};
+ghost use Rattle.pcp_codec.specs.Framing.{frame_steps, reading_of};
 
 use crate::fields::{octet_of, octets_of, opcode_in, u16_of, u32_of};
 use crate::layout::*;
@@ -72,7 +73,8 @@ pub fn read_request(octets: &[u8], source: &Address) -> Framed
     ensures exact { result ≡ reading_of octets.now source.now }
     ensures grammar { (frame : Frame) → result ≡ Framed.Whole frame
         → IsRequest octets.now source.now frame (drop frame.options octets.now) }
-    ensures only { (frame : Frame) (options : List ℕ) → IsRequest octets.now source.now frame options
+    ensures only { (frame : Frame) (options : List ℕ)
+        → IsRequest octets.now source.now frame options
         → result ≡ Framed.Whole frame }
 {
     first_steps(octets, source)

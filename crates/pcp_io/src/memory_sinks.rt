@@ -45,7 +45,8 @@ impl MemorySink {
     /// Names a write that is to fail. Writes are numbered from 0, those that fail too; all from
     /// number 2^64 - 1 on have that number.
     pub fn fail_at(&mut self, _alloc: Global, call: u64) -> Result<(), Memory>
-        ensures ok { OnOk result (self.new ≡ record self.old { calls = with_failing self.old.calls call }) }
+        ensures ok { OnOk result (self.new
+            ≡ record self.old { calls = with_failing self.old.calls call }) }
         ensures err { OnErr result (self.new ≡ self.old) }
     {
         self.calls.fail_at(call)
@@ -86,7 +87,8 @@ impl Sink for MemorySink {
         // It fails where the call is named and where the piece would pass the room, and else only
         // for want of memory.
         ensures refused { IsWriteRefused self.old piece.now → IsErr result }
-        ensures fault { IsWriteRefused self.old piece.now → self.new.calls ≡ with_fault self.old.calls }
+        ensures fault { IsWriteRefused self.old piece.now
+            → self.new.calls ≡ with_fault self.old.calls }
         ensures starved { OnErr result
             (IsWriteRefused self.old piece.now ⊎ (self.new.calls ≡ with_starved self.old.calls)) }
         ensures call { OnOk result (self.new.calls ≡ with_call self.old.calls) }

@@ -45,7 +45,8 @@ impl MemorySource {
     /// Names a read that is to fail. Reads are numbered from 0, those that fail too; all from
     /// number 2^64 - 1 on have that number.
     pub fn fail_at(&mut self, _alloc: Global, call: u64) -> Result<(), Memory>
-        ensures ok { OnOk result (self.new ≡ record self.old { calls = with_failing self.old.calls call }) }
+        ensures ok { OnOk result (self.new
+            ≡ record self.old { calls = with_failing self.old.calls call }) }
         ensures err { OnErr result (self.new ≡ self.old) }
     {
         self.calls.fail_at(call)
@@ -70,7 +71,8 @@ impl Source for MemorySource {
     ghost faults = { λ s. s.calls.faults };
 
     fn read(&mut self, piece: &mut [u8]) -> Result<usize, Failed>
-        ensures reads { IfOk result (Reads (Some self.old.left) (Some self.new.left) piece.old piece.new) }
+        ensures reads { IfOk result
+            (Reads (Some self.old.left) (Some self.new.left) piece.old piece.new) }
         ensures most { IfOk result (λ n. n ≡ min (length piece.old) (length self.old.left)) }
         ensures unchanged { OnErr result (self.new.left ≡ self.old.left) }
         ensures piece { OnErr result (piece.new ≡ piece.old) }

@@ -17,7 +17,8 @@ use Rattle.pcp_codec.specs.declared.requests.Body.TheVariants.{Announce, Map, Pe
 use Rattle.pcp_codec.specs.declared.requests.Frame.{Frame}
 use Rattle.pcp_codec.specs.declared.requests.Framed.TheVariants as Framed
 use Rattle.pcp_codec.specs.Requests.{frame_of}
-use Rattle.pcp_codec.specs.Framing.{frame_steps, reading_of, unparsed}
+use Rattle.pcp_base.specs.Refusals.{unparsed}
+use Rattle.pcp_codec.specs.Framing.{frame_steps, reading_of}
 use Rattle.pcp_codec.proofs.FramingLemmas.{framed_silent, framed_refused, framed_whole, first_case-Some, first_case-None, passed}
 use Rattle.pcp_options.specs.declared.options.Item.{Item}
 use Rattle.pcp_options.specs.declared.options.Seen.{Seen}
@@ -26,7 +27,8 @@ use Rattle.pcp_options.specs.declared.verdicts.Verdict.TheVariants.{Silent, Refu
 use Rattle.pcp_options.specs.Options.{found_in, items_of}
 use Rattle.pcp_options.specs.Steps.{options_steps}
 use Rattle.pcp_options.specs.Asking.{third_of, seen_of, filters_of, subject_of, endpoint_of, map_ask, peer_ask, ask_by, with_filters}
-use Rattle.pcp_options.specs.Verdicts.{IsFrameOf, options_in, parsed, third_steps, later_steps, asked_by, asked_for, verdict_by, verdict_of}
+use Rattle.pcp_base.specs.Refusals.{parsed}
+use Rattle.pcp_options.specs.Verdicts.{IsFrameOf, options_in, third_steps, later_steps, asked_by, asked_for, verdict_by, verdict_of}
 
 -- the data of the opcode is there
 pub frame-room : (frame : Frame) (octets : List ℕ) → IsFrameOf frame octets → frame.options ≤ length octets

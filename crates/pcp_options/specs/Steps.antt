@@ -7,7 +7,7 @@ use Rattle.pcp_base.specs.Cases.{Case}
 use Rattle.pcp_codec.specs.declared.requests.Body.{Body}
 use Rattle.pcp_codec.specs.declared.requests.Body.TheVariants.{Announce, Map, Peer}
 use Rattle.pcp_codec.specs.Fields.{octet, u16_at}
-use Rattle.pcp_codec.specs.Framing.{unparsed}
+use Rattle.pcp_base.specs.Refusals.{unparsed}
 use Rattle.pcp_options.specs.declared.layout.TheConstants.{THIRD_PARTY_CODE, PREFER_FAILURE_CODE, FILTER_CODE, PORT_SET_CODE, FIRST_OPTIONAL_CODE, THIRD_PARTY_OCTETS, PREFER_FAILURE_OCTETS, FILTER_OCTETS, LONGEST_PREFIX, PORT_SET_OCTETS, FILTER_PREFIX_PLACE, SET_SIZE_PLACE, SET_FIRST_PLACE}
 use Rattle.pcp_options.specs.Options.{FoundOption}
 

@@ -1,5 +1,5 @@
 -- The verdict on a datagram (RFC 6887, section 8.2; the order of its steps is our own).
-use Rattle.std.specs.Prelude.{◌≡◌, ℕ, not, true, bytes_eq, List, [], ◌∷◌, ◌++◌, drop, Option, Some, None, Result, Ok, Err, if◌then◌else◌, ⊤}
+use Rattle.std.specs.Prelude.{◌≡◌, ℕ, not, bytes_eq, List, [], ◌∷◌, ◌++◌, drop, Option, Some, None, Result, Ok, Err, if◌then◌else◌, ⊤}
 use Rattle.std.specs.List.{list_any}
 use Rattle.pcp_base.specs.declared.addresses.Address.{Address}
 use Rattle.pcp_base.specs.declared.codes.Code.{Code}
@@ -8,7 +8,7 @@ use Rattle.pcp_base.specs.declared.asks.Refusal.{Refusal}
 use Rattle.pcp_base.specs.declared.asks.Ask.{Ask}
 use Rattle.pcp_base.specs.declared.configs.Config.{Config}
 use Rattle.pcp_base.specs.Cases.{Case, first_case}
-use Rattle.pcp_base.specs.Codes.{lifetime_of}
+use Rattle.pcp_base.specs.Refusals.{parsed}
 use Rattle.pcp_base.specs.Pairing.{holds, place_of}
 use Rattle.pcp_codec.specs.declared.requests.Frame.{Frame}
 use Rattle.pcp_codec.specs.declared.requests.Framed.TheVariants as Framed
@@ -32,10 +32,6 @@ behind_data frame message = drop frame.options message
 -- the options that stand there
 abbrev pub options_in : Frame → List ℕ → List FoundOption
 options_in frame message = found_in (behind_data frame message)
-
--- a request whose options were read, and that is refused
-abbrev pub parsed : Code → Refusal
-parsed code = record { code = code; parsed = true; lifetime = lifetime_of code }
 
 -- THIRD_PARTY from a host that may not use it, or that names itself (section 13.1)
 abbrev pub third_steps : Config → Address → Option Address → List (Case Refusal)

@@ -1,12 +1,11 @@
 //! The options of a request (RFC 6887, sections 7.3 and 13; PORT_SET: RFC 7753, section 4.1).
-ghost use Rattle.std.specs.Prelude.{◌≡◌, ◌+◌, ◌≤◌, ℕ, Bool, true, Option, Some, None, List, [], ◌∷◌, ◌++◌, length, drop, is_some, option_map, option_to_list, IfOk, IfErr, IfSome, MatchOption, MatchResult, OnErr};
-ghost use Rattle.std.specs.List.{list_any};
+ghost use Rattle.std.specs.Prelude.{◌≡◌, ◌+◌, ◌≤◌, true, Option, Some, None, List, [], ◌∷◌, ◌++◌, length, drop, is_some, option_map, option_to_list, IfOk, IfErr, IfSome, MatchOption};
 ghost use Rattle.pcp_base.specs.Cases.{first_case};
-ghost use Rattle.pcp_codec.specs.Framing.{unparsed};
+ghost use Rattle.pcp_base.specs.Refusals.{unparsed};
 ghost use Rattle.pcp_options.specs.Asking.{filter_of, filters_of, seen_of};
 ghost use Rattle.pcp_options.specs.Options.{FoundOption, found_in, item_of, items_of};
 ghost use Rattle.pcp_options.specs.Raw.{found_of};
-ghost use Rattle.pcp_options.specs.Steps.{has_another_length, is_again, is_ignored, is_of_another_opcode, is_single, is_unknown, is_wrong, option_steps, options_steps};
+ghost use Rattle.pcp_options.specs.Steps.{has_another_length, is_again, is_ignored, is_of_another_opcode, is_unknown, is_wrong, option_steps, options_steps};
 ghost use Rattle.pcp_options.specs.Verdicts.{IsFrameOf, behind_data, options_in};
 
 use crate::layout::*;

@@ -1,12 +1,13 @@
 //! The verdict on a datagram (RFC 6887, section 8.2).
-ghost use Rattle.std.specs.Prelude.{◌≡◌, ◌++◌, ℕ, Option, Some, None, [], Result, Ok, Err, length, option_map, if◌then◌else◌, IfOk, OnErr};
+ghost use Rattle.std.specs.Prelude.{◌≡◌, Option, Some, None, [], Result, Ok, Err, length, option_map, if◌then◌else◌, IfOk, OnErr};
 ghost use Rattle.std.specs.List.{list_any};
 ghost use Rattle.pcp_base.specs.Cases.{first_case};
 ghost use Rattle.pcp_base.specs.Pairing.{holds};
-ghost use Rattle.pcp_codec.specs.Framing.{unparsed};
+ghost use Rattle.pcp_base.specs.Refusals.{unparsed};
 ghost use Rattle.pcp_options.specs.Asking.{ask_by, endpoint_of, seen_of, with_filters};
 ghost use Rattle.pcp_options.specs.Options.{found_in, items_of};
-ghost use Rattle.pcp_options.specs.Verdicts.{IsAsked, asked_for, later_steps, parsed, third_steps, verdict_by, verdict_of};
+ghost use Rattle.pcp_base.specs.Refusals.{parsed};
+ghost use Rattle.pcp_options.specs.Verdicts.{IsAsked, asked_for, later_steps, third_steps, verdict_by, verdict_of};
 
 use crate::options::{Items, Seen, check_options, collect_filters, collect_items, options_text};
 use pcp_base::{

@@ -59,14 +59,14 @@ StandsFor externals fields (Lose moment shard) = IsEvent (codes "lose") external
 StandsFor externals fields (Owners moment shard) = IsEvent (codes "owners") externals fields moment shard
 
 -- the text stands for the line, but for its length: nothing, a comment behind a number sign, or fields
-abbrev pub Writes : List External → List ℕ → Line → Type 0
-Writes externals text Skip = (text ≡ []) ⊎ (slice_get text 0 ≡ Some 35)
-Writes externals text line = (fields : List (List ℕ)) × (text ≡ spaced fields) × StandsFor externals fields line
+abbrev pub IsTextOfLine : List External → List ℕ → Line → Type 0
+IsTextOfLine externals text Skip = (text ≡ []) ⊎ (slice_get text 0 ≡ Some 35)
+IsTextOfLine externals text line = (fields : List (List ℕ)) × (text ≡ spaced fields) × StandsFor externals fields line
 
 -- the text of a line stands for it
 pub record IsLine (externals : List External) (text : List ℕ) (line : Line) : Type 0 where
   pub short : length text ≤ LONGEST_LINE
-  pub written : Writes externals text line
+  pub written : IsTextOfLine externals text line
 
 -- each octet of a packet's datagram is one
 abbrev pub HasOctets : Line → Type 0

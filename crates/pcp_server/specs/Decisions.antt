@@ -19,8 +19,7 @@ use Rattle.pcp_base.specs.Owners.{owners, is_port}
 use Rattle.pcp_base.specs.Cases.{Case, first_case}
 use Rattle.pcp_base.specs.declared.leases.TheConstants.{MOST_LEASES}
 use Rattle.pcp_server.specs.declared.decisions.Decided.{Decided}
-use Rattle.pcp_codec.specs.Framing.{unparsed}
-use Rattle.pcp_server.specs.Verdicts.{parsed}
+use Rattle.pcp_base.specs.Refusals.{parsed, unparsed}
 
 -- a table without PEER leases
 abbrev pub only_maps : List MapLease → Table

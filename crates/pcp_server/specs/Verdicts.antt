@@ -1,22 +1,21 @@
 -- The verdict on a datagram (RFC 6887, section 8.2; the order of its steps is our own).
-use Rattle.std.specs.Prelude.{ℕ, ◌==◌, ◌||◌, nat_lt, not, Bool, true, false, List, [], ◌∷◌, ◌++◌, length, Option, Some, None, is_none, unwrap_or, if◌then◌else◌}
+use Rattle.std.specs.Prelude.{ℕ, ◌==◌, ◌||◌, nat_lt, not, Bool, false, List, [], ◌∷◌, ◌++◌, length, Option, Some, None, is_none, unwrap_or, if◌then◌else◌}
 use Rattle.pcp_base.specs.declared.addresses.Address.{Address}
 use Rattle.pcp_base.specs.declared.leases.Protocol.{Protocol}
 use Rattle.pcp_base.specs.declared.leases.Protocol.TheVariants.{Udp}
-use Rattle.pcp_base.specs.declared.codes.Code.{Code}
 use Rattle.pcp_base.specs.declared.codes.Code.TheVariants.{UnsuppOpcode, UnsuppOption, UnsuppProtocol, NotAuthorized}
 use Rattle.pcp_base.specs.declared.asks.Refusal.{Refusal}
 use Rattle.pcp_base.specs.declared.asks.Ask.{Ask}
 use Rattle.pcp_base.specs.declared.asks.Ask.TheVariants as Asks
 use Rattle.pcp_base.specs.declared.configs.Config.{Config}
-use Rattle.pcp_base.specs.Codes.{lifetime_of}
 use Rattle.pcp_base.specs.Pairing.{place_of}
 use Rattle.pcp_base.specs.Protocols.{protocol_of}
 use Rattle.pcp_codec.specs.declared.requests.Body.{Body}
 use Rattle.pcp_codec.specs.declared.requests.Body.TheVariants as Bodies
 use Rattle.pcp_base.specs.Cases.{Case, first_case}
 use Rattle.pcp_codec.specs.declared.layout.TheConstants.{PEER_OPCODE}
-use Rattle.pcp_codec.specs.Framing.{frame_steps, is_silent, unparsed}
+use Rattle.pcp_base.specs.Refusals.{parsed, unparsed}
+use Rattle.pcp_codec.specs.Framing.{frame_steps, is_silent}
 use Rattle.pcp_codec.specs.Requests.{opcode_of, body_of, frame_of}
 use Rattle.pcp_server.specs.declared.verdicts.Verdict.{Verdict}
 use Rattle.pcp_server.specs.declared.verdicts.Verdict.TheVariants.{Silent, Refuse, Asked}
@@ -26,10 +25,6 @@ abbrev pub lacks_ports : Body → Bool
 lacks_ports Bodies.Announce = false
 lacks_ports (Bodies.Map c) = is_none (protocol_of c.protocol) || c.internal == 0
 lacks_ports (Bodies.Peer c port remote) = is_none (protocol_of c.protocol) || c.internal == 0
-
--- a request that was read and is refused
-abbrev pub parsed : Code → Refusal
-parsed code = record { code = code; parsed = true; lifetime = lifetime_of code }
 
 -- What isn't served: PEER, and anything behind a request's data. Such a request counts as not read.
 abbrev pub service_steps : List ℕ → List (Case Refusal)

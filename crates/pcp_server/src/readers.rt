@@ -140,7 +140,8 @@ impl LineReader {
     fn peek<S: Source>(&mut self, input: &mut S) -> Result<Option<u8>, Failed>
         ensures octet { IfOk result (λ octet. octet ≡ slice_get self.new.pending 0) }
         ensures at_end { IfOk result (λ octet. IfNone octet (IsAtEnd (S.left input.new))) }
-        ensures unchanged { rest_of self.new (S.left input.new) ≡ rest_of self.old (S.left input.old) }
+        ensures unchanged { rest_of self.new (S.left input.new)
+            ≡ rest_of self.old (S.left input.old) }
         ensures piece { length self.new.pending ≤ PIECE }
         ensures used { self.new.used ≡ self.old.used }
         ensures few { self.new.used ≤ 2 ^ 30 }

@@ -233,7 +233,8 @@ fn change_maps(maps: &mut Vec<MapLease>, kept: &Record) -> Result<(), AllocError
     requires ports { AllByRecursion EndsInRange maps.old.items }
     ensures ports { AllByRecursion EndsInRange maps.new.items }
     ensures ok { OnOk result
-        (only_maps maps.new.items ≡ table_changed kept.now.change (live (only_maps maps.old.items) kept.now.moment)) }
+        (only_maps maps.new.items
+        ≡ table_changed kept.now.change (live (only_maps maps.old.items) kept.now.moment)) }
 {
     drop_ended(maps, kept.moment);
     match &kept.change {

@@ -503,7 +503,8 @@ struct Run {
 // Runs a command over a script in memory; none where the words are no command.
 fn run_in_memory(alloc: Global, words: &[String], script: Vec<u8>) -> Result<Option<Run>, Memory>
     ensures { IfOk result (λ run. IfSome run (λ r.
-        IsOver profile external r.start script.items [] (Some r.input.left) (Some r.out.held) r.status)) }
+        IsOver profile external r.start script.items []
+        (Some r.input.left) (Some r.out.held) r.status)) }
 {
     let Some(start) = start_of(words) else {
         return Ok(None);

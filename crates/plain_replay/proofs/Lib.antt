@@ -1,6 +1,5 @@
 pub mod AgreeLemmas
 pub mod EndPlaces
-pub mod FirstLaws
 pub mod Listing
 pub mod NewLeases
 pub mod Puts

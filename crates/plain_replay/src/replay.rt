@@ -10,7 +10,7 @@ ghost use Rattle.pcp_base.specs.Apply.{apply, apply_first, is_start, rebases, ad
 ghost use Rattle.pcp_base.specs.Fits.{IsRested, IsUnused, RestForNoOther};
 ghost use Rattle.pcp_base.specs.Rooms.{Suits};
 ghost use Rattle.pcp_base.specs.Reached.{IsReached, IsReachedFirst};
-ghost use Rattle.plain_replay.specs.Suiting.{IsNext, SuitsTable, SuitsFirst};
+ghost use Rattle.pcp_base.specs.Rooms.{IsNext, SuitsTable, SuitsFirst};
 
 use crate::changes::{address_after, base_after, begins, is_loss, is_of_first};
 use crate::ends::{add_ended, add_left, change_ends, drop_old, drop_over, has_end};
@@ -309,7 +309,9 @@ impl PlainReplay {
         ensures { self.new ≡ record {
           table = table;
           ends = ends_4 kept.now.moment ends.items;
-          base = if rebases kept.now.change self.old.address then kept.now.moment else self.old.base;
+          base = if rebases kept.now.change self.old.address
+            then kept.now.moment
+            else self.old.base;
           address = address_changed kept.now.change self.old.address;
           last = kept.now.moment;
           started = is_start kept.now.change || self.old.started;

@@ -2,6 +2,7 @@
 use Rattle.std.specs.Prelude.{ℕ, ◌≡◌, ◌<◌, ◌≤◌, Bool, false, true, List, slice_index_or, length, ◌+◌, Option, ◌-◌, not}
 use Rattle.port_runs.specs.Ports.{HasParity, Ports}
 use Rattle.std.specs.List.{filter, range_with_len}
+use Rattle.port_runs.specs.declared.tree.TheConstants.{FLAGS}
 
 -- each flag from one place up to another, which is not among them, is set
 abbrev pub IsSetBetween : List Bool → ℕ → ℕ → Type 0
@@ -23,7 +24,7 @@ pub record FitsFlags (flags : List Bool) (n : ℕ) (parity : Option ℕ) (start 
 -- of the flags for all numbers of 16 bits those from one place up to another, which is not among
 -- them, are set, and no other
 pub record IsSetAlone (from to : ℕ) (flags : List Bool) : Type 0 where
-  pub whole : length flags ≡ 65536
+  pub whole : length flags ≡ FLAGS
   pub set : IsSetBetween flags from to
   pub below : (i : ℕ) → i < from → slice_index_or flags i false ≡ false
   pub above : (i : ℕ) → to ≤ i → slice_index_or flags i false ≡ false
@@ -42,8 +43,8 @@ HasSetRun flags parity n = (start : ℕ) × FitsFlags flags n parity start
 pub record AreOfRange (low high : ℕ) (flags : List Bool) : Type 0 where
   pub some : 1 ≤ low
   pub ordered : low ≤ high
-  pub small : high < 65536
-  pub all : length flags ≡ 65536
+  pub small : high < FLAGS
+  pub all : length flags ≡ FLAGS
   pub below : (i : ℕ) → i < low → slice_index_or flags i false ≡ false
   pub above : (i : ℕ) → high < i → slice_index_or flags i false ≡ false
 

@@ -2,6 +2,7 @@
 use Rattle.std.specs.Prelude.{false, Bool, true, ℕ, ◌+◌, ◌-◌, ◌%◌, ◌^◌, min, max, ◌&&◌, ◌==◌, if◌then◌else◌, zero, suc, Option, Some, None, ◌*◌, nat_lt, List, slice_index_or, ◌≡◌, ◌<◌, ◌≤◌, length}
 use Rattle.port_runs.specs.declared.tree.Node.{Node}
 use Rattle.port_runs.specs.Ports.{HasParity}
+use Rattle.port_runs.specs.declared.tree.TheConstants.{FLAGS, NODES}
 
 -- the node of a block with no flag set
 unfoldable pub empty_node : Node
@@ -50,11 +51,11 @@ longest (Some (suc (suc _))) node = 0
 -- the node at a place of the tree: from 32,768 on it is that of two flags
 unfoldable pub tree_node : List Bool → List Node → ℕ → Node
 tree_node flags nodes place =
-    if nat_lt place 32768
+    if nat_lt place NODES
     then slice_index_or nodes place empty_node
     else pair_of
-    (slice_index_or flags (2 * place - 65536) false)
-    (slice_index_or flags (2 * place - 65536 + 1) false)
+    (slice_index_or flags (2 * place - FLAGS) false)
+    (slice_index_or flags (2 * place - FLAGS + 1) false)
 
 -- the node at a place is that of its children
 abbrev pub IsJoined : List Bool → List Node → ℕ → Type 0
@@ -64,19 +65,19 @@ IsJoined flags nodes place =
 
 -- each node is that of its children
 pub record AreJoined (flags : List Bool) (nodes : List Node) : Type 0 where
-  pub all : length nodes ≡ 32768
-  pub each : (place : ℕ) → 1 ≤ place → place < 32768 → IsJoined flags nodes place
+  pub all : length nodes ≡ NODES
+  pub each : (place : ℕ) → 1 ≤ place → place < NODES → IsJoined flags nodes place
 
 -- a flag for each number of 16 bits, and the nodes above them
 pub record IsTreeOf (flags : List Bool) (nodes : List Node) : Type 0 where
-  pub whole : length flags ≡ 65536
+  pub whole : length flags ≡ FLAGS
   pub joined : AreJoined flags nodes
 
 -- each node is that of its children, but for the nodes from low to high
 pub record AreJoinedBut (low high : ℕ) (flags : List Bool) (nodes : List Node) : Type 0 where
-  pub all : length nodes ≡ 32768
-  pub below : (place : ℕ) → 1 ≤ place → place < low → place < 32768 → IsJoined flags nodes place
-  pub above : (place : ℕ) → high < place → place < 32768 → IsJoined flags nodes place
+  pub all : length nodes ≡ NODES
+  pub below : (place : ℕ) → 1 ≤ place → place < low → place < NODES → IsJoined flags nodes place
+  pub above : (place : ℕ) → high < place → place < NODES → IsJoined flags nodes place
 
 -- start is the first place from begins on with the remainder by 2 that is asked, and n places from
 -- it on lie before ends

@@ -131,9 +131,9 @@ fn joined(left: Node, right: Node) -> Node
 /// The node at a place.
 #[tactic(auto, unfolding(crate::specs::Nodes::tree_node))]
 fn node_of(flags: &[bool], nodes: &[Node], place: usize) -> Node
-    requires place { place < 65536 }
-    requires flags { length flags.now ≡ 65536 }
-    requires nodes { length nodes.now ≡ 32768 }
+    requires place { place < FLAGS }
+    requires flags { length flags.now ≡ FLAGS }
+    requires nodes { length nodes.now ≡ NODES }
     ensures { result ≡ tree_node flags.now nodes.now place }
 {
     if place < nodes.len() {
@@ -146,8 +146,8 @@ fn node_of(flags: &[bool], nodes: &[Node], place: usize) -> Node
 
 /// Makes the nodes from `low` to `high` anew, and leaves their parents to be made anew.
 fn rejoin(flags: &[bool], nodes: &mut [Node], low: usize, high: usize)
-    requires high { high < 32768 }
-    requires flags { length flags.now ≡ 65536 }
+    requires high { high < NODES }
+    requires flags { length flags.now ≡ FLAGS }
     requires joined { AreJoinedBut low high flags.now nodes.old }
     ensures { AreJoinedBut (low / 2) (high / 2) flags.now nodes.new }
 {
@@ -163,9 +163,9 @@ fn rejoin(flags: &[bool], nodes: &mut [Node], low: usize, high: usize)
 /// changed.
 fn refresh(flags: &[bool], nodes: &mut [Node], from: usize, to: usize)
     requires ordered { from < to }
-    requires within { to ≤ 65536 }
-    requires flags { length flags.now ≡ 65536 }
-    requires joined { AreJoinedBut ((65536 + from) / 4) ((65536 + to - 1) / 4) flags.now nodes.old }
+    requires within { to ≤ FLAGS }
+    requires flags { length flags.now ≡ FLAGS }
+    requires joined { AreJoinedBut ((FLAGS + from) / 4) ((FLAGS + to - 1) / 4) flags.now nodes.old }
     ensures { AreJoined flags.now nodes.new }
 {
     let mut low = (FLAGS + from) / 4;
@@ -181,8 +181,8 @@ fn refresh(flags: &[bool], nodes: &mut [Node], from: usize, to: usize)
 /// anew.
 fn change(flags: &mut [bool], nodes: &mut [Node], from: usize, to: usize, value: bool)
     requires ordered { from < to }
-    requires within { to ≤ 65536 }
-    requires flags { length flags.old ≡ 65536 }
+    requires within { to ≤ FLAGS }
+    requires flags { length flags.old ≡ FLAGS }
     requires joined { AreJoined flags.old nodes.old }
     ensures marked { IsMarked from to value flags.old flags.new }
     ensures joined { AreJoined flags.new nodes.new }
@@ -193,9 +193,9 @@ fn change(flags: &mut [bool], nodes: &mut [Node], from: usize, to: usize, value:
 
 /// Looks at a node, which is a step. Nothing else that counts steps reads one.
 fn look<L: Ledger>(flags: &[bool], nodes: &[Node], place: usize, steps: &mut Steps<L>) -> Node
-    requires place { place < 65536 }
-    requires flags { length flags.now ≡ 65536 }
-    requires nodes { length nodes.now ≡ 32768 }
+    requires place { place < FLAGS }
+    requires flags { length flags.now ≡ FLAGS }
+    requires nodes { length nodes.now ≡ NODES }
     ensures node { result ≡ tree_node flags.now nodes.now place }
     ensures cost { steps.new ≡ steps.old + 1 }
 {
@@ -223,7 +223,7 @@ fn over_middle(left: Node, right: Node, middle: usize, n: u32, parity: Option<u8
     requires some { 1 ≤ n }
     requires parity { IfSome parity (λ remainder. remainder < 2) }
     requires begins { left.suffix ≤ middle }
-    requires ends { middle + right.prefix ≤ 65536 }
+    requires ends { middle + right.prefix ≤ FLAGS }
     ensures found { IfSome result (
         IsFirstOver (middle - left.suffix) (middle + right.prefix) n parity) }
     ensures none { IfNone result ((start : ℕ) → HasParity parity start
@@ -251,7 +251,7 @@ fn fits_in_pair<L: Ledger>(
     parity: Option<u8>,
     steps: &mut Steps<L>,
 ) -> bool
-    requires { first < 65536 }
+    requires { first < FLAGS }
     ensures fits { IsTrue result ↔ FitsFlags flags.now n parity first }
     ensures cost { steps.new ≡ steps.old + 2 }
 {
@@ -330,7 +330,7 @@ impl Tree {
     /// The tree whose set flags are those from `from` up to `to`, which isn't among them.
     pub fn new(alloc: Global, from: usize, to: usize) -> Result<Tree, AllocError>
         requires ordered { from < to }
-        requires within { to ≤ 65536 }
+        requires within { to ≤ FLAGS }
         ensures { IfOk result (λ tree. IsSetAlone from to tree) }
     {
         let mut flags = flags::cleared(alloc, FLAGS)?;
@@ -342,7 +342,7 @@ impl Tree {
     /// Sets or clears the flags from `from` up to `to`, which isn't among them.
     pub fn mark(&mut self, from: usize, to: usize, value: bool)
         requires ordered { from < to }
-        requires within { to ≤ 65536 }
+        requires within { to ≤ FLAGS }
         ensures { IsMarked from to value self.old self.new }
     {
         change(&mut self.flags, &mut self.nodes, from, to, value);
@@ -351,7 +351,7 @@ impl Tree {
     /// How many flags are set from `start` on, up to `most`. It reads flags alone, for callers that
     /// count no steps.
     pub fn run_at(&self, start: usize, most: u32) -> u32
-        requires { start < 65536 }
+        requires { start < FLAGS }
         ensures { IsSetCountAt self.now start most result }
     {
         flags::run_at(&self.flags, start, most)

@@ -1,6 +1,6 @@
 use Rattle.std.proofs.Common.{◌≡◌, ◌∷◌, None, option_map, ap, sym, ◌∙◌, rules, arith}
 use Rattle.pcp_base.specs.Cases.{first_case}
-use Rattle.pcp_codec.specs.Framing.{unparsed}
+use Rattle.pcp_base.specs.Refusals.{unparsed}
 use Rattle.pcp_options.specs.Options.{found_in, items_of}
 use Rattle.pcp_options.specs.Raw.{found_of}
 use Rattle.pcp_options.specs.Steps.{option_steps}

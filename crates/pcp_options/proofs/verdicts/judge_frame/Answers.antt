@@ -1,7 +1,8 @@
 use Rattle.std.proofs.Common.{◌≡◌, None, IfOk, OnErr, option_map, ap, sym, subst, ◌∙◌, rules}
 use Rattle.pcp_options.specs.declared.verdicts.Verdict.TheVariants.{Refuse}
 use Rattle.pcp_options.specs.Options.{found_in, items_of}
-use Rattle.pcp_options.specs.Verdicts.{IsAsked, asked_for, parsed}
+use Rattle.pcp_base.specs.Refusals.{parsed}
+use Rattle.pcp_options.specs.Verdicts.{IsAsked, asked_for}
 use Rattle.pcp_options.proofs.VerdictLemmas.{options-refused, third-refused, steps-pass, text_verdict}
 use Rattle.pcp_options.proofs.verdicts.judge_frame.Goals as goal
 

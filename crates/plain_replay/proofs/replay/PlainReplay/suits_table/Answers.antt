@@ -5,7 +5,7 @@ use Rattle.pcp_base.specs.Tables.{Table, live}
 use Rattle.pcp_base.specs.States.{State}
 use Rattle.pcp_base.specs.Fits.{IsAllowed}
 use Rattle.pcp_base.specs.Rooms.{HasRoom}
-use Rattle.plain_replay.specs.Suiting.{SuitsTable}
+use Rattle.pcp_base.specs.Rooms.{SuitsTable}
 use Rattle.plain_replay.proofs.replay.PlainReplay.suits_table.Goals as goal
 
 pub returns : goal.returns

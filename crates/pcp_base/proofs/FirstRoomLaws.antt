@@ -5,18 +5,18 @@ use Rattle.pcp_base.specs.Tables.{live}
 use Rattle.pcp_base.specs.States.{State}
 use Rattle.pcp_base.specs.Fits.{FitsFirst}
 use Rattle.pcp_base.specs.Sound.{Sound}
-use Rattle.pcp_base.specs.Laws.{RoomDecides}
+use Rattle.pcp_base.specs.Rooms.{SuitsFirst}
+use Rattle.pcp_base.proofs.RoomLaws.{Sound-changed, HasRoom-needed}
 use Rattle.pcp_base.proofs.TableLemmas.{Sound-live}
-use Rattle.plain_replay.specs.Suiting.{SuitsFirst}
 
-pub FitsFirst-iff_SuitsFirst : (s : State) (r : Record) → RoomDecides → Sound s.table → FitsFirst s r ↔ SuitsFirst s r
-FitsFirst-iff_SuitsFirst s r decides sound = (
+pub FitsFirst-iff_SuitsFirst : (s : State) (r : Record) → Sound s.table → FitsFirst s r ↔ SuitsFirst s r
+FitsFirst-iff_SuitsFirst s r sound = (
   λ fits. record {
     of_first = fits.of_first;
     table = record {
       next = record { formed = fits.formed; first = fits.first; later = fits.later };
       allowed = fits.allowed;
-      room = (decides (live s.table r.moment) r.moment r.change (Sound-live s.table r.moment sound) fits.formed.change fits.allowed).0 fits.sound;
+      room = HasRoom-needed (live s.table r.moment) r.change fits.sound;
     };
   },
   λ suits. record {
@@ -25,6 +25,6 @@ FitsFirst-iff_SuitsFirst s r decides sound = (
     first = suits.table.next.first;
     later = suits.table.next.later;
     allowed = suits.table.allowed;
-    sound = (decides (live s.table r.moment) r.moment r.change (Sound-live s.table r.moment sound) suits.table.next.formed.change suits.table.allowed).1 suits.table.room;
+    sound = Sound-changed (live s.table r.moment) r.moment r.change (Sound-live s.table r.moment sound) suits.table.next.formed.change suits.table.allowed suits.table.room;
   },
 )
