@@ -24,7 +24,8 @@ use step_count::Steps;
 /// Ids with the moments at which they expire, at most `MOST_PAIRS` of them.
 ///
 /// It is seen as a finite map from ids to expiries: a list of pairs of an id and an expiry, ids
-/// distinct.
+/// distinct. In memory it has 48 octets for each slot beside its ordered map, and as many slots as
+/// there were pairs at most, rounded up to a power of 2.
 #[derive(Drop)]
 pub struct Wheel {
     slots: BTreeMap<u32, u32>,

@@ -8,7 +8,7 @@ use Rattle.pcp_base.specs.declared.leases.Protocol.{Protocol}
 use Rattle.pcp_base.specs.declared.leases.Protocol.TheVariants.{Tcp, Udp}
 use Rattle.pcp_base.specs.declared.leases.Owner.{Owner}
 use Rattle.pcp_base.specs.Tables.{live, same_protocol}
-use Rattle.pcp_base.specs.Owners.{is_owned, owned, different_ports}
+use Rattle.pcp_base.specs.Owners.{is_owned, owned, port_count}
 use Rattle.pcp_base.specs.States.{State}
 use Rattle.pcp_base.proofs.Members.{IsIn}
 use Rattle.pcp_base.proofs.EndLemmas.{some-owned}
@@ -77,7 +77,7 @@ module _ (size : Protocol → ℕ) where
   one_more Tcp x os h = omega (arith, count_below-more (size Tcp) x (λ port. is_owned Tcp port os) h)
   one_more Udp x os h = omega (arith, count_below-more (size Udp) x (λ port. is_owned Udp port os) h)
 
-  counted-different : (os : List Owner) → ((o : Owner) → IsIn o os → o.external < size o.protocol) → counted os ≡ different_ports os
+  counted-different : (os : List Owner) → ((o : Owner) → IsIn o os → o.external < size o.protocol) → counted os ≡ port_count os
   counted-different [] few = omega (arith, count_below-none (size Tcp), count_below-none (size Udp))
   counted-different (o ∷ os) few =
       one_more o.protocol o.external os (few o (inl refl))

@@ -17,9 +17,9 @@ mod tests;
 #[error("more than 8 filters")]
 pub struct Excess(pub usize);
 
-/// The filters of a mapping after those of a request, in order: one of prefix length 0 empties the list,
-/// any other is added unless it is there. Where more than [`MOST_FILTERS`] are left there are too many; how many there
-/// are on the way doesn't count.
+/// The filters of a mapping after those of a request, in order: one of prefix length 0 empties the
+/// list, any other is added unless it is there. Where more than [`MOST_FILTERS`] are left there are too
+/// many; how many there are on the way doesn't count.
 pub fn fold_filters(old: &Filters, new: &[Filter]) -> Result<Filters, Excess>
     ensures folded { IfOk result (λ filters. filters ≡ fold_filters old.now new.now) }
     ensures few { IfOk result (λ filters. length (fold_filters old.now new.now) ≤ MOST_FILTERS) }

@@ -26,7 +26,9 @@ Leads moment left_since may_leave P old (next ∷ more) new =
     OnOneSide moment left_since may_leave P old next × Leads moment left_since may_leave P next more new
 
 -- each two images of the sides at any moment from old to new have P
-pub record PairLeavesOnly {D : Type 0} (moment : D → ℕ) (left_since : D → ℕ → List ℕ → Type 0) (may_leave : D → List ℕ → Type 0) (old new : DiskPair D) (P : List ℕ → List ℕ → Type 0) : Type 0 where
+pub record PairLeavesOnly {D : Type 0} (moment : D → ℕ) (left_since : D → ℕ → List ℕ → Type 0)
+    (may_leave : D → List ℕ → Type 0) (old new : DiskPair D)
+    (P : List ℕ → List ℕ → Type 0) : Type 0 where
   pub starts : HoldsNow may_leave P old
   pub stretches : List (DiskPair D)
   pub lead : Leads moment left_since may_leave P old stretches new

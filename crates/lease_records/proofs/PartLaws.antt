@@ -12,6 +12,7 @@ use Rattle.pcp_base.specs.declared.leases.Protocol.TheVariants.{Tcp, Udp}
 use Rattle.pcp_base.specs.declared.leases.Endpoint.{Endpoint}
 use Rattle.pcp_base.specs.declared.leases.Filter.{Filter}
 use Rattle.pcp_base.specs.Protocols.{protocol_number, protocol_of}
+use Rattle.pcp_base.specs.declared.leases.TheConstants.{MOST_FILTERS}
 use Rattle.lease_records.specs.declared.terms.Term.{Term}
 use Rattle.lease_records.specs.Values.{IsEndpoint, IsFilter, IsTerm}
 use Rattle.lease_records.specs.RecordTexts.{endpoint_text, filter_text, term_text}
@@ -144,7 +145,7 @@ abbrev pub filters_text : List Filter → List ℕ
 filters_text fs = length fs ∷ flat_map filter_text fs
 
 abbrev pub AreFilters : List Filter → Type 0
-AreFilters fs = (length fs ≤ 8) × AllByRecursion IsFilter fs
+AreFilters fs = (length fs ≤ MOST_FILTERS) × AllByRecursion IsFilter fs
 
 pub all_filters_take : (octets : List ℕ) (x : List Filter × List ℕ) → IsBytes octets → all_filters_at octets ≡ Some x → Takes octets (filters_text x.0) x.1 × AreFilters x.0
 unfolding all_filters_at
@@ -153,7 +154,7 @@ all_filters_take octets x fits e =
     let g = none_or (ltb 8 n.0.0) (filters_at n.0.0 n.0.1) x n.2 in
     let t = octet_takes octets n.0 fits n.1 in
     let u = filters_take n.0.0 n.0.1 x t.rest_fits g.1 in
-    let few : n.0.0 ≤ 8 = ltb-false _ _ g.0 in
+    let few : n.0.0 ≤ MOST_FILTERS = ltb-false _ _ g.0 in
     let counted : Takes octets (length x.0 ∷ []) n.0.1 = subst (λ k. Takes octets (k ∷ []) n.0.1) (sym u.1) t in
     (Takes-then octets (length x.0 ∷ []) n.0.1 (flat_map filter_text x.0) x.1 counted u.0, (omega (arith, u.1), u.2))
 

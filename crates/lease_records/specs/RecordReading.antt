@@ -11,6 +11,7 @@ use Rattle.pcp_base.specs.declared.records.Change.{Change}
 use Rattle.pcp_base.specs.declared.records.Change.TheVariants.{Start, Map, Peer, DropMap, DropPeer, Lose, Mark, Rest, Renumber}
 use Rattle.pcp_base.specs.declared.records.Record.{Record}
 use Rattle.pcp_base.specs.Protocols.{protocol_of}
+use Rattle.pcp_base.specs.declared.leases.TheConstants.{MOST_FILTERS}
 use Rattle.lease_records.specs.declared.terms.Term.{Term}
 
 infixl 10 ◌>>=◌
@@ -72,11 +73,11 @@ filters_at (suc n) octets = do
   others ← filters_at n first.1
   Some (first.0 ∷ others.0, others.1)
 
--- a number of at most 8, and that many filters
+-- a number of at most MOST_FILTERS, and that many filters
 unfoldable pub all_filters_at : List ℕ → Option (List Filter × List ℕ)
 all_filters_at octets = do
   n ← octet_at octets
-  if nat_lt 8 n.0 then None else filters_at n.0 n.1
+  if nat_lt MOST_FILTERS n.0 then None else filters_at n.0 n.1
 
 unfoldable pub term_at : List ℕ → Option (Term × List ℕ)
 term_at octets = do

@@ -40,12 +40,16 @@ map_text l = endpoint_text (first_endpoint l) ++ to_be_bytes w16 l.count ++ to_b
 
 -- the endpoint, external 2, remote address 16, remote port 2, nonce, granted, expiry
 abbrev pub peer_text : PeerLease → List ℕ
-peer_text l = endpoint_text l.endpoint ++ to_be_bytes w16 l.external ++ l.remote.0 ++ to_be_bytes w16 l.remote_port
+peer_text l =
+    endpoint_text l.endpoint ++ to_be_bytes w16 l.external ++ l.remote.0
+    ++ to_be_bytes w16 l.remote_port
     ++ term_text (peer_term l)
 
 -- protocol 1, external 2, address 16, internal 2, end 8
 abbrev pub rest_text : Endpoint → ℕ → ℕ → List ℕ
-rest_text e external end = protocol_number e.protocol ∷ to_be_bytes w16 external ++ e.address.0 ++ to_be_bytes w16 e.port ++ to_be_bytes w64 end
+rest_text e external end =
+    protocol_number e.protocol ∷ to_be_bytes w16 external ++ e.address.0 ++ to_be_bytes w16 e.port
+    ++ to_be_bytes w64 end
 
 abbrev pub kind_of : Change → ℕ
 kind_of Start = 1

@@ -8,8 +8,8 @@ ghost use Rattle.lease_records.specs.RecordReading.{Gives, take_octets, octet_at
 
 use crate::terms::Term;
 use pcp_base::{
-    Address, Change, Endpoint, Filter, Filters, MapLease, Moment, Nonce, PeerLease, Protocol,
-    Record,
+    Address, Change, Endpoint, Filter, Filters, MOST_FILTERS, MapLease, Moment, Nonce, PeerLease,
+    Protocol, Record,
 };
 use thiserror::Error;
 
@@ -119,20 +119,20 @@ fn filter_of(octets: &[u8]) -> Result<(Filter, &[u8]), NotRecord>
     Ok((filter, rest))
 }
 
-/// A number of at most 8, and that many filters.
+/// A number of at most [`MOST_FILTERS`], and that many filters.
 #[tactic(auto, unfolding(crate::specs::RecordReading::all_filters_at))]
 fn all_filters_of(octets: &[u8]) -> Result<(Filters, &[u8]), NotRecord>
     ensures { Gives (λ x. (x.0, x.1.now)) result (all_filters_at octets.now) }
 {
     let (count, rest) = octet_of(octets)?;
-    if count > 8 {
+    if usize::from(count) > MOST_FILTERS {
         return Err(NotRecord);
     }
     filters_of(count, rest)
 }
 
 fn filters_of(count: u8, octets: &[u8]) -> Result<(Filters, &[u8]), NotRecord>
-    requires { count ≤ 8 }
+    requires { count ≤ MOST_FILTERS }
     ensures { Gives (λ x. (x.0, x.1.now)) result (filters_at count octets.now) }
 {
     let mut filters = Filters::none();

@@ -34,7 +34,8 @@ table_changed Lose t = empty_table
 table_changed (Map l) t = record t { maps = put (is_map_of (first_endpoint l)) l t.maps }
 table_changed (Peer l) t = record t { peers = put (is_peer_of l.endpoint l.remote l.remote_port) l t.peers }
 table_changed (DropMap e) t = record t { maps = filter (λ l. not (is_map_of e l)) t.maps }
-table_changed (DropPeer e remote port) t = record t { peers = filter (λ l. not (is_peer_of e remote port l)) t.peers }
+table_changed (DropPeer e remote port) t =
+    record t { peers = filter (λ l. not (is_peer_of e remote port l)) t.peers }
 table_changed change t = t
 
 -- the leases that a deletion takes out

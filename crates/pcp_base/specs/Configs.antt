@@ -22,4 +22,5 @@ pub record IsConfig (c : Config) : Type 0 where
   pub externals : AllByRecursion IsExternal c.externals
   pub external_addresses : EachTwo (λ x y. x.address ≢ y.address) c.externals
   pub subscriber_count : length c.subscribers ≤ MOST_SUBSCRIBERS
-  pub subscribers : AllByRecursion (λ s. (s.prefix.bits ≤ 128) × (s.external < length c.externals)) c.subscribers
+  pub subscribers : AllByRecursion (λ s. (s.prefix.bits ≤ 128)
+      × (s.external < length c.externals)) c.subscribers

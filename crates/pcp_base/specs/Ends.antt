@@ -23,7 +23,8 @@ ends_at_expiry t = flat_map (λ l. map (end_at l.expiry) (map_owners l)) t.maps
 -- the order of ends: by protocol number, then by port
 abbrev pub is_before : End → End → Bool
 is_before a b = nat_lt (protocol_number a.endpoint.protocol) (protocol_number b.endpoint.protocol)
-    || (protocol_number a.endpoint.protocol == protocol_number b.endpoint.protocol && nat_lt a.external b.external)
+    || (protocol_number a.endpoint.protocol == protocol_number b.endpoint.protocol
+    && nat_lt a.external b.external)
 
 -- one more end, in its place; where its port has an end, the later of the two counts
 abbrev pub with_end : End → List End → List End
@@ -59,7 +60,8 @@ resting s m = filter (λ e. is_recent m e && not (is_owned_by (owners (live s.ta
 
 -- whether it is an end of this port
 abbrev pub is_end_of : Protocol → ℕ → End → Bool
-is_end_of protocol port e = protocol_number e.endpoint.protocol == protocol_number protocol && e.external == port
+is_end_of protocol port e =
+    protocol_number e.endpoint.protocol == protocol_number protocol && e.external == port
 
 -- whether the port of the endpoint's protocol rests at m for this endpoint
 abbrev pub rests_for : State → ℕ → ℕ → Endpoint → Bool

@@ -29,7 +29,8 @@ abbrev pub FirstRecordsReach : Type 0
 FirstRecordsReach = (rs : List Record) → AllFitFirst empty_state rs → IsReachedFirst (state_of_first rs)
 
 abbrev pub FirstReachedIsKept : Type 0
-FirstReachedIsKept = (s : State) (r : Record) → IsReachedFirst s → FitsFirst s r → IsReachedFirst (apply_first s r)
+FirstReachedIsKept =
+    (s : State) (r : Record) → IsReachedFirst s → FitsFirst s r → IsReachedFirst (apply_first s r)
 
 -- at each moment each port has one owner
 abbrev pub PortsHaveOneOwner : Type 0
@@ -44,7 +45,9 @@ TablesDecide = (s : State) (r : Record) → SoundState s → IsRested s r.moment
 
 -- a sound table stays sound under an allowed change exactly where it has room for it
 abbrev pub RoomDecides : Type 0
-RoomDecides = (t : Table) (m : ℕ) (change : Change) → Sound t → IsWellFormedChange m change → IsAllowed t change →
+RoomDecides =
+    (t : Table) (m : ℕ) (change : Change) → Sound t → IsWellFormedChange m change
+    → IsAllowed t change →
     Sound (table_changed change t) ↔ HasRoom t change
 
 -- so a record fits after a sound state exactly where it suits it
@@ -85,7 +88,8 @@ EndsComeInSteps = (s : State) (m n : ℕ) → SoundState s → m ≤ n →
 -- what expired by a record's moment may leave before it: then only its own change remains
 abbrev pub RecordsComeLast : Type 0
 RecordsComeLast = (s : State) (r : Record) → SoundState s → Fits s r → empties r.change ≡ false →
-    ends_3 s r ≡ with_left (table_2 s r) (map (end_at r.moment) (owners (deleted r.change (live s.table r.moment))))
+    ends_3 s r ≡ with_left (table_2 s r) (map (end_at r.moment)
+    (owners (deleted r.change (live s.table r.moment))))
     (ends_changed r.change (ends_by s r.moment))
 
 -- ---- snapshots

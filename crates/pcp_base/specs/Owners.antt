@@ -37,19 +37,19 @@ OneOwner os = (p q : Owner) → Contains os p → Contains os q →
 abbrev pub OnePort : List Owner → Type 0
 OnePort os = (p q : Owner) → Contains os p → Contains os q → p.endpoint ≡ q.endpoint → p.external ≡ q.external
 
--- whether it is of this port
+-- whether the owner owns this port
 abbrev pub is_port : Protocol → ℕ → Owner → Bool
 is_port protocol port o = same_protocol o.protocol protocol && o.external == port
 
--- whether one of them is of this port
+-- whether one of the owners owns this port
 abbrev pub is_owned : Protocol → ℕ → List Owner → Bool
 is_owned protocol port os = list_any (is_port protocol port) os
 
--- of how many different ports they are
-abbrev pub different_ports : List Owner → ℕ
-different_ports [] = 0
-different_ports (o ∷ os) = (if is_owned o.protocol o.external os then 0 else 1) + different_ports os
+-- how many different ports the owners own
+abbrev pub port_count : List Owner → ℕ
+port_count [] = 0
+port_count (o ∷ os) = (if is_owned o.protocol o.external os then 0 else 1) + port_count os
 
 -- how many different ports the leases of the address own that are live at m
 abbrev pub owned : Table → ℕ → Address → ℕ
-owned t m a = different_ports (filter (λ o. same_address o.endpoint.address a) (owners (live t m)))
+owned t m a = port_count (filter (λ o. same_address o.endpoint.address a) (owners (live t m)))

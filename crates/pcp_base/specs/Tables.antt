@@ -43,7 +43,8 @@ same_protocol Tcp Udp = false
 same_protocol Udp Tcp = false
 
 abbrev pub same_endpoint : Endpoint → Endpoint → Bool
-same_endpoint a b = same_address a.address b.address && same_protocol a.protocol b.protocol && a.port == b.port
+same_endpoint a b =
+    same_address a.address b.address && same_protocol a.protocol b.protocol && a.port == b.port
 
 -- whether the MAP lease covers the endpoint
 abbrev pub covers : MapLease → Endpoint → Bool
@@ -69,9 +70,10 @@ put has_key l (x ∷ xs) = if has_key x then l ∷ xs else x ∷ put has_key l x
 
 -- whether the PEER lease has this key: its endpoint, remote address and remote port
 abbrev pub is_peer_of : Endpoint → Address → ℕ → PeerLease → Bool
-is_peer_of e remote port l = same_endpoint l.endpoint e && same_address l.remote remote && l.remote_port == port
+is_peer_of e remote port l =
+    same_endpoint l.endpoint e && same_address l.remote remote && l.remote_port == port
 
--- R holds of each item and each later one
+-- R holds of each item and each later one: std's `AllPairs`, in the form by which lists are taken apart
 abbrev pub EachTwo : {X : Type 0} → (X → X → Type 0) → List X → Type 0
 EachTwo R [] = ⊤
 EachTwo R (x ∷ xs) = AllByRecursion (R x) xs × EachTwo R xs

@@ -23,6 +23,7 @@ pub const LONGEST_LIFETIME: u32 = 86_400;
 /// An external address and the ports that are given out of it: `1 <= low <= high`.
 #[derive(Clone, Copy, Debug, PartialEq, Eq, Hash)]
 pub struct External {
+    /// What hosts outside see.
     pub address: Address,
     /// The first port, at least 1.
     pub low: u16,

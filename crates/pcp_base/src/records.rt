@@ -32,5 +32,6 @@ pub enum Change {
 pub struct Record {
     /// When the change took effect.
     pub moment: Moment,
+    /// What changed.
     pub change: Change,
 }

@@ -30,7 +30,8 @@ abbrev pub body_of : List ℕ → Body
 body_of message =
     if opcode_of message == ANNOUNCE_OPCODE then Announce
     else if opcode_of message == MAP_OPCODE then Map (common_of message)
-    else Peer (common_of message) (u16_at message REMOTE_PORT_PLACE) (record { 0 = octets_at message REMOTE_PLACE 16 })
+    else Peer (common_of message) (u16_at message REMOTE_PORT_PLACE)
+    (record { 0 = octets_at message REMOTE_PLACE 16 })
 
 -- what a whole request says, but for its options
 abbrev pub frame_of : List ℕ → Frame

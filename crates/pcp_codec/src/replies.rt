@@ -11,7 +11,7 @@ use std::alloc::Global;
 /// Writes the head of a reply (RFC 6887, section 7.2): version 2, the R bit and the low 7 bits of `opcode`,
 /// the result code, the lifetime and the epoch in seconds, and the octets 12 to 23.
 pub fn write_head(
-    out: &mut [u8; 24],
+    out: &mut [u8; HEAD_OCTETS],
     opcode: u8,
     code: u8,
     lifetime: u32,
@@ -54,8 +54,8 @@ pub fn write_head(
 /// How many octets an error reply to the request has, 24 to 1100.
 fn reply_len(request: &[u8]) -> usize
     ensures value { result ≡ reply_length request.now }
-    ensures least { 24 ≤ result }
-    ensures most { result ≤ 1100 }
+    ensures least { HEAD_OCTETS ≤ result }
+    ensures most { result ≤ MESSAGE_OCTETS }
 {
     request
         .len()

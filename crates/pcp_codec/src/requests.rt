@@ -136,7 +136,7 @@ fn refused_with(octets: &[u8], source: &Address) -> Option<Refusal>
 /// How many octets of data the opcode of a request has.
 fn data_len(octets: &[u8]) -> usize
     ensures value { result ≡ data_length (opcode_of octets.now) }
-    ensures bound { result ≤ 56 }
+    ensures bound { result ≤ PEER_OCTETS }
 {
     match opcode_in(octets) {
         ANNOUNCE_OPCODE => 0,

@@ -14,7 +14,7 @@ mod writers;
 pub use calls::Calls;
 pub use memory_sinks::MemorySink;
 pub use memory_sources::MemorySource;
-pub use readers::{FileSource, LateFile, ReadSource, StdSource};
+pub use readers::{FileSource, LazyFile, ReadSource, StdSource};
 pub use sinks::{Sink, write_all};
 pub use sources::Source;
 pub use writers::{StdSink, WriteSink};

@@ -21,7 +21,7 @@ pub struct ReadSource<R: Read> {
 pub type StdSource = ReadSource<Stdin>;
 
 /// The octets of a file.
-pub type FileSource<F> = ReadSource<LateFile<F>>;
+pub type FileSource<F> = ReadSource<LazyFile<F>>;
 
 impl<R: Read> Model for ReadSource<R> {
     ghost use Rattle.std.specs.Prelude.{ℕ};
@@ -50,13 +50,13 @@ impl ReadSource<Stdin> {
     }
 }
 
-impl<F: Files + Drop> ReadSource<LateFile<F>> {
+impl<F: Files + Drop> ReadSource<LazyFile<F>> {
     /// A source of the file of this path that has counted no fault. The file is opened at the first
     /// read; while it can't be opened, each read tries again and fails.
     pub fn new(files: F, path: String) -> FileSource<F>
         ensures { result ≡ 0 }
     {
-        ReadSource::of(LateFile {
+        ReadSource::of(LazyFile {
             files,
             path,
             opened: None,
@@ -91,13 +91,16 @@ impl<R: Read> Source for ReadSource<R> {
     }
 }
 
+/// How many octets are read at most in one call.
+const PIECE: usize = 4096;
+
 /// One read, which leaves the rest of the piece as it is, and all of it where it fails.
 fn read_front<R: Read>(reader: &mut R, piece: &mut [u8]) -> io::Result<usize>
     ensures bound { IfOk result (λ n. n ≤ length piece.new) }
     ensures rest { IfOk result (λ n. drop n piece.new ≡ drop n piece.old) }
     ensures err { OnErr result (piece.new ≡ piece.old) }
 {
-    let mut room = [0; 4096];
+    let mut room = [0; PIECE];
     let most = piece.len().min(room.len());
     let count = reader.read(&mut room[..most])?;
     piece[..count].copy_from_slice(&room[..count]);
@@ -106,13 +109,13 @@ fn read_front<R: Read>(reader: &mut R, piece: &mut [u8]) -> io::Result<usize>
 
 /// A file that is opened when it is read first.
 #[derive(Drop)]
-pub struct LateFile<F: Files + Drop> {
+pub struct LazyFile<F: Files + Drop> {
     files: F,
     path: String,
     opened: Option<F::File>,
 }
 
-impl<F: Files + Drop> Read for LateFile<F> {
+impl<F: Files + Drop> Read for LazyFile<F> {
     fn read(&mut self, buf: &mut [u8]) -> io::Result<usize> {
         if let Some(file) = &mut self.opened {
             return file.read(buf);

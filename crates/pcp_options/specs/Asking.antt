@@ -91,7 +91,8 @@ peer_ask lifetime c port remote (Some endpoint) =
 abbrev pub ask_by : Address → ℕ → Body → Seen → List Filters.Filter → Result Ask Code
 ask_by address lifetime Announce seen filters = Ok Asks.Announce
 ask_by address lifetime (Map c) seen filters = map_ask lifetime c seen filters (endpoint_of address c)
-ask_by address lifetime (Peer c port remote) seen filters = peer_ask lifetime c port remote (endpoint_of address c)
+ask_by address lifetime (Peer c port remote) seen filters =
+    peer_ask lifetime c port remote (endpoint_of address c)
 
 -- what is asked for an address, or the code of what can't be asked for
 abbrev pub ask_of : Address → Frame → List Item → Result Ask Code

@@ -7,7 +7,9 @@ use Rattle.pcp_options.specs.Responses.{AreOctets, FitsItem}
 
 -- octets that the grammar spells as options have exactly these
 abbrev pub OptionsAreFound : Type 0
-OptionsAreFound = (text : List ℕ) (os : List WholeOption) → AreOptions text os → found_in text ≡ map found_whole os
+OptionsAreFound =
+    (text : List ℕ) (os : List WholeOption) → AreOptions text os → found_in text
+    ≡ map found_whole os
 
 -- the option that was found, where its data is there
 abbrev pub without_claim : FoundOption → WholeOption
@@ -23,4 +25,5 @@ FoundAreOptions =
 -- items that are written are read again
 abbrev pub ItemsAreRead : Type 0
 ItemsAreRead =
-    (items : List Item) → AllByRecursion FitsItem items → items_of (found_in (options_text (map option_of items))) ≡ items
+    (items : List Item) → AllByRecursion FitsItem items
+    → items_of (found_in (options_text (map option_of items))) ≡ items

@@ -39,7 +39,8 @@ options_text os = flat_map option_text os
 abbrev pub option_of : Item → WholeOption
 option_of (ThirdParty a) = record { code = THIRD_PARTY_CODE; content = a.0 }
 option_of PreferFailure = record { code = PREFER_FAILURE_CODE; content = [] }
-option_of (Filter f) = record { code = FILTER_CODE; content = 0 ∷ f.prefix ∷ to_be_bytes w16 f.port ++ f.remote.0 }
+option_of (Filter f) =
+    record { code = FILTER_CODE; content = 0 ∷ f.prefix ∷ to_be_bytes w16 f.port ++ f.remote.0 }
 option_of (PortSet set) = record {
   code = PORT_SET_CODE;
   content = to_be_bytes w16 set.size ++ to_be_bytes w16 set.first ++ (if set.parity then 1 else 0) ∷ [];

@@ -27,7 +27,8 @@ opcode_of_body (Peer c port remote) = PEER_OPCODE
 -- the data that MAP and PEER share, as it is written: its reserved octets are zero
 abbrev pub common_text : Common → List ℕ
 common_text c =
-    c.nonce.0 ++ c.protocol ∷ 0 ∷ 0 ∷ 0 ∷ to_be_bytes w16 c.internal ++ to_be_bytes w16 c.external ++ c.address.0
+    c.nonce.0 ++ c.protocol ∷ 0 ∷ 0 ∷ 0 ∷ to_be_bytes w16 c.internal ++ to_be_bytes w16 c.external
+    ++ c.address.0
 
 -- what PEER has behind it
 abbrev pub remote_text : ℕ → Address → List ℕ
@@ -42,7 +43,8 @@ body_text (Peer c port remote) = common_text c ++ remote_text port remote
 -- a success: a head with code 0 whose last 12 octets are zero, the data of the opcode, and the options
 abbrev pub success_text : ℕ → ℕ → Body → List Item → List ℕ
 success_text lifetime epoch body items =
-    head (opcode_of_body body) 0 lifetime epoch (replicate 12 0) ++ body_text body ++ options_text (map option_of items)
+    head (opcode_of_body body) 0 lifetime epoch (replicate 12 0) ++ body_text body
+    ++ options_text (map option_of items)
 
 -- the data with the external port and address that are assigned
 abbrev pub assigned_common : Common → ℕ → Address → Common
@@ -83,4 +85,5 @@ reply_text message items (Peered lifetime external address) epoch =
 -- the request was judged, and asks this with these options
 abbrev pub IsJudged : List ℕ → Ask → List Item → Type 0
 IsJudged message ask items =
-    (config : Config) × (source : Address) × (place : ℕ) × (verdict_of config source message ≡ Asked place ask items)
+    (config : Config) × (source : Address) × (place : ℕ)
+    × (verdict_of config source message ≡ Asked place ask items)

@@ -21,13 +21,15 @@ use Rattle.pcp_options.specs.Replies.{IsJudged, assigned, opcode_of_body, reply_
 
 -- A success: version 2, the R bit with the opcode, a reserved octet, code 0, lifetime, epoch, 12 reserved octets,
 -- data, options, in whole words and at most 1100 octets.
-pub record IsSuccess (message : List ℕ) (opcode lifetime epoch : ℕ) (body : Body) (options : List WholeOption) : Type 0 where
+pub record IsSuccess (message : List ℕ) (opcode lifetime epoch : ℕ) (body : Body)
+    (options : List WholeOption) : Type 0 where
   pub reserved : ℕ
   pub last : List ℕ
   pub twelve : length last ≡ 12
   pub fields : List ℕ
   pub behind : List ℕ
-  pub spelled : message ≡ VERSION ∷ (R_BIT + opcode) ∷ reserved ∷ 0 ∷ to_be_bytes w32 lifetime ++ to_be_bytes w32 epoch
+  pub spelled : message ≡ VERSION ∷ (R_BIT + opcode) ∷ reserved ∷ 0 ∷ to_be_bytes w32 lifetime
+      ++ to_be_bytes w32 epoch
       ++ last ++ fields ++ behind
   pub data_of : IsData opcode fields body
   pub options_of : AreOptions behind options
@@ -37,7 +39,9 @@ pub record IsSuccess (message : List ℕ) (opcode lifetime epoch : ℕ) (body : 
 
 -- the numbers and addresses of a body, and of an item, as their types hold them
 abbrev pub FitsCommon : Common → Type 0
-FitsCommon c = (length c.nonce.0 ≡ 12) × (length c.address.0 ≡ 16) × (c.internal < 2 ^ 16) × (c.external < 2 ^ 16)
+FitsCommon c =
+    (length c.nonce.0 ≡ 12) × (length c.address.0 ≡ 16) × (c.internal < 2 ^ 16)
+    × (c.external < 2 ^ 16)
 
 abbrev pub FitsBody : Body → Type 0
 FitsBody Announce = ⊤
@@ -53,9 +57,11 @@ FitsItem (PortSet set) = (set.size < 2 ^ 16) × (set.first < 2 ^ 16)
 -- a success that is written is one of the grammar, with the same opcode, lifetime, epoch, body and options
 abbrev pub SuccessesAreResponses : Type 0
 SuccessesAreResponses =
-    (lifetime epoch : ℕ) (body : Body) (items : List Item) → lifetime < 2 ^ 32 → epoch < 2 ^ 32 → FitsBody body
+    (lifetime epoch : ℕ) (body : Body) (items : List Item) → lifetime < 2 ^ 32 → epoch < 2 ^ 32
+    → FitsBody body
     → AllByRecursion FitsItem items → length (success_text lifetime epoch body items) ≤ MESSAGE_OCTETS
-    → IsSuccess (success_text lifetime epoch body items) (opcode_of_body body) lifetime epoch body (map option_of items)
+    → IsSuccess (success_text lifetime epoch body items) (opcode_of_body body) lifetime epoch body
+    (map option_of items)
 
 -- An error: the same with its code; what follows the head is at least as long as the data of the opcode.
 pub record IsError (message : List ℕ) (opcode code lifetime epoch : ℕ) : Type 0 where
@@ -63,7 +69,8 @@ pub record IsError (message : List ℕ) (opcode code lifetime epoch : ℕ) : Typ
   pub last : List ℕ
   pub twelve : length last ≡ 12
   pub behind : List ℕ
-  pub spelled : message ≡ VERSION ∷ (R_BIT + opcode) ∷ reserved ∷ code ∷ to_be_bytes w32 lifetime ++ to_be_bytes w32 epoch
+  pub spelled : message ≡ VERSION ∷ (R_BIT + opcode) ∷ reserved ∷ code ∷ to_be_bytes w32 lifetime
+      ++ to_be_bytes w32 epoch
       ++ last ++ behind
   pub room : data_length opcode ≤ length behind
   pub words : length message % 4 ≡ 0
@@ -77,18 +84,22 @@ FitsSet (Some set) = FitsItem (PortSet set)
 abbrev pub FitsAnswer : Answer → Type 0
 FitsAnswer (Mapped lifetime external address set) =
     (lifetime < 2 ^ 32) × (external < 2 ^ 16) × (length address.0 ≡ 16) × FitsSet set
-FitsAnswer (Peered lifetime external address) = (lifetime < 2 ^ 32) × (external < 2 ^ 16) × (length address.0 ≡ 16)
+FitsAnswer (Peered lifetime external address) =
+    (lifetime < 2 ^ 32) × (external < 2 ^ 16) × (length address.0 ≡ 16)
 FitsAnswer answer = ⊤
 
 -- a success with this lifetime, epoch, body and items
 abbrev pub IsSuccessOf : List ℕ → ℕ → ℕ → Body → List Item → Type 0
-IsSuccessOf text lifetime epoch body items = IsSuccess text (opcode_of_body body) lifetime epoch body (map option_of items)
+IsSuccessOf text lifetime epoch body items =
+    IsSuccess text (opcode_of_body body) lifetime epoch body (map option_of items)
 
 -- the response has the fields of the request and of the answer
 abbrev pub IsResponseTo : List ℕ → List Item → Answer → ℕ → List ℕ → Type 0
-IsResponseTo request items (Refused r) epoch text = IsError text (opcode_of request) (code_number r.code) r.lifetime epoch
+IsResponseTo request items (Refused r) epoch text =
+    IsError text (opcode_of request) (code_number r.code) r.lifetime epoch
 IsResponseTo request items Announced epoch text = IsSuccessOf text 0 epoch Announce []
-IsResponseTo request items Gone epoch text = IsSuccessOf text 0 epoch (body_of request) (told_items None items)
+IsResponseTo request items Gone epoch text =
+    IsSuccessOf text 0 epoch (body_of request) (told_items None items)
 IsResponseTo request items (Mapped lifetime external address set) epoch text =
     IsSuccessOf text lifetime epoch (assigned (body_of request) external address) (told_items set items)
 IsResponseTo request items (Peered lifetime external address) epoch text =

@@ -164,3 +164,85 @@ fn cut_requests(rt: HostRuntime) -> Result<(), Fail> {
     }
     Ok(())
 }
+
+#[test]
+fn hosts(rt: HostRuntime) -> Result<(), Fail> {
+    let alloc = rt.alloc();
+    let stranger = Config {
+        third_party: Prefixes::of(Vec::new(alloc)),
+        ..config(alloc)?
+    };
+    let config = config(alloc)?;
+    let mut third = REQUEST.to_vec(alloc)?;
+    third.extend_from_slice(&OPTIONS[..20])?;
+    // who may name others, the last octet of the source, the datagram and the verdict
+    let cases: [(&Config, u8, &[u8], Outcome); 7] = [
+        (&config, 5, &[2], Outcome::Silent),
+        (&config, 5, &[2, 1], Outcome::Silent),
+        (
+            &config,
+            5,
+            &[1, 1],
+            Outcome::Refused(Code::UnsuppVersion, false),
+        ),
+        (
+            &config,
+            6,
+            &REQUEST,
+            Outcome::Refused(Code::AddressMismatch, false),
+        ),
+        (&config, 5, &REQUEST, Outcome::Asked),
+        (&config, 5, &third, Outcome::Asked),
+        (
+            &stranger,
+            5,
+            &third,
+            Outcome::Refused(Code::UnsuppOption, true),
+        ),
+    ];
+    for (config, host, message, want) in cases {
+        let verdict = judge(alloc, config, &Address::v4(10, 0, 0, host), message)?;
+        assert!(rt; outcome_of(&verdict) == want);
+    }
+    Ok(())
+}
+
+fn reply_to(alloc: Global, message: &[u8], answer: &Answer) -> Result<Vec<u8>, Fail> {
+    let config = config(alloc)?;
+    let source = Address::v4(10, 0, 0, 5);
+    let mut out = Vec::new(alloc);
+    if let Verdict::Asked { ask, items, .. } = judge(alloc, &config, &source, message)? {
+        if message.len() >= 2 {
+            write_reply(alloc, &mut out, message, &ask, &items, answer, 10)?;
+        }
+    }
+    Ok(out)
+}
+
+#[test]
+fn replies_to_others(rt: HostRuntime) -> Result<(), Fail> {
+    let alloc = rt.alloc();
+    // PEER towards 198.51.100.7, port 53: its data is that of MAP with the remote behind it
+    let mut peer = REQUEST.to_vec(alloc)?;
+    peer.extend_from_slice(&[0, 53, 0, 0])?;
+    peer.extend_from_slice(&OPTIONS[36..52])?;
+    peer[1] = 2;
+    let answer = Answer::Peered {
+        lifetime: 3600,
+        external: 1024,
+        address: Address::v4(192, 0, 2, 1),
+    };
+    let mut want = REPLY[..60].to_vec(alloc)?;
+    want.extend_from_slice(&[0, 53, 0, 0])?;
+    want.extend_from_slice(&OPTIONS[36..52])?;
+    want[1] = 0x82;
+    assert!(rt; reply_to(alloc, &peer, &answer)? == want);
+
+    let mut announce = REQUEST[..24].to_vec(alloc)?;
+    announce[1] = 0;
+    let head = [
+        2, 0x80, 0, 0, 0, 0, 0, 0, 0, 0, 0, 10, 0, 0, 0, 0, 0, 0, 0, 0, 0, 0, 0, 0,
+    ];
+    assert!(rt; reply_to(alloc, &announce, &Answer::Announced)?.as_slice() == head.as_slice());
+    Ok(())
+}

@@ -25,7 +25,8 @@ pub record IsPacket (fields : List (List ℕ)) (moment : ℕ) (from : Datagram) 
   pub octets_are : IsHexField hex_text from.octets
 
 -- look MOMENT EXTERNAL PROTOCOL PORT REMOTE REMOTEPORT
-pub record IsLook (externals : List External) (fields : List (List ℕ)) (moment shard : ℕ) (protocol : Protocol)
+pub record IsLook (externals : List External) (fields : List (List ℕ)) (moment shard : ℕ)
+    (protocol : Protocol)
     (port : ℕ) (remote : Address) (remote_port : ℕ) : Type 0 where
   pub moment_text : List ℕ
   pub external_text : List ℕ
@@ -33,7 +34,8 @@ pub record IsLook (externals : List External) (fields : List (List ℕ)) (moment
   pub port_text : List ℕ
   pub remote_text : List ℕ
   pub remote_port_text : List ℕ
-  pub fields_are : fields ≡ codes "look" ∷ moment_text ∷ external_text ∷ protocol_text ∷ port_text ∷ remote_text ∷ remote_port_text ∷ []
+  pub fields_are : fields ≡ codes "look" ∷ moment_text ∷ external_text ∷ protocol_text ∷ port_text
+      ∷ remote_text ∷ remote_port_text ∷ []
   pub moment_is : IsMomentField moment_text moment
   pub shard_is : IsExternalField externals external_text shard
   pub protocol_is : IsProtocolField protocol_text protocol
@@ -42,7 +44,8 @@ pub record IsLook (externals : List External) (fields : List (List ℕ)) (moment
   pub remote_port_is : IsPortField remote_port_text remote_port
 
 -- the word MOMENT EXTERNAL
-pub record IsEvent (word : List ℕ) (externals : List External) (fields : List (List ℕ)) (moment shard : ℕ) : Type 0 where
+pub record IsEvent (word : List ℕ) (externals : List External) (fields : List (List ℕ))
+    (moment shard : ℕ) : Type 0 where
   pub moment_text : List ℕ
   pub external_text : List ℕ
   pub fields_are : fields ≡ word ∷ moment_text ∷ external_text ∷ []
@@ -61,7 +64,8 @@ StandsFor externals fields (Owners moment shard) = IsEvent (codes "owners") exte
 -- the text stands for the line, but for its length: nothing, a comment behind a number sign, or fields
 abbrev pub IsTextOfLine : List External → List ℕ → Line → Type 0
 IsTextOfLine externals text Skip = (text ≡ []) ⊎ (slice_get text 0 ≡ Some 35)
-IsTextOfLine externals text line = (fields : List (List ℕ)) × (text ≡ spaced fields) × StandsFor externals fields line
+IsTextOfLine externals text line =
+    (fields : List (List ℕ)) × (text ≡ spaced fields) × StandsFor externals fields line
 
 -- the text of a line stands for it
 pub record IsLine (externals : List External) (text : List ℕ) (line : Line) : Type 0 where

@@ -2,7 +2,7 @@
 use Rattle.std.specs.Prelude.{ℕ, ◌≡◌, ◌<◌, ◌≤◌, Bool, false, true, List, slice_index_or, length, ◌+◌, Option, ◌-◌, not}
 use Rattle.port_runs.specs.Ports.{HasParity, Ports}
 use Rattle.std.specs.List.{filter, range_with_len}
-use Rattle.port_runs.specs.declared.tree.TheConstants.{FLAGS}
+use Rattle.port_runs.specs.declared.flags.TheConstants.{FLAGS}
 
 -- each flag from one place up to another, which is not among them, is set
 abbrev pub IsSetBetween : List Bool → ℕ → ℕ → Type 0

@@ -2,7 +2,8 @@
 use Rattle.std.specs.Prelude.{false, Bool, true, ℕ, ◌+◌, ◌-◌, ◌%◌, ◌^◌, min, max, ◌&&◌, ◌==◌, if◌then◌else◌, zero, suc, Option, Some, None, ◌*◌, nat_lt, List, slice_index_or, ◌≡◌, ◌<◌, ◌≤◌, length}
 use Rattle.port_runs.specs.declared.tree.Node.{Node}
 use Rattle.port_runs.specs.Ports.{HasParity}
-use Rattle.port_runs.specs.declared.tree.TheConstants.{FLAGS, NODES}
+use Rattle.port_runs.specs.declared.flags.TheConstants.{FLAGS}
+use Rattle.port_runs.specs.declared.tree.TheConstants.{NODES}
 
 -- the node of a block with no flag set
 unfoldable pub empty_node : Node

@@ -6,6 +6,9 @@ ghost use Rattle.port_runs.specs.Ports.{HasParity, IsLeast, IsGreatest};
 
 use std::alloc::{AllocError, Global};
 
+/// How many flags there are: one for each number of 16 bits.
+pub const FLAGS: usize = 65536;
+
 /// `count` flags, none of which is set.
 pub fn cleared(alloc: Global, count: usize) -> Result<Vec<bool>, AllocError>
     ensures all { IfOk result (λ flags. vec_len flags ≡ count) }
@@ -17,7 +20,7 @@ pub fn cleared(alloc: Global, count: usize) -> Result<Vec<bool>, AllocError>
 
 /// How many flags are set from `start` on, up to `most`.
 pub fn run_at(flags: &[bool], start: usize, most: u32) -> u32
-    requires { start < 65536 }
+    requires { start < FLAGS }
     ensures { IsSetCountAt flags.now start most result }
 {
     let mut count = 0;
@@ -54,7 +57,7 @@ pub fn has_parity(number: usize, parity: Option<u8>) -> bool
 
 /// Whether `n` flags are set from `start` on, and `start` has the remainder by 2 that is asked.
 pub fn fits_at(flags: &[bool], start: usize, n: u32, parity: Option<u8>) -> bool
-    requires { start < 65536 }
+    requires { start < FLAGS }
     ensures { IsTrue result ↔ FitsFlags flags.now n parity start }
 {
     has_parity(start, parity) && run_at(flags, start, n) == n
@@ -63,7 +66,7 @@ pub fn fits_at(flags: &[bool], start: usize, n: u32, parity: Option<u8>) -> bool
 /// The least place from which `n` flags are set and that has the remainder by 2 that is asked.
 pub fn first_run(flags: &[bool], n: u32, parity: Option<u8>) -> Option<u16>
     requires some { 1 ≤ n }
-    requires small { length flags.now ≤ 65536 }
+    requires small { length flags.now ≤ FLAGS }
     ensures { IsLeast (FitsFlags flags.now n parity) result }
 {
     for start in 0..flags.len() {
@@ -76,7 +79,7 @@ pub fn first_run(flags: &[bool], n: u32, parity: Option<u8>) -> Option<u16>
 
 /// How many flags the longest run has that begins with the remainder by 2 that is asked.
 pub fn longest_run(flags: &[bool], parity: Option<u8>) -> u32
-    requires small { length flags.now ≤ 65536 }
+    requires small { length flags.now ≤ FLAGS }
     ensures { IsGreatest (HasSetRun flags.now parity) result }
 {
     let mut longest = 0;

@@ -3,11 +3,10 @@
 ghost use Rattle.std.specs.Prelude.{◌≡◌, ◌≤◌, ◌+◌, IfOk, IfSome, IfNone};
 
 use crate::flags;
+use crate::flags::FLAGS;
 use pcp_base::Memory;
 use std::alloc::Global;
 use std::marker::Model;
-
-const PORTS: usize = 65536;
 
 /// A range of ports and which of them are taken, kept as a flag for each port.
 #[derive(Drop)]
@@ -38,7 +37,7 @@ impl PlainRuns {
         requires ordered { low ≤ high }
         ensures { IfOk result (λ runs. runs ≡ untaken low high) }
     {
-        let mut free = flags::cleared(alloc, PORTS)?;
+        let mut free = flags::cleared(alloc, FLAGS)?;
         flags::mark(&mut free, low as usize, high as usize + 1, true);
         Ok(PlainRuns { low, high, free })
     }

@@ -10,14 +10,11 @@ ghost use Rattle.port_runs.specs.Flags.{IsMarked, FitsFlags, HasSetRun, IsSetAlo
 ghost use Rattle.port_runs.specs.Ports.{HasParity, IsLeast, IsGreatest};
 
 use crate::flags;
-use crate::flags::{fits_at, has_parity, mark};
+use crate::flags::{FLAGS, fits_at, has_parity, mark};
 use std::alloc::{AllocError, Global};
 use std::marker::Model;
 use std::sync::ledger::Ledger;
 use step_count::Steps;
-
-/// How many flags there are.
-const FLAGS: usize = 65536;
 
 /// How many places the nodes have that are kept.
 const NODES: usize = 32768;
