@@ -18,13 +18,13 @@ hex_field (x ∷ xs) = encode_lower (x ∷ xs)
 abbrev pub reply_line : Datagram → List ℕ
 reply_line to =
     codes "reply " ++ address_text to.peer ++ codes " " ++ decimal to.port ++ codes " "
-        ++ hex_field to.octets ++ 10 ∷ []
+    ++ hex_field to.octets ++ 10 ∷ []
 
 -- owner ADDRESS PROTOCOL PORT
 abbrev pub owner_line : Endpoint → List ℕ
 owner_line e =
     codes "owner " ++ address_text e.address ++ codes " " ++ decimal (protocol_number e.protocol)
-        ++ codes " " ++ decimal e.port ++ 10 ∷ []
+    ++ codes " " ++ decimal e.port ++ 10 ∷ []
 
 -- own PROTOCOL EXTERNALPORT ADDRESS PORT
 abbrev pub own_line : PortOwner → List ℕ

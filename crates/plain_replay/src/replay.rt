@@ -310,8 +310,8 @@ impl PlainReplay {
           table = table;
           ends = ends_4 kept.now.moment ends.items;
           base = if rebases kept.now.change self.old.address
-            then kept.now.moment
-            else self.old.base;
+              then kept.now.moment
+              else self.old.base;
           address = address_changed kept.now.change self.old.address;
           last = kept.now.moment;
           started = is_start kept.now.change || self.old.started;
