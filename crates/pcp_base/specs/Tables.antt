@@ -105,6 +105,7 @@ pub record IsMapLease (l : MapLease) : Type 0 where
 pub record IsPeerLease (l : PeerLease) : Type 0 where
   pub internal : 0 < l.endpoint.port
   pub external : 0 < l.external
+  pub external_end : l.external ≤ 65535
   pub remote : 0 < l.remote_port
 
 -- no endpoint is covered by both
