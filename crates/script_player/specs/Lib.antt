@@ -1,0 +1,7 @@
+pub mod Houses
+pub mod Played
+pub mod Playing
+pub mod Reading
+pub mod Scripts
+pub mod Ways
+pub mod Wholes

@@ -1,0 +1,15 @@
+//! Plays a script: reads it line by line, has each line answered, and writes each result before it
+//! looks at the next line. What answers the lines is a trait, which says what a line does and what
+//! a crash may leave of it.
+#![tactic(auto)]
+
+mod answerers;
+mod player;
+mod readers;
+#[cfg(test)]
+mod tests;
+mod wholes;
+
+pub use answerers::{AnswerFault, LineAnswerer};
+pub use player::{MOST_OCTETS, PlayStatus, play};
+pub use wholes::{WholeFault, read_whole};
