@@ -1,3 +1,4 @@
 pub mod FeedLemmas
 pub mod HouseLemmas
 pub mod ReadingLemmas
+pub mod WholeLemmas
