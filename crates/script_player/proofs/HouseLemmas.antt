@@ -72,3 +72,31 @@ module _ {House : Type 0} (effects : LineEffects House) where
       IsIn y (after_lines effects house lines ∷ []) → IsIn y (houses_along effects house lines)
   only_last house lines y (inl e) = rw (← e) (last_along house lines)
   only_last house lines y (inr h) = absurd h
+
+  -- those along the lines, and those before and after one more
+  pub along_more : (house : House) (lines : List Line) (line : Line) (x : House) →
+      Contains (houses_along effects house lines ++ after_lines effects house lines ∷ effects.after (after_lines effects house lines) line ∷ []) x →
+      Contains (houses_along effects house (lines ++ line ∷ [])) x
+  along_more house lines line x h =
+      let houses = houses_along effects house lines in
+      let last = after_lines effects house lines in
+      let next = effects.after last line in
+      let all = houses ++ next ∷ [] in
+      let both : List House = last ∷ next ∷ [] in
+      let is_in : IsIn x all = IsIn-both x houses both all (λ y k. IsIn-front y houses (next ∷ []) k) (last_or_next house lines line) (IsIn-from_Contains (houses ++ both) x h) in
+      rw houses_along-push house lines line (Contains-from_IsIn all x is_in)
+
+  last_or_next : (house : House) (lines : List Line) (line : Line) (y : House) →
+      IsIn y (after_lines effects house lines ∷ effects.after (after_lines effects house lines) line ∷ []) →
+      IsIn y (houses_along effects house lines ++ effects.after (after_lines effects house lines) line ∷ [])
+  last_or_next house lines line y (inl e) =
+      let next : List House = effects.after (after_lines effects house lines) line ∷ [] in
+      rw (← e) (IsIn-front (after_lines effects house lines) (houses_along effects house lines) next (last_along house lines))
+  last_or_next house lines line y (inr h) =
+      IsIn-back y (houses_along effects house lines) (effects.after (after_lines effects house lines) line ∷ []) h
+
+  -- lines change no external address
+  pub externals_after : ((house : House) (line : Line) → effects.externals (effects.after house line) ≡ effects.externals house) →
+      (house : House) (lines : List Line) → effects.externals (after_lines effects house lines) ≡ effects.externals house
+  externals_after same house [] = refl
+  externals_after same house (l ∷ lines) = externals_after same (effects.after house l) lines ∙ same house l

@@ -1,4 +1,7 @@
+pub mod AnswerLemmas
 pub mod FeedLemmas
 pub mod HouseLemmas
+pub mod PlayLemmas
 pub mod ReadingLemmas
+pub mod ScriptLemmas
 pub mod WholeLemmas

@@ -92,7 +92,6 @@ pub record Answers {House : Type 0} (course : Course House) (text : List ℕ)
     (before now : Option (List ℕ)) : Type 0 where
   pub line : Line
   pub done : IsDone course text line
-  pub same_externals : course.effects.externals course.ended ≡ course.effects.externals course.begun
   pub held_is : now ≡ append_known before (line_out (course.effects.result_of course.begun line))
 
 -- the text is a line, and its result is written in part

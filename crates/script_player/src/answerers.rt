@@ -1,6 +1,7 @@
 //! What answers the lines of a script.
 ghost use Rattle.std.specs.Prelude.{◌≡◌, ℕ, ◌≤◌, List, [], ◌∷◌, Err, IfOk, OnOk};
 ghost use Rattle.pcp_io.specs.Faults.{HasRisen};
+ghost use Rattle.pcp_script.specs.declared.lines.Line.{Line};
 ghost use Rattle.script_player.specs.Houses.{LineEffects};
 ghost use Rattle.script_player.specs.Scripts.{IsRead};
 ghost use Rattle.script_player.specs.Ways.{WayLaws};

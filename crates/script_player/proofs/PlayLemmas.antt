@@ -1,0 +1,319 @@
+-- How a run over a script goes on over one line, or ends at it.
+use Rattle.std.proofs.Common.{◌≡◌, ℕ, ◌+◌, ◌≤◌, List, [], ◌∷◌, ◌++◌, length, take, Option, Some, None, refl, sym, ap, subst, ◌∙◌, inl, inr, ◌⊎◌, arith, append_assoc, length-append}
+use Rattle.std.specs.Io.KnownBytes.{append_known}
+use Rattle.pcp_io.specs.Writes.{WritesPart}
+use Rattle.pcp_script.specs.Lines.{IsLine}
+use Rattle.pcp_script.specs.declared.lines.Line.{Line}
+use Rattle.script_player.specs.Houses.{LineEffects, after_lines, houses_along, line_out, out_of}
+use Rattle.script_player.specs.Played.{AreAnswered, AreDone, EndsInDoubt, IsOver, Outcome, Start, Streams}
+use Rattle.script_player.specs.Playing.{Answers, AnswersPart, EndsTurn, Fails, FaultCounts, IsDone, IsInDoubt, IsStill, IsTurned, IsUnderway, script_limits, status_at}
+use Rattle.script_player.specs.Reading.{Reading, rest_of, Ends, Stops, EndsByFeed}
+use Rattle.script_player.specs.Scripts.{AreLines}
+use Rattle.script_player.specs.Ways.{Course, WayLaws, course_of}
+use Rattle.script_player.specs.declared.player.PlayStatus.{PlayStatus}
+use Rattle.script_player.specs.declared.player.PlayStatus.TheVariants as Statuses
+use Rattle.script_player.specs.declared.player.TextFault.{TextFault}
+use Rattle.script_player.specs.declared.player.TextFault.TheVariants as Faults
+use Rattle.script_player.specs.declared.readers.Ending.{Ending}
+use Rattle.script_player.specs.declared.readers.Ending.TheVariants as Endings
+use Rattle.script_player.specs.declared.readers.Limits.{Limits}
+use Rattle.script_player.specs.declared.readers.LineFault.{LineFault}
+use Rattle.script_player.specs.declared.readers.LineFault.TheVariants as LineFaults
+use Rattle.script_player.proofs.HouseLemmas.{AllZip-push, after_lines-push, along_more, along_still, externals_after, out_of-push}
+use Rattle.script_player.proofs.ScriptLemmas.{ReadsAll, ReadsFew-weaker, ReadsLine, goes_by_feed, reads_all, reads_by_feed, reads_early, reads_last, reads_part, reads_refused}
+
+module _ {A House : Type 0} (effects : LineEffects House) (house : A → House) (way : A → A → List House → Type 0) (laws : WayLaws way)
+    (same_externals : (h : House) (line : Line) → effects.externals (effects.after h line) ≡ effects.externals h)
+    (first mid : A) (start : Start) (number : ℕ) (reading : Reading) (streams : Streams)
+    (u : IsUnderway (course_of effects house way first mid) start number reading streams) where
+  -- the house at the beginning, and that after the lines so far
+  begun : House
+  begun = house first
+
+  last : House
+  last = after_lines effects begun u.lines
+
+  lines_out : List ℕ
+  lines_out = out_of effects begun u.lines
+
+  -- which external addresses there are
+  same_so_far : effects.externals (house mid) ≡ effects.externals begun
+  same_so_far = ap effects.externals u.house ∙ externals_after effects same_externals begun u.lines
+
+  lines_more : (text : List ℕ) (line : Line) → IsLine (effects.externals (house mid)) text line →
+      AreLines (effects.externals begun) (u.texts ++ text ∷ []) (u.lines ++ line ∷ [])
+  lines_more text line read =
+      AllZip-push (IsLine (effects.externals begun)) u.texts u.lines text line u.read
+      (subst (λ externals. IsLine externals text line) same_so_far read)
+
+  -- nothing was done since
+  still : (new : A) → IsStill (course_of effects house way mid new) → AreDone (course_of effects house way first new) u.texts u.lines
+  still new s = record {
+    read = u.read;
+    house = s.house ∙ u.house;
+    over = laws.weaker first new (houses_along effects begun u.lines ++ last ∷ []) (houses_along effects begun u.lines) (along_still effects begun u.lines)
+        (laws.joins first mid new (houses_along effects begun u.lines) (last ∷ []) u.over (subst (λ h. way mid new (h ∷ [])) u.house s.over));
+    at_end = subst (λ h. way new new (h ∷ [])) u.house s.at_end;
+  }
+
+  answered : (new : A) → IsStill (course_of effects house way mid new) → AreAnswered (course_of effects house way first new) u.texts lines_out
+  answered new s = record { lines = u.lines; done = still new s; results = refl }
+
+  -- one more line may have been answered
+  over_more : (new : A) (line : Line) → way mid new (house mid ∷ effects.after (house mid) line ∷ []) →
+      way first new (houses_along effects begun (u.lines ++ line ∷ []))
+  over_more new line w =
+      laws.weaker first new (houses_along effects begun u.lines ++ last ∷ effects.after last line ∷ []) (houses_along effects begun (u.lines ++ line ∷ [])) (along_more effects begun u.lines line)
+      (laws.joins first mid new (houses_along effects begun u.lines) (last ∷ effects.after last line ∷ []) u.over (subst (λ h. way mid new (h ∷ effects.after h line ∷ [])) u.house w))
+
+  -- the house after one more line
+  one_more : (line : Line) → effects.after (house mid) line ≡ after_lines effects begun (u.lines ++ line ∷ [])
+  one_more line = ap (λ h. effects.after h line) u.house ∙ sym (after_lines-push effects begun u.lines line)
+
+  more : (new : A) (text : List ℕ) (line : Line) → IsDone (course_of effects house way mid new) text line →
+      AreDone (course_of effects house way first new) (u.texts ++ text ∷ []) (u.lines ++ line ∷ [])
+  more new text line d = record {
+    read = lines_more text line d.read;
+    house = d.house ∙ one_more line;
+    over = over_more new line d.over;
+    at_end = subst (λ h. way new new (h ∷ [])) (one_more line) d.at_end;
+  }
+
+  -- one more line is written
+  written_more : (line : Line) (now : Option (List ℕ)) →
+      now ≡ append_known streams.held (line_out (effects.result_of (house mid) line)) → now ≡ Some (start.held ++ out_of effects begun (u.lines ++ line ∷ []))
+  written_more line now h =
+      h ∙ ap (λ x. append_known streams.held (line_out (effects.result_of x line))) u.house
+      ∙ ap (λ known. append_known known (line_out (effects.result_of last line))) u.held_is
+      ∙ ap Some (append_assoc start.held lines_out (line_out (effects.result_of last line)) ∙ ap (λ xs. start.held ++ xs) (sym (out_of-push effects begun u.lines line)))
+
+  goes_on : (new : A) (text : List ℕ) (reading' : Reading) (left' held' : Option (List ℕ)) → reading'.limits ≡ reading.limits → EndsByFeed script_limits reading reading' streams.left left' text
+      → Answers (course_of effects house way mid new) text streams.held held' → IsUnderway (course_of effects house way first new) start (number + 1) reading' (record { left = left'; held = held' })
+  goes_on new text reading' left' held' limits e a =
+      let goes = goes_by_feed start.script u.texts reading streams.left u.unbroken u.script_is u.used text reading' left' e in
+      let done = more new text a.line a.done in
+      record {
+        limited = limits ∙ u.limited;
+        texts = u.texts ++ text ∷ [];
+        lines = u.lines ++ a.line ∷ [];
+        read = done.read;
+        unbroken = goes.2;
+        count = omega (arith, u.count, length-append u.texts (text ∷ []));
+        script_is = goes.0;
+        used = goes.1;
+        house = done.house;
+        over = done.over;
+        held_is = written_more a.line held' a.held_is;
+      }
+
+  -- a run over, of which this was written beside what was held
+  held_same : (held' : Option (List ℕ)) → held' ≡ streams.held → held' ≡ Some (start.held ++ lines_out)
+  held_same held' same = same ∙ u.held_is
+
+  ends_all : (new : A) (left' held' : Option (List ℕ)) → ReadsAll start.script u.texts left' → held' ≡ streams.held → IsStill (course_of effects house way mid new)
+      → IsOver (course_of effects house way first new) start (record { left = left'; held = held' }) Statuses.Done
+  ends_all new left' held' r same s = record {
+    outcome = record { left = []; written = lines_out };
+    left_is = r.left_is;
+    held_is = held_same held' same;
+    played = record { texts = u.texts; first = r.first; read = refl; answered = answered new s };
+  }
+
+  -- the last line, which has no line feed, is answered
+  ends_last : (new : A) (text : List ℕ) (left' held' : Option (List ℕ)) → ReadsAll start.script (u.texts ++ text ∷ []) left' → Answers (course_of effects house way mid new) text streams.held held'
+      → IsOver (course_of effects house way first new) start (record { left = left'; held = held' }) Statuses.Done
+  ends_last new text left' held' r a = record {
+    outcome = record { left = []; written = out_of effects begun (u.lines ++ a.line ∷ []) };
+    left_is = r.left_is;
+    held_is = written_more a.line held' a.held_is;
+    played = record {
+      texts = u.texts ++ text ∷ [];
+      first = r.first;
+      read = refl;
+      answered = record { lines = u.lines ++ a.line ∷ []; done = more new text a.line a.done; results = refl };
+    };
+  }
+
+  -- the next line may have been answered, and nothing of its result is written
+  in_doubt : (new : A) (text : List ℕ) (left' : Option (List ℕ)) → (r : ReadsLine start.script u.texts text left') → IsInDoubt (course_of effects house way mid new) text
+      → EndsInDoubt (course_of effects house way first new) start.script (record { left = r.now; written = lines_out })
+  in_doubt new text left' r d = record {
+    texts = u.texts;
+    text = text;
+    lines = u.lines;
+    line = d.line;
+    rest = r.rest;
+    first = r.first;
+    read = r.read;
+    lines_read = lines_more text d.line d.read;
+    results = refl;
+    over = over_more new d.line d.over;
+    at_end = subst (λ h. way new new (h ∷ effects.after h d.line ∷ [])) u.house d.at_end;
+  }
+
+  -- a line that was read whole fails
+  fails : (new : A) (text : List ℕ) (left' held' : Option (List ℕ)) (counts counts' : FaultCounts) (fault : TextFault) → ReadsLine start.script u.texts text left' → length text ≤ 8192
+      → Fails (course_of effects house way mid new) text streams.held held' counts counts' fault
+      → IsOver (course_of effects house way first new) start (record { left = left'; held = held' }) (status_at number fault)
+  fails new text left' held' counts counts' Faults.NotLine r short h = record {
+    outcome = record { left = r.now; written = lines_out };
+    left_is = r.left_is;
+    held_is = held_same held' h.1;
+    played = record {
+      texts = u.texts;
+      text = text;
+      tail = r.tail;
+      first = r.before;
+      number = u.count;
+      refused = record {
+        unbroken = r.unbroken;
+        whole = r.whole;
+        some = r.some;
+        refused = inr (inr (subst (λ externals. (line : Line) → ¬ (IsLine externals text line)) same_so_far h.0));
+      };
+      read = r.read;
+      answered = answered new h.2;
+    };
+  }
+  fails new text left' held' counts counts' Faults.Write r short h =
+      let a = h.0 in
+      let result = line_out (effects.result_of last a.line) in
+      let part : WritesPart streams.held held' result = subst (λ x. WritesPart streams.held held' (line_out (effects.result_of x a.line))) u.house a.part in
+      record {
+        outcome = record { left = r.now; written = lines_out ++ take part.taken result };
+        left_is = r.left_is;
+        held_is = part.front ∙ ap (λ known. append_known known (take part.taken result)) u.held_is ∙ ap Some (append_assoc start.held lines_out (take part.taken result));
+        played = record {
+          texts = u.texts;
+          text = text;
+          lines = u.lines;
+          line = a.line;
+          rest = r.rest;
+          first = r.first;
+          read = r.read;
+          done = more new text a.line a.done;
+          result = result;
+          result_is = refl;
+          taken = part.taken;
+          short = part.short;
+          written_is = refl;
+        };
+      }
+  fails new text left' held' counts counts' (Faults.Disk shard) r short h = record {
+    outcome = record { left = r.now; written = lines_out };
+    left_is = r.left_is;
+    held_is = held_same held' h.1;
+    played = in_doubt new text left' r h.0;
+  }
+  fails new text left' held' counts counts' Faults.Memory r short h = record {
+    outcome = record { left = r.now; written = lines_out };
+    left_is = r.left_is;
+    held_is = held_same held' h.1;
+    played = elim h.0 [
+      | inl s ↦ inl (record {
+          texts = u.texts;
+          rest = text ++ r.tail;
+          first = r.before;
+          read = ReadsFew-weaker start.script r.now u.texts _ _ r.read (omega (arith, short));
+          answered = answered new s;
+        })
+      | inr d ↦ inr (in_doubt new text left' r d)
+    ];
+  }
+
+  -- the turn of a line that ended so
+  turned : (new : A) (text : List ℕ) (ending : Ending) (result : Option PlayStatus) (reading' : Reading) (left' held' : Option (List ℕ)) (counts counts' : FaultCounts) → reading'.limits ≡ reading.limits
+      → Ends script_limits reading reading' streams.left left' text ending → EndsTurn (course_of effects house way mid new) number text ending streams.held held' counts counts' result
+      → IsTurned (course_of effects house way first new) start number reading' (record { left = left'; held = held' }) result
+  turned new text Endings.End result reading' left' held' counts counts' limits e h =
+      rw h.0 (ends_all new left' held' (reads_all start.script u.texts reading streams.left u.unbroken u.script_is u.used text reading' left' e) h.1 h.2)
+  turned new text Endings.Refused result reading' left' held' counts counts' limits e h =
+      let r = reads_refused start.script u.texts reading streams.left u.unbroken u.script_is u.used (effects.externals begun) text reading' left' e in
+      rw h.0 (record {
+        outcome = record { left = r.now; written = lines_out };
+        left_is = r.left_is;
+        held_is = held_same held' h.1;
+        played = record {
+          texts = u.texts;
+          text = r.text;
+          tail = r.tail;
+          first = r.first;
+          number = u.count;
+          refused = r.refused;
+          read = r.read;
+          answered = answered new h.2;
+        };
+      })
+  turned new text Endings.Feed result reading' left' held' counts counts' limits e h =
+      elim h [
+        | inl a ↦ rw a.0 (goes_on new text reading' left' held' limits e a.1)
+        | inr f ↦ rw f.1 (fails new text left' held' counts counts' f.0
+            (reads_by_feed start.script u.texts reading streams.left u.unbroken u.script_is u.used text reading' left' e) e.short f.2)
+      ]
+  turned new text Endings.Last result reading' left' held' counts counts' limits e h =
+      let reads = reads_last start.script u.texts reading streams.left u.unbroken u.script_is u.used text reading' left' e in
+      elim h [
+        | inl a ↦ rw a.0 (ends_last new text left' held' reads.0 a.1)
+        | inr f ↦ rw f.1 (fails new text left' held' counts counts' f.0 reads.1 e.short f.2)
+      ]
+
+  -- where the text and the reader were passed on
+  pub turned_by : (new : A) (text text' : List ℕ) (ending : Ending) (result : Option PlayStatus) (reading' : Reading) (left' held' : Option (List ℕ)) (counts counts' : FaultCounts) → text' ≡ text → reading'.limits ≡ reading.limits
+      → Ends reading.limits reading reading' streams.left left' text ending → EndsTurn (course_of effects house way mid new) number text' ending streams.held held' counts counts' result
+      → IsTurned (course_of effects house way first new) start number reading' (record { left = left'; held = held' }) result
+  turned_by new text text' ending result reading' left' held' counts counts' same limits e h =
+      turned new text ending result reading' left' held' counts counts' limits
+      (subst (λ (l : Limits). Ends l reading reading' streams.left left' text ending) u.limited e)
+      (subst (λ (xs : List ℕ). EndsTurn (course_of effects house way mid new) number xs ending streams.held held' counts counts' result) same h)
+
+  -- the reader stops by a fault of the source
+  stops_reading : (text : List ℕ) (reading' : Reading) (left' : Option (List ℕ)) (faults faults' : ℕ) → way mid mid (house mid ∷ []) → Stops script_limits reading reading' streams.left left' faults faults' text LineFaults.Read
+      → IsOver (course_of effects house way first mid) start (record { left = left'; held = streams.held }) Statuses.ReadFault
+  stops_reading text reading' left' faults faults' rests e =
+      let r = reads_part start.script u.texts reading streams.left u.unbroken u.script_is u.used text reading' left' faults faults' e in
+      record {
+        outcome = record { left = r.now; written = lines_out };
+        left_is = r.left_is;
+        held_is = u.held_is;
+        played = record {
+          texts = u.texts;
+          part = text;
+          spelled = r.spelled;
+          unbroken = u.unbroken;
+          unended = e.uses.unbroken;
+          short = e.short;
+          few = r.few;
+          answered = answered mid (record { house = refl; over = rests; at_end = rests });
+        };
+      }
+
+  -- it stops for want of memory
+  stops_early : (text : List ℕ) (reading' : Reading) (left' : Option (List ℕ)) (faults faults' : ℕ) → way mid mid (house mid ∷ []) → Stops script_limits reading reading' streams.left left' faults faults' text LineFaults.Memory
+      → IsOver (course_of effects house way first mid) start (record { left = left'; held = streams.held }) Statuses.Memory
+  stops_early text reading' left' faults faults' rests e =
+      let r = reads_early start.script u.texts reading streams.left u.unbroken u.script_is u.used text reading' left' e in
+      record {
+        outcome = record { left = r.now; written = lines_out };
+        left_is = r.left_is;
+        held_is = u.held_is;
+        played = inl (record {
+          texts = u.texts;
+          rest = r.rest;
+          first = r.first;
+          read = r.read;
+          answered = answered mid (record { house = refl; over = rests; at_end = rests });
+        });
+      }
+
+  -- by the fault that the reader told
+  pub stops_reading_at : (text : List ℕ) (reading' : Reading) (left' : Option (List ℕ)) (faults faults' : ℕ) (fault : LineFault) → way mid mid (house mid ∷ []) → fault ≡ LineFaults.Read
+      → Stops reading.limits reading reading' streams.left left' faults faults' text fault
+      → IsOver (course_of effects house way first mid) start (record { left = left'; held = streams.held }) Statuses.ReadFault
+  stops_reading_at text reading' left' faults faults' fault rests same h =
+      stops_reading text reading' left' faults faults' rests (rw same at (subst (λ (l : Limits). Stops l reading reading' streams.left left' faults faults' text fault) u.limited h))
+
+  pub stops_early_at : (text : List ℕ) (reading' : Reading) (left' : Option (List ℕ)) (faults faults' : ℕ) (fault : LineFault) → way mid mid (house mid ∷ []) → fault ≡ LineFaults.Memory
+      → Stops reading.limits reading reading' streams.left left' faults faults' text fault
+      → IsOver (course_of effects house way first mid) start (record { left = left'; held = streams.held }) Statuses.Memory
+  stops_early_at text reading' left' faults faults' fault rests same h =
+      stops_early text reading' left' faults faults' rests (rw same at (subst (λ (l : Limits). Stops l reading reading' streams.left left' faults faults' text fault) u.limited h))
