@@ -1,5 +1,5 @@
 -- One more line: what it adds to the lines, to what they put out and to the houses along them.
-use Rattle.std.proofs.Common.{◌≡◌, ℕ, List, [], ◌∷◌, ◌++◌, refl, sym, ap, ◌∙◌, inl, inr, append_assoc, append-nil}
+use Rattle.std.proofs.Common.{◌≡◌, ℕ, List, [], ◌∷◌, ◌++◌, refl, sym, ap, subst, ◌∙◌, inl, inr, append_assoc, append-nil}
 use Rattle.std.specs.Prelude.{Contains}
 use Rattle.std.specs.List.{AllZip}
 use Rattle.pcp_base.proofs.Members.{IsIn, IsIn-from_Contains, Contains-from_IsIn}
@@ -58,6 +58,11 @@ module _ {House : Type 0} (effects : LineEffects House) where
   last_along house [] = inl refl
   last_along house (l ∷ lines) = inr (last_along (effects.after house l) lines)
 
+  only_last : (house : House) (lines : List Line) (y : House) →
+      IsIn y (after_lines effects house lines ∷ []) → IsIn y (houses_along effects house lines)
+  only_last house lines y (inl e) = rw (← e) (last_along house lines)
+  only_last house lines y (inr h) = absurd h
+
   -- those along the lines, and that after them once more
   pub along_still : (house : House) (lines : List Line) (x : House) →
       Contains (houses_along effects house lines ++ after_lines effects house lines ∷ []) x →
@@ -68,10 +73,14 @@ module _ {House : Type 0} (effects : LineEffects House) where
       Contains-from_IsIn houses x
       (IsIn-both x houses last houses (λ y k. k) (only_last house lines) (IsIn-from_Contains (houses ++ last) x h))
 
-  only_last : (house : House) (lines : List Line) (y : House) →
-      IsIn y (after_lines effects house lines ∷ []) → IsIn y (houses_along effects house lines)
-  only_last house lines y (inl e) = rw (← e) (last_along house lines)
-  only_last house lines y (inr h) = absurd h
+  last_or_next : (house : House) (lines : List Line) (line : Line) (y : House) →
+      IsIn y (after_lines effects house lines ∷ effects.after (after_lines effects house lines) line ∷ []) →
+      IsIn y (houses_along effects house lines ++ effects.after (after_lines effects house lines) line ∷ [])
+  last_or_next house lines line y (inl e) =
+      let next : List House = effects.after (after_lines effects house lines) line ∷ [] in
+      rw (← e) (IsIn-front (after_lines effects house lines) (houses_along effects house lines) next (last_along house lines))
+  last_or_next house lines line y (inr h) =
+      IsIn-back y (houses_along effects house lines) (effects.after (after_lines effects house lines) line ∷ []) h
 
   -- those along the lines, and those before and after one more
   pub along_more : (house : House) (lines : List Line) (line : Line) (x : House) →
@@ -84,16 +93,7 @@ module _ {House : Type 0} (effects : LineEffects House) where
       let all = houses ++ next ∷ [] in
       let both : List House = last ∷ next ∷ [] in
       let is_in : IsIn x all = IsIn-both x houses both all (λ y k. IsIn-front y houses (next ∷ []) k) (last_or_next house lines line) (IsIn-from_Contains (houses ++ both) x h) in
-      rw houses_along-push house lines line (Contains-from_IsIn all x is_in)
-
-  last_or_next : (house : House) (lines : List Line) (line : Line) (y : House) →
-      IsIn y (after_lines effects house lines ∷ effects.after (after_lines effects house lines) line ∷ []) →
-      IsIn y (houses_along effects house lines ++ effects.after (after_lines effects house lines) line ∷ [])
-  last_or_next house lines line y (inl e) =
-      let next : List House = effects.after (after_lines effects house lines) line ∷ [] in
-      rw (← e) (IsIn-front (after_lines effects house lines) (houses_along effects house lines) next (last_along house lines))
-  last_or_next house lines line y (inr h) =
-      IsIn-back y (houses_along effects house lines) (effects.after (after_lines effects house lines) line ∷ []) h
+      subst (λ (hs : List House). Contains hs x) (sym (houses_along-push house lines line)) (Contains-from_IsIn all x is_in)
 
   -- lines change no external address
   pub externals_after : ((house : House) (line : Line) → effects.externals (effects.after house line) ≡ effects.externals house) →

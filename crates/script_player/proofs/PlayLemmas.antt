@@ -27,13 +27,13 @@ module _ {A House : Type 0} (effects : LineEffects House) (house : A → House) 
     (first mid : A) (start : Start) (number : ℕ) (reading : Reading) (streams : Streams)
     (u : IsUnderway (course_of effects house way first mid) start number reading streams) where
   -- the house at the beginning, and that after the lines so far
-  begun : House
+  abbrev begun : House
   begun = house first
 
-  last : House
+  abbrev last : House
   last = after_lines effects begun u.lines
 
-  lines_out : List ℕ
+  abbrev lines_out : List ℕ
   lines_out = out_of effects begun u.lines
 
   -- which external addresses there are
