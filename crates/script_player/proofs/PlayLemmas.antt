@@ -1,5 +1,5 @@
 -- How a run over a script goes on over one line, or ends at it.
-use Rattle.std.proofs.Common.{◌≡◌, ℕ, ◌+◌, ◌≤◌, List, [], ◌∷◌, ◌++◌, length, take, Option, Some, None, refl, sym, ap, subst, ◌∙◌, inl, inr, ◌⊎◌, arith, append_assoc, length-append}
+use Rattle.std.proofs.Common.{◌≡◌, ℕ, ◌+◌, ◌≤◌, List, [], ◌∷◌, ◌++◌, length, take, Option, Some, None, refl, sym, ap, subst, ◌∙◌, inl, inr, ◌⊎◌, arith, append_assoc, append-nil, length-append}
 use Rattle.std.specs.Io.KnownBytes.{append_known}
 use Rattle.pcp_io.specs.Writes.{WritesPart}
 use Rattle.pcp_script.specs.Lines.{IsLine}
@@ -317,3 +317,21 @@ module _ {A House : Type 0} (effects : LineEffects House) (house : A → House) 
       → IsOver (course_of effects house way first mid) start (record { left = left'; held = streams.held }) Statuses.Memory
   stops_early_at text reading' left' faults faults' fault rests same h =
       stops_early text reading' left' faults faults' rests (rw same at (subst (λ (l : Limits). Stops l reading reading' streams.left left' faults faults' text fault) u.limited h))
+
+-- before the first line
+pub begins : {House : Type 0} (course : Course House) (start : Start) (reading : Reading) (left held : Option (List ℕ)) →
+    course.ended ≡ course.begun → course.over (course.begun ∷ []) → reading ≡ record { pending = []; used = 0; limits = script_limits } →
+    left ≡ Some start.script → held ≡ Some start.held → IsUnderway course start 1 reading (record { left = left; held = held })
+begins course start reading left held same over r l h = rw (r, l, h) (record {
+  limited = refl;
+  texts = [];
+  lines = [];
+  read = tt;
+  unbroken = tt;
+  count = refl;
+  script_is = refl;
+  used = refl;
+  house = same;
+  over = over;
+  held_is = ap Some (sym (append-nil start.held));
+})
