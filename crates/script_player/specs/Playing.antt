@@ -13,7 +13,7 @@ use Rattle.script_player.specs.Houses.{after_lines, houses_along, line_out, out_
 use Rattle.script_player.specs.Played.{IsOver, Start, Streams}
 use Rattle.script_player.specs.Reading.{Reading, rest_of}
 use Rattle.script_player.specs.Scripts.{AreLines, IsUnbroken, ended}
-use Rattle.script_player.specs.Ways.{Course}
+use Rattle.script_player.specs.Ways.{Course, HasFault}
 use Rattle.script_player.specs.declared.answerers.AnswerFault.{AnswerFault}
 use Rattle.script_player.specs.declared.answerers.AnswerFault.TheVariants as Answering
 use Rattle.script_player.specs.declared.player.PlayStatus.{PlayStatus}
@@ -55,7 +55,8 @@ IsTurned course start number reading streams (Some status) = IsOver course start
 -- the counts of faults of what a line is answered by
 pub record FaultCounts : Type 0 where
   pub writes : ℕ
-  pub disks : ℕ → ℕ
+  -- of each disk of each shard
+  pub disks : ℕ → ℕ → ℕ
 
 -- a text that is no line, and want of memory, are told as they are
 abbrev pub fault_of_line : LineRefused → TextFault
@@ -111,7 +112,7 @@ Fails course text before now counts counts_now Write =
     AnswersPart course text before now × HasRisen counts.writes counts_now.writes
 Fails course text before now counts counts_now (Disk shard) =
     IsInDoubt course text × (now ≡ before)
-    × HasRisen (counts.disks shard) (counts_now.disks shard)
+    × HasFault (counts.disks shard) (counts_now.disks shard)
 Fails course text before now counts counts_now Memory =
     (IsStill course ⊎ IsInDoubt course text) × (now ≡ before)
 

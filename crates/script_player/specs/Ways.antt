@@ -1,7 +1,7 @@
 -- What a crash may leave on the way of an answerer from one moment to another (our own): images, each
 -- of which stands for a house.
-use Rattle.std.specs.Prelude.{◌≡◌, List, ◌++◌, Contains}
-use Rattle.pcp_script.specs.declared.lines.Line.{Line}
+use Rattle.std.specs.Prelude.{ℕ, List, ◌++◌, Contains}
+use Rattle.pcp_io.specs.Faults.{HasRisen}
 use Rattle.script_player.specs.Houses.{LineEffects}
 
 -- `way a b houses`: at each moment from a to b each image stands for one of these houses.
@@ -34,3 +34,7 @@ course_of effects house way old new = record {
   over = way old new;
   at_end = way new new;
 }
+
+-- A count of faults has risen, of those of the disks of a shard.
+abbrev pub HasFault : (before now : ℕ → ℕ) → Type 0
+HasFault before now = (disk : ℕ) × HasRisen (before disk) (now disk)

@@ -1,10 +1,9 @@
 //! What answers the lines of a script.
 ghost use Rattle.std.specs.Prelude.{◌≡◌, ℕ, ◌≤◌, List, [], ◌∷◌, Err, IfOk, OnOk};
-ghost use Rattle.pcp_io.specs.Faults.{HasRisen};
 ghost use Rattle.pcp_script.specs.declared.lines.Line.{Line};
 ghost use Rattle.script_player.specs.Houses.{LineEffects};
 ghost use Rattle.script_player.specs.Scripts.{IsRead};
-ghost use Rattle.script_player.specs.Ways.{WayLaws};
+ghost use Rattle.script_player.specs.Ways.{HasFault, WayLaws};
 ghost use Rattle.script_player.specs.declared.answerers.AnswerFault.TheVariants.{Disk};
 
 use pcp_base::{Config, Memory};
@@ -46,8 +45,8 @@ pub trait LineAnswerer {
     // Whether at each moment from the one to the other each image stands for one of these houses.
     ghost way: { Self → Self → List Self.House → Type 0 };
 
-    // How many faults each shard has counted.
-    ghost faults: { Self → ℕ → ℕ };
+    // How many faults each disk of each shard has counted.
+    ghost faults: { Self → (shard disk : ℕ) → ℕ };
 
     /// The configuration, by which lines are read.
     fn config(&self) -> &Config
@@ -66,8 +65,9 @@ pub trait LineAnswerer {
         ensures way { way self.old self.new
             (house self.old ∷ effects.after (house self.old) line.now ∷ []) }
         ensures cause { (shard : ℕ) → result ≡ Err (Disk shard) →
-            HasRisen (faults self.old shard) (faults self.new shard) }
-        ensures later { (shard : ℕ) → faults self.old shard ≤ faults self.new shard };
+            HasFault (faults self.old shard) (faults self.new shard) }
+        ensures later { (shard disk : ℕ) →
+            faults self.old shard disk ≤ faults self.new shard disk };
 
     // What holds of ways.
     ghost ways: { WayLaws way };

@@ -4,7 +4,7 @@ ghost use Rattle.pcp_io.specs.Faults.{HasRisen};
 ghost use Rattle.script_player.specs.Houses.{line_out};
 ghost use Rattle.script_player.specs.Played.{IsOver, Start};
 ghost use Rattle.script_player.specs.Playing.{Answers, EndsTurn, Fails, GoesOnOrFails, IsTurned, IsUnderway, status_at};
-ghost use Rattle.script_player.specs.Ways.{course_of};
+ghost use Rattle.script_player.specs.Ways.{HasFault, course_of};
 ghost use Rattle.script_player.specs.declared.player.PlayStatus.TheVariants.{DiskFault, ReadFault, WriteFault};
 
 use crate::answerers::{AnswerFault, LineAnswerer};
@@ -126,7 +126,8 @@ fn answer_text<W: Sink, A: LineAnswerer>(
         (record { writes = W.faults out.old; disks = A.faults answerer.old })
         (record { writes = W.faults out.new; disks = A.faults answerer.new })) }
     ensures writes { W.faults out.old ≤ W.faults out.new }
-    ensures disks { (shard : ℕ) → A.faults answerer.old shard ≤ A.faults answerer.new shard }
+    ensures disks { (shard disk : ℕ) →
+        A.faults answerer.old shard disk ≤ A.faults answerer.new shard disk }
 {
     let line = read_line(alloc, answerer.config(), text)?;
     let told = answerer.answer(alloc, &line)?;
@@ -162,7 +163,8 @@ fn after_line<W: Sink, A: LineAnswerer>(
         (record { writes = W.faults out.old; disks = A.faults answerer.old })
         (record { writes = W.faults out.new; disks = A.faults answerer.new }) result }
     ensures writes { W.faults out.old ≤ W.faults out.new }
-    ensures disks { (shard : ℕ) → A.faults answerer.old shard ≤ A.faults answerer.new shard }
+    ensures disks { (shard disk : ℕ) →
+        A.faults answerer.old shard disk ≤ A.faults answerer.new shard disk }
 {
     match ending {
         Ending::End => Some(PlayStatus::Done),
@@ -187,7 +189,8 @@ fn answer_line<W: Sink, A: LineAnswerer>(
         (record { writes = W.faults out.old; disks = A.faults answerer.old })
         (record { writes = W.faults out.new; disks = A.faults answerer.new }) result }
     ensures writes { W.faults out.old ≤ W.faults out.new }
-    ensures disks { (shard : ℕ) → A.faults answerer.old shard ≤ A.faults answerer.new shard }
+    ensures disks { (shard disk : ℕ) →
+        A.faults answerer.old shard disk ≤ A.faults answerer.new shard disk }
 {
     match answer_text(alloc, text, answerer, out) {
         Ok(()) => next,
@@ -219,10 +222,11 @@ fn turn<S: Source, W: Sink, A: LineAnswerer>(
     ensures write_fault { result ≡ Some WriteFault →
         HasRisen (W.faults out.old) (W.faults out.new) }
     ensures disk_fault { (shard : ℕ) → result ≡ Some (DiskFault shard) →
-        HasRisen (A.faults answerer.old shard) (A.faults answerer.new shard) }
+        HasFault (A.faults answerer.old shard) (A.faults answerer.new shard) }
     ensures reads { S.faults input.old ≤ S.faults input.new }
     ensures writes { W.faults out.old ≤ W.faults out.new }
-    ensures disks { (shard : ℕ) → A.faults answerer.old shard ≤ A.faults answerer.new shard }
+    ensures disks { (shard disk : ℕ) →
+        A.faults answerer.old shard disk ≤ A.faults answerer.new shard disk }
 {
     let mut text = Vec::new(alloc);
     match reader.next_line(input, &mut text) {
@@ -255,10 +259,11 @@ pub fn play<S: Source, W: Sink, A: LineAnswerer>(
     ensures read_fault { result ≡ ReadFault → HasRisen (S.faults input.old) (S.faults input.new) }
     ensures write_fault { result ≡ WriteFault → HasRisen (W.faults out.old) (W.faults out.new) }
     ensures disk_fault { (shard : ℕ) → result ≡ DiskFault shard →
-        HasRisen (A.faults answerer.old shard) (A.faults answerer.new shard) }
+        HasFault (A.faults answerer.old shard) (A.faults answerer.new shard) }
     ensures reads { S.faults input.old ≤ S.faults input.new }
     ensures writes { W.faults out.old ≤ W.faults out.new }
-    ensures disks { (shard : ℕ) → A.faults answerer.old shard ≤ A.faults answerer.new shard }
+    ensures disks { (shard disk : ℕ) →
+        A.faults answerer.old shard disk ≤ A.faults answerer.new shard disk }
 {
     let mut reader = LineReader::new(Limits {
         longest: LONGEST_LINE,

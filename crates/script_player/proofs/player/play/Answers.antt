@@ -15,5 +15,5 @@ loop-number-init g c = record {
   used = rw c.new-reader.ensures (lit≤ tt);
   reads = omega arith;
   writes = omega arith;
-  disks = λ shard. omega arith;
+  disks = λ shard disk. omega arith;
 }

@@ -16,7 +16,7 @@ invariant-loop-number g l = record {
   used : l.reader.used ≤ 2 ^ 30;
   reads : g.S.Source.faults l.fn.input ≤ g.S.Source.faults l.input;
   writes : g.W.Sink.faults l.fn.out ≤ g.W.Sink.faults l.out;
-  disks : (shard : ℕ) → g.A.LineAnswerer.faults l.fn.answerer shard ≤ g.A.LineAnswerer.faults l.answerer shard;
+  disks : (shard disk : ℕ) → g.A.LineAnswerer.faults l.fn.answerer shard disk ≤ g.A.LineAnswerer.faults l.answerer shard disk;
 }
 
 -- the octets that the script may still have
