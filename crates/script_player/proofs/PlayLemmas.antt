@@ -1,24 +1,21 @@
 -- How a run over a script goes on over one line, or ends at it.
-use Rattle.std.proofs.Common.{◌≡◌, ℕ, ◌+◌, ◌≤◌, List, [], ◌∷◌, ◌++◌, length, take, Option, Some, None, refl, sym, ap, subst, ◌∙◌, inl, inr, ◌⊎◌, arith, append_assoc, append-nil, length-append}
+use Rattle.std.proofs.Common.{◌≡◌, ℕ, ◌+◌, ◌≤◌, List, [], ◌∷◌, ◌++◌, length, take, Option, Some, Result, Ok, Err, refl, sym, ap, subst, ◌∙◌, inl, inr, ◌⊎◌, arith, append_assoc, append-nil, length-append}
 use Rattle.std.specs.Io.KnownBytes.{append_known}
 use Rattle.pcp_io.specs.Writes.{WritesPart}
 use Rattle.pcp_script.specs.Lines.{IsLine}
 use Rattle.pcp_script.specs.declared.lines.Line.{Line}
 use Rattle.script_player.specs.Houses.{LineEffects, after_lines, houses_along, line_out, out_of}
 use Rattle.script_player.specs.Played.{AreAnswered, AreDone, EndsInDoubt, IsOver, Outcome, Start, Streams}
-use Rattle.script_player.specs.Playing.{Answers, AnswersPart, EndsTurn, Fails, FaultCounts, IsDone, IsInDoubt, IsStill, IsTurned, IsUnderway, script_limits, status_at}
+use Rattle.script_player.specs.Playing.{Answers, Fails, IsDone, IsInDoubt, IsStill, IsTurned, IsUnderway, script_limits, status_at}
 use Rattle.script_player.specs.Reading.{Reading, rest_of, Ends, Stops, EndsByFeed}
 use Rattle.script_player.specs.Scripts.{AreLines}
 use Rattle.script_player.specs.Ways.{Course, WayLaws, course_of}
-use Rattle.script_player.specs.declared.player.PlayStatus.{PlayStatus}
+use Rattle.script_player.specs.declared.faults.LineFault.{LineFault}
+use Rattle.script_player.specs.declared.faults.LineFault.TheVariants as Faults
 use Rattle.script_player.specs.declared.player.PlayStatus.TheVariants as Statuses
-use Rattle.script_player.specs.declared.player.TextFault.{TextFault}
-use Rattle.script_player.specs.declared.player.TextFault.TheVariants as Faults
 use Rattle.script_player.specs.declared.readers.Ending.{Ending}
 use Rattle.script_player.specs.declared.readers.Ending.TheVariants as Endings
 use Rattle.script_player.specs.declared.readers.Limits.{Limits}
-use Rattle.script_player.specs.declared.readers.LineFault.{LineFault}
-use Rattle.script_player.specs.declared.readers.LineFault.TheVariants as LineFaults
 use Rattle.script_player.proofs.HouseLemmas.{AllZip-push, after_lines-push, along_more, along_still, externals_after, out_of-push}
 use Rattle.script_player.proofs.ScriptLemmas.{ReadsAll, ReadsFew-weaker, ReadsLine, goes_by_feed, reads_all, reads_by_feed, reads_early, reads_last, reads_part, reads_refused}
 
@@ -152,10 +149,11 @@ module _ {A House : Type 0} (effects : LineEffects House) (house : A → House) 
   }
 
   -- a line that was read whole fails
-  fails : (new : A) (text : List ℕ) (left' held' : Option (List ℕ)) (counts counts' : FaultCounts) (fault : TextFault) → ReadsLine start.script u.texts text left' → length text ≤ 8192
-      → Fails (course_of effects house way mid new) text streams.held held' counts counts' fault
+  fails : (new : A) (text : List ℕ) (left' held' : Option (List ℕ)) (fault : LineFault) → ReadsLine start.script u.texts text left' → length text ≤ 8192
+      → Fails (course_of effects house way mid new) text streams.held held' fault
       → IsOver (course_of effects house way first new) start (record { left = left'; held = held' }) (status_at number fault)
-  fails new text left' held' counts counts' Faults.NotLine r short h = record {
+  fails new text left' held' Faults.Read r short h = absurd h
+  fails new text left' held' Faults.NotLine r short h = record {
     outcome = record { left = r.now; written = lines_out };
     left_is = r.left_is;
     held_is = held_same held' h.1;
@@ -175,8 +173,8 @@ module _ {A House : Type 0} (effects : LineEffects House) (house : A → House) 
       answered = answered new h.2;
     };
   }
-  fails new text left' held' counts counts' Faults.Write r short h =
-      let a = h.0 in
+  fails new text left' held' Faults.Write r short h =
+      let a = h in
       let result = line_out (effects.result_of last a.line) in
       let part : WritesPart streams.held held' result = subst (λ x. WritesPart streams.held held' (line_out (effects.result_of x a.line))) u.house a.part in
       record {
@@ -199,13 +197,13 @@ module _ {A House : Type 0} (effects : LineEffects House) (house : A → House) 
           written_is = refl;
         };
       }
-  fails new text left' held' counts counts' (Faults.Disk shard) r short h = record {
+  fails new text left' held' (Faults.Disk shard) r short h = record {
     outcome = record { left = r.now; written = lines_out };
     left_is = r.left_is;
     held_is = held_same held' h.1;
     played = in_doubt new text left' r h.0;
   }
-  fails new text left' held' counts counts' Faults.Memory r short h = record {
+  fails new text left' held' Faults.Memory r short h = record {
     outcome = record { left = r.now; written = lines_out };
     left_is = r.left_is;
     held_is = held_same held' h.1;
@@ -221,56 +219,15 @@ module _ {A House : Type 0} (effects : LineEffects House) (house : A → House) 
     ];
   }
 
-  -- the turn of a line that ended so
-  turned : (new : A) (text : List ℕ) (ending : Ending) (result : Option PlayStatus) (reading' : Reading) (left' held' : Option (List ℕ)) (counts counts' : FaultCounts) → reading'.limits ≡ reading.limits
-      → Ends script_limits reading reading' streams.left left' text ending → EndsTurn (course_of effects house way mid new) number text ending streams.held held' counts counts' result
-      → IsTurned (course_of effects house way first new) start number reading' (record { left = left'; held = held' }) result
-  turned new text Endings.End result reading' left' held' counts counts' limits e h =
-      rw h.0 (ends_all new left' held' (reads_all start.script u.texts reading streams.left u.unbroken u.script_is u.used text reading' left' e) h.1 h.2)
-  turned new text Endings.Refused result reading' left' held' counts counts' limits e h =
-      let r = reads_refused start.script u.texts reading streams.left u.unbroken u.script_is u.used (effects.externals begun) text reading' left' e in
-      rw h.0 (record {
-        outcome = record { left = r.now; written = lines_out };
-        left_is = r.left_is;
-        held_is = held_same held' h.1;
-        played = record {
-          texts = u.texts;
-          text = r.text;
-          tail = r.tail;
-          first = r.first;
-          number = u.count;
-          refused = r.refused;
-          read = r.read;
-          answered = answered new h.2;
-        };
-      })
-  turned new text Endings.Feed result reading' left' held' counts counts' limits e h =
-      elim h [
-        | inl a ↦ rw a.0 (goes_on new text reading' left' held' limits e a.1)
-        | inr f ↦ rw f.1 (fails new text left' held' counts counts' f.0
-            (reads_by_feed start.script u.texts reading streams.left u.unbroken u.script_is u.used text reading' left' e) e.short f.2)
-      ]
-  turned new text Endings.Last result reading' left' held' counts counts' limits e h =
-      let reads = reads_last start.script u.texts reading streams.left u.unbroken u.script_is u.used text reading' left' e in
-      elim h [
-        | inl a ↦ rw a.0 (ends_last new text left' held' reads.0 a.1)
-        | inr f ↦ rw f.1 (fails new text left' held' counts counts' f.0 reads.1 e.short f.2)
-      ]
+  still_here : way mid mid (house mid ∷ []) → IsStill (course_of effects house way mid mid)
+  still_here rests = record { house = refl; over = rests; at_end = rests }
 
-  -- where the text and the reader were passed on
-  pub turned_by : (new : A) (text text' : List ℕ) (ending : Ending) (result : Option PlayStatus) (reading' : Reading) (left' held' : Option (List ℕ)) (counts counts' : FaultCounts) → text' ≡ text → reading'.limits ≡ reading.limits
-      → Ends reading.limits reading reading' streams.left left' text ending → EndsTurn (course_of effects house way mid new) number text' ending streams.held held' counts counts' result
-      → IsTurned (course_of effects house way first new) start number reading' (record { left = left'; held = held' }) result
-  turned_by new text text' ending result reading' left' held' counts counts' same limits e h =
-      turned new text ending result reading' left' held' counts counts' limits
-      (subst (λ (l : Limits). Ends l reading reading' streams.left left' text ending) u.limited e)
-      (subst (λ (xs : List ℕ). EndsTurn (course_of effects house way mid new) number xs ending streams.held held' counts counts' result) same h)
-
-  -- the reader stops by a fault of the source
-  stops_reading : (text : List ℕ) (reading' : Reading) (left' : Option (List ℕ)) (faults faults' : ℕ) → way mid mid (house mid ∷ []) → Stops script_limits reading reading' streams.left left' faults faults' text LineFaults.Read
-      → IsOver (course_of effects house way first mid) start (record { left = left'; held = streams.held }) Statuses.ReadFault
-  stops_reading text reading' left' faults faults' rests e =
-      let r = reads_part start.script u.texts reading streams.left u.unbroken u.script_is u.used text reading' left' faults faults' e in
+  -- the reader tells a fault
+  stops : (text : List ℕ) (reading' : Reading) (left' : Option (List ℕ)) (fault : LineFault) → way mid mid (house mid ∷ [])
+      → Stops script_limits reading reading' streams.left left' text fault
+      → IsOver (course_of effects house way first mid) start (record { left = left'; held = streams.held }) (status_at number fault)
+  stops text reading' left' Faults.Read rests e =
+      let r = reads_part start.script u.texts reading streams.left u.unbroken u.script_is u.used text reading' left' e in
       record {
         outcome = record { left = r.now; written = lines_out };
         left_is = r.left_is;
@@ -283,14 +240,29 @@ module _ {A House : Type 0} (effects : LineEffects House) (house : A → House) 
           unended = e.uses.unbroken;
           short = e.short;
           few = r.few;
-          answered = answered mid (record { house = refl; over = rests; at_end = rests });
+          answered = answered mid (still_here rests);
         };
       }
-
-  -- it stops for want of memory
-  stops_early : (text : List ℕ) (reading' : Reading) (left' : Option (List ℕ)) (faults faults' : ℕ) → way mid mid (house mid ∷ []) → Stops script_limits reading reading' streams.left left' faults faults' text LineFaults.Memory
-      → IsOver (course_of effects house way first mid) start (record { left = left'; held = streams.held }) Statuses.Memory
-  stops_early text reading' left' faults faults' rests e =
+  stops text reading' left' Faults.NotLine rests e =
+      let r = reads_refused start.script u.texts reading streams.left u.unbroken u.script_is u.used (effects.externals begun) text reading' left' e in
+      record {
+        outcome = record { left = r.now; written = lines_out };
+        left_is = r.left_is;
+        held_is = u.held_is;
+        played = record {
+          texts = u.texts;
+          text = r.text;
+          tail = r.tail;
+          first = r.first;
+          number = u.count;
+          refused = r.refused;
+          read = r.read;
+          answered = answered mid (still_here rests);
+        };
+      }
+  stops text reading' left' Faults.Write rests e = absurd e
+  stops text reading' left' (Faults.Disk shard) rests e = absurd e
+  stops text reading' left' Faults.Memory rests e =
       let r = reads_early start.script u.texts reading streams.left u.unbroken u.script_is u.used text reading' left' e in
       record {
         outcome = record { left = r.now; written = lines_out };
@@ -301,22 +273,59 @@ module _ {A House : Type 0} (effects : LineEffects House) (house : A → House) 
           rest = r.rest;
           first = r.first;
           read = r.read;
-          answered = answered mid (record { house = refl; over = rests; at_end = rests });
+          answered = answered mid (still_here rests);
         });
       }
 
-  -- by the fault that the reader told
-  pub stops_reading_at : (text : List ℕ) (reading' : Reading) (left' : Option (List ℕ)) (faults faults' : ℕ) (fault : LineFault) → way mid mid (house mid ∷ []) → fault ≡ LineFaults.Read
-      → Stops reading.limits reading reading' streams.left left' faults faults' text fault
-      → IsOver (course_of effects house way first mid) start (record { left = left'; held = streams.held }) Statuses.ReadFault
-  stops_reading_at text reading' left' faults faults' fault rests same h =
-      stops_reading text reading' left' faults faults' rests (rw same at (subst (λ (l : Limits). Stops l reading reading' streams.left left' faults faults' text fault) u.limited h))
+  pub stops_at : (text : List ℕ) (reading' : Reading) (left' : Option (List ℕ)) (fault : LineFault) (result : Result Ending LineFault) → way mid mid (house mid ∷ [])
+      → result ≡ Err fault → Stops reading.limits reading reading' streams.left left' text fault
+      → IsTurned (course_of effects house way first mid) start number reading' (record { left = left'; held = streams.held }) result
+  stops_at text reading' left' fault result rests same h =
+      rw same (stops text reading' left' fault rests (subst (λ (l : Limits). Stops l reading reading' streams.left left' text fault) u.limited h))
 
-  pub stops_early_at : (text : List ℕ) (reading' : Reading) (left' : Option (List ℕ)) (faults faults' : ℕ) (fault : LineFault) → way mid mid (house mid ∷ []) → fault ≡ LineFaults.Memory
-      → Stops reading.limits reading reading' streams.left left' faults faults' text fault
-      → IsOver (course_of effects house way first mid) start (record { left = left'; held = streams.held }) Statuses.Memory
-  stops_early_at text reading' left' faults faults' fault rests same h =
-      stops_early text reading' left' faults faults' rests (rw same at (subst (λ (l : Limits). Stops l reading reading' streams.left left' faults faults' text fault) u.limited h))
+  -- there was no further line
+  pub ends_at : (text : List ℕ) (reading' : Reading) (left' : Option (List ℕ)) (ending : Ending) → way mid mid (house mid ∷ [])
+      → ending ≡ Endings.End → Ends reading.limits reading reading' streams.left left' text ending
+      → IsTurned (course_of effects house way first mid) start number reading' (record { left = left'; held = streams.held }) (Ok ending)
+  ends_at text reading' left' ending rests same h =
+      rw same (ends_all mid left' streams.held
+      (reads_all start.script u.texts reading streams.left u.unbroken u.script_is u.used text reading' left'
+      (rw same at (subst (λ (l : Limits). Ends l reading reading' streams.left left' text ending) u.limited h))) refl (still_here rests))
+
+  -- the line is answered
+  answers : (new : A) (text : List ℕ) (reading' : Reading) (left' held' : Option (List ℕ)) (ending : Ending) → ¬ (ending ≡ Endings.End) → reading'.limits ≡ reading.limits
+      → Ends script_limits reading reading' streams.left left' text ending → Answers (course_of effects house way mid new) text streams.held held'
+      → IsTurned (course_of effects house way first new) start number reading' (record { left = left'; held = held' }) (Ok ending)
+  answers new text reading' left' held' Endings.Feed other limits e a = goes_on new text reading' left' held' limits e a
+  answers new text reading' left' held' Endings.Last other limits e a =
+      ends_last new text left' held' (reads_last start.script u.texts reading streams.left u.unbroken u.script_is u.used text reading' left' e).0 a
+  answers new text reading' left' held' Endings.End other limits e a = absurd (other refl)
+
+  pub answers_at : (new : A) (text text' : List ℕ) (reading' : Reading) (left' held' : Option (List ℕ)) (ending : Ending) → ¬ (ending ≡ Endings.End) → text' ≡ text → reading'.limits ≡ reading.limits
+      → Ends reading.limits reading reading' streams.left left' text ending → Answers (course_of effects house way mid new) text' streams.held held'
+      → IsTurned (course_of effects house way first new) start number reading' (record { left = left'; held = held' }) (Ok ending)
+  answers_at new text text' reading' left' held' ending other same limits e a =
+      answers new text reading' left' held' ending other limits
+      (subst (λ (l : Limits). Ends l reading reading' streams.left left' text ending) u.limited e)
+      (subst (λ (xs : List ℕ). Answers (course_of effects house way mid new) xs streams.held held') same a)
+
+  -- it fails
+  fails_by : (new : A) (text : List ℕ) (reading' : Reading) (left' held' : Option (List ℕ)) (ending : Ending) (fault : LineFault) → ¬ (ending ≡ Endings.End)
+      → Ends script_limits reading reading' streams.left left' text ending → Fails (course_of effects house way mid new) text streams.held held' fault
+      → IsOver (course_of effects house way first new) start (record { left = left'; held = held' }) (status_at number fault)
+  fails_by new text reading' left' held' Endings.Feed fault other e h =
+      fails new text left' held' fault (reads_by_feed start.script u.texts reading streams.left u.unbroken u.script_is u.used text reading' left' e) e.short h
+  fails_by new text reading' left' held' Endings.Last fault other e h =
+      fails new text left' held' fault (reads_last start.script u.texts reading streams.left u.unbroken u.script_is u.used text reading' left' e).1 e.short h
+  fails_by new text reading' left' held' Endings.End fault other e h = absurd (other refl)
+
+  pub fails_at : (new : A) (text text' : List ℕ) (reading' : Reading) (left' held' : Option (List ℕ)) (ending : Ending) (fault : LineFault) (result : Result Ending LineFault) → ¬ (ending ≡ Endings.End)
+      → result ≡ Err fault → text' ≡ text → Ends reading.limits reading reading' streams.left left' text ending → Fails (course_of effects house way mid new) text' streams.held held' fault
+      → IsTurned (course_of effects house way first new) start number reading' (record { left = left'; held = held' }) result
+  fails_at new text text' reading' left' held' ending fault result other same same_text e h =
+      rw same (fails_by new text reading' left' held' ending fault other
+      (subst (λ (l : Limits). Ends l reading reading' streams.left left' text ending) u.limited e)
+      (subst (λ (xs : List ℕ). Fails (course_of effects house way mid new) xs streams.held held' fault) same_text h))
 
 -- before the first line
 pub begins : {House : Type 0} (course : Course House) (start : Start) (reading : Reading) (left held : Option (List ℕ)) →
@@ -335,3 +344,15 @@ begins course start reading left held same over r l h = rw (r, l, h) (record {
   over = over;
   held_is = ap Some (sym (append-nil start.held));
 })
+
+-- behind a line that ended by its line feed
+pub goes_on_at : {House : Type 0} (course : Course House) (start : Start) (number : ℕ) (reading : Reading) (streams : Streams) (ending : Ending) →
+    ending ≡ Endings.Feed → IsTurned course start number reading streams (Ok ending) → IsUnderway course start (number + 1) reading streams
+goes_on_at course start number reading streams ending same h = rw same at h
+
+-- behind any other
+pub is_over_at : {House : Type 0} (course : Course House) (start : Start) (number : ℕ) (reading : Reading) (streams : Streams) (ending : Ending) →
+    ¬ (ending ≡ Endings.Feed) → IsTurned course start number reading streams (Ok ending) → IsOver course start streams Statuses.Done
+is_over_at course start number reading streams Endings.Feed other h = absurd (other refl)
+is_over_at course start number reading streams Endings.Last other h = h
+is_over_at course start number reading streams Endings.End other h = h

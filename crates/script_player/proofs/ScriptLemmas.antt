@@ -8,7 +8,7 @@ use Rattle.pcp_script.specs.Lines.{IsLine}
 use Rattle.pcp_script.specs.declared.lines.Line.{Line}
 use Rattle.script_player.specs.Played.{IsRefused, ReadsFew, most_for, octets_through}
 use Rattle.script_player.specs.Playing.{script_limits}
-use Rattle.script_player.specs.Reading.{Reading, rest_of, EndsAll, EndsByFeed, EndsLast, EndsRefusing, StopsForMemory, StopsReading}
+use Rattle.script_player.specs.Reading.{Reading, rest_of, EndsAll, EndsByFeed, EndsLast, StopsRefusing, StopsForMemory, StopsReading}
 use Rattle.script_player.specs.Scripts.{AreFirst, IsUnbroken, ended}
 use Rattle.script_player.specs.declared.readers.TheConstants.{PIECE}
 use Rattle.script_player.proofs.FeedLemmas.{AllUnbroken-push, flat_map-ended-push, IsUnbroken-append, splits}
@@ -237,8 +237,8 @@ module _ (script : List ℕ) (texts : List (List ℕ)) (reading : Reading) (left
         some = inr (λ none. absurd cc);
       }
 
-  pub reads_part : (text : List ℕ) (reading' : Reading) (left' : Option (List ℕ)) (faults faults' : ℕ) → StopsReading script_limits reading reading' left left' faults faults' text → ReadsPart script texts text left'
-  reads_part text reading' left' faults faults' e =
+  pub reads_part : (text : List ℕ) (reading' : Reading) (left' : Option (List ℕ)) → StopsReading script_limits reading reading' left left' text → ReadsPart script texts text left'
+  reads_part text reading' left' e =
       let t = told_after text (rest_of reading' left') e.uses.octets in
       record {
         now = t.rest;
@@ -260,21 +260,21 @@ module _ (script : List ℕ) (texts : List (List ℕ)) (reading : Reading) (left
       }
 
   -- the text is too long, or something is left behind it
-  long_or_past : {text : List ℕ} {reading' : Reading} {left' : Option (List ℕ)} → EndsRefusing script_limits reading reading' left left' text → (rest : List ℕ) → rest_of reading' left' ≡ Some rest → (length text ≡ 8193) ⊎ (0 < length rest)
+  long_or_past : {text : List ℕ} {reading' : Reading} {left' : Option (List ℕ)} → StopsRefusing script_limits reading reading' left left' text → (rest : List ℕ) → rest_of reading' left' ≡ Some rest → (length text ≡ 8193) ⊎ (0 < length rest)
   long_or_past {text} {reading'} {left'} e rest h =
       elim e.refused [ inl long ↦ inl long | inr past ↦ inr (pending_left reading' left' rest h past.1) ]
 
   -- the text is too long, or the script has more than 2 ^ 30 octets, by what is left behind it
-  long_or_past_by : {text : List ℕ} {reading' : Reading} {left' : Option (List ℕ)} → (e : EndsRefusing script_limits reading reading' left left' text) → (t : Told script (flat_map ended texts ++ text) (rest_of reading' left')) → (length text ≡ 8193) ⊎ ((0 < length t.rest) × (length script ≡ 2 ^ 30 + length t.rest))
+  long_or_past_by : {text : List ℕ} {reading' : Reading} {left' : Option (List ℕ)} → (e : StopsRefusing script_limits reading reading' left left' text) → (t : Told script (flat_map ended texts ++ text) (rest_of reading' left')) → (length text ≡ 8193) ⊎ ((0 < length t.rest) × (length script ≡ 2 ^ 30 + length t.rest))
   long_or_past_by {text} {reading'} {left'} e t =
       let whole : length script ≡ reading'.used + length t.rest = omega (arith, ap length t.spelled, length-append (flat_map ended texts ++ text) t.rest, length-append (flat_map ended texts) text, used, e.uses.used) in
       elim e.refused [ inl long ↦ inl long | inr past ↦ inr (pending_left reading' left' t.rest t.known_is past.1, whole ∙ ap (λ n. n + length t.rest) past.0) ]
 
-  used_few : {text : List ℕ} {reading' : Reading} {left' : Option (List ℕ)} → EndsRefusing script_limits reading reading' left left' text → length text ≤ 8193
+  used_few : {text : List ℕ} {reading' : Reading} {left' : Option (List ℕ)} → StopsRefusing script_limits reading reading' left left' text → length text ≤ 8193
   used_few e = elim e.refused [ inl long ↦ omega (arith, long) | inr past ↦ omega (arith, past.2) ]
 
   -- the reader refuses a line that is too long, or by whose end the script is
-  pub reads_refused : (externals : List External) (text : List ℕ) (reading' : Reading) (left' : Option (List ℕ)) → EndsRefusing script_limits reading reading' left left' text → ReadsRefused externals script texts left'
+  pub reads_refused : (externals : List External) (text : List ℕ) (reading' : Reading) (left' : Option (List ℕ)) → StopsRefusing script_limits reading reading' left left' text → ReadsRefused externals script texts left'
   reads_refused externals text reading' left' e =
       let t = told_after text (rest_of reading' left') e.uses.octets in
       let l = left_of reading' left' t.rest t.known_is in

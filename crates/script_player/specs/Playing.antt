@@ -1,8 +1,7 @@
 -- A run in the middle of its script (our own): what was read and answered so far.
-use Rattle.std.specs.Prelude.{◌≡◌, ℕ, ◌+◌, ◌⊎◌, List, [], ◌∷◌, ◌++◌, length, flat_map, Option, Some, None}
+use Rattle.std.specs.Prelude.{◌≡◌, ℕ, ◌+◌, ◌⊎◌, List, [], ◌∷◌, ◌++◌, length, flat_map, Option, Some, Result, Ok, Err}
 use Rattle.std.specs.List.{AllByRecursion}
 use Rattle.std.specs.Io.KnownBytes.{prepend_known, append_known}
-use Rattle.pcp_io.specs.Faults.{HasRisen}
 use Rattle.pcp_io.specs.Writes.{WritesPart}
 use Rattle.pcp_script.specs.Lines.{IsLine}
 use Rattle.pcp_script.specs.declared.lines.Line.{Line}
@@ -13,13 +12,13 @@ use Rattle.script_player.specs.Houses.{after_lines, houses_along, line_out, out_
 use Rattle.script_player.specs.Played.{IsOver, Start, Streams}
 use Rattle.script_player.specs.Reading.{Reading, rest_of}
 use Rattle.script_player.specs.Scripts.{AreLines, IsUnbroken, ended}
-use Rattle.script_player.specs.Ways.{Course, HasFault}
+use Rattle.script_player.specs.Ways.{Course}
 use Rattle.script_player.specs.declared.answerers.AnswerFault.{AnswerFault}
 use Rattle.script_player.specs.declared.answerers.AnswerFault.TheVariants as Answering
+use Rattle.script_player.specs.declared.faults.LineFault.{LineFault}
+use Rattle.script_player.specs.declared.faults.LineFault.TheVariants.{Read, NotLine, Write, Disk, Memory}
 use Rattle.script_player.specs.declared.player.PlayStatus.{PlayStatus}
 use Rattle.script_player.specs.declared.player.PlayStatus.TheVariants as Statuses
-use Rattle.script_player.specs.declared.player.TextFault.{TextFault}
-use Rattle.script_player.specs.declared.player.TextFault.TheVariants.{NotLine, Write, Disk, Memory}
 use Rattle.script_player.specs.declared.player.TheConstants.{MOST_OCTETS}
 use Rattle.script_player.specs.declared.readers.Ending.{Ending}
 use Rattle.script_player.specs.declared.readers.Ending.TheVariants as Endings
@@ -45,25 +44,29 @@ pub record IsUnderway {House : Type 0} (course : Course House) (start : Start) (
   pub over : course.over (houses_along course.effects course.begun lines)
   pub held_is : streams.held ≡ Some (start.held ++ out_of course.effects course.begun lines)
 
+-- the status of a fault at the line with this number
+abbrev pub status_at : ℕ → LineFault → PlayStatus
+status_at number Read = Statuses.ReadFault
+status_at number NotLine = Statuses.ScriptRefused number
+status_at number Write = Statuses.WriteFault
+status_at number (Disk shard) = Statuses.DiskFault shard
+status_at number Memory = Statuses.Memory
+
 -- a turn goes on to the next line, or ends the run
 abbrev pub IsTurned : {House : Type 0} → Course House → Start → (number : ℕ) → Reading → Streams →
-    Option PlayStatus → Type 0
-IsTurned course start number reading streams None =
+    Result Ending LineFault → Type 0
+IsTurned course start number reading streams (Ok Endings.Feed) =
     IsUnderway course start (number + 1) reading streams
-IsTurned course start number reading streams (Some status) = IsOver course start streams status
-
--- the counts of faults of what a line is answered by
-pub record FaultCounts : Type 0 where
-  pub writes : ℕ
-  -- of each disk of each shard
-  pub disks : ℕ → ℕ → ℕ
+IsTurned course start number reading streams (Ok ending) = IsOver course start streams Statuses.Done
+IsTurned course start number reading streams (Err fault) =
+    IsOver course start streams (status_at number fault)
 
 -- a text that is no line, and want of memory, are told as they are
-abbrev pub fault_of_line : LineRefused → TextFault
+abbrev pub fault_of_line : LineRefused → LineFault
 fault_of_line Refused.NotLine = NotLine
 fault_of_line Refused.Memory = Memory
 
-abbrev pub fault_of_answer : AnswerFault → TextFault
+abbrev pub fault_of_answer : AnswerFault → LineFault
 fault_of_answer (Answering.Disk shard) = Disk shard
 fault_of_answer Answering.Memory = Memory
 
@@ -102,44 +105,13 @@ pub record AnswersPart {House : Type 0} (course : Course House) (text : List ℕ
   pub done : IsDone course text line
   pub part : WritesPart before now (line_out (course.effects.result_of course.begun line))
 
--- what a fault at a text leaves
+-- what a fault at a text that was read leaves
 abbrev pub Fails : {House : Type 0} → Course House → List ℕ → (before now : Option (List ℕ)) →
-    (counts counts_now : FaultCounts) → TextFault → Type 0
-Fails course text before now counts counts_now NotLine =
+    LineFault → Type 0
+Fails course text before now Read = ⊥
+Fails course text before now NotLine =
     ((line : Line) → ¬ (IsLine (course.effects.externals course.begun) text line))
     × (now ≡ before) × IsStill course
-Fails course text before now counts counts_now Write =
-    AnswersPart course text before now × HasRisen counts.writes counts_now.writes
-Fails course text before now counts counts_now (Disk shard) =
-    IsInDoubt course text × (now ≡ before)
-    × HasFault (counts.disks shard) (counts_now.disks shard)
-Fails course text before now counts counts_now Memory =
-    (IsStill course ⊎ IsInDoubt course text) × (now ≡ before)
-
--- the status of a fault at the line with this number
-abbrev pub status_at : ℕ → TextFault → PlayStatus
-status_at number NotLine = Statuses.ScriptRefused number
-status_at number Write = Statuses.WriteFault
-status_at number (Disk shard) = Statuses.DiskFault shard
-status_at number Memory = Statuses.Memory
-
--- a line's text is answered and the run goes on so, or the run ends by a fault
-abbrev pub GoesOnOrFails : {House : Type 0} → Course House → (number : ℕ) →
-    (next : Option PlayStatus) → (text : List ℕ) → (before now : Option (List ℕ)) →
-    (counts counts_now : FaultCounts) → Option PlayStatus → Type 0
-GoesOnOrFails course number next text before now counts counts_now result =
-    ((result ≡ next) × Answers course text before now)
-    ⊎ ((fault : TextFault) × (result ≡ Some (status_at number fault))
-    × Fails course text before now counts counts_now fault)
-
--- the turn of a line that ended so
-abbrev pub EndsTurn : {House : Type 0} → Course House → (number : ℕ) → (text : List ℕ) → Ending →
-    (before now : Option (List ℕ)) → (counts counts_now : FaultCounts) → Option PlayStatus → Type 0
-EndsTurn course number text Endings.End before now counts counts_now result =
-    (result ≡ Some Statuses.Done) × (now ≡ before) × IsStill course
-EndsTurn course number text Endings.Refused before now counts counts_now result =
-    (result ≡ Some (Statuses.ScriptRefused number)) × (now ≡ before) × IsStill course
-EndsTurn course number text Endings.Feed before now counts counts_now result =
-    GoesOnOrFails course number None text before now counts counts_now result
-EndsTurn course number text Endings.Last before now counts counts_now result =
-    GoesOnOrFails course number (Some Statuses.Done) text before now counts counts_now result
+Fails course text before now Write = AnswersPart course text before now
+Fails course text before now (Disk shard) = IsInDoubt course text × (now ≡ before)
+Fails course text before now Memory = (IsStill course ⊎ IsInDoubt course text) × (now ≡ before)

@@ -1,13 +1,12 @@
 -- What a reader of lines does with a source (our own).
 use Rattle.std.specs.Prelude.{◌≡◌, ◌≢◌, ℕ, ◌+◌, ◌≤◌, ◌⊎◌, List, [], ◌∷◌, ◌++◌, length, Option}
 use Rattle.std.specs.Io.KnownBytes.{prepend_known, IsAtEnd}
-use Rattle.pcp_io.specs.Faults.{HasRisen}
 use Rattle.script_player.specs.Scripts.{IsUnbroken}
+use Rattle.script_player.specs.declared.faults.LineFault.{LineFault}
+use Rattle.script_player.specs.declared.faults.LineFault.TheVariants.{Read, NotLine, Write, Disk, Memory}
 use Rattle.script_player.specs.declared.readers.Ending.{Ending}
-use Rattle.script_player.specs.declared.readers.Ending.TheVariants.{Feed, Last, End, Refused}
+use Rattle.script_player.specs.declared.readers.Ending.TheVariants.{Feed, Last, End}
 use Rattle.script_player.specs.declared.readers.Limits.{Limits}
-use Rattle.script_player.specs.declared.readers.LineFault.{LineFault}
-use Rattle.script_player.specs.declared.readers.LineFault.TheVariants.{Read, Memory}
 use Rattle.script_player.specs.declared.readers.TheConstants.{PIECE}
 
 pub record Reading : Type 0 where
@@ -63,19 +62,18 @@ pub record EndsAll (limits : Limits) (old new : Reading) (before now : Option (L
   pub none_pending : new.pending ≡ []
   pub none_left : IsAtEnd now
 
--- the line is too long, or its next octet, which may be its line feed, is one too many
-pub record EndsRefusing (limits : Limits) (old new : Reading) (before now : Option (List ℕ))
-    (text : List ℕ) : Type 0 where
-  pub uses : Uses limits old new before now text
-  pub refused : (length text ≡ limits.longest + 1)
-      ⊎ ((new.used ≡ limits.most) × (new.pending ≢ []) × (length text ≤ limits.longest))
-
 abbrev pub Ends : Limits → Reading → Reading → Option (List ℕ) → Option (List ℕ) → List ℕ →
     Ending → Type 0
 Ends limits old new before now text Feed = EndsByFeed limits old new before now text
 Ends limits old new before now text Last = EndsLast limits old new before now text
 Ends limits old new before now text End = EndsAll limits old new before now text
-Ends limits old new before now text Refused = EndsRefusing limits old new before now text
+
+-- the line is too long, or its next octet, which may be its line feed, is one too many
+pub record StopsRefusing (limits : Limits) (old new : Reading) (before now : Option (List ℕ))
+    (text : List ℕ) : Type 0 where
+  pub uses : Uses limits old new before now text
+  pub refused : (length text ≡ limits.longest + 1)
+      ⊎ ((new.used ≡ limits.most) × (new.pending ≢ []) × (length text ≤ limits.longest))
 
 -- no memory was found for more of the line
 pub record StopsForMemory (limits : Limits) (old new : Reading) (before now : Option (List ℕ))
@@ -85,15 +83,16 @@ pub record StopsForMemory (limits : Limits) (old new : Reading) (before now : Op
 
 -- the source failed, when all that had been read was used
 pub record StopsReading (limits : Limits) (old new : Reading) (before now : Option (List ℕ))
-    (faults faults_now : ℕ) (text : List ℕ) : Type 0 where
+    (text : List ℕ) : Type 0 where
   pub uses : Uses limits old new before now text
   pub short : length text ≤ limits.longest
   pub none_pending : new.pending ≡ []
-  pub risen : HasRisen faults faults_now
 
-abbrev pub Stops : Limits → Reading → Reading → Option (List ℕ) → Option (List ℕ) → ℕ → ℕ →
-    List ℕ → LineFault → Type 0
-Stops limits old new before now faults faults_now text Read =
-    StopsReading limits old new before now faults faults_now text
-Stops limits old new before now faults faults_now text Memory =
-    StopsForMemory limits old new before now text
+-- a reader knows nothing of a sink or a disk
+abbrev pub Stops : Limits → Reading → Reading → Option (List ℕ) → Option (List ℕ) → List ℕ →
+    LineFault → Type 0
+Stops limits old new before now text Read = StopsReading limits old new before now text
+Stops limits old new before now text NotLine = StopsRefusing limits old new before now text
+Stops limits old new before now text Write = ⊥
+Stops limits old new before now text (Disk shard) = ⊥
+Stops limits old new before now text Memory = StopsForMemory limits old new before now text

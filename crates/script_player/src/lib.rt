@@ -4,6 +4,7 @@
 #![tactic(auto)]
 
 mod answerers;
+mod faults;
 mod player;
 mod readers;
 #[cfg(test)]

@@ -1,13 +1,14 @@
 //! The lines of a source, read through a bounded buffer.
-ghost use Rattle.std.specs.Prelude.{◌≡◌, ◌≢◌, ◌+◌, ◌<◌, ◌≤◌, [], drop, length, slice_get, IfOk, IfNone, IfErr, OnErr};
+ghost use Rattle.std.specs.Prelude.{◌≡◌, ◌≢◌, ◌+◌, ◌<◌, ◌≤◌, [], drop, length, slice_get, Err, IfOk, IfNone, IfErr, OnErr};
 ghost use Rattle.std.specs.Io.KnownBytes.{IsAtEnd};
-ghost use Rattle.pcp_io.specs.Faults.{HasCause};
+ghost use Rattle.pcp_io.specs.Faults.{HasCause, HasRisen};
 ghost use Rattle.script_player.specs.Reading.{Reading, rest_of, Ends, Stops};
+ghost use Rattle.script_player.specs.declared.faults.LineFault.TheVariants.{Read};
 ghost use Rattle.script_player.specs.declared.readers.TheConstants.{PIECE};
 
+use crate::faults::LineFault;
 use pcp_base::Failed;
 use pcp_io::Source;
-use std::alloc::AllocFailed;
 use std::marker::Model;
 
 /// How many octets are read at a time.
@@ -29,39 +30,6 @@ pub(crate) enum Ending {
     Last,
     /// There was no further line.
     End,
-    /// The line is too long, or all lines are by its end.
-    Refused,
-}
-
-/// Why no line was read to its end.
-#[derive(Clone, Copy, Debug, PartialEq, Eq)]
-pub(crate) enum LineFault {
-    /// The source failed, and counted that.
-    Read,
-    /// No memory was found.
-    Memory,
-}
-
-impl From<Failed> for LineFault {
-    ghost use Rattle.std.specs.Prelude.{◌≡◌};
-    ghost use Rattle.script_player.specs.declared.readers.LineFault.TheVariants.{Read};
-
-    ghost from_gives = { λ _ fault. fault ≡ Read };
-
-    fn from(_failed: Failed) -> LineFault {
-        LineFault::Read
-    }
-}
-
-impl From<AllocFailed<u8>> for LineFault {
-    ghost use Rattle.std.specs.Prelude.{◌≡◌};
-    ghost use Rattle.script_player.specs.declared.readers.LineFault.TheVariants.{Memory};
-
-    ghost from_gives = { λ _ fault. fault ≡ Memory };
-
-    fn from(_failed: AllocFailed<u8>) -> LineFault {
-        LineFault::Memory
-    }
 }
 
 /// Reads a source in pieces of 4,096 octets, and gives its lines.
@@ -105,8 +73,9 @@ impl LineReader {
         }
     }
 
-    /// Reads the next line into `text`, without its line feed. No octet is read before all that were
-    /// read are used, and none is used behind a line that is refused.
+    /// Reads the next line into `text`, without its line feed; `NotLine` where it is too long, or all
+    /// lines are by its end. No octet is read before all that were read are used, and none is used
+    /// behind a line that is refused.
     pub(crate) fn next_line<S: Source>(
         &mut self,
         input: &mut S,
@@ -117,13 +86,17 @@ impl LineReader {
             text.new.items) }
         ensures stops { IfErr result
             (Stops self.old.limits self.old self.new (S.left input.old) (S.left input.new)
-            (S.faults input.old) (S.faults input.new) text.new.items) }
+            text.new.items) }
         ensures limits { self.new.limits ≡ self.old.limits }
-        ensures faults { S.faults input.old ≤ S.faults input.new }
+        ensures cause { result ≡ Err Read → HasRisen (S.faults input.old) (S.faults input.new) }
+        ensures later { S.faults input.old ≤ S.faults input.new }
     {
         text.clear();
         loop {
-            let Some(octet) = self.peek(input)? else {
+            let Ok(next) = self.peek(input) else {
+                return Err(LineFault::Read);
+            };
+            let Some(octet) = next else {
                 return Ok(if text.is_empty() {
                     Ending::End
                 } else {
@@ -131,7 +104,7 @@ impl LineReader {
                 });
             };
             if self.used == self.limits.most {
-                return Ok(Ending::Refused);
+                return Err(LineFault::NotLine);
             }
             if octet == b'\n' {
                 self.advance();
@@ -140,7 +113,7 @@ impl LineReader {
             text.push(octet)?;
             self.advance();
             if text.len() > self.limits.longest {
-                return Ok(Ending::Refused);
+                return Err(LineFault::NotLine);
             }
         }
     }

@@ -1,4 +1,4 @@
-use Rattle.std.proofs.Common.{rules, [], ◌∷◌, ap, subst, Err}
+use Rattle.std.proofs.Common.{rules, [], ◌∷◌, subst}
 use Rattle.pcp_script.specs.Lines.{IsLine}
 use Rattle.script_player.specs.Playing.{IsInDoubt}
 use Rattle.script_player.specs.Ways.{course_of}
@@ -16,8 +16,5 @@ returns-in_err-told-clause-err g c =
       over = way;
       at_end = g.met.A.LineAnswerer.ways.ends c.args.answerer.now c.answer.new.self houses way;
     } in
-    let fails = fails_in_doubt course c.args.text.now (g.W.Sink.held c.args.out.now)
-        (record { writes = g.W.Sink.faults c.args.out.now; disks = g.A.LineAnswerer.faults c.args.answerer.now })
-        (record { writes = g.W.Sink.faults c.args.out.now; disks = g.A.LineAnswerer.faults c.answer.new.self })
-        c.in_err-told.field-0.0 doubt (λ shard e. c.in_err-told.ensures.cause shard (ap Err e)) in
+    let fails = fails_in_doubt course c.args.text.now (g.W.Sink.held c.args.out.now) c.in_err-told.field-0.0 doubt in
     search rules

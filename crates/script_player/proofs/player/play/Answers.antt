@@ -1,7 +1,9 @@
-use Rattle.std.proofs.Common.{refl, ap, lit≤, arith}
+use Rattle.std.proofs.Common.{rules, ◌≡◌, ◌∙◌, refl, ap, Ok, lit≤, arith}
 use Rattle.script_player.specs.Reading.{Reading}
 use Rattle.script_player.specs.Ways.{course_of}
-use Rattle.script_player.proofs.PlayLemmas.{begins}
+use Rattle.script_player.specs.declared.readers.Ending.TheVariants.{Feed}
+use Rattle.script_player.specs.declared.readers.Limits.{Limits}
+use Rattle.script_player.proofs.PlayLemmas.{begins, goes_on_at, is_over_at}
 use Rattle.script_player.proofs.player.play.Goals as goal
 
 pub loop-number-init : goal.loop-number-init
@@ -17,3 +19,41 @@ loop-number-init g c = record {
   writes = omega arith;
   disks = λ shard disk. omega arith;
 }
+
+pub loop-number-preserved : goal.loop-number-preserved
+loop-number-preserved g c =
+    let went = c.in-Ok-Feed.ensures in
+    let inv = c.loop-number.invariant in
+    let feed = ap Ok c.in-Ok-Feed.field-0-is in
+    let grew = went.used feed in
+    record {
+      underway = λ start l h. goes_on_at
+          (course_of g.A.LineAnswerer.effects g.A.LineAnswerer.house g.A.LineAnswerer.way c.args.answerer.now c.turn.new.answerer) start c.loop-number.number c.turn.new.reader
+          (record { left = g.S.Source.left c.turn.new.input; held = g.W.Sink.held c.turn.new.out }) c.in-Ok-Feed.field-0 c.in-Ok-Feed.field-0-is
+          (went.turned c.args.answerer.now start c.loop-number.number (inv.underway start l h));
+      rests = went.rests feed;
+      limits = went.limits ∙ inv.limits;
+      number = omega (arith, inv.number, grew.0);
+      used = omega (arith, grew.1, ap (λ (l : Limits). l.most) inv.limits);
+      reads = omega (arith, inv.reads, went.reads);
+      writes = omega (arith, inv.writes, went.writes);
+      disks = λ shard disk. omega (arith, inv.disks shard disk, went.disks shard disk);
+    }
+
+pub returns-in-Ok : goal.returns-in-Ok
+returns-in-Ok g c =
+    let other : ¬ (c.in-Ok.field-0 ≡ Feed) = search rules in
+    let inv = c.loop-number.invariant in
+    let went = c.in-Ok.ensures in
+    record {
+      played = λ start l h. is_over_at
+          (course_of g.A.LineAnswerer.effects g.A.LineAnswerer.house g.A.LineAnswerer.way c.args.answerer.now c.turn.new.answerer) start c.loop-number.number c.turn.new.reader
+          (record { left = g.S.Source.left c.turn.new.input; held = g.W.Sink.held c.turn.new.out }) c.in-Ok.field-0 other
+          (went.turned c.args.answerer.now start c.loop-number.number (inv.underway start l h));
+      read_fault = λ bad. absurd cc;
+      write_fault = λ bad. absurd cc;
+      disk_fault = λ shard bad. absurd cc;
+      reads = omega (arith, inv.reads, went.reads);
+      writes = omega (arith, inv.writes, went.writes);
+      disks = λ shard disk. omega (arith, inv.disks shard disk, went.disks shard disk);
+    }
