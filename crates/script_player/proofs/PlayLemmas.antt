@@ -209,12 +209,12 @@ module _ {A House : Type 0} (effects : LineEffects House) (house : A → House) 
     held_is = held_same held' h.1;
     played = elim h.0 [
       | inl s ↦ inl (record {
-          texts = u.texts;
-          rest = text ++ r.tail;
-          first = r.before;
-          read = ReadsFew-weaker start.script r.now u.texts _ _ r.read (omega (arith, short));
-          answered = answered new s;
-        })
+        texts = u.texts;
+        rest = text ++ r.tail;
+        first = r.before;
+        read = ReadsFew-weaker start.script r.now u.texts _ _ r.read (omega (arith, short));
+        answered = answered new s;
+      })
       | inr d ↦ inr (in_doubt new text left' r d)
     ];
   }

@@ -181,19 +181,21 @@ module _ (script : List ℕ) (texts : List (List ℕ)) (reading : Reading) (left
       let ends : left' ≡ Some [] = none ∙ ap Some nothing in
       let whole : script ≡ (flat_map ended texts ++ text) ++ [] = t.spelled ∙ ap (λ x. (flat_map ended texts ++ text) ++ x) nothing in
       let first = first_by_last text reading'.used (whole ∙ append-nil (flat_map ended texts ++ text)) e.uses.unbroken e.some e.uses.used e.uses.few in
-      let pending : [] ≡ reading'.pending ++ [] = ap (λ xs. xs ++ []) (sym e.none_pending) in
-      (record { left_is = ends; first = first; }, record {
-        now = [];
-        left_is = ends;
-        read = reads_few text reading' [] [] (most_for text) whole pending e.uses.piece (omega (arith, e.short));
-        rest = [];
-        first = first;
-        tail = [];
-        before = first_so_far text [] reading'.used e.uses.used e.uses.few whole;
-        unbroken = e.uses.unbroken;
-        whole = inl refl;
-        some = inl e.some;
-      })
+      let pending : [] ≡ reading'.pending ++ [] = ap (λ xs. xs ++ []) (sym e.none_pending) in (
+        record { left_is = ends; first = first },
+        record {
+          now = [];
+          left_is = ends;
+          read = reads_few text reading' [] [] (most_for text) whole pending e.uses.piece (omega (arith, e.short));
+          rest = [];
+          first = first;
+          tail = [];
+          before = first_so_far text [] reading'.used e.uses.used e.uses.few whole;
+          unbroken = e.uses.unbroken;
+          whole = inl refl;
+          some = inl e.some;
+        },
+      )
 
   -- the lines so far and the next one, which has its line feed
   script_by_feed : (text : List ℕ) (reading' : Reading) (left' : Option (List ℕ)) → EndsByFeed script_limits reading reading' left left' text
@@ -205,21 +207,22 @@ module _ (script : List ℕ) (texts : List (List ℕ)) (reading : Reading) (left
 
   pub goes_by_feed : (text : List ℕ) (reading' : Reading) (left' : Option (List ℕ)) → EndsByFeed script_limits reading reading' left left' text
       → (Some script ≡ prepend_known (flat_map ended (texts ++ text ∷ [])) (rest_of reading' left')) × (reading'.used ≡ length (flat_map ended (texts ++ text ∷ []))) × AllByRecursion IsUnbroken (texts ++ text ∷ [])
-  goes_by_feed text reading' left' e =
-      (script_by_feed text reading' left' e,
-      e.used ∙ ap (λ n. n + length text + 1) used
-      ∙ (let grown : length (flat_map ended texts) + length text + 1 ≡ length (flat_map ended texts ++ ended text) = omega (arith, length-append (flat_map ended texts) (ended text), length-ended text) in grown)
-      ∙ ap length (sym (flat_map-ended-push texts text)),
-      AllUnbroken-push texts text unbroken e.unbroken)
+  goes_by_feed text reading' left' e = (
+    script_by_feed text reading' left' e,
+    e.used ∙ ap (λ n. n + length text + 1) used
+        ∙ (let grown : length (flat_map ended texts) + length text + 1 ≡ length (flat_map ended texts ++ ended text) = omega (arith, length-append (flat_map ended texts) (ended text), length-ended text) in grown)
+        ∙ ap length (sym (flat_map-ended-push texts text)),
+    AllUnbroken-push texts text unbroken e.unbroken,
+  )
 
   pub reads_by_feed : (text : List ℕ) (reading' : Reading) (left' : Option (List ℕ)) → EndsByFeed script_limits reading reading' left left' text → ReadsLine script texts text left'
   reads_by_feed text reading' left' e =
       let t = told_after (ended text) (rest_of reading' left') e.octets in
       let l = left_of reading' left' t.rest t.known_is in
       let up_to : script ≡ (flat_map ended texts ++ text) ++ 10 ∷ t.rest =
-          t.spelled ∙ append_assoc (flat_map ended texts) (ended text) t.rest
-          ∙ ap (λ xs. flat_map ended texts ++ xs) (append_assoc text (10 ∷ []) t.rest)
-          ∙ sym (append_assoc (flat_map ended texts) text (10 ∷ t.rest)) in
+      t.spelled ∙ append_assoc (flat_map ended texts) (ended text) t.rest
+      ∙ ap (λ xs. flat_map ended texts ++ xs) (append_assoc text (10 ∷ []) t.rest)
+      ∙ sym (append_assoc (flat_map ended texts) text (10 ∷ t.rest)) in
       record {
         now = l.0;
         left_is = l.1;

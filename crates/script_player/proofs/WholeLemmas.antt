@@ -12,7 +12,7 @@ pub ReadsSome-piece : (before mid now : Option (List ℕ)) (text old new : List 
 ReadsSome-piece before mid now text old new n least most so reads size enough few =
     let bound : n ≤ length new = reads.bound in
     let count : length (text ++ take n new) ≡ length text + n =
-        omega (arith, length-append text (take n new), length-take n new, bound) in
+    omega (arith, length-append text (take n new), length-take n new, bound) in
     record {
       ahead = text ++ take n new;
       octets = so ∙ ap (prepend_known text) reads.octets ∙ prepend_known-append text (take n new) now;

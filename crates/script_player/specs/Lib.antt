@@ -1,4 +1,5 @@
 pub mod Houses
+pub mod Logs
 pub mod Played
 pub mod Playing
 pub mod Reading

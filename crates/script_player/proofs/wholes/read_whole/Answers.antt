@@ -13,5 +13,5 @@ pub returns-in_err-extend_from_slice-clause-stops :
 returns-in_err-extend_from_slice-clause-stops g c =
     let size : length c.read.new.piece ≡ 4096 = omega arith in
     let some = ReadsSome-piece (g.S.Source.left c.args.input.now) (g.S.Source.left c.loop-text.input) (g.S.Source.left c.read.new.self) c.loop-text.text.items c.loop-text.piece c.read.new.piece c.in_ok-count.count 0 (c.args.most + 4096)
-        c.loop-text.invariant.octets c.in_ok-count.ensures.reads size (omega arith) (omega (arith, c.loop-text.invariant.few)) in
+    c.loop-text.invariant.octets c.in_ok-count.ensures.reads size (omega arith) (omega (arith, c.loop-text.invariant.few)) in
     search rules
