@@ -1,5 +1,5 @@
 -- How one line is answered, or fails.
-use Rattle.std.proofs.Common.{◌≡◌, List, ℕ, Option, refl, inr}
+use Rattle.std.proofs.Common.{List, ℕ, Option, refl, inr}
 use Rattle.script_player.specs.Playing.{Fails, IsInDoubt, fault_of_answer}
 use Rattle.script_player.specs.Ways.{Course}
 use Rattle.script_player.specs.declared.answerers.AnswerFault.{AnswerFault}

@@ -1,13 +1,13 @@
 -- How a run over a script goes on over one line, or ends at it.
-use Rattle.std.proofs.Common.{◌≡◌, ℕ, ◌+◌, ◌≤◌, List, [], ◌∷◌, ◌++◌, length, take, Option, Some, Result, Ok, Err, refl, sym, ap, subst, ◌∙◌, inl, inr, ◌⊎◌, arith, append_assoc, append-nil, length-append}
+use Rattle.std.proofs.Common.{◌≡◌, ℕ, ◌+◌, ◌≤◌, List, [], ◌∷◌, ◌++◌, length, take, Option, Some, Result, Ok, Err, refl, sym, ap, subst, ◌∙◌, inl, inr, arith, append_assoc, append-nil, length-append}
 use Rattle.std.specs.Io.KnownBytes.{append_known}
 use Rattle.pcp_io.specs.Writes.{WritesPart}
 use Rattle.pcp_script.specs.Lines.{IsLine}
 use Rattle.pcp_script.specs.declared.lines.Line.{Line}
 use Rattle.script_player.specs.Houses.{LineEffects, after_lines, houses_along, line_out, out_of}
-use Rattle.script_player.specs.Played.{AreAnswered, AreDone, EndsInDoubt, IsOver, Outcome, Start, Streams}
+use Rattle.script_player.specs.Played.{AreAnswered, AreDone, EndsInDoubt, IsOver, Start, Streams}
 use Rattle.script_player.specs.Playing.{Answers, Fails, IsDone, IsInDoubt, IsStill, IsTurned, IsUnderway, script_limits, status_at}
-use Rattle.script_player.specs.Reading.{Reading, rest_of, Ends, Stops, EndsByFeed}
+use Rattle.script_player.specs.Reading.{Reading, Ends, Stops, EndsByFeed}
 use Rattle.script_player.specs.Scripts.{AreLines}
 use Rattle.script_player.specs.Ways.{Course, WayLaws, course_of}
 use Rattle.script_player.specs.declared.faults.LineFault.{LineFault}

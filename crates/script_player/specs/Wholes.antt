@@ -1,5 +1,5 @@
 -- What is read where a source is read to its end or past a limit (our own).
-use Rattle.std.specs.Prelude.{◌≡◌, ℕ, ◌+◌, ◌<◌, ◌≤◌, List, length, Option}
+use Rattle.std.specs.Prelude.{◌≡◌, ℕ, ◌+◌, ◌≤◌, List, length, Option}
 use Rattle.std.specs.Io.KnownBytes.{prepend_known, IsAtEnd}
 use Rattle.script_player.specs.declared.readers.TheConstants.{PIECE}
 use Rattle.script_player.specs.declared.wholes.WholeFault.{WholeFault}

@@ -1,4 +1,4 @@
-use Rattle.std.proofs.Common.{rules, ◌≡◌, Err, Ok}
+use Rattle.std.proofs.Common.{rules, ◌≡◌, Err}
 use Rattle.script_player.proofs.PlayLemmas.{answers_at, ends_at, fails_at, stops_at}
 use Rattle.script_player.specs.declared.readers.Ending.TheVariants.{End}
 use Rattle.script_player.proofs.player.turn.Goals as goal

@@ -1,4 +1,4 @@
-use Rattle.std.proofs.Common.{rules, ◌≡◌, ◌+◌, ◌≤◌, length, refl, arith}
+use Rattle.std.proofs.Common.{rules, ◌≡◌, ◌+◌, length, arith}
 use Rattle.script_player.proofs.WholeLemmas.{ReadsSome-piece}
 use Rattle.script_player.proofs.wholes.read_whole.Goals as goal
 
