@@ -5,7 +5,7 @@ use Rattle.pcp_io.specs.Writes.{WritesPart}
 use Rattle.pcp_script.specs.Lines.{IsLine}
 use Rattle.pcp_script.specs.declared.lines.Line.{Line}
 use Rattle.script_player.specs.Houses.{LineEffects, after_lines, houses_along, line_out, out_of}
-use Rattle.script_player.specs.Played.{AreAnswered, AreDone, EndsInDoubt, IsOver, Start, Streams}
+use Rattle.script_player.specs.Played.{AreAnswered, AreDone, EndsInDoubt, IsOver, Outset, Streams}
 use Rattle.script_player.specs.Playing.{Answers, Fails, IsDone, IsInDoubt, IsStill, IsTurned, IsUnderway, script_limits, status_at}
 use Rattle.script_player.specs.Reading.{Reading, Ends, Stops, EndsByFeed}
 use Rattle.script_player.specs.Scripts.{AreLines}
@@ -21,8 +21,8 @@ use Rattle.script_player.proofs.ScriptLemmas.{ReadsAll, ReadsFew-weaker, ReadsLi
 
 module _ {A House : Type 0} (effects : LineEffects House) (house : A → House) (way : A → A → List House → Type 0) (laws : WayLaws way)
     (same_externals : (h : House) (line : Line) → effects.externals (effects.after h line) ≡ effects.externals h)
-    (first mid : A) (start : Start) (number : ℕ) (reading : Reading) (streams : Streams)
-    (u : IsUnderway (course_of effects house way first mid) start number reading streams) where
+    (first mid : A) (outset : Outset) (number : ℕ) (reading : Reading) (streams : Streams)
+    (u : IsUnderway (course_of effects house way first mid) outset number reading streams) where
   -- the house at the beginning, and that after the lines so far
   abbrev begun : House
   begun = house first
@@ -78,16 +78,16 @@ module _ {A House : Type 0} (effects : LineEffects House) (house : A → House) 
 
   -- one more line is written
   written_more : (line : Line) (now : Option (List ℕ)) →
-      now ≡ append_known streams.held (line_out (effects.result_of (house mid) line)) → now ≡ Some (start.held ++ out_of effects begun (u.lines ++ line ∷ []))
+      now ≡ append_known streams.held (line_out (effects.result_of (house mid) line)) → now ≡ Some (outset.held ++ out_of effects begun (u.lines ++ line ∷ []))
   written_more line now h =
       h ∙ ap (λ x. append_known streams.held (line_out (effects.result_of x line))) u.house
       ∙ ap (λ known. append_known known (line_out (effects.result_of last line))) u.held_is
-      ∙ ap Some (append_assoc start.held lines_out (line_out (effects.result_of last line)) ∙ ap (λ xs. start.held ++ xs) (sym (out_of-push effects begun u.lines line)))
+      ∙ ap Some (append_assoc outset.held lines_out (line_out (effects.result_of last line)) ∙ ap (λ xs. outset.held ++ xs) (sym (out_of-push effects begun u.lines line)))
 
   goes_on : (new : A) (text : List ℕ) (reading' : Reading) (left' held' : Option (List ℕ)) → reading'.limits ≡ reading.limits → EndsByFeed script_limits reading reading' streams.left left' text
-      → Answers (course_of effects house way mid new) text streams.held held' → IsUnderway (course_of effects house way first new) start (number + 1) reading' (record { left = left'; held = held' })
+      → Answers (course_of effects house way mid new) text streams.held held' → IsUnderway (course_of effects house way first new) outset (number + 1) reading' (record { left = left'; held = held' })
   goes_on new text reading' left' held' limits e a =
-      let goes = goes_by_feed start.script u.texts reading streams.left u.unbroken u.script_is u.used text reading' left' e in
+      let goes = goes_by_feed outset.script u.texts reading streams.left u.unbroken u.script_is u.used text reading' left' e in
       let done = more new text a.line a.done in
       record {
         limited = limits ∙ u.limited;
@@ -104,11 +104,11 @@ module _ {A House : Type 0} (effects : LineEffects House) (house : A → House) 
       }
 
   -- a run over, of which this was written beside what was held
-  held_same : (held' : Option (List ℕ)) → held' ≡ streams.held → held' ≡ Some (start.held ++ lines_out)
+  held_same : (held' : Option (List ℕ)) → held' ≡ streams.held → held' ≡ Some (outset.held ++ lines_out)
   held_same held' same = same ∙ u.held_is
 
-  ends_all : (new : A) (left' held' : Option (List ℕ)) → ReadsAll start.script u.texts left' → held' ≡ streams.held → IsStill (course_of effects house way mid new)
-      → IsOver (course_of effects house way first new) start (record { left = left'; held = held' }) Statuses.Done
+  ends_all : (new : A) (left' held' : Option (List ℕ)) → ReadsAll outset.script u.texts left' → held' ≡ streams.held → IsStill (course_of effects house way mid new)
+      → IsOver (course_of effects house way first new) outset (record { left = left'; held = held' }) Statuses.Done
   ends_all new left' held' r same s = record {
     outcome = record { left = []; written = lines_out };
     left_is = r.left_is;
@@ -117,8 +117,8 @@ module _ {A House : Type 0} (effects : LineEffects House) (house : A → House) 
   }
 
   -- the last line, which has no line feed, is answered
-  ends_last : (new : A) (text : List ℕ) (left' held' : Option (List ℕ)) → ReadsAll start.script (u.texts ++ text ∷ []) left' → Answers (course_of effects house way mid new) text streams.held held'
-      → IsOver (course_of effects house way first new) start (record { left = left'; held = held' }) Statuses.Done
+  ends_last : (new : A) (text : List ℕ) (left' held' : Option (List ℕ)) → ReadsAll outset.script (u.texts ++ text ∷ []) left' → Answers (course_of effects house way mid new) text streams.held held'
+      → IsOver (course_of effects house way first new) outset (record { left = left'; held = held' }) Statuses.Done
   ends_last new text left' held' r a = record {
     outcome = record { left = []; written = out_of effects begun (u.lines ++ a.line ∷ []) };
     left_is = r.left_is;
@@ -132,8 +132,8 @@ module _ {A House : Type 0} (effects : LineEffects House) (house : A → House) 
   }
 
   -- the next line may have been answered, and nothing of its result is written
-  in_doubt : (new : A) (text : List ℕ) (left' : Option (List ℕ)) → (r : ReadsLine start.script u.texts text left') → IsInDoubt (course_of effects house way mid new) text
-      → EndsInDoubt (course_of effects house way first new) start.script (record { left = r.now; written = lines_out })
+  in_doubt : (new : A) (text : List ℕ) (left' : Option (List ℕ)) → (r : ReadsLine outset.script u.texts text left') → IsInDoubt (course_of effects house way mid new) text
+      → EndsInDoubt (course_of effects house way first new) outset.script (record { left = r.now; written = lines_out })
   in_doubt new text left' r d = record {
     texts = u.texts;
     text = text;
@@ -149,9 +149,9 @@ module _ {A House : Type 0} (effects : LineEffects House) (house : A → House) 
   }
 
   -- a line that was read whole fails
-  fails : (new : A) (text : List ℕ) (left' held' : Option (List ℕ)) (fault : LineFault) → ReadsLine start.script u.texts text left' → length text ≤ 8192
+  fails : (new : A) (text : List ℕ) (left' held' : Option (List ℕ)) (fault : LineFault) → ReadsLine outset.script u.texts text left' → length text ≤ 8192
       → Fails (course_of effects house way mid new) text streams.held held' fault
-      → IsOver (course_of effects house way first new) start (record { left = left'; held = held' }) (status_at number fault)
+      → IsOver (course_of effects house way first new) outset (record { left = left'; held = held' }) (status_at number fault)
   fails new text left' held' Faults.Read r short h = absurd h
   fails new text left' held' Faults.NotLine r short h = record {
     outcome = record { left = r.now; written = lines_out };
@@ -180,7 +180,7 @@ module _ {A House : Type 0} (effects : LineEffects House) (house : A → House) 
       record {
         outcome = record { left = r.now; written = lines_out ++ take part.taken result };
         left_is = r.left_is;
-        held_is = part.front ∙ ap (λ known. append_known known (take part.taken result)) u.held_is ∙ ap Some (append_assoc start.held lines_out (take part.taken result));
+        held_is = part.front ∙ ap (λ known. append_known known (take part.taken result)) u.held_is ∙ ap Some (append_assoc outset.held lines_out (take part.taken result));
         played = record {
           texts = u.texts;
           text = text;
@@ -212,7 +212,7 @@ module _ {A House : Type 0} (effects : LineEffects House) (house : A → House) 
         texts = u.texts;
         rest = text ++ r.tail;
         first = r.before;
-        read = ReadsFew-weaker start.script r.now u.texts _ _ r.read (omega (arith, short));
+        read = ReadsFew-weaker outset.script r.now u.texts _ _ r.read (omega (arith, short));
         answered = answered new s;
       })
       | inr d ↦ inr (in_doubt new text left' r d)
@@ -225,9 +225,9 @@ module _ {A House : Type 0} (effects : LineEffects House) (house : A → House) 
   -- the reader tells a fault
   stops : (text : List ℕ) (reading' : Reading) (left' : Option (List ℕ)) (fault : LineFault) → way mid mid (house mid ∷ [])
       → Stops script_limits reading reading' streams.left left' text fault
-      → IsOver (course_of effects house way first mid) start (record { left = left'; held = streams.held }) (status_at number fault)
+      → IsOver (course_of effects house way first mid) outset (record { left = left'; held = streams.held }) (status_at number fault)
   stops text reading' left' Faults.Read rests e =
-      let r = reads_part start.script u.texts reading streams.left u.unbroken u.script_is u.used text reading' left' e in
+      let r = reads_part outset.script u.texts reading streams.left u.unbroken u.script_is u.used text reading' left' e in
       record {
         outcome = record { left = r.now; written = lines_out };
         left_is = r.left_is;
@@ -244,7 +244,7 @@ module _ {A House : Type 0} (effects : LineEffects House) (house : A → House) 
         };
       }
   stops text reading' left' Faults.NotLine rests e =
-      let r = reads_refused start.script u.texts reading streams.left u.unbroken u.script_is u.used (effects.externals begun) text reading' left' e in
+      let r = reads_refused outset.script u.texts reading streams.left u.unbroken u.script_is u.used (effects.externals begun) text reading' left' e in
       record {
         outcome = record { left = r.now; written = lines_out };
         left_is = r.left_is;
@@ -263,7 +263,7 @@ module _ {A House : Type 0} (effects : LineEffects House) (house : A → House) 
   stops text reading' left' Faults.Write rests e = absurd e
   stops text reading' left' (Faults.Disk shard) rests e = absurd e
   stops text reading' left' Faults.Memory rests e =
-      let r = reads_early start.script u.texts reading streams.left u.unbroken u.script_is u.used text reading' left' e in
+      let r = reads_early outset.script u.texts reading streams.left u.unbroken u.script_is u.used text reading' left' e in
       record {
         outcome = record { left = r.now; written = lines_out };
         left_is = r.left_is;
@@ -279,31 +279,31 @@ module _ {A House : Type 0} (effects : LineEffects House) (house : A → House) 
 
   pub stops_at : (text : List ℕ) (reading' : Reading) (left' : Option (List ℕ)) (fault : LineFault) (result : Result Ending LineFault) → way mid mid (house mid ∷ [])
       → result ≡ Err fault → Stops reading.limits reading reading' streams.left left' text fault
-      → IsTurned (course_of effects house way first mid) start number reading' (record { left = left'; held = streams.held }) result
+      → IsTurned (course_of effects house way first mid) outset number reading' (record { left = left'; held = streams.held }) result
   stops_at text reading' left' fault result rests same h =
       rw same (stops text reading' left' fault rests (subst (λ (l : Limits). Stops l reading reading' streams.left left' text fault) u.limited h))
 
   -- there was no further line
   pub ends_at : (text : List ℕ) (reading' : Reading) (left' : Option (List ℕ)) (ending : Ending) → way mid mid (house mid ∷ [])
       → ending ≡ Endings.End → Ends reading.limits reading reading' streams.left left' text ending
-      → IsTurned (course_of effects house way first mid) start number reading' (record { left = left'; held = streams.held }) (Ok ending)
+      → IsTurned (course_of effects house way first mid) outset number reading' (record { left = left'; held = streams.held }) (Ok ending)
   ends_at text reading' left' ending rests same h =
       rw same (ends_all mid left' streams.held
-      (reads_all start.script u.texts reading streams.left u.unbroken u.script_is u.used text reading' left'
+      (reads_all outset.script u.texts reading streams.left u.unbroken u.script_is u.used text reading' left'
       (rw same at (subst (λ (l : Limits). Ends l reading reading' streams.left left' text ending) u.limited h))) refl (still_here rests))
 
   -- the line is answered
   answers : (new : A) (text : List ℕ) (reading' : Reading) (left' held' : Option (List ℕ)) (ending : Ending) → ¬ (ending ≡ Endings.End) → reading'.limits ≡ reading.limits
       → Ends script_limits reading reading' streams.left left' text ending → Answers (course_of effects house way mid new) text streams.held held'
-      → IsTurned (course_of effects house way first new) start number reading' (record { left = left'; held = held' }) (Ok ending)
+      → IsTurned (course_of effects house way first new) outset number reading' (record { left = left'; held = held' }) (Ok ending)
   answers new text reading' left' held' Endings.Feed other limits e a = goes_on new text reading' left' held' limits e a
   answers new text reading' left' held' Endings.Last other limits e a =
-      ends_last new text left' held' (reads_last start.script u.texts reading streams.left u.unbroken u.script_is u.used text reading' left' e).0 a
+      ends_last new text left' held' (reads_last outset.script u.texts reading streams.left u.unbroken u.script_is u.used text reading' left' e).0 a
   answers new text reading' left' held' Endings.End other limits e a = absurd (other refl)
 
   pub answers_at : (new : A) (text text' : List ℕ) (reading' : Reading) (left' held' : Option (List ℕ)) (ending : Ending) → ¬ (ending ≡ Endings.End) → text' ≡ text → reading'.limits ≡ reading.limits
       → Ends reading.limits reading reading' streams.left left' text ending → Answers (course_of effects house way mid new) text' streams.held held'
-      → IsTurned (course_of effects house way first new) start number reading' (record { left = left'; held = held' }) (Ok ending)
+      → IsTurned (course_of effects house way first new) outset number reading' (record { left = left'; held = held' }) (Ok ending)
   answers_at new text text' reading' left' held' ending other same limits e a =
       answers new text reading' left' held' ending other limits
       (subst (λ (l : Limits). Ends l reading reading' streams.left left' text ending) u.limited e)
@@ -312,26 +312,26 @@ module _ {A House : Type 0} (effects : LineEffects House) (house : A → House) 
   -- it fails
   fails_by : (new : A) (text : List ℕ) (reading' : Reading) (left' held' : Option (List ℕ)) (ending : Ending) (fault : LineFault) → ¬ (ending ≡ Endings.End)
       → Ends script_limits reading reading' streams.left left' text ending → Fails (course_of effects house way mid new) text streams.held held' fault
-      → IsOver (course_of effects house way first new) start (record { left = left'; held = held' }) (status_at number fault)
+      → IsOver (course_of effects house way first new) outset (record { left = left'; held = held' }) (status_at number fault)
   fails_by new text reading' left' held' Endings.Feed fault other e h =
-      fails new text left' held' fault (reads_by_feed start.script u.texts reading streams.left u.unbroken u.script_is u.used text reading' left' e) e.short h
+      fails new text left' held' fault (reads_by_feed outset.script u.texts reading streams.left u.unbroken u.script_is u.used text reading' left' e) e.short h
   fails_by new text reading' left' held' Endings.Last fault other e h =
-      fails new text left' held' fault (reads_last start.script u.texts reading streams.left u.unbroken u.script_is u.used text reading' left' e).1 e.short h
+      fails new text left' held' fault (reads_last outset.script u.texts reading streams.left u.unbroken u.script_is u.used text reading' left' e).1 e.short h
   fails_by new text reading' left' held' Endings.End fault other e h = absurd (other refl)
 
   pub fails_at : (new : A) (text text' : List ℕ) (reading' : Reading) (left' held' : Option (List ℕ)) (ending : Ending) (fault : LineFault) (result : Result Ending LineFault) → ¬ (ending ≡ Endings.End)
       → result ≡ Err fault → text' ≡ text → Ends reading.limits reading reading' streams.left left' text ending → Fails (course_of effects house way mid new) text' streams.held held' fault
-      → IsTurned (course_of effects house way first new) start number reading' (record { left = left'; held = held' }) result
+      → IsTurned (course_of effects house way first new) outset number reading' (record { left = left'; held = held' }) result
   fails_at new text text' reading' left' held' ending fault result other same same_text e h =
       rw same (fails_by new text reading' left' held' ending fault other
       (subst (λ (l : Limits). Ends l reading reading' streams.left left' text ending) u.limited e)
       (subst (λ (xs : List ℕ). Fails (course_of effects house way mid new) xs streams.held held' fault) same_text h))
 
 -- before the first line
-pub begins : {House : Type 0} (course : Course House) (start : Start) (reading : Reading) (left held : Option (List ℕ)) →
+pub begins : {House : Type 0} (course : Course House) (outset : Outset) (reading : Reading) (left held : Option (List ℕ)) →
     course.ended ≡ course.begun → course.over (course.begun ∷ []) → reading ≡ record { pending = []; used = 0; limits = script_limits } →
-    left ≡ Some start.script → held ≡ Some start.held → IsUnderway course start 1 reading (record { left = left; held = held })
-begins course start reading left held same over r l h = rw (r, l, h) (record {
+    left ≡ Some outset.script → held ≡ Some outset.held → IsUnderway course outset 1 reading (record { left = left; held = held })
+begins course outset reading left held same over r l h = rw (r, l, h) (record {
   limited = refl;
   texts = [];
   lines = [];
@@ -342,17 +342,17 @@ begins course start reading left held same over r l h = rw (r, l, h) (record {
   used = refl;
   house = same;
   over = over;
-  held_is = ap Some (sym (append-nil start.held));
+  held_is = ap Some (sym (append-nil outset.held));
 })
 
 -- behind a line that ended by its line feed
-pub goes_on_at : {House : Type 0} (course : Course House) (start : Start) (number : ℕ) (reading : Reading) (streams : Streams) (ending : Ending) →
-    ending ≡ Endings.Feed → IsTurned course start number reading streams (Ok ending) → IsUnderway course start (number + 1) reading streams
-goes_on_at course start number reading streams ending same h = rw same at h
+pub goes_on_at : {House : Type 0} (course : Course House) (outset : Outset) (number : ℕ) (reading : Reading) (streams : Streams) (ending : Ending) →
+    ending ≡ Endings.Feed → IsTurned course outset number reading streams (Ok ending) → IsUnderway course outset (number + 1) reading streams
+goes_on_at course outset number reading streams ending same h = rw same at h
 
 -- behind any other
-pub is_over_at : {House : Type 0} (course : Course House) (start : Start) (number : ℕ) (reading : Reading) (streams : Streams) (ending : Ending) →
-    ¬ (ending ≡ Endings.Feed) → IsTurned course start number reading streams (Ok ending) → IsOver course start streams Statuses.Done
-is_over_at course start number reading streams Endings.Feed other h = absurd (other refl)
-is_over_at course start number reading streams Endings.Last other h = h
-is_over_at course start number reading streams Endings.End other h = h
+pub is_over_at : {House : Type 0} (course : Course House) (outset : Outset) (number : ℕ) (reading : Reading) (streams : Streams) (ending : Ending) →
+    ¬ (ending ≡ Endings.Feed) → IsTurned course outset number reading streams (Ok ending) → IsOver course outset streams Statuses.Done
+is_over_at course outset number reading streams Endings.Feed other h = absurd (other refl)
+is_over_at course outset number reading streams Endings.Last other h = h
+is_over_at course outset number reading streams Endings.End other h = h

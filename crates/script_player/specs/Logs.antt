@@ -1,5 +1,5 @@
--- A house that keeps which lines were answered, for tests (our own): the external addresses, and of each
--- line the first letter of its word.
+-- A house that keeps which lines were answered, for tests (our own): the external addresses, and of
+-- each line the first letter of its word.
 use Rattle.std.specs.Prelude.{ℕ, ◌-◌, ◌^◌, min, List, [], ◌∷◌, ◌++◌, length, codes, Option, Some, None, if◌then◌else◌, ◌==◌}
 use Rattle.std.proofs.Common.{inl, inr}
 use Rattle.pcp_base.proofs.Members.{Contains-from_IsIn, IsIn, IsIn-from_Contains}

@@ -19,7 +19,7 @@ pub record Streams : Type 0 where
   pub held : Option (List ℕ)
 
 -- what is left in a source when a run begins, and what its sink holds then
-pub record Start : Type 0 where
+pub record Outset : Type 0 where
   pub script : List ℕ
   pub held : List ℕ
 
@@ -44,19 +44,21 @@ pub record AreAnswered {House : Type 0} (course : Course House) (texts : List (L
   pub done : AreDone course texts lines
   pub results : written ≡ out_of course.effects course.begun lines
 
--- how many octets of a script stand up to a line and its line feed, where this begins behind the line
+-- how many octets of a script stand up to a line and its line feed, where this begins behind the
+-- line
 abbrev pub octets_through : (script tail : List ℕ) → ℕ
 octets_through script tail = length script - length (drop 1 tail)
 
--- The next line is no line of a script: it is too long, or the script is by its end, line feed included,
--- or nothing is spelled so. The line is the text, whole: behind it stands its line feed, or the script's
--- end.
+-- The next line is no line of a script: it is too long, or the script is by its end, line feed
+-- included, or nothing is spelled so. The line is the text, whole: behind it stands its line feed,
+-- or the script's end.
 pub record IsRefused (externals : List External) (script text tail : List ℕ) : Type 0 where
   pub unbroken : IsUnbroken text
   pub whole : (tail ≡ []) ⊎ (slice_get tail 0 ≡ Some 10)
   pub some : (text ≢ []) ⊎ (tail ≢ [])
   pub refused : (LONGEST_LINE < length text)
-      ⊎ ((MOST_OCTETS < octets_through script tail) ⊎ ((line : Line) → ¬ (IsLine externals text line)))
+      ⊎ ((MOST_OCTETS < octets_through script tail)
+      ⊎ ((line : Line) → ¬ (IsLine externals text line)))
 
 -- What was read, where this is left of the script: these lines, and at most so many octets behind.
 pub record ReadsFew (script left : List ℕ) (texts : List (List ℕ)) (most : ℕ) : Type 0 where
@@ -101,8 +103,8 @@ pub record EndsReading {House : Type 0} (course : Course House) (script : List �
   pub few : length (flat_map ended texts) + length part ≤ MOST_OCTETS
   pub answered : AreAnswered course texts outcome.written
 
--- some first lines are answered, and the result of the last of them is written in part, those before
--- it whole
+-- some first lines are answered, and the result of the last of them is written in part, those
+-- before it whole
 pub record EndsWriting {House : Type 0} (course : Course House) (script : List ℕ)
     (outcome : Outcome) : Type 0 where
   pub texts : List (List ℕ)
@@ -121,8 +123,8 @@ pub record EndsWriting {House : Type 0} (course : Course House) (script : List �
   pub written_is : outcome.written ≡
       out_of course.effects course.begun lines ++ take taken result
 
--- Some first lines are answered, and the next one wasn't, or isn't known to be: nothing of its result is
--- written, and each image stands for the house before it or after it.
+-- Some first lines are answered, and the next one wasn't, or isn't known to be: nothing of its
+-- result is written, and each image stands for the house before it or after it.
 pub record EndsInDoubt {House : Type 0} (course : Course House) (script : List ℕ)
     (outcome : Outcome) : Type 0 where
   pub texts : List (List ℕ)
@@ -160,9 +162,9 @@ IsPlayed course script outcome Memory =
     EndsEarly course script outcome ⊎ EndsInDoubt course script outcome
 
 -- A run over, for a source and a sink that tell their octets.
-pub record IsOver {House : Type 0} (course : Course House) (start : Start) (streams : Streams)
+pub record IsOver {House : Type 0} (course : Course House) (outset : Outset) (streams : Streams)
     (status : PlayStatus) : Type 0 where
   pub outcome : Outcome
   pub left_is : streams.left ≡ Some outcome.left
-  pub held_is : streams.held ≡ Some (start.held ++ outcome.written)
-  pub played : IsPlayed course start.script outcome status
+  pub held_is : streams.held ≡ Some (outset.held ++ outcome.written)
+  pub played : IsPlayed course outset.script outcome status

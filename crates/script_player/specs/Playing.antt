@@ -9,7 +9,7 @@ use Rattle.pcp_script.specs.declared.lines.LineRefused.{LineRefused}
 use Rattle.pcp_script.specs.declared.lines.LineRefused.TheVariants as Refused
 use Rattle.pcp_script.specs.declared.lines.TheConstants.{LONGEST_LINE}
 use Rattle.script_player.specs.Houses.{after_lines, houses_along, line_out, out_of}
-use Rattle.script_player.specs.Played.{IsOver, Start, Streams}
+use Rattle.script_player.specs.Played.{IsOver, Outset, Streams}
 use Rattle.script_player.specs.Reading.{Reading, rest_of}
 use Rattle.script_player.specs.Scripts.{AreLines, IsUnbroken, ended}
 use Rattle.script_player.specs.Ways.{Course}
@@ -29,7 +29,7 @@ abbrev pub script_limits : Limits
 script_limits = record { longest = LONGEST_LINE; most = MOST_OCTETS }
 
 -- These lines were read, each with its line feed, and answered, before the one with this number.
-pub record IsUnderway {House : Type 0} (course : Course House) (start : Start) (number : ℕ)
+pub record IsUnderway {House : Type 0} (course : Course House) (outset : Outset) (number : ℕ)
     (reading : Reading) (streams : Streams) : Type 0 where
   pub limited : reading.limits ≡ script_limits
   pub texts : List (List ℕ)
@@ -37,12 +37,12 @@ pub record IsUnderway {House : Type 0} (course : Course House) (start : Start) (
   pub read : AreLines (course.effects.externals course.begun) texts lines
   pub unbroken : AllByRecursion IsUnbroken texts
   pub count : number ≡ length texts + 1
-  pub script_is : Some start.script ≡
+  pub script_is : Some outset.script ≡
       prepend_known (flat_map ended texts) (rest_of reading streams.left)
   pub used : reading.used ≡ length (flat_map ended texts)
   pub house : course.ended ≡ after_lines course.effects course.begun lines
   pub over : course.over (houses_along course.effects course.begun lines)
-  pub held_is : streams.held ≡ Some (start.held ++ out_of course.effects course.begun lines)
+  pub held_is : streams.held ≡ Some (outset.held ++ out_of course.effects course.begun lines)
 
 -- the status of a fault at the line with this number
 abbrev pub status_at : ℕ → LineFault → PlayStatus
@@ -53,13 +53,14 @@ status_at number (Disk shard) = Statuses.DiskFault shard
 status_at number Memory = Statuses.Memory
 
 -- a turn goes on to the next line, or ends the run
-abbrev pub IsTurned : {House : Type 0} → Course House → Start → (number : ℕ) → Reading → Streams →
+abbrev pub IsTurned : {House : Type 0} → Course House → Outset → (number : ℕ) → Reading → Streams →
     Result Ending LineFault → Type 0
-IsTurned course start number reading streams (Ok Endings.Feed) =
-    IsUnderway course start (number + 1) reading streams
-IsTurned course start number reading streams (Ok ending) = IsOver course start streams Statuses.Done
-IsTurned course start number reading streams (Err fault) =
-    IsOver course start streams (status_at number fault)
+IsTurned course outset number reading streams (Ok Endings.Feed) =
+    IsUnderway course outset (number + 1) reading streams
+IsTurned course outset number reading streams (Ok ending) =
+    IsOver course outset streams Statuses.Done
+IsTurned course outset number reading streams (Err fault) =
+    IsOver course outset streams (status_at number fault)
 
 -- a text that is no line, and want of memory, are told as they are
 abbrev pub fault_of_line : LineRefused → LineFault

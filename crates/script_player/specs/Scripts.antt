@@ -33,8 +33,8 @@ pub record LacksFeed (script rest : List ℕ) (texts : List (List ℕ)) : Type 0
   pub spelled : script ≡ flat_map ended front ++ last
   pub none_behind : rest ≡ []
 
--- The texts are the first lines of a script, and the rest comes behind them: each line ends with a line
--- feed, but that the last of the script may lack it.
+-- The texts are the first lines of a script, and the rest comes behind them: each line ends with a
+-- line feed, but that the last of the script may lack it.
 pub record AreFirst (script rest : List ℕ) (texts : List (List ℕ)) : Type 0 where
   pub unbroken : AllByRecursion IsUnbroken texts
   pub spelled : (script ≡ flat_map ended texts ++ rest) ⊎ LacksFeed script rest texts

@@ -1,5 +1,5 @@
--- What a crash may leave on the way of an answerer from one moment to another (our own): images, each
--- of which stands for a house.
+-- What a crash may leave on the way of an answerer from one moment to another (our own): images,
+-- each of which stands for a house.
 use Rattle.std.specs.Prelude.{ℕ, List, ◌++◌, Contains}
 use Rattle.pcp_io.specs.Faults.{HasRisen}
 use Rattle.script_player.specs.Houses.{LineEffects}
@@ -11,7 +11,8 @@ pub record WayLaws {A House : Type 0} (way : A → A → List House → Type 0) 
       way a b houses → way b c more → way a c (houses ++ more)
   -- more houses say less
   pub weaker : (a b : A) (houses more : List House) →
-      ((house : House) → Contains houses house → Contains more house) → way a b houses → way a b more
+      ((house : House) → Contains houses house → Contains more house) →
+      way a b houses → way a b more
   -- the last moment is one of them
   pub ends : (a b : A) (houses : List House) → way a b houses → way b b houses
 

@@ -30,8 +30,8 @@ impl From<Memory> for AnswerFault {
     }
 }
 
-/// Answers lines, one after the other, and keeps what they do. A crash may leave images of it, each of
-/// which stands for a house.
+/// Answers lines, one after the other, and keeps what they do. A crash may leave images of it, each
+/// of which stands for a house.
 pub trait LineAnswerer {
     /// What lines act on. No value of it is made here.
     type House;
@@ -52,9 +52,9 @@ pub trait LineAnswerer {
     fn config(&self) -> &Config
         ensures { result.now.externals ≡ effects.externals (house self.now) };
 
-    /// Answers a line and says its result: none for an empty line or a comment. The images stand for the
-    /// house before it or after it until the answer comes, and from `Ok` on for the one after it. After a
-    /// fault either may be; after `Disk` a fault of that shard was counted.
+    /// Answers a line and says its result: none for an empty line or a comment. The images stand
+    /// for the house before it or after it until the answer comes, and from `Ok` on for the one
+    /// after it. After a fault either may be; after `Disk` a fault of that shard was counted.
     fn answer(&mut self, alloc: Global, line: &Line) -> Result<Option<LineResult>, AnswerFault>
         requires line { IsRead (effects.externals (house self.old)) line.now }
         requires rests { way self.old self.old (house self.old ∷ []) }

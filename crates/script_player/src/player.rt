@@ -2,7 +2,7 @@
 ghost use Rattle.std.specs.Prelude.{◌≡◌, ℕ, ◌+◌, ◌<◌, ◌≤◌, [], ◌∷◌, Some, Ok, Err, IfErr, IfOk, OnOk};
 ghost use Rattle.pcp_io.specs.Faults.{HasRisen};
 ghost use Rattle.script_player.specs.Houses.{line_out};
-ghost use Rattle.script_player.specs.Played.{IsOver, Start};
+ghost use Rattle.script_player.specs.Played.{IsOver, Outset};
 ghost use Rattle.script_player.specs.Playing.{Answers, Fails, IsTurned, IsUnderway, status_at};
 ghost use Rattle.script_player.specs.Ways.{HasFault, course_of};
 ghost use Rattle.script_player.specs.declared.faults.LineFault.TheVariants.{Disk, Read, Write};
@@ -25,8 +25,8 @@ pub const MOST_OCTETS: u64 = 1 << 30;
 pub enum PlayStatus {
     /// The script was read to its end, and every line is answered.
     Done,
-    /// This line, numbered from 1, is the first that is no line of a script; the lines before it are
-    /// answered.
+    /// This line, numbered from 1, is the first that is no line of a script; the lines before it
+    /// are answered.
     ScriptRefused(u64),
     /// The source failed.
     ReadFault,
@@ -88,10 +88,10 @@ fn turn<S: Source, W: Sink, A: LineAnswerer>(
     out: &mut W,
 ) -> Result<Ending, LineFault>
     requires rests { A.way answerer.old answerer.old (A.house answerer.old ∷ []) }
-    ensures turned { (first : A) (start : Start) (number : ℕ) →
-        IsUnderway (course_of A.effects A.house A.way first answerer.old) start number reader.old
+    ensures turned { (first : A) (outset : Outset) (number : ℕ) →
+        IsUnderway (course_of A.effects A.house A.way first answerer.old) outset number reader.old
         (record { left = S.left input.old; held = W.held out.old }) →
-        IsTurned (course_of A.effects A.house A.way first answerer.new) start number reader.new
+        IsTurned (course_of A.effects A.house A.way first answerer.new) outset number reader.new
         (record { left = S.left input.new; held = W.held out.new }) result }
     ensures rests { result ≡ Ok Feed → A.way answerer.new answerer.new (A.house answerer.new ∷ []) }
     ensures used { result ≡ Ok Feed → (reader.old.used < reader.new.used)
@@ -128,9 +128,9 @@ fn status_of(fault: LineFault, number: u64) -> PlayStatus
     }
 }
 
-/// Plays the script of `input`: reads it line by line, has each line answered, and writes each result
-/// to `out` before it looks at the next line. The script has at most 2^30 octets, and a line 8,192.
-/// Octets are read 4,096 at a time, none before all that were read are used.
+/// Plays the script of `input`: reads it line by line, has each line answered, and writes each
+/// result to `out` before it looks at the next line. The script has at most 2^30 octets, and a line
+/// 8,192. Octets are read 4,096 at a time, none before all that were read are used.
 ///
 /// When it is called, each image that a crash may leave of the answerer stands for its house.
 pub fn play<S: Source, W: Sink, A: LineAnswerer>(
@@ -142,9 +142,9 @@ pub fn play<S: Source, W: Sink, A: LineAnswerer>(
     requires rests { A.way answerer.old answerer.old (A.house answerer.old ∷ []) }
 
     // What was read, answered and written, by the status, for a source and a sink that tell it.
-    ensures played { (start : Start) →
-        S.left input.old ≡ Some start.script → W.held out.old ≡ Some start.held →
-        IsOver (course_of A.effects A.house A.way answerer.old answerer.new) start
+    ensures played { (outset : Outset) →
+        S.left input.old ≡ Some outset.script → W.held out.old ≡ Some outset.held →
+        IsOver (course_of A.effects A.house A.way answerer.old answerer.new) outset
         (record { left = S.left input.new; held = W.held out.new }) result }
 
     // A fault is told only where a count of faults rose.

@@ -73,9 +73,9 @@ impl LineReader {
         }
     }
 
-    /// Reads the next line into `text`, without its line feed; `NotLine` where it is too long, or all
-    /// lines are by its end. No octet is read before all that were read are used, and none is used
-    /// behind a line that is refused.
+    /// Reads the next line into `text`, without its line feed; `NotLine` where it is too long, or
+    /// all lines are by its end. No octet is read before all that were read are used, and none is
+    /// used behind a line that is refused.
     pub(crate) fn next_line<S: Source>(
         &mut self,
         input: &mut S,

@@ -1,5 +1,5 @@
-//! What no clause says: what scripts put out, that runs succeed with ample memory, and that the premises
-//! of `play` are met.
+//! What no clause says: what scripts put out, that runs succeed with ample memory, and that the
+//! premises of `play` are met.
 ghost use Rattle.std.specs.Prelude.{◌≡◌, ◌++◌, [], Some, IfOk, OnOk, OnErr};
 ghost use Rattle.script_player.specs.Logs.{letter_of, told_after};
 ghost use Rattle.script_player.specs.Played.{IsOver};
@@ -22,8 +22,8 @@ const SHARD: u32 = 3;
 // No call has this number.
 const NEVER: u64 = u64::MAX;
 
-// Keeps the first letter of each line that it answered. Calls may be named at which a disk fails, or
-// at which no memory is found.
+// Keeps the first letter of each line that it answered. Calls may be named at which a disk fails,
+// or at which no memory is found.
 #[derive(Drop)]
 struct Logger {
     config: Config,
@@ -188,7 +188,8 @@ fn played(alloc: Global, script: &[u8], failing: &Failing) -> Result<Run, Memory
     run_in_memory(alloc, script.to_vec(alloc)?, answerer, failing)
 }
 
-// Scripts of which nothing fails: how they are played, what they put out, and which lines were answered.
+// Scripts of which nothing fails: how they are played, what they put out, and which lines were
+// answered.
 static SCRIPTS: [(&str, PlayStatus, &str, &str); 13] = [
     ("", PlayStatus::Done, "", ""),
     ("\n", PlayStatus::Done, "", ""),
@@ -322,8 +323,8 @@ fn repeated(alloc: Global, text: &[u8], times: usize) -> Result<Vec<u8>, Memory>
     Ok(all)
 }
 
-// How scripts of one text so often are played where this read fails, and how many lines are answered. A
-// read gives 4,096 octets; a line to lose leases has 17.
+// How scripts of one text so often are played where this read fails, and how many lines are
+// answered. A read gives 4,096 octets; a line to lose leases has 17.
 #[test]
 fn pieces(rt: HostRuntime) -> Result<(), Fail> {
     let alloc = rt.alloc();
@@ -346,7 +347,8 @@ fn pieces(rt: HostRuntime) -> Result<(), Fail> {
     Ok(())
 }
 
-// How the lines of a text end where they may have 4 octets, and 10 together; nothing behind a fault.
+// How the lines of a text end where they may have 4 octets, and 10 together; nothing behind a
+// fault.
 fn endings(alloc: Global, text: &[u8]) -> Result<Vec<Result<Ending, LineFault>>, Memory> {
     let mut input = MemorySource::new(alloc, text.to_vec(alloc)?)?;
     let mut reader = LineReader::new(Limits {

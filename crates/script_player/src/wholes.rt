@@ -42,8 +42,8 @@ impl From<AllocError> for WholeFault {
     }
 }
 
-/// Reads a source to its end, or until it gave more than `most` octets, in pieces of 4,096. `TooLong`
-/// exactly where it has more, unless it fails or memory runs out before.
+/// Reads a source to its end, or until it gave more than `most` octets, in pieces of 4,096.
+/// `TooLong` exactly where it has more, unless it fails or memory runs out before.
 pub fn read_whole<S: Source>(
     alloc: Global,
     input: &mut S,

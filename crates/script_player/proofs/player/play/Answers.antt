@@ -8,8 +8,8 @@ use Rattle.script_player.proofs.player.play.Goals as goal
 
 pub loop-number-init : goal.loop-number-init
 loop-number-init g c = record {
-  underway = λ start l h. begins
-      (course_of g.A.LineAnswerer.effects g.A.LineAnswerer.house g.A.LineAnswerer.way c.args.answerer.now c.args.answerer.now) start c.new-reader.result
+  underway = λ outset l h. begins
+      (course_of g.A.LineAnswerer.effects g.A.LineAnswerer.house g.A.LineAnswerer.way c.args.answerer.now c.args.answerer.now) outset c.new-reader.result
       (g.S.Source.left c.args.input.now) (g.W.Sink.held c.args.out.now) refl c.requires.rests c.new-reader.ensures l h;
   rests = c.requires.rests;
   limits = ap (λ (r : Reading). r.limits) c.new-reader.ensures;
@@ -27,10 +27,10 @@ loop-number-preserved g c =
     let feed = ap Ok c.in-Ok-Feed.field-0-is in
     let grew = went.used feed in
     record {
-      underway = λ start l h. goes_on_at
-          (course_of g.A.LineAnswerer.effects g.A.LineAnswerer.house g.A.LineAnswerer.way c.args.answerer.now c.turn.new.answerer) start c.loop-number.number c.turn.new.reader
+      underway = λ outset l h. goes_on_at
+          (course_of g.A.LineAnswerer.effects g.A.LineAnswerer.house g.A.LineAnswerer.way c.args.answerer.now c.turn.new.answerer) outset c.loop-number.number c.turn.new.reader
           (record { left = g.S.Source.left c.turn.new.input; held = g.W.Sink.held c.turn.new.out }) c.in-Ok-Feed.field-0 c.in-Ok-Feed.field-0-is
-          (went.turned c.args.answerer.now start c.loop-number.number (inv.underway start l h));
+          (went.turned c.args.answerer.now outset c.loop-number.number (inv.underway outset l h));
       rests = went.rests feed;
       limits = went.limits ∙ inv.limits;
       number = omega (arith, inv.number, grew.0);
@@ -46,10 +46,10 @@ returns-in-Ok g c =
     let inv = c.loop-number.invariant in
     let went = c.in-Ok.ensures in
     record {
-      played = λ start l h. is_over_at
-          (course_of g.A.LineAnswerer.effects g.A.LineAnswerer.house g.A.LineAnswerer.way c.args.answerer.now c.turn.new.answerer) start c.loop-number.number c.turn.new.reader
+      played = λ outset l h. is_over_at
+          (course_of g.A.LineAnswerer.effects g.A.LineAnswerer.house g.A.LineAnswerer.way c.args.answerer.now c.turn.new.answerer) outset c.loop-number.number c.turn.new.reader
           (record { left = g.S.Source.left c.turn.new.input; held = g.W.Sink.held c.turn.new.out }) c.in-Ok.field-0 other
-          (went.turned c.args.answerer.now start c.loop-number.number (inv.underway start l h));
+          (went.turned c.args.answerer.now outset c.loop-number.number (inv.underway outset l h));
       read_fault = λ bad. absurd cc;
       write_fault = λ bad. absurd cc;
       disk_fault = λ shard bad. absurd cc;

@@ -1,5 +1,5 @@
 use Rattle.std.proofs.Common.{◌≡◌, ℕ, ◌+◌, ◌-◌, ◌≤◌, ◌^◌, [], ◌∷◌, Some}
-use Rattle.script_player.specs.Played.{Start}
+use Rattle.script_player.specs.Played.{Outset}
 use Rattle.script_player.specs.Playing.{IsUnderway, script_limits}
 use Rattle.script_player.specs.Ways.{course_of}
 use Rattle.script_player.proofs.player.play.Given as goal
@@ -7,8 +7,8 @@ use Rattle.script_player.proofs.player.play.Given as goal
 -- the lines before this one were read and answered
 abbrev pub invariant-loop-number : goal.invariant-loop-number
 invariant-loop-number g l = record {
-  underway : (start : Start) → g.S.Source.left l.fn.input ≡ Some start.script → g.W.Sink.held l.fn.out ≡ Some start.held →
-      IsUnderway (course_of g.A.LineAnswerer.effects g.A.LineAnswerer.house g.A.LineAnswerer.way l.fn.answerer l.answerer) start l.number l.reader
+  underway : (outset : Outset) → g.S.Source.left l.fn.input ≡ Some outset.script → g.W.Sink.held l.fn.out ≡ Some outset.held →
+      IsUnderway (course_of g.A.LineAnswerer.effects g.A.LineAnswerer.house g.A.LineAnswerer.way l.fn.answerer l.answerer) outset l.number l.reader
       (record { left = g.S.Source.left l.input; held = g.W.Sink.held l.out });
   rests : g.A.LineAnswerer.way l.answerer l.answerer (g.A.LineAnswerer.house l.answerer ∷ []);
   limits : l.reader.limits ≡ script_limits;
