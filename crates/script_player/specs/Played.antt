@@ -1,6 +1,7 @@
 -- What a run over a script did (our own).
 use Rattle.std.specs.Prelude.{◌≡◌, ◌≢◌, ℕ, ◌+◌, ◌-◌, ◌<◌, ◌≤◌, ◌⊎◌, List, [], ◌∷◌, ◌++◌, length, flat_map, take, drop, min, slice_get, Option, Some}
 use Rattle.std.specs.List.{AllByRecursion}
+use Rattle.std.specs.Io.KnownBytes.{append_known}
 use Rattle.pcp_base.specs.declared.configs.External.{External}
 use Rattle.pcp_script.specs.Lines.{IsLine}
 use Rattle.pcp_script.specs.declared.lines.Line.{Line}
@@ -168,3 +169,25 @@ pub record IsOver {House : Type 0} (course : Course House) (outset : Outset) (st
   pub left_is : streams.left ≡ Some outcome.left
   pub held_is : streams.held ≡ Some (outset.held ++ outcome.written)
   pub played : IsPlayed course outset.script outcome status
+
+-- What a crash may leave of a run, whatever its status. Of the first lines of the script these were
+-- answered, and the next one perhaps. What is written is of the results of these, and nothing else.
+-- Each image stood for the house after some first ones of them, and each has all of these now, of
+-- the next one perhaps.
+pub record IsKept {House : Type 0} (course : Course House) (outset : Outset) (streams : Streams)
+    : Type 0 where
+  pub texts : List (List ℕ)
+  pub rest : List ℕ
+  pub first : AreFirst outset.script rest texts
+  pub lines : List Line
+  -- the next one, or none
+  pub next : List Line
+  pub few : length next ≤ 1
+  pub read : AreLines (course.effects.externals course.begun) texts (lines ++ next)
+  -- what isn't written of the results
+  pub unsaid : List ℕ
+  pub held_is : append_known streams.held unsaid
+      ≡ Some (outset.held ++ out_of course.effects course.begun lines)
+  pub over : course.over (houses_along course.effects course.begun (lines ++ next))
+  pub at_end : course.at_end (houses_along course.effects
+      (after_lines course.effects course.begun lines) next)

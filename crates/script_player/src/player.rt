@@ -2,7 +2,7 @@
 ghost use Rattle.std.specs.Prelude.{◌≡◌, ℕ, ◌+◌, ◌<◌, ◌≤◌, [], ◌∷◌, Some, Ok, Err, IfErr, IfOk, OnOk};
 ghost use Rattle.pcp_io.specs.Faults.{HasRisen};
 ghost use Rattle.script_player.specs.Houses.{line_out};
-ghost use Rattle.script_player.specs.Played.{IsOver, Outset};
+ghost use Rattle.script_player.specs.Played.{IsKept, IsOver, Outset};
 ghost use Rattle.script_player.specs.Playing.{Answers, Fails, IsTurned, IsUnderway, status_at};
 ghost use Rattle.script_player.specs.Ways.{HasFault, course_of};
 ghost use Rattle.script_player.specs.declared.faults.LineFault.TheVariants.{Disk, Read, Write};
@@ -146,6 +146,12 @@ pub fn play<S: Source, W: Sink, A: LineAnswerer>(
         S.left input.old ≡ Some outset.script → W.held out.old ≡ Some outset.held →
         IsOver (course_of A.effects A.house A.way answerer.old answerer.new) outset
         (record { left = S.left input.new; held = W.held out.new }) result }
+
+    // What a crash may leave of it, at each moment and at the end, whatever the status.
+    ensures crash { (outset : Outset) →
+        S.left input.old ≡ Some outset.script → W.held out.old ≡ Some outset.held →
+        IsKept (course_of A.effects A.house A.way answerer.old answerer.new) outset
+        (record { left = S.left input.new; held = W.held out.new }) }
 
     // A fault is told only where a count of faults rose.
     ensures read_fault { result ≡ ReadFault → HasRisen (S.faults input.old) (S.faults input.new) }

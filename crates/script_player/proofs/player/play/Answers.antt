@@ -1,8 +1,12 @@
-use Rattle.std.proofs.Common.{rules, ◌≡◌, ◌∙◌, refl, ap, Ok, lit≤, arith}
+use Rattle.std.proofs.Common.{rules, ◌≡◌, ◌∙◌, refl, ap, Some, Ok, lit≤, arith}
 use Rattle.script_player.specs.Reading.{Reading}
 use Rattle.script_player.specs.Ways.{course_of}
 use Rattle.script_player.specs.declared.readers.Ending.TheVariants.{Feed}
 use Rattle.script_player.specs.declared.readers.Limits.{Limits}
+use Rattle.script_player.specs.declared.player.PlayStatus.TheVariants.{Done}
+use Rattle.script_player.specs.Playing.{status_at}
+use Rattle.script_player.specs.Played.{IsOver, Outset, Streams}
+use Rattle.script_player.proofs.KeptLemmas.{IsKept-over}
 use Rattle.script_player.proofs.PlayLemmas.{begins, goes_on_at, is_over_at}
 use Rattle.script_player.proofs.player.play.Goals as goal
 
@@ -45,11 +49,14 @@ returns-in-Ok g c =
     let other : ¬ (c.in-Ok.field-0 ≡ Feed) = search rules in
     let inv = c.loop-number.invariant in
     let went = c.in-Ok.ensures in
+    let course = course_of g.A.LineAnswerer.effects g.A.LineAnswerer.house g.A.LineAnswerer.way c.args.answerer.now c.turn.new.answerer in
+    let streams : Streams = record { left = g.S.Source.left c.turn.new.input; held = g.W.Sink.held c.turn.new.out } in
+    let over : (outset : Outset) → g.S.Source.left c.args.input.now ≡ Some outset.script → g.W.Sink.held c.args.out.now ≡ Some outset.held → IsOver course outset streams Done =
+    λ outset l h. is_over_at course outset c.loop-number.number c.turn.new.reader streams c.in-Ok.field-0 other
+    (went.turned c.args.answerer.now outset c.loop-number.number (inv.underway outset l h)) in
     record {
-      played = λ outset l h. is_over_at
-          (course_of g.A.LineAnswerer.effects g.A.LineAnswerer.house g.A.LineAnswerer.way c.args.answerer.now c.turn.new.answerer) outset c.loop-number.number c.turn.new.reader
-          (record { left = g.S.Source.left c.turn.new.input; held = g.W.Sink.held c.turn.new.out }) c.in-Ok.field-0 other
-          (went.turned c.args.answerer.now outset c.loop-number.number (inv.underway outset l h));
+      played = over;
+      crash = λ outset l h. IsKept-over course outset streams Done (over outset l h);
       read_fault = λ bad. absurd cc;
       write_fault = λ bad. absurd cc;
       disk_fault = λ shard bad. absurd cc;
@@ -57,3 +64,9 @@ returns-in-Ok g c =
       writes = omega (arith, inv.writes, went.writes);
       disks = λ shard disk. omega (arith, inv.disks shard disk, went.disks shard disk);
     }
+
+pub returns-in-Err-clause-crash : goal.returns-in-Err-clause-crash
+returns-in-Err-clause-crash g c outset l h =
+    IsKept-over (course_of g.A.LineAnswerer.effects g.A.LineAnswerer.house g.A.LineAnswerer.way c.args.answerer.now c.turn.new.answerer) outset
+    (record { left = g.S.Source.left c.turn.new.input; held = g.W.Sink.held c.turn.new.out }) (status_at c.loop-number.number c.in-Err.fault)
+    (c.in-Err.ensures.turned c.args.answerer.now outset c.loop-number.number (c.loop-number.invariant.underway outset l h))
