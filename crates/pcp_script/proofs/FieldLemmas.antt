@@ -1,5 +1,5 @@
 -- What writes a field holds no space, and what a text that is refused can't write.
-use Rattle.std.proofs.Common.{◌≡◌, ◌≢◌, ℕ, suc, ◌<◌, ◌≤◌, ◌^◌, ◌⊎◌, inl, inr, List, [], ◌∷◌, ◌++◌, length, codes, decimal, true, Option, Some, None, IfNone, refl, sym, ap, ◌∙◌, subst, arith, Ok}
+use Rattle.std.proofs.Common.{◌≡◌, ◌≢◌, ℕ, suc, ◌<◌, ◌≤◌, ◌^◌, ◌⊎◌, inl, inr, List, [], ◌∷◌, ◌++◌, length, codes, decimal, true, Option, Some, None, IfNone, sym, ap, ◌∙◌, arith, Ok}
 use Rattle.std.specs.List.{All, AllByRecursion}
 use Rattle.std.specs.Net.Grammar.{IsDotted}
 use Rattle.std.specs.Str.Parse.{AllDigits, digits_value}

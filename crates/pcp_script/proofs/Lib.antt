@@ -1,5 +1,6 @@
 pub mod FieldLemmas
 pub mod LineLemmas
+pub mod LoadLemmas
 pub mod PlaceLemmas
 pub mod SevenTexts
 pub mod WordLemmas

@@ -1,7 +1,7 @@
 -- A text has its fields in one way alone.
 use Rattle.std.proofs.Common.{◌≡◌, ◌≢◌, ℕ, List, [], ◌∷◌, ◌++◌, map, flat_map, refl, sym, ap, subst, ◌∙◌, append_assoc, append-nil}
 use Rattle.std.specs.List.{AllByRecursion}
-use Rattle.pcp_base.proofs.Members.{All-append, All-push}
+use Rattle.pcp_base.proofs.Members.{All-push}
 use Rattle.pcp_script.specs.Words.{IsWord, AreFields, spaced}
 
 -- fields with a space behind each

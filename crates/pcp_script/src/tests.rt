@@ -248,3 +248,51 @@ fn results_of_lines(rt: HostRuntime) -> Result<(), Fail> {
     assert!(rt; out.as_slice() == RESULTS);
     Ok(())
 }
+
+// Requests of number 7, of which the sixth has words of two blocks, with their hosts; the words are
+// from a ChaCha8 of another hand, checked with the zero key's published key stream.
+static REQUESTS: [(u8, u8, &[u8]); 6] = [
+    (
+        2,
+        115,
+        b"020100000000007800000000000000000000ffff0a0002730a0002730472000000000000060000000472000000000000000000000000000000000000",
+    ),
+    (
+        0,
+        2,
+        b"020100000000007800000000000000000000ffff0a0000020a00000204ae0000000000001100000004ae000000000000000000000000000000000000",
+    ),
+    (
+        1,
+        192,
+        b"020100000001518000000000000000000000ffff0a0001c00a0001c005a00000000000000600000005a0000000000000000000000000000000000000",
+    ),
+    (
+        3,
+        10,
+        b"020100000001518000000000000000000000ffff0a00030a0a00030a049c00000000000006000000049c000000000000000000000000000000000000",
+    ),
+    (
+        1,
+        205,
+        b"020100000000000000000000000000000000ffff0a0001cd0a0001cd052a00000000000006000000052a000000000000000000000000000000000000",
+    ),
+    (
+        2,
+        34,
+        b"020100000000007800000000000000000000ffff0a0002220a000222054d00000000000006000000054d000000000000000000000000000000000000",
+    ),
+];
+
+#[test]
+fn requests_of_number_7(rt: HostRuntime) -> Result<(), Fail> {
+    let mut load = Load::new(7);
+    for (x, y, want) in &REQUESTS {
+        let from = load.next(rt.alloc())?;
+        assert!(rt; from.peer == Address::v4(10, 0, *x, *y));
+        assert!(rt; from.port == 40_000);
+        let digits = hex::encode(rt.alloc(), from.octets.items())?;
+        assert!(rt; digits.as_bytes() == *want, "{digits}");
+    }
+    Ok(())
+}
