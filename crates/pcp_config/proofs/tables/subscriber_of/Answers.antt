@@ -1,0 +1,7 @@
+use Rattle.pcp_config.proofs.TableLemmas.{untold_table}
+use Rattle.pcp_config.proofs.ValueLemmas.{none_weaker}
+use Rattle.pcp_config.proofs.tables.subscriber_of.Goals as goal
+
+pub returns-clause-none : goal.returns-clause-none
+returns-clause-none c =
+    none_weaker c.subscriber_in.result (untold_table _ _ _ c.in_ok-as_table.ensures) c.subscriber_in.ensures.none

@@ -1,0 +1,21 @@
+use Rattle.std.proofs.Common.{Err, sym, ap}
+use Rattle.toml.specs.View.{table_view}
+use Rattle.pcp_config.proofs.ConfigLemmas.{max_untold, subscribers_untold}
+use Rattle.pcp_config.proofs.texts.config_of.Goals as goal
+
+pub returns-in_default-clause-refused : goal.returns-in_default-clause-refused
+returns-in_default-clause-refused c = λ _ config h. c.in_default.ensures.none config.quota h.quota
+
+pub returns-in_default-number_or-clause-refused : goal.returns-in_default-number_or-clause-refused
+returns-in_default-number_or-clause-refused c = λ _ config h.
+    c.in_default-number_or.ensures.none config.lifetime_min h.lifetime_min
+
+pub returns-in_default-number_or-2-clause-refused : goal.returns-in_default-number_or-2-clause-refused
+returns-in_default-number_or-2-clause-refused c = λ _.
+    max_untold (table_view c.args.table.now) c.in-Some-number_or.lifetime_min c.in-Some-number_or.ensures.number c.in_default-number_or-2.ensures.none
+
+pub returns-in_err-subscribers-clause-refused : goal.returns-in_err-subscribers-clause-refused
+returns-in_err-subscribers-clause-refused c = λ bad.
+    let same = (rw bad at c.from_residual-in_err-subscribers.ensures).1 in
+    subscribers_untold (table_view c.args.table.now) c.in_ok-externals.externals.items c.in_ok-externals.ensures.externals
+    (rw c.deref.ensures.value at c.in_err-subscribers.ensures.refused (ap Err (sym same)))

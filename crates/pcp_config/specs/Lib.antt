@@ -1,0 +1,3 @@
+pub mod ConfigTables
+pub mod ConfigTexts
+pub mod TomlValues
