@@ -1,11 +1,16 @@
 //! The configuration of a server, as a TOML text.
 #![tactic(auto)]
 
+mod explanations;
+mod faults;
 mod lists;
 mod tables;
+#[cfg(test)]
+mod tests;
 mod texts;
 mod values;
 
+pub use explanations::explain;
 pub use texts::{ConfigRefused, read_config};
 
 /// The most octets that the text of a configuration may have: 2^20.

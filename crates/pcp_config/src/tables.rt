@@ -15,6 +15,12 @@ use crate::values::{address_at, address_of, has_only, number_at, prefix_at, valu
 use pcp_base::{Address, External, Prefix, Subscriber};
 use toml::{Table, Value};
 
+/// The keys of a table of an external address.
+pub(crate) const EXTERNAL_KEYS: [&str; 3] = ["address", "low", "high"];
+
+/// The keys of a table of a subscriber.
+pub(crate) const SUBSCRIBER_KEYS: [&str; 2] = ["prefix", "external"];
+
 /// The external address that the value, a table, tells.
 pub(crate) fn external_of(value: &Value) -> Option<External>
     ensures external { IfSome result (IsTableOf IsExternalTable (view value.now)) }
@@ -28,7 +34,7 @@ fn external_in(table: &Table) -> Option<External>
     ensures external { IfSome result (IsExternalTable (table_view table.now)) }
     ensures none { IfNone result ((x : External) → ¬ (IsExternalTable (table_view table.now) x)) }
 {
-    if !has_only(table, &["address", "low", "high"]) {
+    if !has_only(table, &EXTERNAL_KEYS) {
         return None;
     }
     let address = address_at(table, "address")?;
@@ -58,7 +64,7 @@ fn subscriber_in(externals: &[External], table: &Table) -> Option<Subscriber>
     ensures none { IfNone result ((s : Subscriber) →
         ¬ (IsSubscriberTable externals.now (table_view table.now) s)) }
 {
-    if !has_only(table, &["prefix", "external"]) {
+    if !has_only(table, &SUBSCRIBER_KEYS) {
         return None;
     }
     let prefix = prefix_at(table, "prefix")?;

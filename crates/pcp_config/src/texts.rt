@@ -18,6 +18,16 @@ use std::alloc::Global;
 use thiserror::Error;
 use toml::Table;
 
+/// The keys of a configuration.
+pub(crate) const CONFIG_KEYS: [&str; 6] = [
+    "quota",
+    "lifetime_min",
+    "lifetime_max",
+    "third_party",
+    "external",
+    "subscriber",
+];
+
 /// Why a text is no configuration.
 #[derive(Clone, Copy, Debug, PartialEq, Eq, Error)]
 pub enum ConfigRefused {
@@ -84,17 +94,7 @@ fn config_of(alloc: Global, table: &Table) -> Result<Config, Unread>
     ensures refused { result ≡ Err Unread.NotConfig →
         (c : Config) → ¬ (IsConfigTable (table_view table.now) c) }
 {
-    if !has_only(
-        table,
-        &[
-            "quota",
-            "lifetime_min",
-            "lifetime_max",
-            "third_party",
-            "external",
-            "subscriber",
-        ],
-    ) {
+    if !has_only(table, &CONFIG_KEYS) {
         return Err(Unread::NotConfig);
     }
     let Some(quota) = number_or(table, "quota", DEFAULT_QUOTA, 1, MOST_QUOTA) else {

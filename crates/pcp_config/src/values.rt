@@ -22,7 +22,7 @@ pub(crate) fn has_only(table: &Table, keys: &[&str]) -> bool
     true
 }
 
-fn is_one_of(key: &str, keys: &[&str]) -> bool
+pub(crate) fn is_one_of(key: &str, keys: &[&str]) -> bool
     ensures { result ≡ is_one_of (map (λ key. key.now) keys.now) key.now }
 {
     keys.contains(&key)

@@ -16,10 +16,10 @@ pub returns-in-Ok-clause-only : goal.returns-in-Ok-clause-only
 returns-in-Ok-clause-only c = λ d k.
     IsConfigText-unique c.args.text.now d c.in-Ok.config k
     (record {
-        short = omega (arith, c.if-text-gt-LONGEST_CONFIG.false);
-        members = table_view c.in_ok-table.table;
-        toml = c.in_ok-table.ensures.table;
-        stands = c.in-Ok.ensures.config;
+      short = omega (arith, c.if-text-gt-LONGEST_CONFIG.false);
+      members = table_view c.in_ok-table.table;
+      toml = c.in_ok-table.ensures.table;
+      stands = c.in-Ok.ensures.config;
     })
 
 pub returns-in-Ok-clause-allowed : goal.returns-in-Ok-clause-allowed

@@ -1,0 +1,88 @@
+//! A place in a configuration that is at fault, as a person reads it.
+use pcp_base::{MOST_EXTERNALS, MOST_SUBSCRIBERS, MOST_THIRD_PARTIES};
+use std::fmt;
+
+/// What is at fault, and what was expected there.
+#[derive(Clone, Copy)]
+pub(crate) struct Fault<'a> {
+    pub place: Place<'a>,
+    pub expected: Expected,
+}
+
+/// A place in a configuration. Rows of a list are counted from 0.
+#[derive(Clone, Copy)]
+pub(crate) enum Place<'a> {
+    Key(&'a str),
+    Row(&'a str, usize),
+    Field(&'a str, usize, &'a str),
+}
+
+/// What was expected at a place.
+#[derive(Clone, Copy)]
+pub(crate) enum Expected {
+    NoSuchKey,
+    /// A whole number from the first to the second.
+    Number(u32, u32),
+    Prefixes,
+    Prefix,
+    Externals,
+    DifferentAddresses,
+    Table,
+    Address,
+    ExternalAddress,
+    Subscribers,
+}
+
+impl fmt::Display for Fault<'_> {
+    fn fmt<W: fmt::Write>(&self, f: &mut fmt::Formatter<W>) -> fmt::Result {
+        write!(f, "{}: expected {}", self.place, self.expected)
+    }
+}
+
+impl fmt::Display for Place<'_> {
+    fn fmt<W: fmt::Write>(&self, f: &mut fmt::Formatter<W>) -> fmt::Result {
+        match self {
+            Place::Key(key) => write!(f, "{}", Key(key)),
+            Place::Row(list, index) => write!(f, "{list} {}", index.saturating_add(1)),
+            Place::Field(list, index, key) => {
+                write!(f, "{list} {}, {}", index.saturating_add(1), Key(key))
+            }
+        }
+    }
+}
+
+impl fmt::Display for Expected {
+    fn fmt<W: fmt::Write>(&self, f: &mut fmt::Formatter<W>) -> fmt::Result {
+        match self {
+            Expected::NoSuchKey => f.write_str("no such key"),
+            Expected::Number(low, high) => write!(f, "a whole number from {low} to {high}"),
+            Expected::Prefixes => write!(f, "a list of at most {MOST_THIRD_PARTIES} prefixes"),
+            Expected::Prefix => f.write_str("a prefix such as \"10.0.0.0/8\""),
+            Expected::Externals => write!(f, "1 to {MOST_EXTERNALS} tables"),
+            Expected::DifferentAddresses => f.write_str("tables with different addresses"),
+            Expected::Table => f.write_str("a table"),
+            Expected::Address => f.write_str("an address such as \"192.0.2.1\""),
+            Expected::ExternalAddress => f.write_str("the address of an external"),
+            Expected::Subscribers => write!(f, "at most {MOST_SUBSCRIBERS} tables"),
+        }
+    }
+}
+
+// A key, in quotes where it isn't a bare one, so that it stays on one line.
+#[derive(Clone, Copy)]
+struct Key<'a>(&'a str);
+
+impl fmt::Display for Key<'_> {
+    fn fmt<W: fmt::Write>(&self, f: &mut fmt::Formatter<W>) -> fmt::Result {
+        if is_bare(self.0) {
+            f.write_str(self.0)
+        } else {
+            write!(f, "{:?}", self.0)
+        }
+    }
+}
+
+fn is_bare(key: &str) -> bool {
+    !key.is_empty()
+        && key.bytes().all(|octet| octet.is_ascii_alphanumeric() || octet == b'_' || octet == b'-')
+}
