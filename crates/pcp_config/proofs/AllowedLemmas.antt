@@ -1,9 +1,8 @@
 -- A configuration for which a table stands is one that a server may have.
-use Rattle.std.proofs.Common.{◌≡◌, ◌≢◌, ◌≤◌, ◌<◌, ℕ, ◌+◌, List, [], ◌∷◌, length, codes, inl, inr, sym, subst, ◌∙◌, arith}
+use Rattle.std.proofs.Common.{◌≡◌, ◌≤◌, ◌<◌, ℕ, List, [], ◌∷◌, length, codes, inl, inr, sym, subst, ◌∙◌, arith}
 use Rattle.std.specs.List.{AllByRecursion, AllZip}
 use Rattle.std.proofs.lemmas.Option.{same_Some, slice_get_within}
 use Rattle.toml.specs.Data.{Data, Members}
-use Rattle.toml.specs.Parse.{parse_document}
 use Rattle.pcp_base.specs.AddressTexts.{IsPrefixText}
 use Rattle.pcp_base.specs.Configs.{IsConfig, IsExternal}
 use Rattle.pcp_base.specs.declared.addresses.Prefix.{Prefix}
@@ -13,8 +12,8 @@ use Rattle.pcp_base.specs.declared.configs.External.{External}
 use Rattle.pcp_base.specs.declared.configs.Subscriber.{Subscriber}
 use Rattle.pcp_config.specs.ConfigTables.{IsConfigTable, IsExternalTable, IsSubscriberTable}
 use Rattle.pcp_config.specs.ConfigTexts.{IsConfigText}
-use Rattle.pcp_config.specs.declared.TheConstants.{DEFAULT_LIFETIME_MIN, DEFAULT_QUOTA, LAST_PORT}
-use Rattle.pcp_config.specs.TomlValues.{TellsAt, TellsOr, IsListOf, IsNumberIn, IsTableOf, IsTextOf, list_of}
+use Rattle.pcp_config.specs.declared.TheConstants.{DEFAULT_LIFETIME_MIN, DEFAULT_QUOTA}
+use Rattle.pcp_config.specs.TomlValues.{TellsOr, IsListOf, IsNumberIn, IsTableOf, IsTextOf, list_of}
 use Rattle.pcp_config.proofs.ConfigLemmas.{IsConfigTable-unique}
 
 -- what holds of all that items tell

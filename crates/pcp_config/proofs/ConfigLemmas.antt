@@ -1,9 +1,9 @@
 -- Tables of a configuration stand for one thing at most.
-use Rattle.std.proofs.Common.{◌≡◌, ◌≢◌, ◌≤◌, ◌<◌, ℕ, zero, suc, List, [], ◌∷◌, length, codes, Some, None, slice_get, inl, inr, refl, sym, subst, ◌∙◌, ap, arith}
+use Rattle.std.proofs.Common.{◌≡◌, ◌≢◌, ℕ, zero, suc, List, [], ◌∷◌, length, codes, Some, None, slice_get, inl, inr, refl, sym, subst, ◌∙◌, ap}
 use Rattle.std.specs.List.{AllByRecursion}
 use Rattle.std.proofs.lemmas.Option.{same_Some}
 use Rattle.std.proofs.lemmas.Slice.Zip.{AllZip-long}
-use Rattle.toml.specs.Data.{Data, Members, array, as_array, get_member}
+use Rattle.toml.specs.Data.{Data, Members, as_array, get_member}
 use Rattle.pcp_base.specs.AddressTexts.{IsAddressText, IsPrefixText}
 use Rattle.pcp_base.specs.Tables.{EachTwo}
 use Rattle.pcp_base.specs.declared.addresses.Prefix.{Prefix}

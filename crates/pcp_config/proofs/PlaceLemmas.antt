@@ -1,8 +1,8 @@
 -- External addresses by their place.
 use Rattle.std.specs.List.{position_from}
-use Rattle.std.proofs.Common.{◌≡◌, ℕ, zero, suc, ◌+◌, ◌<◌, ◌≤◌, Bool, true, false, cond, List, [], ◌∷◌, length, slice_get, Some, None, refl, sym, ap, ◌∙◌, subst, arith}
+use Rattle.std.proofs.Common.{◌≡◌, ℕ, zero, suc, ◌+◌, ◌<◌, Bool, true, false, cond, List, [], ◌∷◌, length, slice_get, Some, None, refl, sym, ap, ◌∙◌, subst, arith}
 use Rattle.std.proofs.lemmas.Option.{same_Some, slice_get_within}
-use Rattle.toml.specs.Data.{Data, string, as_str}
+use Rattle.toml.specs.Data.{Data, as_str}
 use Rattle.pcp_base.specs.AddressTexts.{IsAddressText}
 use Rattle.pcp_base.specs.Tables.{same_address}
 use Rattle.pcp_base.specs.declared.addresses.Address.{Address}

@@ -1,7 +1,7 @@
 -- Tables that stand for nothing.
-use Rattle.std.proofs.Common.{◌≡◌, ℕ, codes, Some, None, sym, subst, ◌∙◌, ap}
+use Rattle.std.proofs.Common.{◌≡◌, ℕ, codes, Some, sym, subst, ◌∙◌, ap}
 use Rattle.std.proofs.lemmas.Option.{same_Some}
-use Rattle.toml.specs.Data.{Data, Members, table, as_table}
+use Rattle.toml.specs.Data.{Data, Members, as_table}
 use Rattle.pcp_base.specs.declared.configs.External.{External}
 use Rattle.pcp_config.specs.ConfigTables.{IsExternalTable}
 use Rattle.pcp_config.specs.declared.TheConstants.{LAST_PORT}

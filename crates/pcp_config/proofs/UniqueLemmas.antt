@@ -2,7 +2,7 @@
 use Rattle.std.proofs.Common.{◌≡◌, List, [], ◌∷◌, ℕ, Some, None, pos, inl, inr, refl, sym, subst, ◌∙◌, ap}
 use Rattle.std.specs.List.{AllZip}
 use Rattle.std.proofs.lemmas.Option.{same_Some}
-use Rattle.toml.specs.Data.{Data, string, integer, array, table, as_str, as_integer, as_table, as_array, Members, get_member}
+use Rattle.toml.specs.Data.{Data, integer, as_str, as_table, as_array, Members}
 use Rattle.pcp_config.specs.TomlValues.{TellsAt, TellsOr, IsNumberIn, IsTextOf, IsTableOf, IsListOf, list_of}
 
 -- R and S tell the same of one value

@@ -2,7 +2,7 @@
 use Rattle.std.proofs.Common.{◌≡◌, List, [], ◌∷◌, map, ℕ, Bool, true, false, IsTrue, Option, Some, None, IfNone, refl, sym, subst, ◌∙◌, ap}
 use Rattle.std.specs.List.{list_any}
 use Rattle.std.proofs.lemmas.Option.{same_Some}
-use Rattle.toml.specs.Data.{Data, Members, string, as_str, get_member}
+use Rattle.toml.specs.Data.{Data, Members, as_str, get_member}
 use Rattle.pcp_config.specs.TomlValues.{IsTextOf, TellsAt}
 
 -- the text of a string writes nothing

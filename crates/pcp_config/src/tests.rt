@@ -24,7 +24,7 @@ fn summary_of(read: &Result<Config, ConfigRefused>) -> Option<Shown> {
 }
 
 // The text, and what it is with `more` in front.
-fn shown(alloc: Global, more: &[u8], text: &[u8]) -> Result<Option<Shown>, AllocError> {
+fn read_behind(alloc: Global, more: &[u8], text: &[u8]) -> Result<Option<Shown>, AllocError> {
     let mut whole = Vec::new(alloc);
     whole.extend_from_slice(more)?;
     whole.extend_from_slice(text)?;
@@ -82,7 +82,7 @@ static NUMBERS: [(&[u8], Shown); 34] = [
 #[test]
 fn numbers_of_a_configuration(rt: HostRuntime) -> Result<(), Fail> {
     for (text, want) in &NUMBERS {
-        let found = shown(rt.alloc(), text, EXTERNAL)?;
+        let found = read_behind(rt.alloc(), text, EXTERNAL)?;
         assert!(rt; found == Some(*want), "{}", text.escape_ascii());
     }
     Ok(())
@@ -113,7 +113,7 @@ static LISTS: [(&[u8], bool); 12] = [
 #[test]
 fn lists_of_a_configuration(rt: HostRuntime) -> Result<(), Fail> {
     for (text, accepted) in &LISTS {
-        let found = shown(rt.alloc(), text, EXTERNAL)?;
+        let found = read_behind(rt.alloc(), text, EXTERNAL)?;
         let want = if *accepted {
             Shown::Config(64, 120, 86_400)
         } else {
@@ -167,7 +167,7 @@ fn external_addresses(rt: HostRuntime) -> Result<(), Fail> {
         if !text.is_empty() {
             whole.extend_from_slice(b"[[external]]\n")?;
         }
-        let read = shown(alloc, &whole, text)?;
+        let read = read_behind(alloc, &whole, text)?;
         let want = if *accepted {
             Shown::Config(64, 120, 86_400)
         } else {
@@ -201,7 +201,7 @@ static WHOLE: [(&[u8], Shown); 7] = [
 #[test]
 fn whole_texts(rt: HostRuntime) -> Result<(), Fail> {
     for (text, want) in &WHOLE {
-        let found = shown(rt.alloc(), text, b"")?;
+        let found = read_behind(rt.alloc(), text, b"")?;
         assert!(rt; found == Some(*want), "{}", text.escape_ascii());
     }
     Ok(())
@@ -239,7 +239,7 @@ fn subscribers(rt: HostRuntime) -> Result<(), Fail> {
         let mut whole = Vec::new(alloc);
         whole.extend_from_slice(EXTERNAL)?;
         whole.extend_from_slice(b"[[subscriber]]\n")?;
-        let read = shown(alloc, &whole, text)?;
+        let read = read_behind(alloc, &whole, text)?;
         let want = if *accepted {
             Shown::Config(64, 120, 86_400)
         } else {

@@ -1,4 +1,3 @@
-use Rattle.pcp_config.specs.TomlValues.{IsNumberIn}
 use Rattle.pcp_config.proofs.TableLemmas.{high_untold}
 use Rattle.pcp_config.proofs.tables.external_in.Goals as goal
 

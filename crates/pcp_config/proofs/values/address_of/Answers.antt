@@ -1,4 +1,3 @@
-use Rattle.std.proofs.Common.{rules}
 use Rattle.pcp_config.proofs.ValueLemmas.{untold_text}
 use Rattle.pcp_config.proofs.values.address_of.Goals as goal
 
