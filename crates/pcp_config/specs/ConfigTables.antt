@@ -41,8 +41,10 @@ pub record IsSubscriberTable (externals : List External) (members : Members) (s 
   pub prefix : TellsAt members (codes "prefix") (IsTextOf IsPrefixText) s.prefix
   pub external : TellsAt members (codes "external") (IsTextOf (IsExternalText externals)) s.external
 
+-- subscribers, in their order
 pub record AreSubscribers (externals : List External) (members : Members) (subscribers : List Subscriber) : Type 0 where
-  pub told : TellsOr members (codes "subscriber") [] (IsListOf (IsTableOf (IsSubscriberTable externals))) subscribers
+  pub told :
+      TellsOr members (codes "subscriber") [] (IsListOf (IsTableOf (IsSubscriberTable externals))) subscribers
   pub few : length subscribers ≤ MOST_SUBSCRIBERS
 
 abbrev pub config_keys : List (List ℕ)
@@ -50,13 +52,24 @@ config_keys =
     codes "quota" ∷ codes "lifetime_min" ∷ codes "lifetime_max" ∷ codes "third_party"
     ∷ codes "external" ∷ codes "subscriber" ∷ []
 
+abbrev pub IsQuota : Members → ℕ → Type 0
+IsQuota members n = TellsOr members (codes "quota") DEFAULT_QUOTA (IsNumberIn 1 MOST_QUOTA) n
+
+abbrev pub IsLifetimeMin : Members → ℕ → Type 0
+IsLifetimeMin members n =
+    TellsOr members (codes "lifetime_min") DEFAULT_LIFETIME_MIN (IsNumberIn 1 LONGEST_LIFETIME) n
+
+-- a greatest lifetime that isn't below the least one
+abbrev pub IsLifetimeMax : ℕ → Members → ℕ → Type 0
+IsLifetimeMax least members n =
+    TellsOr members (codes "lifetime_max") LONGEST_LIFETIME (IsNumberIn least LONGEST_LIFETIME) n
+
 -- the table stands for the configuration
 pub record IsConfigTable (members : Members) (c : Config) : Type 0 where
   pub keys : has_only config_keys members ≡ true
-  pub quota : TellsOr members (codes "quota") DEFAULT_QUOTA (IsNumberIn 1 MOST_QUOTA) c.quota
-  pub lifetime_min : TellsOr members (codes "lifetime_min") DEFAULT_LIFETIME_MIN (IsNumberIn 1 LONGEST_LIFETIME) c.lifetime_min
-  pub lifetime_max :
-      TellsOr members (codes "lifetime_max") LONGEST_LIFETIME (IsNumberIn c.lifetime_min LONGEST_LIFETIME) c.lifetime_max
+  pub quota : IsQuota members c.quota
+  pub lifetime_min : IsLifetimeMin members c.lifetime_min
+  pub lifetime_max : IsLifetimeMax c.lifetime_min members c.lifetime_max
   pub third_party : AreThirdParties members c.third_party
   pub externals : AreExternals members c.externals
   pub subscribers : AreSubscribers c.externals members c.subscribers

@@ -5,9 +5,11 @@ ghost use Rattle.pcp_base.specs.declared.configs.TheConstants.{MOST_EXTERNALS};
 use crate::faults::{Expected, Fault, Place};
 use crate::lists::{Unread, externals_in, is_count};
 use crate::tables::{EXTERNAL_KEYS, SUBSCRIBER_KEYS, index_of};
-use crate::texts::{CONFIG_KEYS, ConfigRefused, read_config};
-use crate::values::{address_at, is_one_of, number_at, number_or, prefix_at, prefix_of, value_at};
-use crate::{DEFAULT_LIFETIME_MIN, DEFAULT_QUOTA, LAST_PORT, LONGEST_CONFIG};
+use crate::texts::{
+    CONFIG_KEYS, ConfigRefused, lifetime_max_in, lifetime_min_in, quota_in, read_config,
+};
+use crate::values::{address_at, is_one_of, number_at, prefix_at, prefix_of, value_at};
+use crate::{LAST_PORT, LONGEST_CONFIG};
 use pcp_base::{
     External, LONGEST_LIFETIME, MOST_QUOTA, MOST_SUBSCRIBERS, MOST_THIRD_PARTIES, Memory,
 };
@@ -100,17 +102,15 @@ fn unknown_key<'a>(table: &'a Table, keys: &[&str]) -> Option<&'a str> {
 }
 
 fn fault_of_numbers(table: &Table) -> Option<Fault<'_>> {
-    if number_or(table, "quota", DEFAULT_QUOTA, 1, MOST_QUOTA).is_none() {
+    if quota_in(table).is_none() {
         return Some(number_fault("quota", 1, MOST_QUOTA));
     }
-    let key = "lifetime_min";
-    let Some(least) = number_or(table, key, DEFAULT_LIFETIME_MIN, 1, LONGEST_LIFETIME) else {
-        return Some(number_fault(key, 1, LONGEST_LIFETIME));
+    let Some(least) = lifetime_min_in(table) else {
+        return Some(number_fault("lifetime_min", 1, LONGEST_LIFETIME));
     };
-    let key = "lifetime_max";
-    match number_or(table, key, LONGEST_LIFETIME, least, LONGEST_LIFETIME) {
+    match lifetime_max_in(table, least) {
         Some(_) => None,
-        None => Some(number_fault(key, least, LONGEST_LIFETIME)),
+        None => Some(number_fault("lifetime_max", least, LONGEST_LIFETIME)),
     }
 }
 

@@ -328,6 +328,28 @@ fn longest_text(rt: HostRuntime) -> Result<(), Fail> {
     Ok(())
 }
 
+static FIRST: &[u8] = b"quota = 64
+lifetime_min = 120
+lifetime_max = 86400
+third_party = []
+
+[[external]]
+address = \"192.0.2.1\"
+low = 1024
+high = 65535
+
+[[subscriber]]
+prefix = \"10.0.0.0/8\"
+external = \"192.0.2.1\"
+";
+
+#[test]
+fn first_example(rt: HostRuntime) -> Result<(), Fail> {
+    let read = read_config(rt.alloc(), FIRST);
+    assert!(rt; summary_of(&read) == Some(Shown::Config(64, 120, 86_400)));
+    Ok(())
+}
+
 static EXAMPLE: &[u8] = b"quota = 64
 lifetime_min = 120
 lifetime_max = 86400

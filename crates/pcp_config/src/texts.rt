@@ -1,11 +1,11 @@
 //! Texts of configurations.
-ghost use Rattle.std.specs.Prelude.{◌≡◌, ◌⊎◌, IfOk, IfErr, Err};
+ghost use Rattle.std.specs.Prelude.{◌≡◌, ◌⊎◌, ℕ, IfOk, IfErr, IfSome, IfNone, Err};
 ghost use Rattle.toml.specs.Data.{Members};
 ghost use Rattle.toml.specs.View.{table_view};
 ghost use Rattle.toml.specs.Errors.{IsMemory};
 ghost use Rattle.pcp_base.specs.Configs.{IsConfig};
 ghost use Rattle.pcp_base.specs.declared.configs.Config.{Config};
-ghost use Rattle.pcp_config.specs.ConfigTables.{IsConfigTable};
+ghost use Rattle.pcp_config.specs.ConfigTables.{IsConfigTable, IsLifetimeMax, IsLifetimeMin, IsQuota};
 ghost use Rattle.pcp_config.specs.ConfigTexts.{IsConfigText, IsRefusedFor, IsTomlText};
 ghost use Rattle.pcp_config.specs.declared.lists.Unread.{Unread};
 ghost use Rattle.pcp_config.specs.declared.texts.ConfigRefused.{ConfigRefused};
@@ -97,25 +97,13 @@ fn config_of(alloc: Global, table: &Table) -> Result<Config, Unread>
     if !has_only(table, &CONFIG_KEYS) {
         return Err(Unread::NotConfig);
     }
-    let Some(quota) = number_or(table, "quota", DEFAULT_QUOTA, 1, MOST_QUOTA) else {
+    let Some(quota) = quota_in(table) else {
         return Err(Unread::NotConfig);
     };
-    let Some(lifetime_min) = number_or(
-        table,
-        "lifetime_min",
-        DEFAULT_LIFETIME_MIN,
-        1,
-        LONGEST_LIFETIME,
-    ) else {
+    let Some(lifetime_min) = lifetime_min_in(table) else {
         return Err(Unread::NotConfig);
     };
-    let Some(lifetime_max) = number_or(
-        table,
-        "lifetime_max",
-        LONGEST_LIFETIME,
-        lifetime_min,
-        LONGEST_LIFETIME,
-    ) else {
+    let Some(lifetime_max) = lifetime_max_in(table, lifetime_min) else {
         return Err(Unread::NotConfig);
     };
     let third_party = third_parties_in(alloc, table)?;
@@ -129,4 +117,40 @@ fn config_of(alloc: Global, table: &Table) -> Result<Config, Unread>
         externals: Externals::of(externals),
         subscribers: Subscribers::of(subscribers),
     })
+}
+
+/// The quota.
+pub(crate) fn quota_in(table: &Table) -> Option<u32>
+    ensures number { IfSome result (IsQuota (table_view table.now)) }
+    ensures none { IfNone result ((n : ℕ) → ¬ (IsQuota (table_view table.now) n)) }
+{
+    number_or(table, "quota", DEFAULT_QUOTA, 1, MOST_QUOTA)
+}
+
+/// The least lifetime, in seconds.
+pub(crate) fn lifetime_min_in(table: &Table) -> Option<u32>
+    ensures number { IfSome result (IsLifetimeMin (table_view table.now)) }
+    ensures none { IfNone result ((n : ℕ) → ¬ (IsLifetimeMin (table_view table.now) n)) }
+{
+    number_or(
+        table,
+        "lifetime_min",
+        DEFAULT_LIFETIME_MIN,
+        1,
+        LONGEST_LIFETIME,
+    )
+}
+
+/// The greatest lifetime, in seconds, above the least one.
+pub(crate) fn lifetime_max_in(table: &Table, least: u32) -> Option<u32>
+    ensures number { IfSome result (IsLifetimeMax least (table_view table.now)) }
+    ensures none { IfNone result ((n : ℕ) → ¬ (IsLifetimeMax least (table_view table.now) n)) }
+{
+    number_or(
+        table,
+        "lifetime_max",
+        LONGEST_LIFETIME,
+        least,
+        LONGEST_LIFETIME,
+    )
 }

@@ -6,13 +6,13 @@ use Rattle.pcp_config.proofs.texts.config_of.Goals as goal
 pub returns-in_default-clause-refused : goal.returns-in_default-clause-refused
 returns-in_default-clause-refused c = λ _ config h. c.in_default.ensures.none config.quota h.quota
 
-pub returns-in_default-number_or-clause-refused : goal.returns-in_default-number_or-clause-refused
-returns-in_default-number_or-clause-refused c = λ _ config h.
-    c.in_default-number_or.ensures.none config.lifetime_min h.lifetime_min
+pub returns-in_default-lifetime_min_in-clause-refused : goal.returns-in_default-lifetime_min_in-clause-refused
+returns-in_default-lifetime_min_in-clause-refused c = λ _ config h.
+    c.in_default-lifetime_min_in.ensures.none config.lifetime_min h.lifetime_min
 
-pub returns-in_default-number_or-2-clause-refused : goal.returns-in_default-number_or-2-clause-refused
-returns-in_default-number_or-2-clause-refused c = λ _.
-    max_untold (table_view c.args.table.now) c.in-Some-number_or.lifetime_min c.in-Some-number_or.ensures.number c.in_default-number_or-2.ensures.none
+pub returns-in_default-lifetime_max_in-clause-refused : goal.returns-in_default-lifetime_max_in-clause-refused
+returns-in_default-lifetime_max_in-clause-refused c = λ _.
+    max_untold (table_view c.args.table.now) c.in-Some-lifetime_min_in.lifetime_min c.in-Some-lifetime_min_in.ensures.number c.in_default-lifetime_max_in.ensures.none
 
 pub returns-in_err-subscribers-clause-refused : goal.returns-in_err-subscribers-clause-refused
 returns-in_err-subscribers-clause-refused c = λ bad.
