@@ -1,0 +1,66 @@
+-- The expiries up to a moment are a range, and its least number.
+use Rattle.std.proofs.Common.{◌≡◌, ℕ, ◌+◌, ◌<◌, ◌≤◌, ◌&&◌, ◌==◌, nat_lt, Bool, true, false, not, cond, List, [], ◌∷◌, length, filter, count_by, Option, Some, None, IfSome, IfNone, refl, sym, ap, ◌∙◌, subst, arith}
+use Rattle.std.specs.Prelude.{⊤}
+use Rattle.std.specs.List.{AllByRecursion, list_any}
+use Rattle.std.specs.Ordering.{nat_cmp, ordering_then, is_le, MatchOrdering}
+use Rattle.std.specs.declared.cmp.Ordering.{Ordering}
+use Rattle.std.specs.declared.cmp.Ordering.TheVariants.{Less, Equal, Greater}
+use Rattle.std.specs.declared.ops.Bound.TheVariants.{Excluded, Unbounded}
+use Rattle.std.specs.BTreeMap.Range.{range_contains, entries_between}
+use Rattle.std.proofs.lemmas.Bool.{and_parts, and_from, ltb-true, lt-ltb}
+use Rattle.std.proofs.lemmas.Cmp.{ranked}
+use Rattle.std.proofs.lemmas.List.Sums.{length-filter}
+use Rattle.pcp_base.proofs.Members.{IsIn, All-IsIn, All-from_IsIn, IsIn-filter, filter-IsIn, any-some, some-any}
+use Rattle.ordered_index.specs.Ended.{has_ended, IsFirstEnded}
+use Rattle.ordered_index.specs.Steps.{expiry_cmp}
+
+pub false_by : (b : Bool) → (b ≡ true → ⊥) → b ≡ false
+false_by true h = absurd (h refl)
+false_by false h = refl
+
+least_cases : (n : ℕ) (o : Ordering) → MatchOrdering o (0 < n) (0 ≡ n) (n < 0) → is_le o ≡ true
+least_cases n Less h = refl
+least_cases n Equal h = refl
+least_cases n Greater h = absurd (let no : n < 0 = h in omega (arith, no))
+
+zero_least : (n : ℕ) → is_le (nat_cmp 0 n) ≡ true
+zero_least n = least_cases n (nat_cmp 0 n) (ranked 0 n (nat_cmp 0 n) refl)
+
+past_cases : (m : ℕ) (q : ℕ × ℕ) (o : Ordering) → MatchOrdering o (m + 1 < q.0) (m + 1 ≡ q.0) (q.0 < m + 1) → is_le (ordering_then o (nat_cmp 0 q.1)) ≡ nat_lt m q.0
+past_cases m q Less h = let less : m + 1 < q.0 = h in sym (lt-ltb m q.0 (omega (arith, less)))
+past_cases m q Equal h = let same : m + 1 ≡ q.0 = h in zero_least q.1 ∙ sym (lt-ltb m q.0 (omega (arith, same)))
+past_cases m q Greater h =
+    let more : q.0 < m + 1 = h in
+    sym (false_by (nat_lt m q.0) (λ t. let less = ltb-true m q.0 t in omega (arith, less, more)))
+
+pub ended-range : (m : ℕ) (q : ℕ × ℕ) → range_contains expiry_cmp Unbounded (Excluded (m + 1, 0)) q ≡ not (nat_lt m q.0)
+ended-range m q = ap not (past_cases m q (nat_cmp (m + 1) q.0) (ranked (m + 1) q.0 (nat_cmp (m + 1) q.0) refl))
+
+pub first-ended : (m : ℕ) (es : List ((ℕ × ℕ) × ⊤)) (r : Option ℕ) → IfSome r (λ n. list_any (λ e. e.0.1 == n) (filter (has_ended m) es) ≡ true) →
+    IfSome r (λ n. AllByRecursion (λ e. n ≤ e.0.1) (filter (has_ended m) es)) → IfNone r (filter (has_ended m) es ≡ []) → IsFirstEnded m es r
+first-ended m es None found least none = record {
+  ended = tt;
+  least = tt;
+  none = sym (length-filter (has_ended m) es) ∙ ap length none;
+}
+first-ended m es (Some n) found least none = record {
+  ended = (let a = any-some (λ e. e.0.1 == n) (filter (has_ended m) es) found in
+      let b = IsIn-filter (has_ended m) es a.0 a.1 in
+      some-any (λ e. has_ended m e && e.0.1 == n) es a.0 b.0 (and_from _ _ b.1 a.2));
+  least = All-from_IsIn (λ e. has_ended m e ≡ true → n ≤ e.0.1) es (λ e i t.
+      All-IsIn (λ x. n ≤ x.0.1) (filter (has_ended m) es) e least (filter-IsIn (has_ended m) es e i t));
+  none = tt;
+}
+
+same_filter : {X : Type 0} (p q : X → Bool) → ((x : X) → p x ≡ q x) → (xs : List X) → filter p xs ≡ filter q xs
+same_filter p q h [] = refl
+same_filter p q h (x ∷ xs) = ap (λ t. cond t (x ∷ filter p xs) (filter p xs)) (h x) ∙ ap (λ ys. cond (q x) (x ∷ ys) ys) (same_filter p q h xs)
+
+-- the range up to a moment
+pub ended-part : (m now : ℕ) (es part : List ((ℕ × ℕ) × ⊤)) → now ≡ m → part ≡ entries_between expiry_cmp Unbounded (Excluded (now + 1, 0)) es → part ≡ filter (has_ended m) es
+ended-part m now es part same h =
+    h ∙ ap (λ n. filter (λ (e : (ℕ × ℕ) × ⊤). range_contains expiry_cmp Unbounded (Excluded (n + 1, 0)) e.0) es) same
+    ∙ same_filter (λ (e : (ℕ × ℕ) × ⊤). range_contains expiry_cmp Unbounded (Excluded (m + 1, 0)) e.0) (has_ended m) (λ e. ended-range m e.0) es
+
+pub ended-length : (m : ℕ) (es : List ((ℕ × ℕ) × ⊤)) → length (filter (has_ended m) es) ≡ count_by (has_ended m) es
+ended-length m es = length-filter (has_ended m) es

@@ -1,0 +1,4 @@
+pub mod MapSteps
+pub mod Steps
+pub mod Ended
+pub mod Lesser

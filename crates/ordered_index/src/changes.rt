@@ -1,0 +1,96 @@
+//! Leases that come, change and go.
+ghost use Rattle.std.specs.Prelude.{◌≡◌, None, IfOk, OnOk, OnErr, IsSome};
+ghost use Rattle.std.specs.Ordering.{nat_cmp};
+ghost use Rattle.std.specs.BTreeMap.{get, IsEmpty};
+ghost use Rattle.ordered_index.specs.Steps.{IsBlank, Appends, Replaces, Forgets, Stays};
+
+use crate::maps::{insert_both, overwrite, remove_from, remove_other};
+use crate::numbered::Numbered;
+use pcp_base::Memory;
+use std::alloc::Global;
+use std::collections::BTreeMap;
+
+impl<L: Copy, K: Ord + Copy, P: Ord + Copy> Numbered<L, K, P> {
+    /// No lease.
+    pub fn new(alloc: Global) -> Numbered<L, K, P>
+        ensures { IsBlank K.cmp P.cmp result }
+    {
+        Numbered {
+            next: 0,
+            leases: BTreeMap::new(alloc),
+            keys: BTreeMap::new(alloc),
+            ports: BTreeMap::new(alloc),
+            expiries: BTreeMap::new(alloc),
+        }
+    }
+
+    /// Appends a lease under a key and a port that have none. The one error is want of memory or of
+    /// numbers, which changes nothing.
+    pub fn append(&mut self, lease: L, key: K, port: P, expiry: u64) -> Result<(), Memory>
+        requires key { get K.cmp self.old.keys key ≡ None }
+        requires port { get P.cmp self.old.ports port ≡ None }
+        ensures ok { OnOk result (Appends K.cmp P.cmp self.old self.new lease key port expiry) }
+        ensures err { OnErr result (Stays self.old self.new) }
+    {
+        let number = self.next;
+        let Some(after) = number.checked_add(1) else {
+            return Err(Memory);
+        };
+        insert_both(
+            &mut self.keys,
+            &mut self.ports,
+            (key, number),
+            (port, number),
+        )?;
+        if let Err(error) = insert_both(
+            &mut self.expiries,
+            &mut self.leases,
+            ((expiry, number), ()),
+            (number, lease),
+        ) {
+            remove_from(&mut self.keys, key);
+            remove_from(&mut self.ports, port);
+            return Err(error.into());
+        }
+        self.next = after;
+        Ok(())
+    }
+
+    /// Writes a lease at a number that has one with this key: its port moves, and its expiry, each
+    /// from the first to the second. The one error is want of memory, which changes nothing.
+    pub fn replace(
+        &mut self,
+        number: u64,
+        lease: L,
+        ports: (P, P),
+        expiries: (u64, u64),
+    ) -> Result<(), Memory>
+        requires { IsSome (get nat_cmp self.old.leases number) }
+        ensures ok { OnOk result
+            (Replaces P.cmp self.old self.new number lease ports.0 ports.1 expiries.0 expiries.1) }
+        ensures err { OnErr result (Stays self.old self.new) }
+    {
+        let (from, to) = ports;
+        let (before, after) = expiries;
+        insert_both(
+            &mut self.ports,
+            &mut self.expiries,
+            (to, number),
+            ((after, number), ()),
+        )?;
+        remove_other(&mut self.ports, from, to);
+        remove_other(&mut self.expiries, (before, number), (after, number));
+        overwrite(&mut self.leases, number, lease);
+        Ok(())
+    }
+
+    /// Takes out the lease with a number, and the number under this key, port and expiry.
+    pub fn forget(&mut self, number: u64, key: K, port: P, expiry: u64)
+        ensures { Forgets K.cmp P.cmp self.old self.new number key port expiry }
+    {
+        remove_from(&mut self.leases, number);
+        remove_from(&mut self.keys, key);
+        remove_from(&mut self.ports, port);
+        remove_from(&mut self.expiries, (expiry, number));
+    }
+}
