@@ -57,7 +57,7 @@ pub none_by : {X : Type 0} (o : Option X) → ((x : X) → o ≡ Some x → ⊥)
 none_by None h = refl
 none_by (Some x) h = absurd (h x refl)
 
-equal : (q : Ordering) → is_eq q ≡ true → q ≡ Equal
+pub equal : (q : Ordering) → is_eq q ≡ true → q ≡ Equal
 equal Less t = absurd (let no : false ≡ true = t in cc)
 equal Equal t = refl
 equal Greater t = absurd (let no : false ≡ true = t in cc)
@@ -125,6 +125,19 @@ module _ {K V : Type 0} {R : K → K → Ordering} (o : IsTotalOrder R) (k : K) 
   inserted-same v [] sorted found = absurd (let no : None ≡ Some v = found in cc)
   inserted-same v (e ∷ es) sorted found =
       same_step v e es (R k e.0) refl sorted (inserted-same v es (sorted_tail R e.0 (keys_of es) sorted)) found
+
+  other_step : (from : K) (v : V) (e : K × V) (es : List (K × V)) (q : Ordering) → CmpEqualImpliesEq R → R k e.0 ≡ q → is_at (R from) k ≡ false → (lookup (is_at (R from)) (insert_entry R es k v) ≡ lookup (is_at (R from)) es) →
+      lookup (is_at (R from)) (placed q v e es) ≡ lookup (is_at (R from)) (e ∷ es)
+  other_step from v e es Less exact h other rest = ap (λ t. cond t (Some v) (lookup (is_at (R from)) (e ∷ es))) other
+  other_step from v e es Equal exact h other rest =
+      let here : is_at (R from) e.0 ≡ false = ap (λ z. is_at (R from) z) (sym (exact k e.0 h)) ∙ other in
+      ap (λ t. cond t (Some v) (lookup (is_at (R from)) es)) here ∙ ap (λ t. cond t (Some e.1) (lookup (is_at (R from)) es)) (sym here)
+  other_step from v e es Greater exact h other rest = ap (λ o'. cond (is_at (R from) e.0) (Some e.1) o') rest
+
+  -- another key has what it had
+  pub lookup-inserted : CmpEqualImpliesEq R → (from : K) (v : V) (es : List (K × V)) → is_at (R from) k ≡ false → lookup (is_at (R from)) (insert_entry R es k v) ≡ lookup (is_at (R from)) es
+  lookup-inserted exact from v [] other = ap (λ t. cond t (Some v) None) other
+  lookup-inserted exact from v (e ∷ es) other = other_step from v e es (R k e.0) exact refl other (lookup-inserted exact from v es other)
 
   module _ (p : K × V → Bool) where
     more_step : (v : V) (e : K × V) (es : List (K × V)) (q : Ordering) → R k e.0 ≡ q → (at es ≡ None → count_by p (insert_entry R es k v) ≡ count_by p es + tally (p (k, v))) →

@@ -2,3 +2,5 @@ pub mod MapSteps
 pub mod Steps
 pub mod Ended
 pub mod Lesser
+pub mod Kept
+pub mod Orders

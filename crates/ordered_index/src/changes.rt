@@ -1,12 +1,14 @@
 //! Leases that come, change and go.
-ghost use Rattle.std.specs.Prelude.{◌≡◌, None, IfOk, OnOk, OnErr, IsSome};
+ghost use Rattle.std.specs.Prelude.{◌≡◌, None, OnOk, OnErr, IsSome, count_by};
 ghost use Rattle.std.specs.Ordering.{nat_cmp};
-ghost use Rattle.std.specs.BTreeMap.{get, IsEmpty};
+ghost use Rattle.std.specs.BTreeMap.{get};
+ghost use Rattle.ordered_index.specs.Ended.{has_ended, IsFirstEnded};
 ghost use Rattle.ordered_index.specs.Steps.{IsBlank, Appends, Replaces, Forgets, Stays};
 
+use crate::expiries::{count_ended, first_ended};
 use crate::maps::{insert_both, overwrite, remove_from, remove_other};
 use crate::numbered::Numbered;
-use pcp_base::Memory;
+use pcp_base::{Memory, Moment};
 use std::alloc::Global;
 use std::collections::BTreeMap;
 
@@ -92,5 +94,19 @@ impl<L: Copy, K: Ord + Copy, P: Ord + Copy> Numbered<L, K, P> {
         remove_from(&mut self.keys, key);
         remove_from(&mut self.ports, port);
         remove_from(&mut self.expiries, (expiry, number));
+    }
+
+    /// How many leases have an expiry of at most `m`. It looks at these alone.
+    pub fn ended(&self, m: Moment) -> usize
+        ensures { result ≡ count_by (has_ended m) self.now.expiries.entries }
+    {
+        count_ended(&self.expiries, m)
+    }
+
+    /// The least number of a lease whose expiry is at most `m`. It looks at these alone.
+    pub fn first_ended(&self, m: Moment) -> Option<u64>
+        ensures { IsFirstEnded m self.now.expiries.entries result }
+    {
+        first_ended(&self.expiries, m)
     }
 }

@@ -3,7 +3,9 @@
 
 mod changes;
 mod expiries;
+mod keys;
 mod maps;
 mod numbered;
 
+pub use keys::{Place, Port, first_from, is_beside, last_up_to, place_of, port_at, port_in};
 pub use numbered::Numbered;

@@ -13,7 +13,7 @@ use Rattle.pcp_base.specs.declared.leases.Protocol.{Protocol}
 use Rattle.pcp_base.specs.declared.leases.Protocol.TheVariants.{Tcp, Udp}
 use Rattle.pcp_base.specs.declared.leases.Endpoint.{Endpoint}
 use Rattle.pcp_base.specs.Protocols.{protocol_number}
-use Rattle.mapping_table.specs.Orders.{Place, port_at, place_of, port_cmp, place_cmp}
+use Rattle.ordered_index.specs.Orders.{Place, port_at, place_of, port_cmp, place_cmp}
 
 not_gt_first : (o r : Ordering) → is_gt (ordering_then o r) ≡ false → is_gt o ≡ false
 not_gt_first Less r h = refl

@@ -1,7 +1,7 @@
-use Rattle.mapping_table.proofs.keys.last_port.Goals as goal
+use Rattle.ordered_index.proofs.keys.last_up_to.Goals as goal
 
 pub returns : goal.returns
-returns c =
+returns g c =
     let part = c.range.ensures.in_range tt in
     let entry = part.3 _ _ c.in-Some.ensures.steps in
     let last = part.4 _ _ c.in-Some.ensures.steps in
