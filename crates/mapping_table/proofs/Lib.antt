@@ -1,9 +1,5 @@
-pub mod Changes
-pub mod Entries
+pub mod MapKeeping
 pub mod Nexts
-pub mod OrderLaws
-pub mod Indexes
 pub mod Lookups
-pub mod Puts
 pub mod Separates
 pub mod Sounds

@@ -1,17 +1,20 @@
 -- What is found by the indexes.
 use Rattle.std.proofs.Common.{◌≡◌, ℕ, Bool, true, false, List, Option, Some, None, IsSome, refl, sym, ap, ◌∙◌, subst, arith}
 use Rattle.std.specs.Ordering.{nat_cmp, is_gt}
-use Rattle.std.specs.BTreeMap.{BTreeMap, get, values}
+use Rattle.std.specs.BTreeMap.{get, values}
 use Rattle.pcp_base.specs.declared.leases.Protocol.{Protocol}
 use Rattle.pcp_base.specs.declared.leases.Endpoint.{Endpoint}
 use Rattle.pcp_base.specs.declared.leases.MapLease.{MapLease}
 use Rattle.pcp_base.specs.Tables.{covers, first_endpoint}
 use Rattle.pcp_base.proofs.TableLemmas.{IsCovered-from_covers, covers-from_IsCovered, covers-first}
 use Rattle.mapping_table.specs.MapLists.{owns, map_covering, map_owning}
-use Rattle.mapping_table.specs.Orders.{Place, port_at, place_of, port_cmp, place_cmp, IsLast}
-use Rattle.mapping_table.specs.Kept.{place_of_lease, port_of_lease, IsIndexed}
-use Rattle.mapping_table.proofs.Entries.{find_is, find_none}
-use Rattle.mapping_table.proofs.OrderLaws.{flip, port_total, place_total, place_of-one, protocol_one, ports_between, ports_up_to, places_between, places_up_to}
+use Rattle.ordered_index.specs.Orders.{Place, port_at, place_of, port_cmp, place_cmp, IsLast}
+use Rattle.mapping_table.specs.Kept.{place_of_lease, port_of_lease, map_keying, AreKeptMaps}
+use Rattle.ordered_index.proofs.Entries.{find_is, find_none}
+use Rattle.ordered_index.proofs.OrderLaws.{flip, port_total, place_total, place_of-one, protocol_one, ports_between, ports_up_to, places_between, places_up_to}
+use Rattle.ordered_index.specs.declared.numbered.Numbered.{Numbered}
+use Rattle.ordered_index.proofs.Keeping.{key-to, key-from, port-to, port-from}
+use Rattle.mapping_table.proofs.MapKeeping.{map_laws}
 use Rattle.mapping_table.proofs.Separates.{IsOwned-from_owns, owns-from_IsOwned, one_covers, one_owns, lease_is}
 
 some_is : {X : Type 0} (o : Option X) (x : X) → o ≡ Some x → IsSome o
@@ -26,9 +29,9 @@ none_some o x a b = let both : None ≡ Some x = sym a ∙ b in cc
 clash : (b : Bool) → b ≡ true → b ≡ false → ⊥
 clash b h k = let no : true ≡ false = sym h ∙ k in cc
 
-module _ (next : ℕ) (leases : BTreeMap ℕ MapLease) (keys : BTreeMap Place ℕ) (ports : BTreeMap (ℕ × ℕ) ℕ) (h : IsIndexed next leases keys ports) where
-  pub covering_is : (e : Endpoint) (n : ℕ) (l : MapLease) → get nat_cmp leases n ≡ Some l → covers l e ≡ true → Some l ≡ map_covering e (values leases)
-  covering_is e n l a c = sym (find_is (λ x. covers x e) leases h.numbered.ordered n l a c (λ k x b d. one_covers leases h.numbered.sound e n k l x a b c d))
+module _ (it : Numbered MapLease Place (ℕ × ℕ)) (h : AreKeptMaps it) where
+  pub covering_is : (e : Endpoint) (n : ℕ) (l : MapLease) → get nat_cmp it.leases n ≡ Some l → covers l e ≡ true → Some l ≡ map_covering e (values it.leases)
+  covering_is e n l a c = sym (find_is (λ x. covers x e) it.leases h.kept.ordered n l a c (λ k x b d. one_covers it.leases h.sound e n k l x a b c d))
 
   -- the place of a lease that covers an endpoint isn't past the endpoint's
   covering_place : (e : Endpoint) (l : MapLease) → covers l e ≡ true → is_gt (place_cmp (place_of_lease l) (place_of e)) ≡ false
@@ -36,18 +39,18 @@ module _ (next : ℕ) (leases : BTreeMap ℕ MapLease) (keys : BTreeMap Place �
       let x = IsCovered-from_covers l e c in
       places_up_to (place_of_lease l) (place_of e) (ap (λ a. a.0) x.address) (ap (λ p. (port_at p 0).0) x.protocol) x.from
 
-  pub none_below : (e : Endpoint) → IsLast place_cmp keys (place_of e) None → None ≡ map_covering e (values leases)
-  none_below e last = sym (find_none (λ x. covers x e) leases h.numbered.ordered (λ n x a c.
-      none_some (get place_cmp keys (place_of_lease x)) n (last (place_of_lease x) (covering_place e x c)) (h.keyed.to n x a)))
+  pub none_below : (e : Endpoint) → IsLast place_cmp it.keys (place_of e) None → None ≡ map_covering e (values it.leases)
+  none_below e last = sym (find_none (λ x. covers x e) it.leases h.kept.ordered (λ n x a c.
+      none_some (get place_cmp it.keys (place_of_lease x)) n (last (place_of_lease x) (covering_place e x c)) (key-to map_keying map_laws it h.kept n x a)))
 
-  pub last_fails : (e : Endpoint) (k : ℕ) (l : MapLease) → IsLast place_cmp keys (place_of e) (Some k) → get nat_cmp leases k ≡ Some l → covers l e ≡ false → None ≡ map_covering e (values leases)
-  last_fails e k l last b fails = sym (find_none (λ x. covers x e) leases h.numbered.ordered (λ n x a c.
+  pub last_fails : (e : Endpoint) (k : ℕ) (l : MapLease) → IsLast place_cmp it.keys (place_of e) (Some k) → get nat_cmp it.leases k ≡ Some l → covers l e ≡ false → None ≡ map_covering e (values it.leases)
+  last_fails e k l last b fails = sym (find_none (λ x. covers x e) it.leases h.kept.ordered (λ n x a c.
       let cx = IsCovered-from_covers x e c in
-      let from = h.keyed.from last.0 k last.1.found in
-      let one : from.0 ≡ l = some_one (get nat_cmp leases k) from.0 l from.1 b in
+      let from = key-from map_keying map_laws it h.kept last.0 k last.1.found in
+      let one : from.0 ≡ l = some_one (get nat_cmp it.leases k) from.0 l from.1 b in
       let place : place_of_lease l ≡ last.0 = ap place_of_lease (sym one) ∙ from.2 in
       let below : is_gt (place_cmp (place_of_lease x) last.0) ≡ false = flip place_total last.0 (place_of_lease x)
-      (last.1.greatest (place_of_lease x) (covering_place e x c) (some_is (get place_cmp keys (place_of_lease x)) n (h.keyed.to n x a))) in
+      (last.1.greatest (place_of_lease x) (covering_place e x c) (some_is (get place_cmp it.keys (place_of_lease x)) n (key-to map_keying map_laws it h.kept n x a))) in
       let below_l : is_gt (place_cmp (place_of_lease x) (place_of_lease l)) ≡ false = subst (λ (p : Place). is_gt (place_cmp (place_of_lease x) p) ≡ false) (sym place) below in
       let l_below : is_gt (place_cmp (place_of_lease l) (place_of e)) ≡ false = subst (λ (p : Place). is_gt (place_cmp p (place_of e)) ≡ false) (sym place) last.1.up_to in
       let between = places_between (place_of_lease x) (place_of_lease l) (place_of e) (ap (λ a'. a'.0) cx.address) (ap (λ p. (port_at p 0).0) cx.protocol) below_l l_below in
@@ -57,38 +60,48 @@ module _ (next : ℕ) (leases : BTreeMap ℕ MapLease) (keys : BTreeMap Place �
       let x_covers : covers x (record { address = e.address; protocol = e.protocol; port = l.internal }) ≡ true = covers-from_IsCovered x (record { address = e.address; protocol = e.protocol; port = l.internal })
       (record { address = cx.address; protocol = cx.protocol; from = between.2; below = (let u = between.3 in omega (arith, u, cx.below)) }) in
       let x_first : covers x (first_endpoint l) ≡ true = subst (λ (z : Endpoint). covers x z ≡ true) same x_covers in
-      let l_first : covers l (first_endpoint l) ≡ true = covers-first l (lease_is leases h.numbered.sound k l b).ports.some in
-      let number : n ≡ k = one_covers leases h.numbered.sound (first_endpoint l) n k x l a b x_first l_first in
-      let is : x ≡ l = some_one (get nat_cmp leases k) x l (ap (get nat_cmp leases) (sym number) ∙ a) b in
+      let l_first : covers l (first_endpoint l) ≡ true = covers-first l (lease_is it.leases h.sound k l b).ports.some in
+      let number : n ≡ k = one_covers it.leases h.sound (first_endpoint l) n k x l a b x_first l_first in
+      let is : x ≡ l = some_one (get nat_cmp it.leases k) x l (ap (get nat_cmp it.leases) (sym number) ∙ a) b in
       clash (covers l e) (ap (λ (z : MapLease). covers z e) (sym is) ∙ c) fails))
 
-  pub owning_is : (protocol : Protocol) (port n : ℕ) (l : MapLease) → get nat_cmp leases n ≡ Some l → owns protocol port l ≡ true → Some l ≡ map_owning protocol port (values leases)
-  owning_is protocol port n l a c = sym (find_is (owns protocol port) leases h.numbered.ordered n l a c (λ k x b d. one_owns leases h.numbered.sound protocol port n k l x a b c d))
+  pub owning_is : (protocol : Protocol) (port n : ℕ) (l : MapLease) → get nat_cmp it.leases n ≡ Some l → owns protocol port l ≡ true → Some l ≡ map_owning protocol port (values it.leases)
+  owning_is protocol port n l a c = sym (find_is (owns protocol port) it.leases h.kept.ordered n l a c (λ k x b d. one_owns it.leases h.sound protocol port n k l x a b c d))
 
   owning_port : (protocol : Protocol) (port : ℕ) (l : MapLease) → owns protocol port l ≡ true → is_gt (port_cmp (port_of_lease l) (port_at protocol port)) ≡ false
   owning_port protocol port l c =
       let x = IsOwned-from_owns l protocol port c in
       ports_up_to (port_of_lease l) (port_at protocol port) (ap (λ p. (port_at p 0).0) x.protocol) x.from
 
-  pub no_port_below : (protocol : Protocol) (port : ℕ) → IsLast port_cmp ports (port_at protocol port) None → None ≡ map_owning protocol port (values leases)
-  no_port_below protocol port last = sym (find_none (owns protocol port) leases h.numbered.ordered (λ n x a c.
-      none_some (get port_cmp ports (port_of_lease x)) n (last (port_of_lease x) (owning_port protocol port x c)) (h.ported.to n x a)))
+  pub no_port_below : (protocol : Protocol) (port : ℕ) → IsLast port_cmp it.ports (port_at protocol port) None → None ≡ map_owning protocol port (values it.leases)
+  no_port_below protocol port last = sym (find_none (owns protocol port) it.leases h.kept.ordered (λ n x a c.
+      none_some (get port_cmp it.ports (port_of_lease x)) n (last (port_of_lease x) (owning_port protocol port x c)) (port-to map_keying map_laws it h.kept n x a)))
 
-  pub last_port_fails : (protocol : Protocol) (port k : ℕ) (l : MapLease) → IsLast port_cmp ports (port_at protocol port) (Some k) → get nat_cmp leases k ≡ Some l → owns protocol port l ≡ false → None ≡ map_owning protocol port (values leases)
-  last_port_fails protocol port k l last b fails = sym (find_none (owns protocol port) leases h.numbered.ordered (λ n x a c.
+  pub last_port_fails : (protocol : Protocol) (port k : ℕ) (l : MapLease) → IsLast port_cmp it.ports (port_at protocol port) (Some k) → get nat_cmp it.leases k ≡ Some l → owns protocol port l ≡ false → None ≡ map_owning protocol port (values it.leases)
+  last_port_fails protocol port k l last b fails = sym (find_none (owns protocol port) it.leases h.kept.ordered (λ n x a c.
       let cx = IsOwned-from_owns x protocol port c in
-      let from = h.ported.from last.0 k last.1.found in
-      let one : from.0 ≡ l = some_one (get nat_cmp leases k) from.0 l from.1 b in
+      let from = port-from map_keying map_laws it h.kept last.0 k last.1.found in
+      let one : from.0 ≡ l = some_one (get nat_cmp it.leases k) from.0 l from.1 b in
       let place : port_of_lease l ≡ last.0 = ap port_of_lease (sym one) ∙ from.2 in
       let below : is_gt (port_cmp (port_of_lease x) last.0) ≡ false = flip port_total last.0 (port_of_lease x)
-      (last.1.greatest (port_of_lease x) (owning_port protocol port x c) (some_is (get port_cmp ports (port_of_lease x)) n (h.ported.to n x a))) in
+      (last.1.greatest (port_of_lease x) (owning_port protocol port x c) (some_is (get port_cmp it.ports (port_of_lease x)) n (port-to map_keying map_laws it h.kept n x a))) in
       let below_l : is_gt (port_cmp (port_of_lease x) (port_of_lease l)) ≡ false = subst (λ (p : ℕ × ℕ). is_gt (port_cmp (port_of_lease x) p) ≡ false) (sym place) below in
       let l_below : is_gt (port_cmp (port_of_lease l) (port_at protocol port)) ≡ false = subst (λ (p : ℕ × ℕ). is_gt (port_cmp p (port_at protocol port)) ≡ false) (sym place) last.1.up_to in
       let between = ports_between (port_of_lease x) (port_of_lease l) (port_at protocol port) (ap (λ p. (port_at p 0).0) cx.protocol) below_l l_below in
       let same : l.protocol ≡ protocol = protocol_one l.protocol protocol 0 0 (ap (λ (z : ℕ). (z, 0)) between.0) in
-      let some = (lease_is leases h.numbered.sound k l b).ports.some in
+      let some = (lease_is it.leases h.sound k l b).ports.some in
       let x_owns : owns protocol l.external x ≡ true = owns-from_IsOwned x protocol l.external cx.protocol between.1 (let u = between.2 in omega (arith, u, cx.below)) in
       let l_owns : owns protocol l.external l ≡ true = owns-from_IsOwned l protocol l.external same (omega arith) (omega (arith, some)) in
-      let number : n ≡ k = one_owns leases h.numbered.sound protocol l.external n k x l a b x_owns l_owns in
-      let is : x ≡ l = some_one (get nat_cmp leases k) x l (ap (get nat_cmp leases) (sym number) ∙ a) b in
+      let number : n ≡ k = one_owns it.leases h.sound protocol l.external n k x l a b x_owns l_owns in
+      let is : x ≡ l = some_one (get nat_cmp it.leases k) x l (ap (get nat_cmp it.leases) (sym number) ∙ a) b in
       clash (owns protocol port l) (ap (owns protocol port) (sym is) ∙ c) fails))
+
+  -- the number of a last key has a lease
+  pub last_has : (p : Place) (k : ℕ) → IsLast place_cmp it.keys p (Some k) → None ≡ get nat_cmp it.leases k → ⊥
+  last_has p k last none = let from = key-from map_keying map_laws it h.kept last.0 k last.1.found in none_some (get nat_cmp it.leases k) from.0 (sym none) from.1
+
+  pub last_port_has : (p : ℕ × ℕ) (k : ℕ) → IsLast port_cmp it.ports p (Some k) → None ≡ get nat_cmp it.leases k → ⊥
+  last_port_has p k last none = let from = port-from map_keying map_laws it h.kept last.0 k last.1.found in none_some (get nat_cmp it.leases k) from.0 (sym none) from.1
+
+  pub number_stands : (p : Place) (k : ℕ) → get place_cmp it.keys p ≡ Some k → None ≡ get nat_cmp it.leases k → ⊥
+  number_stands p k found none = let from = key-from map_keying map_laws it h.kept p k found in none_some (get nat_cmp it.leases k) from.0 (sym none) from.1

@@ -1,5 +1,6 @@
 -- Of sound leases one at most covers an endpoint, and one at most owns a port.
-use Rattle.std.proofs.Common.{◌≡◌, ℕ, ◌+◌, ◌<◌, ◌≤◌, Bool, true, false, List, [], ◌∷◌, sym, ◌∙◌, Some, arith}
+use Rattle.std.proofs.Common.{◌≡◌, ℕ, ◌+◌, ◌<◌, ◌≤◌, Bool, true, false, List, [], ◌∷◌, refl, sym, ap, ◌∙◌, Some, arith}
+use Rattle.std.specs.List.{AllByRecursion}
 use Rattle.std.specs.Ordering.{nat_cmp}
 use Rattle.std.specs.BTreeMap.{BTreeMap, get, values}
 use Rattle.std.proofs.lemmas.Bool.{and_parts, and_from, ltb-true, leb-true, lt-ltb, le-leb}
@@ -7,11 +8,13 @@ use Rattle.pcp_base.specs.declared.leases.Protocol.{Protocol}
 use Rattle.pcp_base.specs.declared.leases.Endpoint.{Endpoint}
 use Rattle.pcp_base.specs.declared.leases.MapLease.{MapLease}
 use Rattle.pcp_base.specs.Tables.{EachTwo, IsMapLease, covers}
-use Rattle.pcp_base.proofs.Members.{All-weaker}
+use Rattle.pcp_base.proofs.Members.{All-weaker, All-both}
 use Rattle.pcp_base.proofs.Same.{same_address-Decides, same_protocol-Decides}
 use Rattle.pcp_base.proofs.TableLemmas.{IsCovered-from_covers}
+use Rattle.ordered_index.proofs.OrderLaws.{protocol_one}
+use Rattle.mapping_table.specs.Kept.{port_of_lease}
 use Rattle.mapping_table.specs.MapLists.{owns, runs_meet, AreSeparate, AreSoundMaps}
-use Rattle.mapping_table.proofs.Entries.{one_passes, All-at}
+use Rattle.ordered_index.proofs.Entries.{one_passes, All-at}
 
 each_weaker : {X : Type 0} (R S : X → X → Type 0) → ((x y : X) → R x y → S x y) → (xs : List X) → EachTwo R xs → EachTwo S xs
 each_weaker R S f [] h = tt
@@ -52,6 +55,23 @@ own_apart protocol port a b h ca cb =
     let x = IsOwned-from_owns a protocol port ca in let y = IsOwned-from_owns b protocol port cb in
     clash _ (and_from _ _ ((same_protocol-Decides a.protocol b.protocol).1 (x.protocol ∙ sym y.protocol))
     (meet port a.external a.count b.external b.count x.from x.below y.from y.below)) h.outside
+
+-- by what each of them is
+each_two_of : {X : Type 0} (Q : X → Type 0) (R S : X → X → Type 0) → ((x y : X) → Q x → Q y → R x y → S x y) → (xs : List X) → AllByRecursion Q xs → EachTwo R xs → EachTwo S xs
+each_two_of Q R S f [] q h = tt
+each_two_of Q R S f (x ∷ xs) q h =
+    (All-weaker (λ y. Q y × R x y) (S x) (λ y both. f x y q.0 both.0 both.1) xs (All-both Q (R x) xs q.1 h.0), each_two_of Q R S f xs q.1 h.1)
+
+first_port : (a : MapLease) → IsMapLease a → owns a.protocol a.external a ≡ true
+first_port a h = let some = h.ports.some in owns-from_IsOwned a a.protocol a.external refl (omega arith) (omega (arith, some))
+
+-- first external ports differ
+pub ports_apart : (ls : List MapLease) → AreSoundMaps ls → EachTwo (λ a b. port_of_lease a ≡ port_of_lease b → ⊥) ls
+ports_apart ls h = each_two_of IsMapLease AreSeparate (λ a b. port_of_lease a ≡ port_of_lease b → ⊥) (λ a b is_a is_b apart same.
+    let protocol : a.protocol ≡ b.protocol = protocol_one a.protocol b.protocol a.external b.external same in
+    let port : a.external ≡ b.external = ap (λ (z : ℕ × ℕ). z.1) same in
+    own_apart b.protocol b.external a b apart
+    (ap (λ (z : Protocol). owns z b.external a) (sym protocol) ∙ ap (λ (z : ℕ). owns a.protocol z a) (sym port) ∙ first_port a is_a) (first_port b is_b)) ls h.leases h.separate
 
 module _ (leases : BTreeMap ℕ MapLease) (sound : AreSoundMaps (values leases)) where
   pub one_covers : (e : Endpoint) (n m : ℕ) (x y : MapLease) → get nat_cmp leases n ≡ Some x → get nat_cmp leases m ≡ Some y → covers x e ≡ true → covers y e ≡ true → n ≡ m

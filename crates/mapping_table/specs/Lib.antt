@@ -1,3 +1,2 @@
 pub mod MapLists
-pub mod Orders
 pub mod Kept

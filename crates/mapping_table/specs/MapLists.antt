@@ -1,6 +1,6 @@
 -- What is asked of a list of MAP leases, in the order granted, and what it must keep to (our own; a
 -- MAP lease is a mapping of RFC 6887, section 11).
-use Rattle.std.specs.Prelude.{◌≡◌, ℕ, ◌+◌, ◌<◌, ◌≤◌, ◌&&◌, nat_le, nat_lt, not, Bool, false, List, ◌++◌, length, filter, find, IsTrue, Option, Some, None, if◌then◌else◌, IfSome, IfNone, Result, OnOk, OnErr}
+use Rattle.std.specs.Prelude.{◌≡◌, ℕ, ◌+◌, ◌<◌, ◌≤◌, ◌&&◌, nat_le, nat_lt, not, Bool, false, List, ◌++◌, length, filter, find, IsTrue, Option, IfSome, IfNone, Result, OnOk, OnErr}
 use Rattle.std.specs.List.{AllByRecursion, list_any}
 use Rattle.pcp_base.specs.declared.leases.TheConstants.{MOST_LEASES}
 use Rattle.pcp_base.specs.declared.leases.Protocol.{Protocol}
@@ -85,9 +85,3 @@ pub record CopiesLiveMaps {X E : Type 0} (ls : List MapLease) (m : ℕ) (old : L
     (result : Result X E) (new : List MapLease) : Type 0 where
   pub ok : OnOk result (new ≡ old ++ filter (is_live_map m) ls)
   pub err : OnErr result (new ≡ old)
-
--- the lesser of two, of which each may be missing
-abbrev pub lesser : Option ℕ → Option ℕ → Option ℕ
-lesser None b = b
-lesser (Some a) None = Some a
-lesser (Some a) (Some b) = if nat_le a b then Some a else Some b

@@ -1,7 +1,7 @@
 //! The MAP leases of an external address, in the order granted (RFC 6887, section 11).
 #![tactic(auto)]
 
-mod keys;
+mod changes;
 mod owning;
 pub mod plain;
 mod table;

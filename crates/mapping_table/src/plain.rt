@@ -4,9 +4,10 @@ ghost use Rattle.std.specs.Prelude.{◌≡◌, [], ◌∷◌, filter, find, coun
 ghost use Rattle.std.specs.Option.{option_copied};
 ghost use Rattle.std.specs.List.{AllByRecursion};
 ghost use Rattle.pcp_base.specs.Tables.{is_map_of, IsMapLease};
-ghost use Rattle.mapping_table.specs.MapLists.{is_live_map, map_covering, map_owning, map_with_key, first_dead_map, IsNextCovered, AreSoundMaps, lesser, with_map, PutsMap, RemovesMap, CopiesLiveMaps};
+ghost use Rattle.mapping_table.specs.MapLists.{is_live_map, map_covering, map_owning, map_with_key, first_dead_map, IsNextCovered, AreSoundMaps, with_map, PutsMap, RemovesMap, CopiesLiveMaps};
 
 use crate::owning::owns;
+use ordered_index::lesser;
 use pcp_base::{Endpoint, MapLease, Memory, Moment, Protocol};
 use std::alloc::{AllocError, Global};
 use std::marker::Model;
@@ -96,17 +97,6 @@ fn next_of(lease: &MapLease, endpoint: &Endpoint) -> Option<u16>
         return Some(lease.internal);
     }
     Some(endpoint.port + 1)
-}
-
-/// The lesser of two ports, of which each may be missing.
-fn lesser(first: Option<u16>, second: Option<u16>) -> Option<u16>
-    ensures { result ≡ lesser first second }
-{
-    match (first, second) {
-        (Some(a), Some(b)) => if a <= b { Some(a) } else { Some(b) },
-        (Some(a), None) => Some(a),
-        (None, b) => b,
-    }
 }
 
 /// The least port above the endpoint's that a lease covers.

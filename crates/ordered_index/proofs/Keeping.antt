@@ -1,5 +1,5 @@
 -- Leases and their maps after a call.
-use Rattle.std.proofs.Common.{◌≡◌, ℕ, ◌+◌, ◌<◌, ◌≤◌, Bool, true, false, not, cond, List, [], ◌∷◌, ◌++◌, filter, find, length, count_by, Option, Some, None, IsSome, refl, sym, ap, ◌∙◌, subst, arith}
+use Rattle.std.proofs.Common.{◌≡◌, ℕ, ◌+◌, ◌<◌, ◌≤◌, Bool, true, false, not, cond, List, [], ◌∷◌, ◌++◌, filter, find, length, count_by, Option, Some, None, IsSome, Result, Ok, Err, OnOk, OnErr, refl, sym, ap, ◌∙◌, subst, arith}
 use Rattle.std.specs.Prelude.{⊤}
 use Rattle.std.specs.List.{AllByRecursion}
 use Rattle.std.specs.List.Sorted.{IsStrictlySortedBy}
@@ -18,7 +18,7 @@ use Rattle.ordered_index.specs.Steps.{expiry_cmp, IsBlank, Appends, Replaces, Fo
 use Rattle.ordered_index.specs.Kept.{Mirrors, Keying, IsKept}
 use Rattle.ordered_index.proofs.EntryLaws.{tally, count-set, none_some, none_by, some_one, key-self}
 use Rattle.ordered_index.proofs.Mirrorings.{entry-at, at-entry, at_key, mirrored-to, mirrored-from, mirrors-inserted, mirrors-removed, mirrors-moved, index-to, index-from}
-use Rattle.ordered_index.proofs.Entries.{number_same, number_self, number_other, values_append, insert_last, keys_below, none_passes, passes_at, set_value-put, remove_entry-filter, find_is, find_none, one_passes}
+use Rattle.ordered_index.proofs.Entries.{All-at, number_same, number_self, number_other, values_append, insert_last, keys_below, none_passes, passes_at, set_value-put, remove_entry-filter, find_is, find_none, one_passes}
 
 pub expiry_total : IsTotalOrder expiry_cmp
 expiry_total = then_total (on_total (λ (p : ℕ × ℕ). p.0) nat_cmp_total) (on_total (λ (p : ℕ × ℕ). p.1) nat_cmp_total)
@@ -116,6 +116,13 @@ module _ {L K P : Type 0} (by : Keying L K P) (laws : AreLaws by) (it : Numbered
 
       pub none-gone : values it.leases ≡ filter (λ l. not (has l)) (values it.leases)
       none-gone = sym (filter_none has (values it.leases) none-passes)
+
+      -- no lease has the port of a new one
+      pub port-free : (l : L) → EachTwo (λ a b. by.port a ≡ by.port b → ⊥) (put has l (values it.leases)) → get by.port_cmp it.ports (by.port l) ≡ None
+      port-free l two = none_by (get by.port_cmp it.ports (by.port l)) (λ n a.
+          let y = port-from (by.port l) n a in
+          All-at (λ x. by.port x ≡ by.port l → ⊥) it.leases.entries n y.0
+          (each-last (λ a b. by.port a ≡ by.port b → ⊥) (values it.leases) l (subst (EachTwo (λ a b. by.port a ≡ by.port b → ⊥)) (put-last has l (values it.leases) none-passes) two)) y.1 y.2)
 
     module _ (n : ℕ) (x : L) (at_n : get nat_cmp it.leases n ≡ Some x) (key : by.key x ≡ k) where
       one_has : (m : ℕ) (y : L) → get nat_cmp it.leases m ≡ Some y → has y ≡ true → n ≡ m
@@ -263,3 +270,71 @@ module _ {L K P : Type 0} (by : Keying L K P) (laws : AreLaws by) (it : Numbered
       expiries_ordered = ordered_too expiry_cmp it.expiries new.expiries h.expiries kept.expiries_ordered;
       expiries = mirrored due_of _ _ _ _ h.leases h.expiries kept.expiries;
     }
+
+-- a lease was put, or nothing changed
+pub record IsPutInto {L K P X E : Type 0} (by : Keying L K P) (has : L → Bool) (l : L) (it new : Numbered L K P) (r : Result X E) : Type 0 where
+  pub kept : IsKept by new
+  pub ok : OnOk r (values new.leases ≡ put has l (values it.leases))
+  pub err : OnErr r (values new.leases ≡ values it.leases)
+
+-- the lease with a key was taken out
+pub record IsTakenOut {L K P : Type 0} (by : Keying L K P) (has : L → Bool) (x : L) (it new : Numbered L K P) : Type 0 where
+  pub kept : IsKept by new
+  pub found : Some x ≡ find has (values it.leases)
+  pub gone : values new.leases ≡ filter (λ l. not (has l)) (values it.leases)
+
+module _ {L K P : Type 0} (by : Keying L K P) (laws : AreLaws by) (it : Numbered L K P) (kept : IsKept by it) (new : Numbered L K P) where
+  module _ (has : L → Bool) (l : L) (tells : Tells by has (by.key l)) (two : EachTwo (λ a b. by.port a ≡ by.port b → ⊥) (put has l (values it.leases))) where
+    put_new : (k : K) (p : P) → k ≡ by.key l → p ≡ by.port l → get by.key_cmp it.keys (by.key l) ≡ None → Appends by.key_cmp by.port_cmp it new l k p (by.expiry l) → IsKept by new × (values new.leases ≡ put has l (values it.leases))
+    put_new k p k_is p_is free h =
+        let free_key : get by.key_cmp it.keys k ≡ None = ap (get by.key_cmp it.keys) k_is ∙ free in
+        let free_port : get by.port_cmp it.ports p ≡ None = ap (get by.port_cmp it.ports) p_is ∙ port-free by laws it kept has (by.key l) tells free l two in (
+          appended-kept by laws it kept new l k p k_is p_is h free_key free_port,
+          appended-values by laws it kept new l k p k_is p_is h free_key free_port has (subst (Tells by has) (sym k_is) tells),
+        )
+
+    pub put-appended : {X E : Type 0} (r : Result X E) (k : K) (p : P) → k ≡ by.key l → p ≡ by.port l → get by.key_cmp it.keys (by.key l) ≡ None →
+        OnOk r (Appends by.key_cmp by.port_cmp it new l k p (by.expiry l)) → OnErr r (Stays it new) → IsPutInto by has l it new r
+    put-appended (Ok v) k p k_is p_is free ok err = let both = put_new k p k_is p_is free ok in record { kept = both.0; ok = both.1; err = tt }
+    put-appended (Err e) k p k_is p_is free ok err = record { kept = same-kept by laws it kept new err; ok = tt; err = same-values by laws it kept new err }
+
+    put_old : (n : ℕ) (x : L) (from to : P) → get by.key_cmp it.keys (by.key l) ≡ Some n → get nat_cmp it.leases n ≡ Some x → from ≡ by.port x → to ≡ by.port l →
+        Replaces by.port_cmp it new n l from to (by.expiry x) (by.expiry l) → IsKept by new × (values new.leases ≡ put has l (values it.leases))
+    put_old n x from to number at_n from_is to_is h =
+        let y = key-from by laws it kept (by.key l) n number in
+        let key : by.key x ≡ by.key l = ap by.key (some_one (get nat_cmp it.leases n) x y.0 at_n y.1) ∙ y.2 in
+        let is : values new.leases ≡ put has l (values it.leases) = replaced-values by laws it kept new n x l at_n key from to from_is to_is h has tells in
+        (replaced-kept by laws it kept new n x l at_n key from to from_is to_is h (subst (EachTwo (λ a b. by.port a ≡ by.port b → ⊥)) (sym is) two), is)
+
+    pub put-replaced : {X E : Type 0} (r : Result X E) (n : ℕ) (x : L) (from to : P) → get by.key_cmp it.keys (by.key l) ≡ Some n → get nat_cmp it.leases n ≡ Some x → from ≡ by.port x → to ≡ by.port l →
+        OnOk r (Replaces by.port_cmp it new n l from to (by.expiry x) (by.expiry l)) → OnErr r (Stays it new) → IsPutInto by has l it new r
+    put-replaced (Ok v) n x from to number at_n from_is to_is ok err = let both = put_old n x from to number at_n from_is to_is ok in record { kept = both.0; ok = both.1; err = tt }
+    put-replaced (Err e) n x from to number at_n from_is to_is ok err = record { kept = same-kept by laws it kept new err; ok = tt; err = same-values by laws it kept new err }
+
+  pub taken-out : (has : L → Bool) (k q : K) (p : P) (n : ℕ) (x : L) → Tells by has k → q ≡ k → p ≡ by.port x → get by.key_cmp it.keys q ≡ Some n → get nat_cmp it.leases n ≡ Some x →
+      Forgets by.key_cmp by.port_cmp it new n q p (by.expiry x) → IsTakenOut by has x it new
+  taken-out has k q p n x tells q_is p_is number at_n h =
+      let y = key-from by laws it kept q n number in
+      let key : by.key x ≡ q = ap by.key (some_one (get nat_cmp it.leases n) x y.0 at_n y.1) ∙ y.2 in
+      let here : Tells by has q = subst (Tells by has) (sym q_is) tells in
+      record {
+        kept = forgotten-kept by laws it kept new n x at_n q p (sym key) p_is h;
+        found = one-found by laws it kept has q here n x at_n key;
+        gone = forgotten-values by laws it kept new n x at_n q p (sym key) p_is h has here;
+      }
+
+module _ {L K P : Type 0} (by : Keying L K P) (it : Numbered L K P) (h : IsBlank by.key_cmp by.port_cmp it) where
+  pub blank-values : values it.leases ≡ []
+  blank-values = ap values_of h.leases.entries
+
+  pub blank-kept : IsKept by it
+  blank-kept = record {
+    ordered = h.leases.ordered;
+    below = λ n l a. absurd (let none : None ≡ Some l = ap (λ (es : List (ℕ × L)). lookup (is_at (nat_cmp n)) es) (sym h.leases.entries) ∙ a in cc);
+    keys_ordered = h.keys.ordered;
+    keys = mirrored (λ (e : ℕ × L). (by.key e.1, e.0)) _ _ _ _ h.leases.entries h.keys.entries (λ test. refl);
+    ports_ordered = h.ports.ordered;
+    ports = mirrored (λ (e : ℕ × L). (by.port e.1, e.0)) _ _ _ _ h.leases.entries h.ports.entries (λ test. refl);
+    expiries_ordered = h.expiries.ordered;
+    expiries = mirrored (λ (e : ℕ × L). ((by.expiry e.1, e.0), tt)) _ _ _ _ h.leases.entries h.expiries.entries (λ test. refl);
+  }

@@ -5,3 +5,5 @@ pub mod Mirrorings
 pub mod Entries
 pub mod OrderLaws
 pub mod Keeping
+pub mod Endings
+pub mod Puts

@@ -1,6 +1,6 @@
 -- What is asked of a list of PEER leases, in the order granted, and what it must keep to (our own; a
 -- PEER lease is a mapping of RFC 6887, section 12).
-use Rattle.std.specs.Prelude.{◌≡◌, ℕ, ◌<◌, ◌≤◌, ◌&&◌, ◌==◌, nat_le, nat_lt, not, Bool, false, List, ◌++◌, length, filter, find, count_by, IsTrue, Option, Some, None, if◌then◌else◌, IfSome, IfNone, Result, OnOk, OnErr}
+use Rattle.std.specs.Prelude.{◌≡◌, ℕ, ◌<◌, ◌≤◌, ◌&&◌, ◌==◌, nat_lt, not, Bool, false, List, ◌++◌, length, filter, find, count_by, IsTrue, Option, Some, None, IfSome, IfNone, Result, OnOk, OnErr}
 use Rattle.std.specs.List.{AllByRecursion, list_any}
 use Rattle.pcp_base.specs.declared.addresses.Address.{Address}
 use Rattle.pcp_base.specs.declared.leases.TheConstants.{MOST_LEASES, MOST_PEERS}
@@ -93,9 +93,3 @@ pub record CopiesLivePeers {X E : Type 0} (ls : List PeerLease) (m : ℕ) (old :
     (result : Result X E) (new : List PeerLease) : Type 0 where
   pub ok : OnOk result (new ≡ old ++ filter (is_live_peer m) ls)
   pub err : OnErr result (new ≡ old)
-
--- the lesser of two, of which each may be missing
-abbrev pub lesser : Option ℕ → Option ℕ → Option ℕ
-lesser None b = b
-lesser (Some a) None = Some a
-lesser (Some a) (Some b) = if nat_le a b then Some a else Some b

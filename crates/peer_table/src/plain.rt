@@ -4,9 +4,10 @@ ghost use Rattle.std.specs.Prelude.{◌≡◌, ◌≤◌, [], ◌∷◌, length,
 ghost use Rattle.std.specs.Option.{option_copied};
 ghost use Rattle.pcp_base.specs.declared.leases.TheConstants.{MOST_LEASES};
 ghost use Rattle.pcp_base.specs.Tables.{is_peer_of};
-ghost use Rattle.peer_table.specs.PeerLists.{is_live_peer, is_live_of, opens, peer_with_key, peer_opening, first_dead_peer, IsPortUse, IsNextNamed, AreSoundPeers, lesser, with_peer, PutsPeer, RemovesPeer, CopiesLivePeers};
+ghost use Rattle.peer_table.specs.PeerLists.{is_live_peer, is_live_of, opens, peer_with_key, peer_opening, first_dead_peer, IsPortUse, IsNextNamed, AreSoundPeers, with_peer, PutsPeer, RemovesPeer, CopiesLivePeers};
 
 use crate::uses::PortUse;
+use ordered_index::lesser;
 use pcp_base::{Address, Endpoint, Memory, Moment, PeerLease, Protocol};
 use std::alloc::{AllocError, Global};
 use std::marker::Model;
@@ -134,17 +135,6 @@ fn next_of(lease: &PeerLease, endpoint: &Endpoint) -> Option<u16>
         return None;
     }
     Some(lease.endpoint.port)
-}
-
-/// The lesser of two ports, of which each may be missing.
-fn lesser(first: Option<u16>, second: Option<u16>) -> Option<u16>
-    ensures { result ≡ lesser first second }
-{
-    match (first, second) {
-        (Some(a), Some(b)) => if a <= b { Some(a) } else { Some(b) },
-        (Some(a), None) => Some(a),
-        (None, b) => b,
-    }
 }
 
 /// The least port above the endpoint's that a lease names.
