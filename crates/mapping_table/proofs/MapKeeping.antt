@@ -9,12 +9,12 @@ use Rattle.pcp_base.proofs.Same.{same_endpoint-Decides}
 use Rattle.ordered_index.specs.declared.numbered.Numbered.{Numbered}
 use Rattle.ordered_index.specs.Orders.{Place, place_of, place_cmp, port_cmp}
 use Rattle.ordered_index.specs.Steps.{Appends, Replaces, Forgets, Stays}
-use Rattle.ordered_index.proofs.Keeping.{AreLaws, Tells, port-free, number-has, put-appended, put-replaced, taken-out, none-found, none-gone}
+use Rattle.ordered_index.proofs.Keeping.{AreLaws, Tells, port-free, number-has, put-appended, put-replaced, taken-out, none-found, none-gone, put-either}
 use Rattle.ordered_index.proofs.OrderLaws.{port_total, port_exact, place_total, place_exact, place_of-one}
 use Rattle.mapping_table.specs.Kept.{place_of_lease, port_of_lease, map_keying, AreKeptMaps}
 use Rattle.mapping_table.specs.MapLists.{AreSoundMaps, with_map, PutsMap, RemovesMap}
 use Rattle.mapping_table.proofs.Separates.{ports_apart}
-use Rattle.mapping_table.proofs.Sounds.{AreSoundMaps-filter, AreSoundMaps-put}
+use Rattle.mapping_table.proofs.Sounds.{AreSoundMaps-filter}
 
 pub map_laws : AreLaws map_keying
 map_laws = record { key_total = place_total; key_exact = place_exact; port_total = port_total; port_exact = port_exact }
@@ -37,13 +37,13 @@ module _ (it : Numbered MapLease Place (ℕ × ℕ)) (h : AreKeptMaps it) where
           OnOk r (Appends place_cmp port_cmp it new l k p l.expiry) → OnErr r (Stays it new) → AreKeptMaps new × PutsMap (values it.leases) l r (values new.leases)
       map_appended k p k_is p_is free ok err =
           let put = put-appended map_keying map_laws it h.kept new (is_map_of (first_endpoint l)) l (map_tells (first_endpoint l)) (ports_apart (with_map l (values it.leases)) sound) r k p k_is p_is free ok err in
-          (record { sound = AreSoundMaps-put (values it.leases) (with_map l (values it.leases)) (values new.leases) r put.ok put.err h.sound sound; kept = put.kept }, record { ok = put.ok; err = put.err })
+          (record { sound = put-either AreSoundMaps (values it.leases) (with_map l (values it.leases)) (values new.leases) r put.ok put.err h.sound sound; kept = put.kept }, record { ok = put.ok; err = put.err })
 
       pub map_replaced : (n : ℕ) (x : MapLease) (from to : ℕ × ℕ) → get place_cmp it.keys (place_of_lease l) ≡ Some n → get nat_cmp it.leases n ≡ Some x → from ≡ port_of_lease x → to ≡ port_of_lease l →
           OnOk r (Replaces port_cmp it new n l from to x.expiry l.expiry) → OnErr r (Stays it new) → AreKeptMaps new × PutsMap (values it.leases) l r (values new.leases)
       map_replaced n x from to number at_n from_is to_is ok err =
           let put = put-replaced map_keying map_laws it h.kept new (is_map_of (first_endpoint l)) l (map_tells (first_endpoint l)) (ports_apart (with_map l (values it.leases)) sound) r n x from to number at_n from_is to_is ok err in
-          (record { sound = AreSoundMaps-put (values it.leases) (with_map l (values it.leases)) (values new.leases) r put.ok put.err h.sound sound; kept = put.kept }, record { ok = put.ok; err = put.err })
+          (record { sound = put-either AreSoundMaps (values it.leases) (with_map l (values it.leases)) (values new.leases) r put.ok put.err h.sound sound; kept = put.kept }, record { ok = put.ok; err = put.err })
 
   -- a number that stands under a place has a lease
   pub place_has : (k : Place) (n : ℕ) → get place_cmp it.keys k ≡ Some n → IsSome (get nat_cmp it.leases n)

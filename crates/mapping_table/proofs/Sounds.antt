@@ -14,8 +14,3 @@ AreSoundMaps-filter p ls h =
       separate = EachTwo-filter AreSeparate p ls h.separate;
       few = omega (arith, fewer, h.few);
     }
-
--- the leases are those put, or as before
-pub AreSoundMaps-put : {T E : Type 0} (old put new : List MapLease) (r : Result T E) → OnOk r (new ≡ put) → OnErr r (new ≡ old) → AreSoundMaps old → AreSoundMaps put → AreSoundMaps new
-AreSoundMaps-put old put new (Ok v) ok err before after = subst AreSoundMaps (sym ok) after
-AreSoundMaps-put old put new (Err e) ok err before after = subst AreSoundMaps (sym err) before

@@ -271,6 +271,31 @@ module _ {L K P : Type 0} (by : Keying L K P) (laws : AreLaws by) (it : Numbered
       expiries = mirrored due_of _ _ _ _ h.leases h.expiries kept.expiries;
     }
 
+-- the test passes the leases with this port
+pub record TellsPort {L K P : Type 0} (by : Keying L K P) (has : L → Bool) (p : P) : Type 0 where
+  pub to : (l : L) → has l ≡ true → by.port l ≡ p
+  pub from : (l : L) → by.port l ≡ p → has l ≡ true
+
+module _ {L K P : Type 0} (by : Keying L K P) (laws : AreLaws by) (it : Numbered L K P) (kept : IsKept by it) (has : L → Bool) where
+  -- what stands at the number under a key is what is found
+  pub key-found : (k : K) (n : ℕ) → Tells by has k → get by.key_cmp it.keys k ≡ Some n → get nat_cmp it.leases n ≡ find has (values it.leases)
+  key-found k n tells number = let y = key-from by laws it kept k n number in y.1 ∙ one-found by laws it kept has k tells n y.0 y.1 y.2
+
+  pub port-found : (p : P) (n : ℕ) → TellsPort by has p → get by.port_cmp it.ports p ≡ Some n → get nat_cmp it.leases n ≡ find has (values it.leases)
+  port-found p n tells number =
+      let y = port-from by laws it kept p n number in
+      y.1 ∙ sym (find_is has it.leases kept.ordered n y.0 y.1 (tells.from y.0 y.2) (λ m z a t.
+      let both : Some n ≡ Some m = sym number ∙ ap (get by.port_cmp it.ports) (sym (tells.to z t)) ∙ port-to by laws it kept m z a in cc))
+
+  pub no-port-found : (p : P) → TellsPort by has p → get by.port_cmp it.ports p ≡ None → None ≡ find has (values it.leases)
+  no-port-found p tells free =
+      sym (find_none has it.leases kept.ordered (λ n l a t. none_some (get by.port_cmp it.ports p) n free (ap (get by.port_cmp it.ports) (sym (tells.to l t)) ∙ port-to by laws it kept n l a)))
+
+-- what holds of a list before and after a put
+pub put-either : {X T E : Type 0} (Q : List X → Type 0) (old put new : List X) (r : Result T E) → OnOk r (new ≡ put) → OnErr r (new ≡ old) → Q old → Q put → Q new
+put-either Q old put new (Ok v) ok err before after = subst Q (sym ok) after
+put-either Q old put new (Err e) ok err before after = subst Q (sym err) before
+
 -- a lease was put, or nothing changed
 pub record IsPutInto {L K P X E : Type 0} (by : Keying L K P) (has : L → Bool) (l : L) (it new : Numbered L K P) (r : Result X E) : Type 0 where
   pub kept : IsKept by new

@@ -15,7 +15,7 @@ use Rattle.pcp_base.specs.declared.leases.Endpoint.{Endpoint}
 use Rattle.pcp_base.specs.Protocols.{protocol_number}
 use Rattle.ordered_index.specs.Orders.{Place, port_at, place_of, port_cmp, place_cmp}
 
-not_gt_first : (o r : Ordering) → is_gt (ordering_then o r) ≡ false → is_gt o ≡ false
+pub not_gt_first : (o r : Ordering) → is_gt (ordering_then o r) ≡ false → is_gt o ≡ false
 not_gt_first Less r h = refl
 not_gt_first Equal r h = refl
 not_gt_first Greater r h = h
@@ -30,7 +30,7 @@ equal_from Less Greater e h k = absurd (let no : true ≡ false = k in cc)
 equal_from Equal p e h k = refl
 equal_from Greater p e h k = absurd (let no : true ≡ false = h in cc)
 
-both_equal : (o r : Ordering) → ordering_then o r ≡ Equal → (o ≡ Equal) × (r ≡ Equal)
+pub both_equal : (o r : Ordering) → ordering_then o r ≡ Equal → (o ≡ Equal) × (r ≡ Equal)
 both_equal Less r h = absurd (let no : Less ≡ Equal = h in cc)
 both_equal Equal r h = (refl, h)
 both_equal Greater r h = absurd (let no : Greater ≡ Equal = h in cc)
@@ -80,7 +80,7 @@ protocol_same Tcp Udp h = absurd (omega (arith, h))
 protocol_same Udp Tcp h = absurd (omega (arith, h))
 protocol_same Udp Udp h = refl
 
-address_same : (a b : Address) → a.0 ≡ b.0 → a ≡ b
+pub address_same : (a b : Address) → a.0 ≡ b.0 → a ≡ b
 address_same a b e = ap (λ (z : List ℕ). record { 0 = z }) e
 
 pub endpoint_same : (x y : Endpoint) → x.address ≡ y.address → x.protocol ≡ y.protocol → x.port ≡ y.port → x ≡ y
@@ -143,3 +143,29 @@ places_between a k b address protocol h g =
 pub places_up_to : (a b : Place) → a.0 ≡ b.0 → a.1.0 ≡ b.1.0 → a.1.1 ≤ b.1.1 → is_gt (place_cmp a b) ≡ false
 places_up_to a b address protocol h =
     ap (λ o. is_gt (ordering_then o (port_cmp a.1 b.1))) (tied nat_list_cmp_total a.0 b.0 address) ∙ ports_up_to a.1 b.1 protocol h
+
+less_step : (a b : ℕ) (o : Ordering) → MatchOrdering o (a < b) (a ≡ b) (b < a) → a < b → o ≡ Less
+less_step a b Less m h = refl
+less_step a b Equal m h = absurd (omega (arith, m, h))
+less_step a b Greater m h = absurd (omega (arith, m, h))
+
+-- places of an address and protocol are in the order of their ports
+pub places_less : (a b : Place) → a.0 ≡ b.0 → a.1.0 ≡ b.1.0 → a.1.1 < b.1.1 → place_cmp a b ≡ Less
+places_less a b address protocol h =
+    ap (λ o. ordering_then o (port_cmp a.1 b.1)) (tied nat_list_cmp_total a.0 b.0 address)
+    ∙ ap (λ o. ordering_then o (nat_cmp a.1.1 b.1.1)) (tied nat_cmp_total a.1.0 b.1.0 protocol)
+    ∙ less_step a.1.1 b.1.1 (nat_cmp a.1.1 b.1.1) (ranked a.1.1 b.1.1 (nat_cmp a.1.1 b.1.1) refl) h
+
+not_less_step : (a b : ℕ) (o : Ordering) → MatchOrdering o (a < b) (a ≡ b) (b < a) → o ≡ Less → a < b
+not_less_step a b Less m h = m
+not_less_step a b Equal m h = absurd (let no : Equal ≡ Less = h in cc)
+not_less_step a b Greater m h = absurd (let no : Greater ≡ Less = h in cc)
+
+then_equal : (o r : Ordering) → o ≡ Equal → ordering_then o r ≡ Less → r ≡ Less
+then_equal o r e h = ap (λ t. ordering_then t r) (sym e) ∙ h
+
+pub less_places : (a b : Place) → a.0 ≡ b.0 → a.1.0 ≡ b.1.0 → place_cmp a b ≡ Less → a.1.1 < b.1.1
+less_places a b address protocol h =
+    let first : port_cmp a.1 b.1 ≡ Less = then_equal (slice_cmp nat_cmp a.0 b.0) (port_cmp a.1 b.1) (tied nat_list_cmp_total a.0 b.0 address) h in
+    let second : nat_cmp a.1.1 b.1.1 ≡ Less = then_equal (nat_cmp a.1.0 b.1.0) (nat_cmp a.1.1 b.1.1) (tied nat_cmp_total a.1.0 b.1.0 protocol) first in
+    not_less_step a.1.1 b.1.1 (nat_cmp a.1.1 b.1.1) (ranked a.1.1 b.1.1 (nat_cmp a.1.1 b.1.1) refl) second

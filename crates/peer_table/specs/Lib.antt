@@ -1,1 +1,2 @@
 pub mod PeerLists
+pub mod Kept

@@ -1,7 +1,11 @@
 //! The PEER leases of an external address, in the order granted (RFC 6887, section 12).
 #![tactic(auto)]
 
+mod changes;
+mod keys;
 pub mod plain;
+mod table;
 mod uses;
 
+pub use table::PeerTable;
 pub use uses::PortUse;

@@ -1,0 +1,19 @@
+use Rattle.std.proofs.Common.{ap, ◌∙◌}
+use Rattle.std.specs.BTreeMap.{get}
+use Rattle.peer_table.specs.Kept.{opening_cmp}
+use Rattle.peer_table.proofs.PeerKeeping.{opening_is_free, peer_appended}
+use Rattle.peer_table.proofs.changes.append.Goals as goal
+
+pub append-requires-clause-port : goal.append-requires-clause-port
+append-requires-clause-port c =
+    ap (get opening_cmp c.args.kept.now.ports) c.opening_of.ensures ∙ opening_is_free c.args.kept.now c.requires.kept c.args.lease c.requires.sound c.requires.free
+
+pub returns-clause-kept : goal.returns-clause-kept
+returns-clause-kept c =
+    (peer_appended c.args.kept.now c.requires.kept c.args.lease c.requires.sound c.append.new.self c.append.result
+    c.key_of.result c.opening_of.result c.key_of.ensures c.opening_of.ensures c.requires.free c.append.ensures.ok c.append.ensures.err).0
+
+pub returns-clause-put : goal.returns-clause-put
+returns-clause-put c =
+    (peer_appended c.args.kept.now c.requires.kept c.args.lease c.requires.sound c.append.new.self c.append.result
+    c.key_of.result c.opening_of.result c.key_of.ensures c.opening_of.ensures c.requires.free c.append.ensures.ok c.append.ensures.err).1

@@ -1,0 +1,77 @@
+-- How a table keeps its leases (our own; for proofs alone).
+use Rattle.std.specs.Prelude.{◌≡◌, ℕ, Bool, false, List, Option, Some, None}
+use Rattle.std.specs.Ordering.{nat_cmp, ordering_then}
+use Rattle.std.specs.declared.cmp.Ordering.{Ordering}
+use Rattle.std.specs.Cmp.Lexicographic.{slice_cmp}
+use Rattle.std.specs.BTreeMap.{values}
+use Rattle.pcp_base.specs.declared.addresses.Address.{Address}
+use Rattle.pcp_base.specs.declared.leases.Protocol.{Protocol}
+use Rattle.pcp_base.specs.declared.leases.Endpoint.{Endpoint}
+use Rattle.pcp_base.specs.declared.leases.PeerLease.{PeerLease}
+use Rattle.pcp_base.specs.Protocols.{protocol_number}
+use Rattle.ordered_index.specs.declared.numbered.Numbered.{Numbered}
+use Rattle.ordered_index.specs.Kept.{Keying, IsKept}
+use Rattle.ordered_index.specs.Orders.{Place, place_of}
+use Rattle.peer_table.specs.PeerLists.{AreSoundPeers, is_live_peer}
+
+-- an address, a protocol number and a port; 1, or 0 before all remotes and 2 behind them; and a
+-- remote address and port
+abbrev pub PeerKey : Type 0
+PeerKey = List ℕ × ℕ × ℕ × ℕ × List ℕ × ℕ
+
+-- a protocol number and an external port, with the remote that may send there
+abbrev pub Opening : Type 0
+Opening = ℕ × ℕ × List ℕ × ℕ
+
+abbrev pub key_at : Endpoint → Address → ℕ → PeerKey
+key_at e remote port =
+    (e.address.0, protocol_number e.protocol, e.port, 1, remote.0, port)
+
+-- the place of the key's endpoint
+abbrev pub place_in : PeerKey → Place
+place_in k = (k.0, (k.1, k.2))
+
+-- a key of the endpoint on this side of those of its leases
+pub record IsBound (e : Endpoint) (side : ℕ) (k : PeerKey) : Type 0 where
+  pub place : place_in k ≡ place_of e
+  pub side_is : k.3 ≡ side
+
+abbrev pub opening_at : Protocol → ℕ → Address → ℕ → Opening
+opening_at protocol port remote remote_port =
+    (protocol_number protocol, port, remote.0, remote_port)
+
+-- by the parts, in their order
+abbrev pub key_cmp : PeerKey → PeerKey → Ordering
+key_cmp a b = ordering_then (ordering_then (ordering_then (ordering_then (ordering_then
+    (slice_cmp nat_cmp a.0 b.0) (nat_cmp a.1 b.1)) (nat_cmp a.2 b.2)) (nat_cmp a.3 b.3))
+    (slice_cmp nat_cmp a.4 b.4)) (nat_cmp a.5 b.5)
+
+abbrev pub opening_cmp : Opening → Opening → Ordering
+opening_cmp a b = ordering_then (ordering_then (ordering_then
+    (nat_cmp a.0 b.0) (nat_cmp a.1 b.1)) (slice_cmp nat_cmp a.2 b.2)) (nat_cmp a.3 b.3)
+
+abbrev pub key_of_lease : PeerLease → PeerKey
+key_of_lease l = key_at l.endpoint l.remote l.remote_port
+
+abbrev pub opening_of_lease : PeerLease → Opening
+opening_of_lease l = opening_at l.endpoint.protocol l.external l.remote l.remote_port
+
+-- a lease is looked up by its endpoint and remote, and by its external port and remote
+abbrev pub peer_keying : Keying PeerLease PeerKey Opening
+peer_keying = record {
+  key = key_of_lease;
+  port = opening_of_lease;
+  expiry = λ l. l.expiry;
+  key_cmp = key_cmp;
+  port_cmp = opening_cmp;
+}
+
+-- sound leases, in the order of their numbers, with their maps
+pub record AreKeptPeers (it : Numbered PeerLease PeerKey Opening) : Type 0 where
+  pub sound : AreSoundPeers (values it.leases)
+  pub kept : IsKept peer_keying it
+
+-- whether there is a lease that is live at m
+abbrev pub some_live : ℕ → Option PeerLease → Bool
+some_live m None = false
+some_live m (Some l) = is_live_peer m l
