@@ -1,3 +1,6 @@
 pub mod Finds
 pub mod PeerKeeping
+pub mod PeerKeys
+pub mod NextNamed
 pub mod Sounds
+pub mod PortUses

@@ -39,7 +39,7 @@ key_same x y a b c d e f =
     ap (λ (z : List ℕ). (z, x.1, x.2, x.3, x.4, x.5)) a ∙ ap (λ (z : ℕ). (y.0, z, x.2, x.3, x.4, x.5)) b ∙ ap (λ (z : ℕ). (y.0, y.1, z, x.3, x.4, x.5)) c
     ∙ ap (λ (z : ℕ). (y.0, y.1, y.2, z, x.4, x.5)) d ∙ ap (λ (z : List ℕ). (y.0, y.1, y.2, y.3, z, x.5)) e ∙ ap (λ (z : ℕ). (y.0, y.1, y.2, y.3, y.4, z)) f
 
-key_exact : CmpEqualImpliesEq key_cmp
+pub key_exact : CmpEqualImpliesEq key_cmp
 key_exact x y h =
     let p5 = both_equal _ _ h in let p4 = both_equal _ _ p5.0 in let p3 = both_equal _ _ p4.0 in let p2 = both_equal _ _ p3.0 in let p1 = both_equal _ _ p2.0 in
     key_same x y (exact_bytes x.0 y.0 p1.0) (exact_unsigned x.1 y.1 p1.1) (exact_unsigned x.2 y.2 p2.1) (exact_unsigned x.3 y.3 p3.1) (exact_bytes x.4 y.4 p4.1) (exact_unsigned x.5 y.5 p5.1)

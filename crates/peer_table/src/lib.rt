@@ -2,6 +2,7 @@
 #![tactic(auto)]
 
 mod changes;
+mod endpoints;
 mod keys;
 pub mod plain;
 mod table;

@@ -9,6 +9,7 @@ ghost use Rattle.peer_table.specs.PeerLists.{is_live_peer, peer_with_key, peer_o
 ghost use Rattle.peer_table.specs.Kept.{key_cmp, AreKeptPeers, some_live};
 
 use crate::changes::{append, replace};
+use crate::endpoints::{count_live, first_live};
 use crate::keys::{Key, Opening, bound_at, key_at, key_of, opening_at, opening_of, port_beside};
 use crate::uses::PortUse;
 use ordered_index::{Numbered, first_from};
@@ -71,6 +72,23 @@ impl PeerTable {
             return None;
         };
         self.kept.leases.get(&number)
+    }
+
+    /// The external port of the endpoint's leases that are live at `m`, and how many they are. It
+    /// looks at the leases of the endpoint alone.
+    pub fn of_endpoint(&self, endpoint: &Endpoint, m: Moment) -> Option<PortUse>
+        ensures { IsPortUse endpoint.now m self.now result }
+    {
+        let leases = &self.kept.leases;
+        let keys = &self.kept.keys;
+        let from = bound_at(endpoint, 0);
+        let to = bound_at(endpoint, 2);
+        let Some(number) = first_live(leases, keys, from, to, m) else {
+            return None;
+        };
+        let external = leases[&number].external;
+        let count = count_live(leases, keys, from, to, m) as u32;
+        Some(PortUse { external, count })
     }
 
     /// The lease that owns the external port and has exactly this remote.
