@@ -3,3 +3,4 @@ pub mod Nexts
 pub mod Lookups
 pub mod Separates
 pub mod Sounds
+pub mod SoundTables

@@ -1,2 +1,3 @@
 pub mod MapLists
 pub mod Kept
+pub mod Laws

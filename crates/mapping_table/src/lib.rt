@@ -2,6 +2,7 @@
 #![tactic(auto)]
 
 mod changes;
+pub mod laws;
 mod owning;
 pub mod plain;
 mod table;

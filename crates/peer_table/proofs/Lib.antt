@@ -4,3 +4,4 @@ pub mod PeerKeys
 pub mod NextNamed
 pub mod Sounds
 pub mod PortUses
+pub mod SoundTables

@@ -1,22 +1,20 @@
 -- What the live leases of an endpoint use.
-use Rattle.std.proofs.Common.{◌≡◌, ℕ, ◌+◌, ◌<◌, ◌≤◌, ◌&&◌, ◌==◌, ◌^◌, Bool, true, false, cond, List, [], ◌∷◌, filter, find, count_by, Option, Some, None, refl, sym, ap, ◌∙◌, subst, inl, inr, arith}
-use Rattle.std.specs.List.{AllByRecursion, list_any}
+use Rattle.std.proofs.Common.{◌≡◌, ℕ, ◌+◌, ◌≤◌, ◌&&◌, ◌==◌, Bool, true, false, cond, List, [], ◌∷◌, filter, find, count_by, Option, Some, None, refl, sym, ap, ◌∙◌, inl, inr, arith}
 use Rattle.std.specs.Option.{option_map}
-use Rattle.std.specs.Ordering.{nat_cmp, is_eq}
-use Rattle.std.specs.declared.cmp.Ordering.{Ordering}
+use Rattle.std.specs.Ordering.{nat_cmp}
 use Rattle.std.specs.declared.ops.Bound.TheVariants.{Included, Excluded}
-use Rattle.std.specs.BTreeMap.{BTreeMap, get, is_at, values}
+use Rattle.std.specs.BTreeMap.{get, is_at, values}
 use Rattle.std.specs.BTreeMap.Range.{range_contains, entries_between}
-use Rattle.std.proofs.lemmas.Bool.{and_from, and_parts}
+use Rattle.std.proofs.lemmas.Bool.{and_from}
 use Rattle.std.proofs.lemmas.Bool.Decides.{Decides-eqb}
 use Rattle.pcp_base.specs.declared.leases.TheConstants.{MOST_PEERS}
 use Rattle.pcp_base.specs.declared.leases.Endpoint.{Endpoint}
 use Rattle.pcp_base.specs.declared.leases.PeerLease.{PeerLease}
-use Rattle.pcp_base.specs.Tables.{names, same_endpoint}
-use Rattle.pcp_base.proofs.Members.{IsIn, IsIn-filter, find-some, find-none}
+use Rattle.pcp_base.specs.Tables.{names}
+use Rattle.pcp_base.proofs.Members.{IsIn, IsIn-filter, find-some}
 use Rattle.pcp_base.proofs.Same.{same_endpoint-Decides}
 use Rattle.ordered_index.specs.declared.numbered.Numbered.{Numbered}
-use Rattle.ordered_index.specs.Orders.{Place, place_of, place_cmp}
+use Rattle.ordered_index.specs.Orders.{place_of, place_cmp}
 use Rattle.ordered_index.proofs.EndedLaws.{false_by}
 use Rattle.ordered_index.proofs.Endings.{count-values}
 use Rattle.ordered_index.proofs.Entries.{any_at, entry_at}
@@ -25,8 +23,7 @@ use Rattle.ordered_index.proofs.Keeping.{key-from}
 use Rattle.ordered_index.proofs.Mirrorings.{entry-at}
 use Rattle.ordered_index.proofs.OrderLaws.{at_self, at_exact, place_total, place_exact, place_of-one}
 use Rattle.peer_table.specs.PeerLists.{is_live_peer, is_live_of, IsPortUse}
-use Rattle.peer_table.specs.declared.uses.PortUse.{PortUse}
-use Rattle.peer_table.specs.Kept.{PeerKey, Opening, place_in, key_cmp, key_of_lease, peer_keying, AreKeptPeers, IsBound, some_live}
+use Rattle.peer_table.specs.Kept.{PeerKey, Opening, key_cmp, key_of_lease, peer_keying, AreKeptPeers, IsBound, some_live}
 use Rattle.peer_table.proofs.PeerKeeping.{peer_laws, key_total, key_exact}
 use Rattle.peer_table.proofs.Finds.{none_counted}
 use Rattle.peer_table.proofs.PeerKeys.{within_bounds}
@@ -64,7 +61,7 @@ count_filtered p q (x ∷ xs) =
     let b = filter_step p q x xs (q x) refl (count_filtered p q xs) in
     omega (arith, a, b)
 
-same_tests : (a b : Bool) → (a ≡ true → b ≡ true) → (b ≡ true → a ≡ true) → a ≡ b
+pub same_tests : (a b : Bool) → (a ≡ true → b ≡ true) → (b ≡ true → a ≡ true) → a ≡ b
 same_tests true b f g = sym (f refl)
 same_tests false b f g = sym (false_by b (λ t. let both : false ≡ true = g t in cc))
 

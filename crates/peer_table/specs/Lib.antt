@@ -1,2 +1,3 @@
 pub mod PeerLists
 pub mod Kept
+pub mod Laws

@@ -1,6 +1,6 @@
 -- What is asked of a list of PEER leases, in the order granted, and what it must keep to (our own; a
 -- PEER lease is a mapping of RFC 6887, section 12).
-use Rattle.std.specs.Prelude.{◌≡◌, ℕ, ◌<◌, ◌≤◌, ◌&&◌, ◌==◌, nat_lt, not, Bool, false, List, ◌++◌, length, filter, find, count_by, IsTrue, Option, Some, None, IfSome, IfNone, Result, OnOk, OnErr}
+use Rattle.std.specs.Prelude.{◌≡◌, ℕ, ◌<◌, ◌≤◌, ◌&&◌, ◌==◌, nat_lt, not, Bool, false, List, ◌++◌, length, filter, find, count_by, IsTrue, Option, IfSome, IfNone, Result, OnOk, OnErr}
 use Rattle.std.specs.List.{AllByRecursion, list_any}
 use Rattle.pcp_base.specs.declared.addresses.Address.{Address}
 use Rattle.pcp_base.specs.declared.leases.TheConstants.{MOST_LEASES, MOST_PEERS}

@@ -4,6 +4,7 @@
 mod changes;
 mod endpoints;
 mod keys;
+pub mod laws;
 pub mod plain;
 mod table;
 mod uses;

@@ -1,4 +1,4 @@
-use Rattle.std.proofs.Common.{◌≡◌, refl, find, sym, ap, ◌∙◌, ℕ}
+use Rattle.std.proofs.Common.{refl, find, sym, ap, ◌∙◌, ℕ}
 use Rattle.std.specs.Ordering.{nat_cmp}
 use Rattle.std.specs.BTreeMap.{get}
 use Rattle.peer_table.specs.Kept.{PeerKey, some_live}

@@ -23,5 +23,5 @@ invariant_of-self c =
 pub returns : goal.returns
 returns c =
     let removed = (map_removed c.self.inside.kept c.self.invariant c.args.key.now c.place_of-place.result c.place_of-place.ensures c.forget.new.self c.port_of.result c.in-Some.number c.in-Some-copied.lease
-        c.port_of.ensures (sym (c.in-Some.ensures ∙ c.get.ensures.value)) (sym (c.in-Some-copied.ensures ∙ c.get-2.ensures.value)) c.forget.ensures).1 in
+    c.port_of.ensures (sym (c.in-Some.ensures ∙ c.get.ensures.value)) (sym (c.in-Some-copied.ensures ∙ c.get-2.ensures.value)) c.forget.ensures).1 in
     subst (λ (v : List MapLease). RemovesMap v c.args.key.now (Some c.in-Some-copied.lease) (values c.forget.new.self.leases)) c.self.view_is removed

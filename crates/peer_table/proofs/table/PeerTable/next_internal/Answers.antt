@@ -1,4 +1,4 @@
-use Rattle.std.proofs.Common.{List, Some, None, subst}
+use Rattle.std.proofs.Common.{List, None, subst}
 use Rattle.pcp_base.specs.declared.leases.PeerLease.{PeerLease}
 use Rattle.peer_table.specs.PeerLists.{IsNextNamed}
 use Rattle.peer_table.proofs.NextNamed.{named_none, named_first}
