@@ -59,7 +59,7 @@ fn place_of(leases: &[MapLease], key: &Endpoint) -> Option<usize>
 }
 
 /// Puts a lease in the place of the one with its key, or at the end.
-fn put_into(leases: &mut Vec<MapLease>, lease: MapLease) -> Result<(), AllocError>
+pub(crate) fn put_into(leases: &mut Vec<MapLease>, lease: MapLease) -> Result<(), AllocError>
     ensures ok { OnOk result (leases.new.items ≡ with_map lease leases.old.items) }
     ensures err { OnErr result (leases.new.items ≡ leases.old.items) }
 {

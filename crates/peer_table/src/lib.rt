@@ -3,10 +3,14 @@
 
 mod changes;
 mod endpoints;
+#[cfg(test)]
+mod judging;
 mod keys;
 pub mod laws;
 pub mod plain;
 mod table;
+#[cfg(test)]
+mod tests;
 mod uses;
 
 pub use table::PeerTable;

@@ -61,7 +61,7 @@ fn place_of(leases: &[PeerLease], new: &PeerLease) -> Option<usize>
 }
 
 /// Puts a lease in the place of the one with its key, or at the end.
-fn put_into(leases: &mut Vec<PeerLease>, lease: PeerLease) -> Result<(), AllocError>
+pub(crate) fn put_into(leases: &mut Vec<PeerLease>, lease: PeerLease) -> Result<(), AllocError>
     ensures ok { OnOk result (leases.new.items ≡ with_peer lease leases.old.items) }
     ensures err { OnErr result (leases.new.items ≡ leases.old.items) }
 {

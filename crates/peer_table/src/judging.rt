@@ -1,0 +1,58 @@
+//! Whether leases may stand in a table together.
+ghost use Rattle.std.specs.Prelude.{◌≡◌, ◌≤◌, length, count_by};
+ghost use Rattle.std.specs.Bool.{OnTrue};
+ghost use Rattle.std.specs.List.{AllByRecursion};
+ghost use Rattle.pcp_base.specs.declared.leases.TheConstants.{MOST_PEERS};
+ghost use Rattle.pcp_base.specs.declared.leases.Endpoint.{Endpoint};
+ghost use Rattle.pcp_base.specs.Tables.{EachTwo, IsPeerLease, names};
+ghost use Rattle.peer_table.specs.PeerLists.{AreFellows, AreSoundPeers};
+
+use pcp_base::{MOST_LEASES, MOST_PEERS, PeerLease};
+
+/// Whether these leases may be the PEER leases of a sound table.
+pub(crate) fn are_sound(leases: &[PeerLease]) -> bool
+    ensures { OnTrue result (AreSoundPeers leases.now) }
+{
+    leases.len() <= MOST_LEASES
+        && leases.iter().all(is_lease)
+        && are_all_fellows(leases)
+        && are_few(leases)
+}
+
+fn is_lease(lease: &PeerLease) -> bool
+    ensures { OnTrue result (IsPeerLease lease.now) }
+{
+    lease.endpoint.port >= 1 && lease.external >= 1 && lease.remote_port >= 1
+}
+
+/// Whether each two may stand in a table together.
+fn are_all_fellows(leases: &[PeerLease]) -> bool
+    ensures { OnTrue result (EachTwo AreFellows leases.now) }
+{
+    match leases {
+        [] => true,
+        [first, rest @ ..] => is_fellow_of_all(first, rest) && are_all_fellows(rest),
+    }
+}
+
+fn is_fellow_of_all(lease: &PeerLease, others: &[PeerLease]) -> bool
+    ensures { OnTrue result (AllByRecursion (λ x. AreFellows lease.now x) others.now) }
+{
+    others.iter().all(|other| are_fellows(lease, other))
+}
+
+fn are_fellows(first: &PeerLease, second: &PeerLease) -> bool
+    ensures { OnTrue result (AreFellows first.now second.now) }
+{
+    let one = first.endpoint == second.endpoint;
+    let shares = first.endpoint.protocol == second.endpoint.protocol
+        && first.external == second.external;
+    !first.is_of(&second.endpoint, &second.remote, second.remote_port) && shares == one
+}
+
+/// Whether there are no more leases than one endpoint may have.
+fn are_few(leases: &[PeerLease]) -> bool
+    ensures { OnTrue result ((e : Endpoint) → count_by (λ l. names l e) leases.now ≤ MOST_PEERS) }
+{
+    leases.len() <= MOST_PEERS
+}
