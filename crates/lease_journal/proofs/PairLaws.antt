@@ -1,0 +1,78 @@
+-- What is left of two sides while a journal begins, begins anew, or is compacted.
+use Rattle.std.proofs.Common.{◌≡◌, inl, inr, ⊎_elim, ℕ, ◌^◌, ◌<◌, List, [], ◌∷◌, length, get_or, refl, sym, subst, arith}
+use Rattle.std.specs.Prelude.{◌⊎◌}
+use Rattle.pcp_base.specs.declared.records.Record.{Record}
+use Rattle.pcp_base.specs.declared.records.Change.TheVariants.{Start}
+use Rattle.pcp_base.specs.Apply.{state_of}
+use Rattle.pcp_base.proofs.TableLemmas.{Sound-empty}
+use Rattle.lease_disk.specs.Images.{Torn}
+use Rattle.lease_journal.specs.Formats.{state_by}
+use Rattle.lease_journal.specs.declared.formats.Format.{Format}
+use Rattle.lease_journal.specs.declared.formats.Format.TheVariants.{Second}
+use Rattle.lease_journal.specs.Frames.{records_of}
+use Rattle.lease_journal.specs.Sides.{AreBatches, IsOpenSide, IsClosedSide, IsBadSide}
+use Rattle.lease_journal.specs.Journals.{IsBlank, IsDamaged, GivesWay, Counts, StandsFor, IsStarting}
+use Rattle.lease_journal.specs.Shut.{IsShut}
+use Rattle.lease_journal.proofs.Begins.{shut_closed, short_torn, open_torn, hidden, gate_opens}
+
+-- the batches of a start
+abbrev pub start_at : ℕ → Record
+start_at m = record { moment = m; change = Start }
+
+pub first_batches : (m : ℕ) → m < 2 ^ 40 → AreBatches Second 0 0 ((start_at m ∷ []) ∷ [])
+first_batches m fits = record {
+  width = omega arith;
+  next = tt;
+  of_side = refl;
+  some = omega arith;
+  each = (record { values = (record { moment = fits; change = tt }, tt); some = omega arith; few = omega arith; short = omega arith }, tt);
+  fit = (record { formed = record { moment = fits; change = tt }; first = refl; later = omega arith; allowed = tt; rested = tt; sound = record { table = Sound-empty; ordered = tt; unowned = tt } }, tt);
+}
+
+-- the gate of the side that gives way is written
+pub way_torn : (parity generation : ℕ) (octets image : List ℕ) → GivesWay parity octets generation → (length octets < 15) ⊎ (get_or octets 0 0 ≡ 1) → Torn 0 1 octets image → GivesWay parity image generation
+way_torn parity generation octets image way (inl short) torn = inl (short_torn octets image short torn)
+way_torn parity generation octets image (inl (inl short)) (inr is) torn = inl (short_torn octets image short torn)
+way_torn parity generation octets image (inl (inr not)) (inr is) torn = absurd (not is)
+way_torn parity generation octets image (inr (format, h, batches, side, less)) (inr is) torn =
+    let some : 0 < length octets = has_gate octets is in
+    ⊎_elim (λ (same : image ≡ octets). inr (format, h, batches, subst (λ (l : List ℕ). IsOpenSide format parity l h batches) (sym same) side, less)) (λ (shut : IsShut image). inl (shut_closed image shut)) (open_torn octets image some is torn)
+  where
+    has_gate : (l : List ℕ) → get_or l 0 0 ≡ 1 → 0 < length l
+    has_gate [] e = absurd (omega (arith, e))
+    has_gate (x ∷ l) e = omega arith
+
+-- the side that counts stays, and the other gives way still
+pub counts_still : (parity : ℕ) (here : List ℕ) (other : ℕ) (there image : List ℕ) (format : Format) (records : List Record) (c : Counts parity here other there format records) → GivesWay other image c.generation → Counts parity here other image format records
+counts_still parity here other there image format records c way = record { generation = c.generation; batches = c.batches; is = c.is; holds = c.holds; other = way }
+
+-- a new side of a greater generation counts
+pub counts_new : (old_format new_format : Format) (parity : ℕ) (here : List ℕ) (other : ℕ) (image : List ℕ) (g : ℕ) (batches : List (List Record)) (h : ℕ) (snapshot : List (List Record)) → IsOpenSide old_format parity here g batches → IsOpenSide new_format other image h snapshot → g < h
+    → Counts other image parity here new_format (records_of snapshot)
+counts_new old_format new_format parity here other image g batches h snapshot old new less = record { generation = h; batches = snapshot; is = new; holds = refl; other = inr (old_format, g, batches, old, less) }
+
+-- while the gate of the new side is written, either side counts, and both stand for the same, whatever the format of the old one
+pub compacting : (here there image : List ℕ) (format : Format) (records : List Record) (c : Counts 0 here 1 there format records) (h : ℕ) (snapshot : List (List Record)) (are : AreBatches Second 1 h snapshot) (behind : List ℕ) (gate : ℕ)
+    → c.generation < h → state_of (records_of snapshot) ≡ state_by format records → Torn 0 1 (hidden 1 h snapshot are behind gate) image → StandsFor (state_by format records) here image
+compacting here there image format records c h snapshot are behind gate less same torn =
+    ⊎_elim
+    (λ (shut : IsShut image). (format, records, inl (counts_still 0 here 1 there image format records c (inl (shut_closed image shut))), refl))
+    (λ (side : IsOpenSide Second 1 image h snapshot). (Second, records_of snapshot, inr (counts_new format Second 0 here 1 image c.generation c.batches h snapshot c.is side less), same))
+    (gate_opens 1 h snapshot are behind gate image torn)
+
+-- while the gate of a start is written, the other side being closed
+pub starting : (m : ℕ) (fits : m < 2 ^ 40) (other image behind : List ℕ) (gate : ℕ) → IsClosedSide other → Torn 0 1 (hidden 0 0 ((start_at m ∷ []) ∷ []) (first_batches m fits) behind gate) image → IsStarting m image other
+starting m fits other image behind gate closed torn =
+    ⊎_elim
+    (λ (shut : IsShut image). inl (shut_closed image shut, closed))
+    (λ (side : IsOpenSide Second 0 image 0 ((start_at m ∷ []) ∷ [])). inr (Second, start_at m ∷ [], inl (record { generation = 0; batches = (start_at m ∷ []) ∷ []; is = side; holds = refl; other = inl closed }), refl))
+    (gate_opens 0 0 ((start_at m ∷ []) ∷ []) (first_batches m fits) behind gate image torn)
+
+-- while the gate of a good side is shut beside a bad one
+pub shuts_good : (a b : List ℕ) → IsBadSide 0 a → IsDamaged a b
+shuts_good a b bad = inl bad
+
+-- while the gate of a bad side is shut beside a closed one
+pub shuts_bad : (a image b : List ℕ) → IsBadSide 0 a → IsClosedSide b → 0 < length a → get_or a 0 0 ≡ 1 → Torn 0 1 a image → IsDamaged image b ⊎ IsBlank image b
+shuts_bad a image b bad closed some is torn =
+    ⊎_elim (λ (same : image ≡ a). inl (inl (subst (IsBadSide 0) (sym same) bad))) (λ (shut : IsShut image). inr (shut_closed image shut, closed)) (open_torn a image some is torn)

@@ -1,0 +1,38 @@
+use Rattle.std.proofs.Common.{◌≡◌, ℕ, length, ◌∙◌, refl, sym, subst, ap, arith}
+use Rattle.pcp_base.specs.Apply.{apply_all}
+use Rattle.lease_journal.specs.declared.walks.Standing.{Standing}
+use Rattle.pcp_base.specs.States.{State}
+use Rattle.lease_journal.specs.declared.formats.Format.TheVariants.{Second}
+use Rattle.lease_journal.specs.Settled.{IsSettledBy, with_frame}
+use Rattle.lease_journal.specs.Views.{JournalView, IsSettled}
+use Rattle.lease_journal.proofs.StandingLaws.{settled_still}
+use Rattle.lease_journal.proofs.journals.Journal.append.Goals as goal
+
+pub returns-in_err-frame-clause-moments : goal.returns-in_err-frame-clause-moments
+returns-in_err-frame-clause-moments g c = λ told s is.
+    let d = g.D.LeaseDisk in
+    settled_still d.seen d.may_leave d.moment d.left_since c.args.self.now.side c.args.self.now.standing c.args.self.now.pair s c.args.batch.now is
+
+pub returns-in_err-put_frame-clause-moments : goal.returns-in_err-put_frame-clause-moments
+returns-in_err-put_frame-clause-moments g c =
+    let d = g.D.LeaseDisk in
+    let second : c.self.inside.standing.format ≡ Second = ap (λ (v : JournalView g.row.D.Denot). v.standing.format) c.self.view_is ∙ c.requires.second in
+    let fit = λ (told : d.tells) (s : State) (is : IsSettledBy d.seen d.may_leave c.self.inside.side c.self.inside.standing c.self.inside.pair s). c.requires.fit told s (subst (λ (v : JournalView g.row.D.Denot). IsSettled d.seen d.may_leave v s) c.self.view_is is) in
+    rw (← c.self.view_is) (λ told s is. c.in_err-put_frame.ensures.moments told c.self.inside.standing s c.args.batch.now is second refl c.in_ok-frame.ensures.batch (fit told s is) (c.deref.ensures.value ∙ c.in_ok-frame.ensures.text))
+
+pub returns-clause-moments : goal.returns-clause-moments
+returns-clause-moments g c =
+    let d = g.D.LeaseDisk in
+    let second : c.self.inside.standing.format ≡ Second = ap (λ (v : JournalView g.row.D.Denot). v.standing.format) c.self.view_is ∙ c.requires.second in
+    let fit = λ (told : d.tells) (s : State) (is : IsSettledBy d.seen d.may_leave c.self.inside.side c.self.inside.standing c.self.inside.pair s). c.requires.fit told s (subst (λ (v : JournalView g.row.D.Denot). IsSettled d.seen d.may_leave v s) c.self.view_is is) in
+    rw (← c.self.view_is) (λ told s is. c.in_ok-put_frame.ensures.moments told c.self.inside.standing s c.args.batch.now is second refl c.in_ok-frame.ensures.batch (fit told s is) (c.deref.ensures.value ∙ c.in_ok-frame.ensures.text))
+
+pub returns-clause-settled : goal.returns-clause-settled
+returns-clause-settled g c =
+    let d = g.D.LeaseDisk in
+    let second : c.self.inside.standing.format ≡ Second = ap (λ (v : JournalView g.row.D.Denot). v.standing.format) c.self.view_is ∙ c.requires.second in
+    let fit = λ (told : d.tells) (s : State) (is : IsSettledBy d.seen d.may_leave c.self.inside.side c.self.inside.standing c.self.inside.pair s). c.requires.fit told s (subst (λ (v : JournalView g.row.D.Denot). IsSettled d.seen d.may_leave v s) c.self.view_is is) in
+    let count : c.len.result ≡ length c.deref.result.now = omega (arith, c.len.ensures, c.deref.ensures.len, ap length c.deref.ensures.value, c.in_ok-frame.frame.ok) in
+    let same : c.with_frame-self-inside.result ≡ with_frame c.self.inside.standing (length c.deref.result.now) = c.with_frame-self-inside.ensures ∙ ap (with_frame c.self.inside.standing) count in
+    rw (← c.self.view_is) (λ told s is. subst (λ (x : Standing). IsSettledBy d.seen d.may_leave c.self.inside.side x c.put_frame.new.pair (apply_all s c.args.batch.now)) (sym same)
+    (c.in_ok-put_frame.ensures.settled told c.self.inside.standing s c.args.batch.now is second refl c.in_ok-frame.ensures.batch (fit told s is) (c.deref.ensures.value ∙ c.in_ok-frame.ensures.text)))

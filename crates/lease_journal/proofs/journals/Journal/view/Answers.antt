@@ -1,0 +1,12 @@
+use Rattle.std.proofs.Common.{subst}
+use Rattle.lease_journal.specs.declared.judging.Verdict.{Verdict}
+use Rattle.lease_journal.specs.Verdicts.{AreFound}
+use Rattle.lease_journal.proofs.StandingLaws.{stands_for}
+use Rattle.lease_journal.proofs.journals.Journal.view.Goals as goal
+
+pub returns-in-Counting-clause-found : goal.returns-in-Counting-clause-found
+returns-in-Counting-clause-found g c = λ told.
+    let a = g.D.LeaseDisk.seen c.args.pair.now.a in
+    let b = g.D.LeaseDisk.seen c.args.pair.now.b in
+    let now = g.R.Replay.state c.judge.new.replay in
+    stands_for c.in-Counting.field-0 c.in-Counting.field-1 now a b (subst (λ (v : Verdict). AreFound a b now v) c.in-Counting.is (c.in_ok-judge.ensures.found told))

@@ -1,0 +1,16 @@
+pub mod Appending
+pub mod Beginnings
+pub mod Formats
+pub mod Frames
+pub mod Heads
+pub mod Journals
+pub mod Judging
+pub mod Openings
+pub mod Reads
+pub mod Settled
+pub mod Shut
+pub mod Sides
+pub mod Verdicts
+pub mod Views
+pub mod Walks
+pub mod Writes

@@ -1,0 +1,44 @@
+-- What opening a journal may leave, moment by moment (our own).
+use Rattle.std.specs.Prelude.{◌≡◌, ◌⊎◌, ℕ, List}
+use Rattle.pcp_base.specs.States.{State, empty_state}
+use Rattle.lease_disk.specs.declared.disks.DiskPair.{DiskPair}
+use Rattle.lease_disk.specs.Pairs.{PairLeavesOnly}
+use Rattle.lease_journal.specs.declared.errors.Found.{Found}
+use Rattle.lease_journal.specs.declared.errors.Found.TheVariants.{Recovered, Blank, Damaged}
+use Rattle.lease_journal.specs.Journals.{IsBlank, IsDamaged, StandsFor, IsStarting, IsStartingAnew, fresh_state}
+use Rattle.lease_journal.specs.Reads.{AreSeenStill}
+use Rattle.lease_journal.specs.Writes.{AreDurable}
+
+-- After sides that held a and b are read and opened at m, in the middle too, a crash may leave x and y.
+abbrev pub MayOpen : ℕ → List ℕ → List ℕ → List ℕ → List ℕ → Type 0
+MayOpen m a b x y =
+    ((s : State) × StandsFor s a b × StandsFor s x y)
+    ⊎ ((IsBlank a b × IsStarting m x y)
+    ⊎ (IsDamaged a b × IsStartingAnew m x y))
+
+-- what is found is what the sides held, and the state is that of the records, or of a start at m
+abbrev pub FoundMeans : ℕ → List ℕ → List ℕ → State → Found → Type 0
+FoundMeans m a b now Recovered = StandsFor now a b
+FoundMeans m a b now Blank = IsBlank a b × (now ≡ fresh_state m)
+FoundMeans m a b now Damaged = IsDamaged a b × (now ≡ fresh_state m)
+
+-- the same where nothing is started: the state is then empty
+abbrev pub ViewMeans : List ℕ → List ℕ → State → Found → Type 0
+ViewMeans a b now Recovered = StandsFor now a b
+ViewMeans a b now Blank = IsBlank a b × (now ≡ empty_state)
+ViewMeans a b now Damaged = IsDamaged a b × (now ≡ empty_state)
+
+-- Until both sides are synced a crash leaves what it might have left before.
+abbrev pub LeavesOld : {D : Type 0} → (D → ℕ) → (D → ℕ → List ℕ → Type 0) → (D → List ℕ → Type 0)
+    → DiskPair D → DiskPair D → Type 0
+LeavesOld moment left_since may_leave old new =
+    PairLeavesOnly moment left_since may_leave old new (λ x y. may_leave old.a x × may_leave old.b y)
+
+-- At some moment both sides are synced and hold what they held. From then on a crash leaves what the
+-- opening may leave.
+pub record Opens {D : Type 0} (seen : D → List ℕ) (moment : D → ℕ) (left_since : D → ℕ → List ℕ → Type 0) (may_leave : D → List ℕ → Type 0) (m : ℕ) (old new : DiskPair D) : Type 0 where
+  pub synced : DiskPair D
+  pub until : LeavesOld moment left_since may_leave old synced
+  pub durable : AreDurable seen may_leave synced
+  pub still : AreSeenStill seen old synced
+  pub from : PairLeavesOnly moment left_since may_leave synced new (MayOpen m (seen old.a) (seen old.b))

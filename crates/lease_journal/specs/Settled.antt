@@ -1,0 +1,24 @@
+-- A journal in which nothing is in doubt (our own).
+use Rattle.std.specs.Prelude.{◌≡◌, ℕ, ◌+◌, max, List}
+use Rattle.pcp_base.specs.declared.records.Record.{Record}
+use Rattle.pcp_base.specs.States.{State}
+use Rattle.lease_disk.specs.declared.disks.DiskPair.{DiskPair}
+use Rattle.lease_journal.specs.declared.sides.Side.{Side}
+use Rattle.lease_journal.specs.declared.walks.Standing.{Standing}
+use Rattle.lease_journal.specs.Journals.{GivesWay}
+use Rattle.lease_journal.specs.Judging.{IsStanding}
+use Rattle.lease_journal.specs.Writes.{AreDurable, of_side, other, parity_of}
+
+-- of the sides a and b this one counts, and with it they stand for s
+pub record StandsBy (side : Side) (standing : Standing) (s : State) (a b : List ℕ) : Type 0 where
+  pub counts : IsStanding (parity_of side) (of_side side a b) standing s
+  pub gives_way : GivesWay (parity_of (other side)) (of_side (other side) a b) standing.generation
+
+-- this side counts, both are synced, and the journal stands for s
+pub record IsSettledBy {D : Type 0} (seen : D → List ℕ) (may_leave : D → List ℕ → Type 0) (side : Side) (standing : Standing) (pair : DiskPair D) (s : State) : Type 0 where
+  pub sides : StandsBy side standing s (seen pair.a) (seen pair.b)
+  pub durable : AreDurable seen may_leave pair
+
+-- with so many octets written behind the closed gate, which is then open
+abbrev pub with_frame : Standing → ℕ → Standing
+with_frame standing n = record standing { end = standing.end + n; length = max standing.length (standing.end + 1 + n) }

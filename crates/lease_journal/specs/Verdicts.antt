@@ -1,0 +1,35 @@
+-- What reading both sides has found (our own).
+use Rattle.std.specs.Prelude.{ℕ, ⊤, List}
+use Rattle.pcp_base.specs.States.{State}
+use Rattle.lease_journal.specs.declared.judging.Verdict.{Verdict}
+use Rattle.lease_journal.specs.declared.judging.Verdict.TheVariants.{Counting, Neither, Broken}
+use Rattle.lease_journal.specs.declared.walks.Judged.{Judged}
+use Rattle.lease_journal.specs.declared.walks.Judged.TheVariants.{Closed, Bad, Good}
+use Rattle.lease_journal.specs.Journals.{IsBlank, IsDamaged}
+use Rattle.lease_journal.specs.Judging.{IsJudged}
+use Rattle.lease_journal.specs.Settled.{StandsBy}
+use Rattle.lease_journal.specs.Views.{IsInReach}
+
+-- some open side isn't in the grammar, and the sides are as told
+pub record AreBroken (a b : List ℕ) (judged_a judged_b : Judged) : Type 0 where
+  pub damaged : IsDamaged a b
+  pub side_a : IsJudged 0 a judged_a
+  pub side_b : IsJudged 1 b judged_b
+
+-- what the sides are, and the state that the records of the one that counts lead to
+abbrev pub AreFound : List ℕ → List ℕ → State → Verdict → Type 0
+AreFound a b now (Counting side standing) = StandsBy side standing now a b
+AreFound a b now Neither = IsBlank a b
+AreFound a b now (Broken judged_a judged_b) = AreBroken a b judged_a judged_b
+
+-- the walk over a side that was judged ends within what a disk may hold
+abbrev pub IsJudgedInReach : Judged → Type 0
+IsJudgedInReach Closed = ⊤
+IsJudgedInReach Bad = ⊤
+IsJudgedInReach (Good standing) = IsInReach standing
+
+-- and so does that over the side that counts
+abbrev pub IsFoundInReach : Verdict → Type 0
+IsFoundInReach (Counting side standing) = IsInReach standing
+IsFoundInReach Neither = ⊤
+IsFoundInReach (Broken judged_a judged_b) = ⊤

@@ -1,0 +1,49 @@
+//! Appending to the side that counts.
+ghost use Rattle.std.specs.Prelude.{◌≡◌, ◌+◌, ◌<◌, ◌≤◌, ◌^◌, List, [], ◌∷◌, ◌++◌, length, OnOk, IsErr, max};
+ghost use Rattle.pcp_base.specs.declared.records.Record.{Record};
+ghost use Rattle.pcp_base.specs.Apply.{apply_all};
+ghost use Rattle.pcp_base.specs.Fits.{AllFit};
+ghost use Rattle.pcp_base.specs.States.{State};
+ghost use Rattle.lease_disk.specs.Pairs.{PairHasCause, PairLeavesOnly};
+ghost use Rattle.lease_journal.specs.declared.formats.Format.TheVariants.{Second};
+ghost use Rattle.lease_journal.specs.declared.walks.Standing.{Standing};
+ghost use Rattle.lease_journal.specs.Frames.{IsBatch, frame_text};
+ghost use Rattle.lease_journal.specs.Journals.{StandsForWithOrWithout};
+ghost use Rattle.lease_journal.specs.Settled.{IsSettledBy, with_frame};
+
+use crate::sides::Side;
+use crate::writes::write_side;
+use lease_disk::{DiskPair, LeaseDisk};
+use pcp_base::Failed;
+
+/// Writes a frame behind the closed gate at this place of the side that counts, and opens the gate.
+pub(crate) fn put_frame<D: LeaseDisk>(
+    pair: &mut DiskPair<D>,
+    side: Side,
+    end: u64,
+    frame: &[u8],
+) -> Result<(), Failed>
+    requires { end < 2 ^ 62 }
+    ensures moments {
+        D.tells → (standing : Standing) (s : State) (batch : List Record)
+            → IsSettledBy D.seen D.may_leave side standing pair.old s
+            → standing.format ≡ Second → end ≡ standing.end → IsBatch batch → AllFit s batch
+            → frame.now ≡ frame_text batch ++ 0 ∷ []
+            → PairLeavesOnly D.moment D.left_since D.may_leave pair.old pair.new
+                (StandsForWithOrWithout s batch)
+    }
+    ensures settled {
+        D.tells → (standing : Standing) (s : State) (batch : List Record)
+            → IsSettledBy D.seen D.may_leave side standing pair.old s
+            → standing.format ≡ Second → end ≡ standing.end → IsBatch batch → AllFit s batch
+            → frame.now ≡ frame_text batch ++ 0 ∷ []
+            → OnOk result (IsSettledBy D.seen D.may_leave side
+                (with_frame standing (length frame.now)) pair.new (apply_all s batch))
+    }
+    ensures most { OnOk result (end + 1 + length frame.now ≤ 2 ^ 62) }
+    ensures cause { PairHasCause D.faults pair.old pair.new (IsErr result) }
+{
+    write_side(pair, side, end + 1, frame)?;
+    write_side(pair, side, end, &[1])?;
+    Ok(())
+}

@@ -1,0 +1,18 @@
+//! A journal of records in gated frames on two sides. A crash at any moment leaves sides that stand for
+//! the records before a call, or for those with all that the call adds.
+#![tactic(auto)]
+
+mod appending;
+mod errors;
+mod formats;
+mod frames;
+mod heads;
+mod journals;
+mod judging;
+mod openings;
+mod sides;
+mod walks;
+mod writes;
+
+pub use errors::{Found, JournalFault, Unopened};
+pub use journals::Journal;

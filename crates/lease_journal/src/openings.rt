@@ -1,0 +1,304 @@
+//! Opening a journal: both sides are synced and read, and where no records are found it starts.
+ghost use Rattle.std.specs.Prelude.{◌≡◌, ◌⊎◌, ◌<◌, ◌≤◌, ◌^◌, ℕ, List, [], ◌∷◌, ◌++◌, length, Err, IfOk, OnOk, IsErr};
+ghost use Rattle.pcp_io.specs.Faults.{HasCause};
+ghost use Rattle.pcp_base.specs.declared.records.Record.{Record};
+ghost use Rattle.lease_disk.specs.Pairs.{PairHasCause, PairLeavesOnly};
+ghost use Rattle.lease_journal.specs.declared.errors.JournalFault.TheVariants.{Disk};
+ghost use Rattle.lease_journal.specs.declared.formats.Format.TheVariants.{Second};
+ghost use Rattle.lease_journal.specs.declared.sides.Side.TheVariants.{A};
+ghost use Rattle.lease_journal.specs.Beginnings.{GateMeans, IsBegun, IsPrepared, MayBegin, MayShut};
+ghost use Rattle.lease_journal.specs.Journals.{IsBlank, IsDamaged, IsStarting, fresh_state};
+ghost use Rattle.lease_journal.specs.Judging.{IsJudged};
+ghost use Rattle.lease_journal.specs.Openings.{FoundMeans, LeavesOld, Opens};
+ghost use Rattle.lease_journal.specs.Reads.{ArePairRead, AreSeenStill, IsRead};
+ghost use Rattle.lease_journal.specs.Settled.{IsSettledBy};
+ghost use Rattle.lease_journal.specs.Shut.{hidden_text};
+ghost use Rattle.lease_journal.specs.Sides.{AreBatches, IsClosedSide};
+ghost use Rattle.lease_journal.specs.Verdicts.{AreBroken};
+ghost use Rattle.lease_journal.specs.Views.{IsInReach};
+ghost use Rattle.lease_journal.specs.Writes.{AreDurable, ChangesSide, of_side, parity_of};
+
+use crate::errors::{Found, JournalFault};
+use crate::formats::Format;
+use crate::frames::hidden_of;
+use crate::judging::{Verdict, judge};
+use crate::sides::Side;
+use crate::walks::{Judged, Standing, fill};
+use crate::writes::write_side;
+use lease_disk::{DiskPair, LeaseDisk};
+use pcp_base::{Change, Failed, Moment, Record, Replay};
+use std::alloc::Global;
+
+/// How many octets a side has, and whether a gate that isn't open stands in front.
+#[derive(Clone, Copy, Debug, PartialEq, Eq)]
+struct Front {
+    size: u64,
+    is_shut: bool,
+}
+
+/// What stands in front of a disk.
+fn front_of<D: LeaseDisk>(disk: &mut D) -> Result<Front, Failed>
+    ensures size { D.tells → IfOk result (λ front. front.size ≡ length (D.seen disk.old)) }
+    ensures gate { D.tells → IfOk result (λ front. GateMeans (D.seen disk.old) front.is_shut) }
+    ensures most { IfOk result (λ front. front.size ≤ 2 ^ 62) }
+    ensures read { IsRead D.moment D.left_since D.may_leave disk.old disk.new }
+    ensures seen { D.tells → D.seen disk.new ≡ D.seen disk.old }
+    ensures cause { HasCause (D.faults disk.old) (D.faults disk.new) result }
+{
+    let size = disk.len()?;
+    let mut gate = [0];
+    let count = fill(disk, 0, &mut gate)?;
+    if count == 0 {
+        return Ok(Front {
+            size,
+            is_shut: false,
+        });
+    }
+    Ok(Front {
+        size,
+        is_shut: gate[0] != 1,
+    })
+}
+
+/// What stands in front of a side.
+fn front_of_side<D: LeaseDisk>(pair: &mut DiskPair<D>, side: Side) -> Result<Front, Failed>
+    ensures size {
+        D.tells → IfOk result
+            (λ front. front.size ≡ length (of_side side (D.seen pair.old.a) (D.seen pair.old.b)))
+    }
+    ensures gate {
+        D.tells → IfOk result
+            (λ front. GateMeans (of_side side (D.seen pair.old.a) (D.seen pair.old.b))
+                front.is_shut)
+    }
+    ensures most { IfOk result (λ front. front.size ≤ 2 ^ 62) }
+    ensures read { ArePairRead D.moment D.left_since D.may_leave pair.old pair.new }
+    ensures seen { D.tells → AreSeenStill D.seen pair.old pair.new }
+    ensures cause { PairHasCause D.faults pair.old pair.new (IsErr result) }
+{
+    match side {
+        Side::A => front_of(&mut pair.a),
+        Side::B => front_of(&mut pair.b),
+    }
+}
+
+/// Shuts a side that has no octets or an open gate, and says how many octets it has then.
+fn prepare<D: LeaseDisk>(pair: &mut DiskPair<D>, side: Side) -> Result<u64, Failed>
+    ensures moments {
+        D.tells → AreDurable D.seen D.may_leave pair.old
+            → PairLeavesOnly D.moment D.left_since D.may_leave pair.old pair.new
+                (ChangesSide side MayShut (D.seen pair.old.a) (D.seen pair.old.b))
+    }
+    ensures shut {
+        D.tells → IfOk result
+            (λ size. IsPrepared side size (D.seen pair.old.a) (D.seen pair.old.b)
+                (D.seen pair.new.a) (D.seen pair.new.b))
+    }
+    ensures durable {
+        D.tells → AreDurable D.seen D.may_leave pair.old
+            → OnOk result (AreDurable D.seen D.may_leave pair.new)
+    }
+    ensures most { IfOk result (λ size. size ≤ 2 ^ 62) }
+    ensures cause { PairHasCause D.faults pair.old pair.new (IsErr result) }
+{
+    let front = front_of_side(pair, side)?;
+    if front.is_shut {
+        return Ok(front.size);
+    }
+    write_side(pair, side, 0, &[0])?;
+    Ok(front.size.max(1))
+}
+
+/// Writes all that stands behind the gate of a side that gives way, and opens it. Says how many octets
+/// the side has then.
+pub(crate) fn begin_side<D: LeaseDisk>(
+    pair: &mut DiskPair<D>,
+    side: Side,
+    text: &[u8],
+) -> Result<u64, Failed>
+    ensures moments {
+        D.tells → (generation : ℕ) (batches : List (List Record))
+            → AreDurable D.seen D.may_leave pair.old
+            → AreBatches Second (parity_of side) generation batches
+            → text.now ≡ hidden_text generation batches ++ 0 ∷ []
+            → PairLeavesOnly D.moment D.left_since D.may_leave pair.old pair.new
+                (ChangesSide side (MayBegin (parity_of side) generation batches)
+                    (D.seen pair.old.a) (D.seen pair.old.b))
+    }
+    ensures begun {
+        D.tells → (generation : ℕ) (batches : List (List Record))
+            → AreDurable D.seen D.may_leave pair.old
+            → AreBatches Second (parity_of side) generation batches
+            → text.now ≡ hidden_text generation batches ++ 0 ∷ []
+            → IfOk result
+                (λ size. IsBegun side size generation batches (D.seen pair.old.a)
+                    (D.seen pair.old.b) (D.seen pair.new.a) (D.seen pair.new.b))
+    }
+    ensures durable {
+        D.tells → AreDurable D.seen D.may_leave pair.old
+            → OnOk result (AreDurable D.seen D.may_leave pair.new)
+    }
+    ensures most { IfOk result (λ size. size ≤ 2 ^ 62) }
+    ensures within { OnOk result (length text.now < 2 ^ 62) }
+    ensures cause { PairHasCause D.faults pair.old pair.new (IsErr result) }
+{
+    let size = prepare(pair, side)?;
+    write_side(pair, side, 1, text)?;
+    write_side(pair, side, 0, &[1])?;
+    Ok(size.max(1 + text.len() as u64))
+}
+
+/// Starts a journal at `m` on side a, where both sides are closed.
+fn start<D: LeaseDisk, R: Replay>(
+    alloc: Global,
+    pair: &mut DiskPair<D>,
+    m: Moment,
+    replay: &mut R,
+) -> Result<Standing, JournalFault>
+    ensures replayed { OnOk result (R.state replay.new ≡ fresh_state m) }
+    ensures moments {
+        D.tells → AreDurable D.seen D.may_leave pair.old
+            → IsBlank (D.seen pair.old.a) (D.seen pair.old.b)
+            → PairLeavesOnly D.moment D.left_since D.may_leave pair.old pair.new (IsStarting m)
+    }
+    ensures settled {
+        D.tells → AreDurable D.seen D.may_leave pair.old
+            → IsBlank (D.seen pair.old.a) (D.seen pair.old.b)
+            → IfOk result
+                (λ standing. IsSettledBy D.seen D.may_leave A standing pair.new (fresh_state m))
+    }
+    ensures reach { IfOk result IsInReach }
+    ensures cause { PairHasCause D.faults pair.old pair.new (result ≡ Err Disk) }
+{
+    let start = Record {
+        moment: m,
+        change: Change::Start,
+    };
+    let text = hidden_of(alloc, 0, &[start])?;
+    let length = begin_side(pair, Side::A, &text)?;
+    replay.clear();
+    let _fits = replay.admit(alloc, &start)?;
+    Ok(Standing {
+        format: Format::Second,
+        generation: 0,
+        end: text.len() as u64,
+        length,
+    })
+}
+
+/// Shuts a side that was judged to be open.
+fn shut_open<D: LeaseDisk>(
+    pair: &mut DiskPair<D>,
+    side: Side,
+    judged: Judged,
+) -> Result<(), Failed>
+    ensures moments {
+        D.tells → AreDurable D.seen D.may_leave pair.old
+            → IsJudged (parity_of side) (of_side side (D.seen pair.old.a) (D.seen pair.old.b)) judged
+            → PairLeavesOnly D.moment D.left_since D.may_leave pair.old pair.new
+                (ChangesSide side MayShut (D.seen pair.old.a) (D.seen pair.old.b))
+    }
+    ensures closed {
+        D.tells
+            → IsJudged (parity_of side) (of_side side (D.seen pair.old.a) (D.seen pair.old.b)) judged
+            → OnOk result
+                (ChangesSide side (λ _ octets. IsClosedSide octets) (D.seen pair.old.a)
+                    (D.seen pair.old.b) (D.seen pair.new.a) (D.seen pair.new.b))
+    }
+    ensures durable {
+        AreDurable D.seen D.may_leave pair.old
+            → OnOk result (AreDurable D.seen D.may_leave pair.new)
+    }
+    ensures cause { PairHasCause D.faults pair.old pair.new (IsErr result) }
+{
+    if let Judged::Closed = judged {
+        return Ok(());
+    }
+    write_side(pair, side, 0, &[0])
+}
+
+/// Shuts each open side: first the one in the grammar, then those that aren't, a before b.
+fn shut_all<D: LeaseDisk>(pair: &mut DiskPair<D>, a: Judged, b: Judged) -> Result<(), Failed>
+    ensures moments {
+        D.tells → AreDurable D.seen D.may_leave pair.old
+            → AreBroken (D.seen pair.old.a) (D.seen pair.old.b) a b
+            → PairLeavesOnly D.moment D.left_since D.may_leave pair.old pair.new
+                (λ x y. IsDamaged x y ⊎ IsBlank x y)
+    }
+    ensures blank {
+        D.tells → AreDurable D.seen D.may_leave pair.old
+            → AreBroken (D.seen pair.old.a) (D.seen pair.old.b) a b
+            → OnOk result (IsBlank (D.seen pair.new.a) (D.seen pair.new.b))
+    }
+    ensures durable {
+        AreDurable D.seen D.may_leave pair.old
+            → OnOk result (AreDurable D.seen D.may_leave pair.new)
+    }
+    ensures cause { PairHasCause D.faults pair.old pair.new (IsErr result) }
+{
+    match b {
+        Judged::Good(_) => {
+            shut_open(pair, Side::B, b)?;
+            shut_open(pair, Side::A, a)
+        }
+        _ => {
+            shut_open(pair, Side::A, a)?;
+            shut_open(pair, Side::B, b)
+        }
+    }
+}
+
+/// Syncs both sides.
+fn sync_both<D: LeaseDisk>(pair: &mut DiskPair<D>) -> Result<(), Failed>
+    ensures moments { LeavesOld D.moment D.left_since D.may_leave pair.old pair.new }
+    ensures seen { D.tells → OnOk result (AreSeenStill D.seen pair.old pair.new) }
+    ensures durable { OnOk result (AreDurable D.seen D.may_leave pair.new) }
+    ensures cause { PairHasCause D.faults pair.old pair.new (IsErr result) }
+{
+    pair.a.sync()?;
+    pair.b.sync()?;
+    Ok(())
+}
+
+/// Syncs both sides, reads them, and makes a start at `m` where they are blank or damaged.
+pub(crate) fn open<D: LeaseDisk, R: Replay>(
+    alloc: Global,
+    pair: &mut DiskPair<D>,
+    m: Moment,
+    replay: &mut R,
+) -> Result<(Side, Standing, Found), JournalFault>
+    ensures found {
+        D.tells → IfOk result
+            (λ opened. FoundMeans m (D.seen pair.old.a) (D.seen pair.old.b) (R.state replay.new)
+                opened.2)
+    }
+    ensures settled {
+        D.tells → IfOk result
+            (λ opened. IsSettledBy D.seen D.may_leave opened.0 opened.1 pair.new
+                (R.state replay.new))
+    }
+    ensures reach { IfOk result (λ opened. IsInReach opened.1) }
+    ensures opens {
+        D.tells → OnOk result (Opens D.seen D.moment D.left_since D.may_leave m pair.old pair.new)
+    }
+    ensures moments {
+        D.tells
+            → Opens D.seen D.moment D.left_since D.may_leave m pair.old pair.new
+                ⊎ LeavesOld D.moment D.left_since D.may_leave pair.old pair.new
+    }
+    ensures cause { PairHasCause D.faults pair.old pair.new (result ≡ Err Disk) }
+{
+    sync_both(pair)?;
+    match judge(alloc, pair, replay)? {
+        Verdict::Counting(side, standing) => Ok((side, standing, Found::Recovered)),
+        Verdict::Neither => {
+            let standing = start(alloc, pair, m, replay)?;
+            Ok((Side::A, standing, Found::Blank))
+        }
+        Verdict::Broken(a, b) => {
+            shut_all(pair, a, b)?;
+            let standing = start(alloc, pair, m, replay)?;
+            Ok((Side::A, standing, Found::Damaged))
+        }
+    }
+}

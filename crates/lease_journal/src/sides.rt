@@ -1,0 +1,35 @@
+//! The two sides of a journal.
+
+/// One of the sides of a pair of disks.
+#[derive(Clone, Copy, Debug, PartialEq, Eq)]
+pub(crate) enum Side {
+    /// has even generations
+    A,
+    /// has odd generations
+    B,
+}
+
+impl Side {
+    ghost use Rattle.std.specs.Prelude.{◌≡◌};
+    ghost use Rattle.lease_journal.specs.Writes.{other, parity_of};
+
+    /// The other side.
+    pub(crate) fn other(self) -> Side
+        ensures { result ≡ other self }
+    {
+        match self {
+            Side::A => Side::B,
+            Side::B => Side::A,
+        }
+    }
+
+    /// The remainder by 2 of the generations of this side.
+    pub(crate) fn parity(self) -> u64
+        ensures { result ≡ parity_of self }
+    {
+        match self {
+            Side::A => 0,
+            Side::B => 1,
+        }
+    }
+}
