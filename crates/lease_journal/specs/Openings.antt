@@ -1,10 +1,14 @@
 -- What opening a journal may leave, moment by moment (our own).
-use Rattle.std.specs.Prelude.{◌≡◌, ◌⊎◌, ℕ, List}
+use Rattle.std.specs.Prelude.{◌≡◌, ◌⊎◌, ℕ, ⊤, List}
 use Rattle.pcp_base.specs.States.{State, empty_state}
 use Rattle.lease_disk.specs.declared.disks.DiskPair.{DiskPair}
 use Rattle.lease_disk.specs.Pairs.{PairLeavesOnly}
 use Rattle.lease_journal.specs.declared.errors.Found.{Found}
 use Rattle.lease_journal.specs.declared.errors.Found.TheVariants.{Recovered, Blank, Damaged}
+use Rattle.lease_journal.specs.declared.formats.Format.TheVariants.{Second}
+use Rattle.lease_journal.specs.declared.sides.Side.{Side}
+use Rattle.lease_journal.specs.declared.sides.Side.TheVariants.{A}
+use Rattle.lease_journal.specs.declared.walks.Standing.{Standing}
 use Rattle.lease_journal.specs.Journals.{IsBlank, IsDamaged, StandsFor, IsStarting, IsStartingAnew, fresh_state}
 use Rattle.lease_journal.specs.Reads.{AreSeenStill}
 use Rattle.lease_journal.specs.Writes.{AreDurable}
@@ -27,6 +31,29 @@ abbrev pub ViewMeans : List ℕ → List ℕ → State → Found → Type 0
 ViewMeans a b now Recovered = StandsFor now a b
 ViewMeans a b now Blank = IsBlank a b × (now ≡ empty_state)
 ViewMeans a b now Damaged = IsDamaged a b × (now ≡ empty_state)
+
+-- where no records were found nothing is left in the replay
+abbrev pub IsClearedUnless : State → Found → Type 0
+IsClearedUnless now Recovered = ⊤
+IsClearedUnless now Blank = now ≡ empty_state
+IsClearedUnless now Damaged = now ≡ empty_state
+
+-- a side that a start has written: in format 2, with generation 0
+pub record IsNew (standing : Standing) : Type 0 where
+  pub second : standing.format ≡ Second
+  pub first : standing.generation ≡ 0
+
+-- a start at m was made, on side a
+pub record IsStarted (m : ℕ) (side : Side) (standing : Standing) (now : State) : Type 0 where
+  pub on_a : side ≡ A
+  pub new : IsNew standing
+  pub state : now ≡ fresh_state m
+
+-- where no records were found a start was made
+abbrev pub HasStarted : ℕ → Side → Standing → State → Found → Type 0
+HasStarted m side standing now Recovered = ⊤
+HasStarted m side standing now Blank = IsStarted m side standing now
+HasStarted m side standing now Damaged = IsStarted m side standing now
 
 -- Until both sides are synced a crash leaves what it might have left before.
 abbrev pub LeavesOld : {D : Type 0} → (D → ℕ) → (D → ℕ → List ℕ → Type 0) → (D → List ℕ → Type 0)

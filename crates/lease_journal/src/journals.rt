@@ -45,7 +45,7 @@ impl<D> Model for Journal<D> {
 }
 
 impl<D: LeaseDisk> Journal<D> {
-    ghost use Rattle.std.specs.Prelude.{◌≡◌, ◌⊎◌, ◌+◌, ◌-◌, ◌^◌, ◌<◌, ◌≤◌, [], ◌∷◌, false, length, Err, IfOk, IfErr, OnOk};
+    ghost use Rattle.std.specs.Prelude.{◌≡◌, ⊥, ◌⊎◌, ◌+◌, ◌-◌, ◌^◌, ◌<◌, ◌≤◌, [], ◌∷◌, false, length, Err, IfOk, IfErr, OnOk};
     ghost use Rattle.std.specs.List.{AllByRecursion};
     ghost use Rattle.pcp_base.specs.Apply.{apply_all, state_of};
     ghost use Rattle.pcp_base.specs.Fits.{AllFit};
@@ -56,7 +56,7 @@ impl<D: LeaseDisk> Journal<D> {
     ghost use Rattle.lease_journal.specs.declared.formats.Format.TheVariants.{Second};
     ghost use Rattle.lease_journal.specs.Formats.{format_octet};
     ghost use Rattle.lease_journal.specs.Journals.{StandsFor, StandsForWithOrWithout};
-    ghost use Rattle.lease_journal.specs.Openings.{FoundMeans, LeavesOld, Opens, ViewMeans};
+    ghost use Rattle.lease_journal.specs.Openings.{FoundMeans, HasStarted, IsClearedUnless, LeavesOld, Opens, ViewMeans};
     ghost use Rattle.lease_journal.specs.Reads.{ArePairRead, AreSeenStill};
     ghost use Rattle.lease_journal.specs.Views.{IsSettled};
     ghost use Rattle.lease_journal.specs.Writes.{of_side, other};
@@ -114,6 +114,11 @@ impl<D: LeaseDisk> Journal<D> {
                 (λ opened. FoundMeans m (D.seen pair.a) (D.seen pair.b) (R.state replay.new)
                     opened.1)
         }
+        ensures started {
+            IfOk result
+                (λ opened. HasStarted m opened.0.side opened.0.standing (R.state replay.new)
+                    opened.1)
+        }
         ensures settled {
             D.tells → IfOk result
                 (λ opened. IsSettled D.seen D.may_leave opened.0 (R.state replay.new))
@@ -131,6 +136,7 @@ impl<D: LeaseDisk> Journal<D> {
         ensures first_length {
             IfOk result (λ opened. opened.0.first_length ≡ opened.0.standing.length)
         }
+        ensures later { IfOk result (λ opened. PairHasCause D.faults pair opened.0.pair ⊥) }
         ensures cause {
             IfErr result
                 (λ refused. PairHasCause D.faults pair refused.pair (refused.fault ≡ Disk))
@@ -138,15 +144,15 @@ impl<D: LeaseDisk> Journal<D> {
     {
         let mut pair = pair;
         match open(alloc, &mut pair, m, replay) {
-            Ok((side, standing, found)) => Ok((
+            Ok(opened) => Ok((
                 Journal {
                     pair,
-                    side,
-                    standing,
-                    first_length: standing.length,
+                    side: opened.side,
+                    standing: opened.standing,
+                    first_length: opened.standing.length,
                     unread: false,
                 },
-                found,
+                opened.found,
             )),
             Err(fault) => Err(Unopened { fault, pair }),
         }
@@ -163,6 +169,9 @@ impl<D: LeaseDisk> Journal<D> {
             D.tells → IfOk result
                 (FoundMeans m (D.seen self.old.pair.a) (D.seen self.old.pair.b)
                     (R.state replay.new))
+        }
+        ensures started {
+            IfOk result (HasStarted m self.new.side self.new.standing (R.state replay.new))
         }
         ensures settled {
             D.tells → OnOk result (IsSettled D.seen D.may_leave self.new (R.state replay.new))
@@ -181,12 +190,12 @@ impl<D: LeaseDisk> Journal<D> {
         ensures cause { PairHasCause D.faults self.old.pair self.new.pair (result ≡ Err Disk) }
     {
         self.unread = true;
-        let (side, standing, found) = open(alloc, &mut self.pair, m, replay)?;
-        self.side = side;
-        self.standing = standing;
-        self.first_length = standing.length;
+        let opened = open(alloc, &mut self.pair, m, replay)?;
+        self.side = opened.side;
+        self.standing = opened.standing;
+        self.first_length = opened.standing.length;
         self.unread = false;
-        Ok(found)
+        Ok(opened.found)
     }
 
     /// Reads the journal of a pair and writes nothing. Where it is blank or damaged the replay is
@@ -200,6 +209,7 @@ impl<D: LeaseDisk> Journal<D> {
             D.tells → IfOk result
                 (ViewMeans (D.seen pair.old.a) (D.seen pair.old.b) (R.state replay.new))
         }
+        ensures cleared { IfOk result (IsClearedUnless (R.state replay.new)) }
         ensures read { ArePairRead D.moment D.left_since D.may_leave pair.old pair.new }
         ensures seen { D.tells → AreSeenStill D.seen pair.old pair.new }
         ensures cause { PairHasCause D.faults pair.old pair.new (result ≡ Err Disk) }

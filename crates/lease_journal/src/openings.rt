@@ -7,14 +7,14 @@ ghost use Rattle.lease_journal.specs.declared.errors.JournalFault.TheVariants.{D
 ghost use Rattle.lease_journal.specs.declared.formats.Format.TheVariants.{Second};
 ghost use Rattle.lease_journal.specs.declared.sides.Side.TheVariants.{A};
 ghost use Rattle.lease_journal.specs.Beginnings.{GateMeans, IsBegun, IsPrepared, MayBegin, MayShut};
-ghost use Rattle.lease_journal.specs.Journals.{IsBlank, IsDamaged, IsStarting, fresh_state};
+ghost use Rattle.lease_journal.specs.Journals.{IsBlank, IsDamaged, IsStarting, IsStartingAnew, fresh_state};
 ghost use Rattle.lease_journal.specs.Judging.{IsJudged};
-ghost use Rattle.lease_journal.specs.Openings.{FoundMeans, LeavesOld, Opens};
+ghost use Rattle.lease_journal.specs.Openings.{FoundMeans, HasStarted, IsNew, LeavesOld, MayOpen, Opens};
 ghost use Rattle.lease_journal.specs.Reads.{ArePairRead, AreSeenStill, IsRead};
 ghost use Rattle.lease_journal.specs.Settled.{IsSettledBy};
 ghost use Rattle.lease_journal.specs.Shut.{hidden_text};
 ghost use Rattle.lease_journal.specs.Sides.{AreBatches, IsClosedSide};
-ghost use Rattle.lease_journal.specs.Verdicts.{AreBroken};
+ghost use Rattle.lease_journal.specs.Verdicts.{AreBroken, AreFound, IsFoundInReach};
 ghost use Rattle.lease_journal.specs.Views.{IsInReach};
 ghost use Rattle.lease_journal.specs.Writes.{AreDurable, ChangesSide, of_side, parity_of};
 
@@ -156,6 +156,7 @@ fn start<D: LeaseDisk, R: Replay>(
     replay: &mut R,
 ) -> Result<Standing, JournalFault>
     ensures replayed { OnOk result (R.state replay.new ≡ fresh_state m) }
+    ensures written { IfOk result IsNew }
     ensures moments {
         D.tells → AreDurable D.seen D.may_leave pair.old
             → IsBlank (D.seen pair.old.a) (D.seen pair.old.b)
@@ -260,24 +261,126 @@ fn sync_both<D: LeaseDisk>(pair: &mut DiskPair<D>) -> Result<(), Failed>
     Ok(())
 }
 
+/// Starts a journal at `m` on side a, where an open side isn't in the grammar: shuts each open side first.
+fn start_anew<D: LeaseDisk, R: Replay>(
+    alloc: Global,
+    pair: &mut DiskPair<D>,
+    m: Moment,
+    replay: &mut R,
+    a: Judged,
+    b: Judged,
+) -> Result<Standing, JournalFault>
+    ensures replayed { OnOk result (R.state replay.new ≡ fresh_state m) }
+    ensures written { IfOk result IsNew }
+    ensures moments {
+        D.tells → AreDurable D.seen D.may_leave pair.old
+            → AreBroken (D.seen pair.old.a) (D.seen pair.old.b) a b
+            → PairLeavesOnly D.moment D.left_since D.may_leave pair.old pair.new
+                (IsStartingAnew m)
+    }
+    ensures settled {
+        D.tells → AreDurable D.seen D.may_leave pair.old
+            → AreBroken (D.seen pair.old.a) (D.seen pair.old.b) a b
+            → IfOk result
+                (λ standing. IsSettledBy D.seen D.may_leave A standing pair.new (fresh_state m))
+    }
+    ensures reach { IfOk result IsInReach }
+    ensures cause { PairHasCause D.faults pair.old pair.new (result ≡ Err Disk) }
+{
+    shut_all(pair, a, b)?;
+    start(alloc, pair, m, replay)
+}
+
+/// An open journal: the side that counts, what it is, and what was found.
+#[derive(Clone, Copy, Debug, PartialEq, Eq)]
+pub(crate) struct Opened {
+    pub(crate) side: Side,
+    pub(crate) standing: Standing,
+    pub(crate) found: Found,
+}
+
+/// Makes a start at `m` where the sides that were judged are blank or damaged.
+fn start_by<D: LeaseDisk, R: Replay>(
+    alloc: Global,
+    pair: &mut DiskPair<D>,
+    m: Moment,
+    replay: &mut R,
+    verdict: Verdict,
+) -> Result<Opened, JournalFault>
+    ensures started {
+        IfOk result
+            (λ opened. HasStarted m opened.side opened.standing (R.state replay.new) opened.found)
+    }
+    ensures found {
+        D.tells
+            → AreFound (D.seen pair.old.a) (D.seen pair.old.b) (R.state replay.old) verdict
+            → IfOk result
+                (λ opened. FoundMeans m (D.seen pair.old.a) (D.seen pair.old.b)
+                    (R.state replay.new) opened.found)
+    }
+    ensures settled {
+        D.tells → AreDurable D.seen D.may_leave pair.old
+            → AreFound (D.seen pair.old.a) (D.seen pair.old.b) (R.state replay.old) verdict
+            → IfOk result
+                (λ opened. IsSettledBy D.seen D.may_leave opened.side opened.standing pair.new
+                    (R.state replay.new))
+    }
+    ensures moments {
+        D.tells → AreDurable D.seen D.may_leave pair.old
+            → AreFound (D.seen pair.old.a) (D.seen pair.old.b) (R.state replay.old) verdict
+            → PairLeavesOnly D.moment D.left_since D.may_leave pair.old pair.new
+                (MayOpen m (D.seen pair.old.a) (D.seen pair.old.b))
+    }
+    ensures reach { IsFoundInReach verdict → IfOk result (λ opened. IsInReach opened.standing) }
+    ensures cause { PairHasCause D.faults pair.old pair.new (result ≡ Err Disk) }
+{
+    match verdict {
+        Verdict::Counting(side, standing) => Ok(Opened {
+            side,
+            standing,
+            found: Found::Recovered,
+        }),
+        Verdict::Neither => {
+            let standing = start(alloc, pair, m, replay)?;
+            Ok(Opened {
+                side: Side::A,
+                standing,
+                found: Found::Blank,
+            })
+        }
+        Verdict::Broken(a, b) => {
+            let standing = start_anew(alloc, pair, m, replay, a, b)?;
+            Ok(Opened {
+                side: Side::A,
+                standing,
+                found: Found::Damaged,
+            })
+        }
+    }
+}
+
 /// Syncs both sides, reads them, and makes a start at `m` where they are blank or damaged.
 pub(crate) fn open<D: LeaseDisk, R: Replay>(
     alloc: Global,
     pair: &mut DiskPair<D>,
     m: Moment,
     replay: &mut R,
-) -> Result<(Side, Standing, Found), JournalFault>
+) -> Result<Opened, JournalFault>
     ensures found {
         D.tells → IfOk result
             (λ opened. FoundMeans m (D.seen pair.old.a) (D.seen pair.old.b) (R.state replay.new)
-                opened.2)
+                opened.found)
+    }
+    ensures started {
+        IfOk result
+            (λ opened. HasStarted m opened.side opened.standing (R.state replay.new) opened.found)
     }
     ensures settled {
         D.tells → IfOk result
-            (λ opened. IsSettledBy D.seen D.may_leave opened.0 opened.1 pair.new
+            (λ opened. IsSettledBy D.seen D.may_leave opened.side opened.standing pair.new
                 (R.state replay.new))
     }
-    ensures reach { IfOk result (λ opened. IsInReach opened.1) }
+    ensures reach { IfOk result (λ opened. IsInReach opened.standing) }
     ensures opens {
         D.tells → OnOk result (Opens D.seen D.moment D.left_since D.may_leave m pair.old pair.new)
     }
@@ -289,16 +392,6 @@ pub(crate) fn open<D: LeaseDisk, R: Replay>(
     ensures cause { PairHasCause D.faults pair.old pair.new (result ≡ Err Disk) }
 {
     sync_both(pair)?;
-    match judge(alloc, pair, replay)? {
-        Verdict::Counting(side, standing) => Ok((side, standing, Found::Recovered)),
-        Verdict::Neither => {
-            let standing = start(alloc, pair, m, replay)?;
-            Ok((Side::A, standing, Found::Blank))
-        }
-        Verdict::Broken(a, b) => {
-            shut_all(pair, a, b)?;
-            let standing = start(alloc, pair, m, replay)?;
-            Ok((Side::A, standing, Found::Damaged))
-        }
-    }
+    let verdict = judge(alloc, pair, replay)?;
+    start_by(alloc, pair, m, replay, verdict)
 }
