@@ -45,7 +45,7 @@ impl<D> Model for Journal<D> {
 }
 
 impl<D: LeaseDisk> Journal<D> {
-    ghost use Rattle.std.specs.Prelude.{◌≡◌, ⊥, ◌⊎◌, ◌+◌, ◌-◌, ◌^◌, ◌<◌, ◌≤◌, [], ◌∷◌, false, length, Err, IfOk, IfErr, OnOk};
+    ghost use Rattle.std.specs.Prelude.{◌≡◌, ◌⊎◌, ◌+◌, ◌-◌, ◌^◌, ◌<◌, ◌≤◌, [], ◌∷◌, false, length, Err, IfOk, IfErr, OnOk};
     ghost use Rattle.std.specs.List.{AllByRecursion};
     ghost use Rattle.pcp_base.specs.Apply.{apply_all, state_of};
     ghost use Rattle.pcp_base.specs.Fits.{AllFit};

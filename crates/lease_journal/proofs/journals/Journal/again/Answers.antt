@@ -1,0 +1,4 @@
+use Rattle.lease_journal.proofs.journals.Journal.again.Goals as goal
+
+pub returns-clause-found : goal.returns-clause-found
+returns-clause-found g c = rw (← c.self.view_is) c.in_ok-opened.ensures.found
