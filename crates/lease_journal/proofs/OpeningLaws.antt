@@ -31,6 +31,13 @@ on_ok P (Err e) holds = tt
 pub on_ok_always : {T E : Type 0} {P : Type 0} (result : Result T E) → P → OnOk result P
 on_ok_always {P = P} result holds = on_ok P result holds
 
+both_on_ok : {T E : Type 0} (P Q R : Type 0) (result : Result T E) → (P → Q → R) → OnOk result P → OnOk result Q → OnOk result R
+both_on_ok P Q R (Ok x) gives one two = gives one two
+both_on_ok P Q R (Err e) gives one two = tt
+
+pub on_ok_both : {T E : Type 0} {P Q R : Type 0} (result : Result T E) → (P → Q → R) → OnOk result P → OnOk result Q → OnOk result R
+on_ok_both {P = P} {Q = Q} {R = R} result gives one two = both_on_ok P Q R result gives one two
+
 -- before anything is written
 pub may_open : (m : ℕ) (a b : List ℕ) (now : State) (verdict : Verdict) → AreFound a b now verdict → MayOpen m a b a b
 may_open m a b now (Counting side standing) found = let stands = stands_for side standing now a b found in inl (now, stands, stands)

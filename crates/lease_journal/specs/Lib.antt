@@ -1,5 +1,6 @@
 pub mod Appending
 pub mod Beginnings
+pub mod Compactions
 pub mod Formats
 pub mod Frames
 pub mod Heads

@@ -2,14 +2,14 @@
 ghost use Rattle.std.specs.Prelude.{◌≡◌};
 
 use crate::appending::put_frame;
+use crate::compacting::take_over;
 use crate::errors::{Found, JournalFault, Unopened};
 use crate::formats::Format;
 use crate::frames::{frame_of, hidden_of};
 use crate::judging::{Verdict, judge};
-use crate::openings::{begin_side, open};
+use crate::openings::open;
 use crate::sides::Side;
 use crate::walks::Standing;
-use crate::writes::{cut_side, write_side};
 use lease_disk::{DiskPair, LeaseDisk};
 use pcp_base::{Moment, Record, Replay};
 use std::alloc::Global;
@@ -231,6 +231,7 @@ impl<D: LeaseDisk> Journal<D> {
     /// counted. At each moment the journal stands for the same state. After `Memory` nothing has
     /// changed; after `Disk` the journal is to be read `again`.
     pub fn compact(&mut self, alloc: Global, snapshot: &[Record]) -> Result<(), JournalFault>
+        requires some { 1 ≤ length snapshot.now }
         requires read { self.old.unread ≡ false }
         requires fit { AllFit empty_state snapshot.now }
         requires same {
@@ -266,12 +267,8 @@ impl<D: LeaseDisk> Journal<D> {
         let generation = self.standing.generation + 1;
         let text = hidden_of(alloc, generation, snapshot)?;
         self.unread = true;
-        let old = self.side;
-        let new = old.other();
-        let length = begin_side(&mut self.pair, new, &text)?;
-        write_side(&mut self.pair, old, 0, &[0])?;
-        cut_side(&mut self.pair, old, 1)?;
-        self.side = new;
+        let length = take_over(&mut self.pair, self.side, &text)?;
+        self.side = self.side.other();
         self.standing = Standing {
             format: Format::Second,
             generation,

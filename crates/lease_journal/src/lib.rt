@@ -3,6 +3,7 @@
 #![tactic(auto)]
 
 mod appending;
+mod compacting;
 mod errors;
 mod formats;
 mod frames;
