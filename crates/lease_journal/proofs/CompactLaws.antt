@@ -1,12 +1,10 @@
 -- What is left of two sides while one takes over from the other.
 use Rattle.std.proofs.Common.{◌≡◌, inl, inr, ℕ, ◌+◌, ◌-◌, ◌^◌, ◌<◌, ◌%◌, List, [], ◌∷◌, length, get_or, take, refl, sym, ◌∙◌, ap, subst, arith}
 use Rattle.std.specs.Prelude.{◌⊎◌}
-use Rattle.std.specs.List.{AllByRecursion}
 use Rattle.pcp_base.specs.declared.records.Record.{Record}
 use Rattle.pcp_base.specs.States.{State, empty_state}
-use Rattle.pcp_base.specs.Apply.{apply, state_of}
+use Rattle.pcp_base.specs.Apply.{state_of}
 use Rattle.pcp_base.specs.Fits.{AllFit}
-use Rattle.pcp_base.specs.Records.{IsWellFormedRecord}
 use Rattle.lease_disk.specs.Contents.{after_write}
 use Rattle.lease_disk.specs.declared.disks.DiskPair.{DiskPair}
 use Rattle.lease_disk.specs.Images.{CutOrNot, Torn}
@@ -118,10 +116,6 @@ module _ (side : Side) (standing : Standing) (s : State) (a b : List ℕ) (stand
 
       pub begun_gate : get_or (of_side side x y) 0 0 ≡ 1
       begun_gate = ap (λ (l : List ℕ). get_or l 0 0) same_side ∙ open_gate (parity_of side) (of_side side a b) standing s stands.counts
-
-pub all_formed : (s : State) (rs : List Record) → AllFit s rs → AllByRecursion IsWellFormedRecord rs
-all_formed s [] fit = tt
-all_formed s (r ∷ rs) fit = (fit.0.formed, all_formed (apply s r) rs fit.1)
 
 -- records that stand for the same, with the next generation
 pub next_over : (side : Side) (standing : Standing) (s : State) (a b : List ℕ) (records : List Record) (text octets : List ℕ) → StandsBy side standing s a b → standing.generation < 2 ^ 64 - 1 → AllFit empty_state records → state_of records ≡ s → IsHidden (standing.generation + 1) records text → octets ≡ text

@@ -17,6 +17,7 @@ pub mod ShutLaws
 pub mod SideLaws
 pub mod SideWalks
 pub mod SizeLemmas
+pub mod SnapshotLaws
 pub mod StandingLaws
 pub mod StartLaws
 pub mod TextLemmas

@@ -6,6 +6,7 @@ pub mod Frames
 pub mod Heads
 pub mod Journals
 pub mod Judging
+pub mod Laws
 pub mod Openings
 pub mod Reads
 pub mod Settled

@@ -45,7 +45,7 @@ impl<D> Model for Journal<D> {
 }
 
 impl<D: LeaseDisk> Journal<D> {
-    ghost use Rattle.std.specs.Prelude.{◌≡◌, ◌⊎◌, ◌+◌, ◌-◌, ◌^◌, ◌<◌, ◌≤◌, [], ◌∷◌, false, length, Err, IfOk, IfErr, OnOk};
+    ghost use Rattle.std.specs.Prelude.{◌≡◌, ◌⊎◌, ◌+◌, ◌-◌, ◌^◌, ◌<◌, ◌≤◌, [], ◌∷◌, true, false, length, Err, IsErr, IfOk, IfErr, OnOk};
     ghost use Rattle.std.specs.List.{AllByRecursion};
     ghost use Rattle.pcp_base.specs.Apply.{apply_all, state_of};
     ghost use Rattle.pcp_base.specs.Fits.{AllFit};
@@ -90,6 +90,7 @@ impl<D: LeaseDisk> Journal<D> {
         }
         ensures first_length { OnOk result (self.new.first_length ≡ self.old.first_length) }
         ensures memory { result ≡ Err Memory → self.new ≡ self.old }
+        ensures doubt { result ≡ Err Disk → self.new.unread ≡ true }
         ensures cause { PairHasCause D.faults self.old.pair self.new.pair (result ≡ Err Disk) }
     {
         let frame = frame_of(alloc, batch)?;
@@ -187,6 +188,7 @@ impl<D: LeaseDisk> Journal<D> {
         }
         ensures ready { OnOk result (self.new.unread ≡ false) }
         ensures first_length { OnOk result (self.new.first_length ≡ self.new.standing.length) }
+        ensures doubt { IsErr result → self.new.unread ≡ true }
         ensures cause { PairHasCause D.faults self.old.pair self.new.pair (result ≡ Err Disk) }
     {
         self.unread = true;
@@ -232,8 +234,9 @@ impl<D: LeaseDisk> Journal<D> {
     /// changed; after `Disk` the journal is to be read `again`.
     pub fn compact(&mut self, alloc: Global, snapshot: &[Record]) -> Result<(), JournalFault>
         requires some { 1 ≤ length snapshot.now }
+        requires formed { AllByRecursion IsWellFormedRecord snapshot.now }
         requires read { self.old.unread ≡ false }
-        requires fit { AllFit empty_state snapshot.now }
+        requires fit { D.tells → AllFit empty_state snapshot.now }
         requires same {
             D.tells → (s : State) → IsSettled D.seen D.may_leave self.old s
                 → state_of snapshot.now ≡ s
@@ -262,6 +265,7 @@ impl<D: LeaseDisk> Journal<D> {
                         ≡ 0 ∷ [])
         }
         ensures memory { result ≡ Err Memory → self.new ≡ self.old }
+        ensures doubt { result ≡ Err Disk → self.new.unread ≡ true }
         ensures cause { PairHasCause D.faults self.old.pair self.new.pair (result ≡ Err Disk) }
     {
         let generation = self.standing.generation + 1;

@@ -10,6 +10,7 @@ mod frames;
 mod heads;
 mod journals;
 mod judging;
+mod laws;
 mod openings;
 mod sides;
 mod walks;
@@ -17,3 +18,4 @@ mod writes;
 
 pub use errors::{Found, JournalFault, Unopened};
 pub use journals::Journal;
+pub use laws::{formats_differ, one_journal, snapshots_take_over};
