@@ -13,6 +13,8 @@ mod judging;
 mod laws;
 mod openings;
 mod sides;
+#[cfg(test)]
+mod tests;
 mod walks;
 mod writes;
 
