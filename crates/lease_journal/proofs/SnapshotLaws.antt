@@ -1,5 +1,7 @@
 -- What a journal stands for is started and reached, so that it has a snapshot.
 use Rattle.std.proofs.Common.{◌≡◌, inl, inr, ℕ, ◌<◌, Bool, true, false, ◌||◌, List, [], ◌∷◌, length, refl, sym, ◌∙◌, ap, subst, arith, length-append}
+use Rattle.std.specs.List.{AllByRecursion}
+use Rattle.pcp_base.specs.Records.{IsWellFormedRecord}
 use Rattle.pcp_base.specs.declared.records.Record.{Record}
 use Rattle.pcp_base.specs.Snapshots.{snapshot}
 use Rattle.pcp_base.specs.States.{State, empty_state}
@@ -67,3 +69,7 @@ stands_started s a b (format, records, inr c, is) = ap (λ (x : State). x.starte
 
 pub stands_snapshot : (s : State) (a b : List ℕ) → StandsFor s a b → AllFit empty_state (snapshot s) × (state_of (snapshot s) ≡ s)
 stands_snapshot s a b stands = snapshot-stands s (stands_reached s a b stands) (stands_started s a b stands)
+
+pub all_formed : (s : State) (rs : List Record) → AllFit s rs → AllByRecursion IsWellFormedRecord rs
+all_formed s [] fit = tt
+all_formed s (r ∷ rs) fit = (fit.0.formed, all_formed (apply s r) rs fit.1)
