@@ -58,8 +58,8 @@ module _ (f : Format) (s : State) (rest : List ℕ) (size : ℕ) (enough : 4 ≤
   bad_size bad more = record {
     not_ended = λ gate behind closed e. open_gate rest more gate behind closed e;
     no_frame = λ batch behind is fit e.
-    let n = (head_is rest more batch behind is enough e).0 in
-    bad (omega (arith, is_size, n, records_some batch is.some)) (omega (arith, is_size, n, is.short));
+        let n = (head_is rest more batch behind is enough e).0 in
+        bad (omega (arith, is_size, n, records_some batch is.some)) (omega (arith, is_size, n, is.short));
   }
 
   -- the frame is longer than what is there
@@ -67,9 +67,9 @@ module _ (f : Format) (s : State) (rest : List ℕ) (size : ℕ) (enough : 4 ≤
   cut_frame short = record {
     not_ended = λ gate behind closed e. closed (sym (ap (λ (l : List ℕ). get_or l 0 0) e));
     no_frame = λ batch behind is fit e.
-    let whole : 1 ∷ (rest ++ []) ≡ 1 ∷ (frame_text batch ++ behind) = ap (λ (l : List ℕ). 1 ∷ l) (append-nil rest) ∙ e in
-    let both = head_is rest [] batch behind is enough whole in
-    omega (arith, is_size, both.0, ap length both.1, length-append (drop 4 rest) [], length-append (records_text batch) behind, short);
+        let whole : 1 ∷ (rest ++ []) ≡ 1 ∷ (frame_text batch ++ behind) = ap (λ (l : List ℕ). 1 ∷ l) (append-nil rest) ∙ e in
+        let both = head_is rest [] batch behind is enough whole in
+        omega (arith, is_size, both.0, ap length both.1, length-append (drop 4 rest) [], length-append (records_text batch) behind, short);
   }
 
   module _ (within : size ≤ length (drop 4 rest)) where
@@ -78,9 +78,9 @@ module _ (f : Format) (s : State) (rest : List ℕ) (size : ℕ) (enough : 4 ≤
     no_records none more = record {
       not_ended = λ gate behind closed e. open_gate rest more gate behind closed e;
       no_frame = λ batch behind is fit e.
-      let both = head_is rest more batch behind is enough e in
-      none batch is fit
-      (sym (take-append-le size (drop 4 rest) more within) ∙ ap (λ (l : List ℕ). take size l) both.1 ∙ take_at (records_text batch) behind size (sym both.0 ∙ sym is_size));
+          let both = head_is rest more batch behind is enough e in
+          none batch is fit
+          (sym (take-append-le size (drop 4 rest) more within) ∙ ap (λ (l : List ℕ). take size l) both.1 ∙ take_at (records_text batch) behind size (sym both.0 ∙ sym is_size));
     }
 
     pub framed : (now : State) → 0 < size → size ≤ 4096 → ((i : ℕ) → get_or (take 4 rest) i 0 < 256) → IsReadBatch f s now (take size (drop 4 rest)) → IsFramed f s now (1 ∷ rest) (5 + size)

@@ -6,6 +6,7 @@ use Rattle.lease_journal.specs.Formats.{AllFitBy, state_by}
 use Rattle.lease_journal.specs.Frames.{IsBatch, records_of}
 
 -- a batch that may follow these
-pub record MayFollow (format : Format) (batches : List (List Record)) (batch : List Record) : Type 0 where
+pub record MayFollow (format : Format) (batches : List (List Record))
+    (batch : List Record) : Type 0 where
   pub is : IsBatch batch
   pub fit : AllFitBy format (state_by format (records_of batches)) batch

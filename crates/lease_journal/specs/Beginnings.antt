@@ -1,6 +1,7 @@
 -- A side that is written anew (our own).
 use Rattle.std.specs.Prelude.{◌≡◌, ◌⊎◌, ◌<◌, ℕ, Bool, true, false, List, length, get_or}
 use Rattle.pcp_base.specs.declared.records.Record.{Record}
+use Rattle.lease_journal.specs.declared.layout.TheConstants.{SHORTEST_SIDE}
 use Rattle.lease_journal.specs.declared.formats.Format.TheVariants.{Second}
 use Rattle.lease_journal.specs.declared.sides.Side.{Side}
 use Rattle.lease_journal.specs.Shut.{IsShut}
@@ -19,7 +20,7 @@ MayShut old new = (new ≡ old) ⊎ IsClosedSide new
 -- whether a gate that isn't open stands in front of a side; else none stands there, or an open one
 abbrev pub GateMeans : List ℕ → Bool → Type 0
 GateMeans octets true = IsShut octets
-GateMeans octets false = (length octets < 15) ⊎ (get_or octets 0 0 ≡ 1)
+GateMeans octets false = (length octets < SHORTEST_SIDE) ⊎ (get_or octets 0 0 ≡ 1)
 
 -- this side of what was a and b is shut, and has so many octets
 pub record IsPrepared (side : Side) (size : ℕ) (a b x y : List ℕ) : Type 0 where
@@ -28,7 +29,8 @@ pub record IsPrepared (side : Side) (size : ℕ) (a b x y : List ℕ) : Type 0 w
   pub unchanged : of_side (other side) x y ≡ of_side (other side) a b
 
 -- this side of what was a and b is open with these batches, and has so many octets
-pub record IsBegun (side : Side) (size generation : ℕ) (batches : List (List Record)) (a b x y : List ℕ) : Type 0 where
+pub record IsBegun (side : Side) (size generation : ℕ) (batches : List (List Record))
+    (a b x y : List ℕ) : Type 0 where
   pub opened : IsOpenSide Second (parity_of side) (of_side side x y) generation batches
   pub long : size ≡ length (of_side side x y)
   pub unchanged : of_side (other side) x y ≡ of_side (other side) a b

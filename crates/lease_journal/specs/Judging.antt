@@ -10,7 +10,8 @@ use Rattle.lease_journal.specs.Frames.{records_of}
 use Rattle.lease_journal.specs.Sides.{side_text, IsOpenSide, IsClosedSide, IsBadSide}
 
 -- the side is in the grammar, as is told, and its records lead to this state
-pub record IsStanding (parity : ℕ) (octets : List ℕ) (standing : Standing) (s : State) : Type 0 where
+pub record IsStanding (parity : ℕ) (octets : List ℕ) (standing : Standing)
+    (s : State) : Type 0 where
   pub batches : List (List Record)
   pub side : IsOpenSide standing.format parity octets standing.generation batches
   pub place : standing.end ≡ length (side_text standing.format standing.generation batches)

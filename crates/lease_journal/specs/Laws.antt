@@ -17,7 +17,8 @@ use Rattle.lease_journal.specs.Sides.{IsOpenSide}
 
 -- two sides stand for one list of records in one format
 abbrev pub OneReading : Type 0
-OneReading = (a b : List ℕ) (f g : Format) (r s : List Record) → Recovers a b f r → Recovers a b g s → (f ≡ g) × (r ≡ s)
+OneReading = (a b : List ℕ) (f g : Format) (r s : List Record) →
+    Recovers a b f r → Recovers a b g s → (f ≡ g) × (r ≡ s)
 
 -- and for one state
 abbrev pub OneState : Type 0
@@ -25,7 +26,8 @@ OneState = (a b : List ℕ) (s t : State) → StandsFor s a b → StandsFor t a 
 
 -- then they are neither blank nor damaged
 abbrev pub RecoveredAlone : Type 0
-RecoveredAlone = (a b : List ℕ) (f : Format) (r : List Record) → Recovers a b f r → ¬ (IsBlank a b) × ¬ (IsDamaged a b)
+RecoveredAlone = (a b : List ℕ) (f : Format) (r : List Record) →
+    Recovers a b f r → ¬ (IsBlank a b) × ¬ (IsDamaged a b)
 
 abbrev pub BlankIsWhole : Type 0
 BlankIsWhole = (a b : List ℕ) → IsBlank a b → ¬ (IsDamaged a b)
@@ -34,8 +36,8 @@ BlankIsWhole = (a b : List ℕ) → IsBlank a b → ¬ (IsDamaged a b)
 
 -- octet 5 of a side tells its format
 abbrev pub OctetsTellFormats : Type 0
-OctetsTellFormats = (f : Format) (parity : ℕ) (octets : List ℕ) (g : ℕ) (batches : List (List Record)) →
-    IsOpenSide f parity octets g batches → get_or octets 5 0 ≡ format_octet f
+OctetsTellFormats = (f : Format) (parity : ℕ) (octets : List ℕ) (g : ℕ)
+    (batches : List (List Record)) → IsOpenSide f parity octets g batches → get_or octets 5 0 ≡ format_octet f
 
 -- a side of the first format has a next generation
 abbrev pub FirstHasNext : Type 0
@@ -55,4 +57,5 @@ StandingIsReached = (s : State) (a b : List ℕ) → StandsFor s a b → IsReach
 
 -- so it has a snapshot, whose records fit and stand for the same
 abbrev pub StandingHasSnapshot : Type 0
-StandingHasSnapshot = (s : State) (a b : List ℕ) → StandsFor s a b → AllFit empty_state (snapshot s) × (state_of (snapshot s) ≡ s)
+StandingHasSnapshot = (s : State) (a b : List ℕ) → StandsFor s a b →
+    AllFit empty_state (snapshot s) × (state_of (snapshot s) ≡ s)

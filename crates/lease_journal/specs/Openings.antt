@@ -13,7 +13,8 @@ use Rattle.lease_journal.specs.Journals.{IsBlank, IsDamaged, StandsFor, IsStarti
 use Rattle.lease_journal.specs.Reads.{AreSeenStill}
 use Rattle.lease_journal.specs.Writes.{AreDurable}
 
--- After sides that held a and b are read and opened at m, in the middle too, a crash may leave x and y.
+-- After sides that held a and b are read and opened at m, in the middle too, a crash may leave x
+-- and y.
 abbrev pub MayOpen : ℕ → List ℕ → List ℕ → List ℕ → List ℕ → Type 0
 MayOpen m a b x y =
     ((s : State) × StandsFor s a b × StandsFor s x y)
@@ -59,13 +60,17 @@ HasStarted m side standing now Damaged = IsStarted m side standing now
 abbrev pub LeavesOld : {D : Type 0} → (D → ℕ) → (D → ℕ → List ℕ → Type 0) → (D → List ℕ → Type 0)
     → DiskPair D → DiskPair D → Type 0
 LeavesOld moment left_since may_leave old new =
-    PairLeavesOnly moment left_since may_leave old new (λ x y. may_leave old.a x × may_leave old.b y)
+    PairLeavesOnly moment left_since may_leave old new
+    (λ x y. may_leave old.a x × may_leave old.b y)
 
--- At some moment both sides are synced and hold what they held. From then on a crash leaves what the
--- opening may leave.
-pub record Opens {D : Type 0} (seen : D → List ℕ) (moment : D → ℕ) (left_since : D → ℕ → List ℕ → Type 0) (may_leave : D → List ℕ → Type 0) (m : ℕ) (old new : DiskPair D) : Type 0 where
+-- At some moment both sides are synced and hold what they held. From then on a crash leaves what
+-- the opening may leave.
+pub record Opens {D : Type 0} (seen : D → List ℕ) (moment : D → ℕ)
+    (left_since : D → ℕ → List ℕ → Type 0) (may_leave : D → List ℕ → Type 0) (m : ℕ)
+    (old new : DiskPair D) : Type 0 where
   pub synced : DiskPair D
   pub until : LeavesOld moment left_since may_leave old synced
   pub durable : AreDurable seen may_leave synced
   pub still : AreSeenStill seen old synced
-  pub from : PairLeavesOnly moment left_since may_leave synced new (MayOpen m (seen old.a) (seen old.b))
+  pub from : PairLeavesOnly moment left_since may_leave synced new
+      (MayOpen m (seen old.a) (seen old.b))

@@ -15,10 +15,12 @@ pub record StandsBy (side : Side) (standing : Standing) (s : State) (a b : List 
   pub gives_way : GivesWay (parity_of (other side)) (of_side (other side) a b) standing.generation
 
 -- this side counts, both are synced, and the journal stands for s
-pub record IsSettledBy {D : Type 0} (seen : D → List ℕ) (may_leave : D → List ℕ → Type 0) (side : Side) (standing : Standing) (pair : DiskPair D) (s : State) : Type 0 where
+pub record IsSettledBy {D : Type 0} (seen : D → List ℕ) (may_leave : D → List ℕ → Type 0)
+    (side : Side) (standing : Standing) (pair : DiskPair D) (s : State) : Type 0 where
   pub sides : StandsBy side standing s (seen pair.a) (seen pair.b)
   pub durable : AreDurable seen may_leave pair
 
 -- with so many octets written behind the closed gate, which is then open
 abbrev pub with_frame : Standing → ℕ → Standing
-with_frame standing n = record standing { end = standing.end + n; length = max standing.length (standing.end + 1 + n) }
+with_frame standing n =
+    record standing { end = standing.end + n; length = max standing.length (standing.end + 1 + n) }

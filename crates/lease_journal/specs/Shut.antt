@@ -10,7 +10,8 @@ pub record IsShut (octets : List ℕ) : Type 0 where
   pub some : 0 < length octets
   pub gate : get_or octets 0 0 ≢ 1
 
--- all that stands behind the gate of a side in the format that is written, up to the gate that ends its walk
+-- All that stands behind the gate of a side in the format that is written, up to the gate that ends
+-- its walk.
 abbrev pub hidden_text : ℕ → List (List Record) → List ℕ
 hidden_text generation batches = drop 1 (side_text Second generation batches)
 

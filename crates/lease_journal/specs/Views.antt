@@ -17,8 +17,10 @@ pub record JournalView (D : Type 0) : Type 0 where
   pub unread : Bool
 
 -- nothing is in doubt, and the journal stands for s
-abbrev pub IsSettled : {D : Type 0} → (D → List ℕ) → (D → List ℕ → Type 0) → JournalView D → State → Type 0
-IsSettled seen may_leave journal s = IsSettledBy seen may_leave journal.side journal.standing journal.pair s
+abbrev pub IsSettled : {D : Type 0} → (D → List ℕ) → (D → List ℕ → Type 0) → JournalView D
+    → State → Type 0
+IsSettled seen may_leave journal s =
+    IsSettledBy seen may_leave journal.side journal.standing journal.pair s
 
 -- the walk over a side ends within what a disk may hold
 pub record IsInReach (standing : Standing) : Type 0 where

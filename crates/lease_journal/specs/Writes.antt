@@ -24,11 +24,13 @@ disk_of A pair = pair.a
 disk_of B pair = pair.b
 
 -- a and b, of which a step changed this side alone
-pub record ChangesSide (side : Side) (step : List ℕ → List ℕ → Type 0) (a b x y : List ℕ) : Type 0 where
+pub record ChangesSide (side : Side) (step : List ℕ → List ℕ → Type 0)
+    (a b x y : List ℕ) : Type 0 where
   pub changed : step (of_side side a b) (of_side side x y)
   pub unchanged : of_side (other side) x y ≡ of_side (other side) a b
 
 -- no crash leaves anything but what reads give
-pub record AreDurable {D : Type 0} (seen : D → List ℕ) (may_leave : D → List ℕ → Type 0) (pair : DiskPair D) : Type 0 where
+pub record AreDurable {D : Type 0} (seen : D → List ℕ) (may_leave : D → List ℕ → Type 0)
+    (pair : DiskPair D) : Type 0 where
   pub a : Only (seen pair.a) (may_leave pair.a)
   pub b : Only (seen pair.b) (may_leave pair.b)

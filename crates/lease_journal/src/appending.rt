@@ -24,22 +24,18 @@ pub(crate) fn put_frame<D: LeaseDisk>(
     frame: &[u8],
 ) -> Result<(), Failed>
     requires { end < 2 ^ 62 }
-    ensures moments {
-        D.tells → (standing : Standing) (s : State) (batch : List Record)
-            → IsSettledBy D.seen D.may_leave side standing pair.old s
-            → standing.format ≡ Second → end ≡ standing.end → IsBatch batch → AllFit s batch
-            → frame.now ≡ frame_text batch ++ 0 ∷ []
-            → PairLeavesOnly D.moment D.left_since D.may_leave pair.old pair.new
-                (StandsForWithOrWithout s batch)
-    }
-    ensures settled {
-        D.tells → (standing : Standing) (s : State) (batch : List Record)
-            → IsSettledBy D.seen D.may_leave side standing pair.old s
-            → standing.format ≡ Second → end ≡ standing.end → IsBatch batch → AllFit s batch
-            → frame.now ≡ frame_text batch ++ 0 ∷ []
-            → OnOk result (IsSettledBy D.seen D.may_leave side
-                (with_frame standing (length frame.now)) pair.new (apply_all s batch))
-    }
+    ensures moments { D.tells → (standing : Standing) (s : State) (batch : List Record)
+        → IsSettledBy D.seen D.may_leave side standing pair.old s
+        → standing.format ≡ Second → end ≡ standing.end → IsBatch batch → AllFit s batch
+        → frame.now ≡ frame_text batch ++ 0 ∷ []
+        → PairLeavesOnly D.moment D.left_since D.may_leave pair.old pair.new
+        (StandsForWithOrWithout s batch) }
+    ensures settled { D.tells → (standing : Standing) (s : State) (batch : List Record)
+        → IsSettledBy D.seen D.may_leave side standing pair.old s
+        → standing.format ≡ Second → end ≡ standing.end → IsBatch batch → AllFit s batch
+        → frame.now ≡ frame_text batch ++ 0 ∷ []
+        → OnOk result (IsSettledBy D.seen D.may_leave side
+        (with_frame standing (length frame.now)) pair.new (apply_all s batch)) }
     ensures most { OnOk result (end + 1 + length frame.now ≤ 2 ^ 62) }
     ensures cause { PairHasCause D.faults pair.old pair.new (IsErr result) }
 {

@@ -17,55 +17,43 @@ use pcp_base::Failed;
 
 /// Shuts an open side beside the one that counts, and cuts it to its gate.
 fn retire_side<D: LeaseDisk>(pair: &mut DiskPair<D>, side: Side) -> Result<(), Failed>
-    ensures moments {
-        D.tells → (standing : Standing) (s : State)
-            → IsSettledBy D.seen D.may_leave (other side) standing pair.old s
-            → get_or (of_side side (D.seen pair.old.a) (D.seen pair.old.b)) 0 0 ≡ 1
-            → PairLeavesOnly D.moment D.left_since D.may_leave pair.old pair.new (StandsFor s)
-    }
-    ensures settled {
-        D.tells → (standing : Standing) (s : State)
-            → IsSettledBy D.seen D.may_leave (other side) standing pair.old s
-            → OnOk result (IsSettledBy D.seen D.may_leave (other side) standing pair.new s)
-    }
-    ensures cut {
-        D.tells → OnOk result (of_side side (D.seen pair.new.a) (D.seen pair.new.b) ≡ 0 ∷ [])
-    }
+    ensures moments { D.tells → (standing : Standing) (s : State)
+        → IsSettledBy D.seen D.may_leave (other side) standing pair.old s
+        → get_or (of_side side (D.seen pair.old.a) (D.seen pair.old.b)) 0 0 ≡ 1
+        → PairLeavesOnly D.moment D.left_since D.may_leave pair.old pair.new (StandsFor s) }
+    ensures settled { D.tells → (standing : Standing) (s : State)
+        → IsSettledBy D.seen D.may_leave (other side) standing pair.old s
+        → OnOk result (IsSettledBy D.seen D.may_leave (other side) standing pair.new s) }
+    ensures cut { D.tells → OnOk result (of_side side (D.seen pair.new.a) (D.seen pair.new.b) ≡ 0 ∷ []) }
     ensures cause { PairHasCause D.faults pair.old pair.new (IsErr result) }
 {
     write_side(pair, side, 0, &[0])?;
     cut_side(pair, side, 1)
 }
 
-/// Writes the other side, behind its gate this text, and opens it; then shuts the side that counted. Says
-/// how many octets the other side has then.
+/// Writes the other side, behind its gate this text, and opens it; then shuts the side that counted.
+/// Says how many octets the other side has then.
 pub(crate) fn take_over<D: LeaseDisk>(
     pair: &mut DiskPair<D>,
     side: Side,
     text: &[u8],
 ) -> Result<u64, Failed>
-    ensures moments {
-        D.tells → (standing : Standing) (s : State) (generation : ℕ)
-            → IsSettledBy D.seen D.may_leave side standing pair.old s
-            → TakesOver side standing.generation generation s text.now
-            → PairLeavesOnly D.moment D.left_since D.may_leave pair.old pair.new (StandsFor s)
-    }
-    ensures settled {
-        D.tells → (standing : Standing) (s : State) (generation : ℕ)
-            → IsSettledBy D.seen D.may_leave side standing pair.old s
-            → TakesOver side standing.generation generation s text.now
-            → IfOk result
-                (λ size. IsSettledBy D.seen D.may_leave (other side)
-                    (record {
-                        format = Second;
-                        generation = generation;
-                        end = length text.now;
-                        length = size
-                    }) pair.new s)
-    }
-    ensures cut {
-        D.tells → OnOk result (of_side side (D.seen pair.new.a) (D.seen pair.new.b) ≡ 0 ∷ [])
-    }
+    ensures moments { D.tells → (standing : Standing) (s : State) (generation : ℕ)
+        → IsSettledBy D.seen D.may_leave side standing pair.old s
+        → TakesOver side standing.generation generation s text.now
+        → PairLeavesOnly D.moment D.left_since D.may_leave pair.old pair.new (StandsFor s) }
+    ensures settled { D.tells → (standing : Standing) (s : State) (generation : ℕ)
+        → IsSettledBy D.seen D.may_leave side standing pair.old s
+        → TakesOver side standing.generation generation s text.now
+        → IfOk result
+        (λ size. IsSettledBy D.seen D.may_leave (other side)
+        (record {
+          format = Second;
+          generation = generation;
+          end = length text.now;
+          length = size;
+        }) pair.new s) }
+    ensures cut { D.tells → OnOk result (of_side side (D.seen pair.new.a) (D.seen pair.new.b) ≡ 0 ∷ []) }
     ensures most { IfOk result (λ size. size ≤ 2 ^ 62) }
     ensures within { OnOk result (length text.now < 2 ^ 62) }
     ensures cause { PairHasCause D.faults pair.old pair.new (IsErr result) }

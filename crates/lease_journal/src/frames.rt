@@ -3,6 +3,7 @@ ghost use Rattle.std.specs.Prelude.{◌≡◌, ◌<◌, ◌≤◌, [], ◌∷◌
 ghost use Rattle.std.specs.List.{AllByRecursion};
 ghost use Rattle.pcp_base.specs.Records.{IsWellFormedRecord};
 ghost use Rattle.lease_records.specs.Values.{IsValue};
+ghost use Rattle.lease_journal.specs.declared.layout.TheConstants.{MOST_RECORDS};
 ghost use Rattle.lease_journal.specs.declared.formats.Format.TheVariants.{Second};
 ghost use Rattle.lease_journal.specs.Frames.{IsBatch, frame_text, records_text};
 ghost use Rattle.lease_journal.specs.Shut.{IsHidden};
@@ -10,6 +11,7 @@ ghost use Rattle.lease_journal.specs.Sides.{head_text};
 
 use crate::formats::Format;
 use crate::heads::head_of;
+use crate::layout::MOST_RECORDS;
 use lease_records::write_record;
 use pcp_base::{Memory, Record};
 use std::alloc::Global;
@@ -27,14 +29,14 @@ fn records_of(alloc: Global, batch: &[Record]) -> Result<Vec<u8>, Memory>
     Ok(text)
 }
 
-/// Appends a frame of 1 to 16 well formed records, all but its gate.
+/// Appends a frame of 1 to [`MOST_RECORDS`] well formed records, all but its gate.
 pub(crate) fn put_frame_text(
     alloc: Global,
     out: &mut Vec<u8>,
     batch: &[Record],
 ) -> Result<(), Memory>
     requires some { 0 < length batch.now }
-    requires few { length batch.now ≤ 16 }
+    requires few { length batch.now ≤ MOST_RECORDS }
     requires formed { AllByRecursion IsWellFormedRecord batch.now }
     ensures text { OnOk result (out.new.items ≡ out.old.items ++ frame_text batch.now) }
     ensures batch { OnOk result (IsBatch batch.now) }
@@ -45,10 +47,11 @@ pub(crate) fn put_frame_text(
     Ok(())
 }
 
-/// A frame of 1 to 16 well formed records behind its gate, and the closed gate of the next.
+/// A frame of 1 to [`MOST_RECORDS`] well formed records behind its gate, and the closed gate of the
+/// next.
 pub(crate) fn frame_of(alloc: Global, batch: &[Record]) -> Result<Vec<u8>, Memory>
     requires some { 0 < length batch.now }
-    requires few { length batch.now ≤ 16 }
+    requires few { length batch.now ≤ MOST_RECORDS }
     requires formed { AllByRecursion IsWellFormedRecord batch.now }
     ensures text { IfOk result (λ frame. frame.items ≡ frame_text batch.now ++ 0 ∷ []) }
     ensures batch { OnOk result (IsBatch batch.now) }
@@ -67,10 +70,10 @@ fn head_behind_gate(alloc: Global, generation: u64) -> Result<Vec<u8>, Memory>
     Ok(head[1..].to_vec(alloc)?)
 }
 
-/// Appends an open frame of 1 to 16 well formed records.
+/// Appends an open frame of 1 to [`MOST_RECORDS`] well formed records.
 fn put_open_frame(alloc: Global, out: &mut Vec<u8>, batch: &[Record]) -> Result<(), Memory>
     requires some { 0 < length batch.now }
-    requires few { length batch.now ≤ 16 }
+    requires few { length batch.now ≤ MOST_RECORDS }
     requires formed { AllByRecursion IsWellFormedRecord batch.now }
     ensures text { OnOk result (out.new.items ≡ out.old.items ++ 1 ∷ frame_text batch.now) }
     ensures batch { OnOk result (IsBatch batch.now) }
@@ -79,8 +82,9 @@ fn put_open_frame(alloc: Global, out: &mut Vec<u8>, batch: &[Record]) -> Result<
     put_frame_text(alloc, out, batch)
 }
 
-/// All that stands behind the gate of a side in the format that is written: the rest of its head, open
-/// frames of these well formed records, at most 16 in each, and the closed gate that ends its walk.
+/// All that stands behind the gate of a side in the format that is written: the rest of its head,
+/// open frames of these well formed records, [`MOST_RECORDS`] in each but the last, and the closed
+/// gate that ends its walk.
 pub(crate) fn hidden_of(
     alloc: Global,
     generation: u64,
@@ -91,7 +95,7 @@ pub(crate) fn hidden_of(
     ensures { IfOk result (λ text. IsHidden generation records.now text.items) }
 {
     let mut text = head_behind_gate(alloc, generation)?;
-    for batch in records.chunks(16) {
+    for batch in records.chunks(MOST_RECORDS) {
         put_open_frame(alloc, &mut text, batch)?;
     }
     text.push(0)?;

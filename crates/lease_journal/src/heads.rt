@@ -7,10 +7,11 @@ ghost use Rattle.lease_journal.specs.Sides.{head_text};
 ghost use Rattle.lease_journal.specs.Writes.{parity_of};
 
 use crate::formats::Format;
+use crate::layout::SIDE_HEAD;
 use crate::sides::Side;
 
 /// The open gate, the letters `PCPJ`, the format and the generation.
-pub(crate) fn head_of(format: Format, generation: u64) -> [u8; 14]
+pub(crate) fn head_of(format: Format, generation: u64) -> [u8; SIDE_HEAD]
     ensures { result ≡ head_text format generation }
 {
     let [a, b, c, d, e, f, g, h] = generation.to_be_bytes();
@@ -42,20 +43,18 @@ fn has_next(format: Format, generation: u64) -> bool
     }
 }
 
-fn is_same(a: &[u8; 14], b: &[u8; 14]) -> bool
+fn is_same(a: &[u8; SIDE_HEAD], b: &[u8; SIDE_HEAD]) -> bool
     ensures { IsTrue result ↔ (a.now ≡ b.now) }
 {
     a == b
 }
 
 /// The format and the generation that an open side tells, if a side may have them.
-pub(crate) fn read_head(side: Side, head: &[u8; 14]) -> Option<(Format, u64)>
+pub(crate) fn read_head(side: Side, head: &[u8; SIDE_HEAD]) -> Option<(Format, u64)>
     ensures found { IfSome result (λ told. IsHead (parity_of side) head.now told.0 told.1) }
-    ensures none {
-        IfNone result
-            ((format : Format) (generation : ℕ)
-                → ¬ (IsHead (parity_of side) head.now format generation))
-    }
+    ensures none { IfNone result
+        ((format : Format) (generation : ℕ)
+        → ¬ (IsHead (parity_of side) head.now format generation)) }
 {
     let [.., f, a, b, c, d, e, x, y, z] = *head;
     let format = Format::of(f)?;

@@ -7,6 +7,7 @@ use crate::errors::{Found, JournalFault, Unopened};
 use crate::formats::Format;
 use crate::frames::{frame_of, hidden_of};
 use crate::judging::{Verdict, judge};
+use crate::layout::MOST_RECORDS;
 use crate::openings::open;
 use crate::sides::Side;
 use crate::walks::Standing;
@@ -31,15 +32,13 @@ impl<D> Model for Journal<D> {
 
     ghost Value = { JournalView D };
 
-    ghost view = {
-        λ j. record {
-            pair = j.pair;
-            side = j.side;
-            standing = j.standing;
-            first_length = j.first_length;
-            unread = j.unread
-        }
-    };
+    ghost view = { λ j. record {
+      pair = j.pair;
+      side = j.side;
+      standing = j.standing;
+      first_length = j.first_length;
+      unread = j.unread;
+    } };
 
     ghost invariant = { λ j. IsInReach j.standing };
 }
@@ -54,6 +53,7 @@ impl<D: LeaseDisk> Journal<D> {
     ghost use Rattle.lease_disk.specs.Pairs.{PairHasCause, PairLeavesOnly};
     ghost use Rattle.lease_journal.specs.declared.errors.JournalFault.TheVariants.{Disk, Memory};
     ghost use Rattle.lease_journal.specs.declared.formats.Format.TheVariants.{Second};
+    ghost use Rattle.lease_journal.specs.declared.layout.TheConstants.{MOST_RECORDS};
     ghost use Rattle.lease_journal.specs.Formats.{format_octet};
     ghost use Rattle.lease_journal.specs.Journals.{StandsFor, StandsForWithOrWithout};
     ghost use Rattle.lease_journal.specs.Openings.{FoundMeans, HasStarted, IsClearedUnless, LeavesOld, Opens, ViewMeans};
@@ -61,33 +61,25 @@ impl<D: LeaseDisk> Journal<D> {
     ghost use Rattle.lease_journal.specs.Views.{IsSettled};
     ghost use Rattle.lease_journal.specs.Writes.{of_side, other};
 
-    /// Appends 1 to 16 well formed records that fit, in one frame, to a journal of format 2. At each
-    /// moment a crash leaves all of them or none; from `Ok` on all. After `Memory` nothing has
-    /// changed; after `Disk` the journal is to be read `again`.
+    /// Appends 1 to [`MOST_RECORDS`] well formed records that fit, in one frame, to a journal of
+    /// format 2. At each moment a crash leaves all of them or none; from `Ok` on all. After `Memory`
+    /// nothing has changed; after `Disk` the journal is to be read `again`.
     pub fn append(&mut self, alloc: Global, batch: &[Record]) -> Result<(), JournalFault>
         requires some { 1 ≤ length batch.now }
-        requires few { length batch.now ≤ 16 }
+        requires few { length batch.now ≤ MOST_RECORDS }
         requires formed { AllByRecursion IsWellFormedRecord batch.now }
         requires read { self.old.unread ≡ false }
         requires second { self.old.standing.format ≡ Second }
-        requires fit {
-            D.tells → (s : State) → IsSettled D.seen D.may_leave self.old s → AllFit s batch.now
-        }
-        ensures moments {
-            D.tells → (s : State) → IsSettled D.seen D.may_leave self.old s
-                → PairLeavesOnly D.moment D.left_since D.may_leave self.old.pair self.new.pair
-                    (StandsForWithOrWithout s batch.now)
-        }
-        ensures settled {
-            D.tells → (s : State) → IsSettled D.seen D.may_leave self.old s
-                → OnOk result (IsSettled D.seen D.may_leave self.new (apply_all s batch.now))
-        }
+        requires fit { D.tells → (s : State) → IsSettled D.seen D.may_leave self.old s → AllFit s batch.now }
+        ensures moments { D.tells → (s : State) → IsSettled D.seen D.may_leave self.old s
+            → PairLeavesOnly D.moment D.left_since D.may_leave self.old.pair self.new.pair
+            (StandsForWithOrWithout s batch.now) }
+        ensures settled { D.tells → (s : State) → IsSettled D.seen D.may_leave self.old s
+            → OnOk result (IsSettled D.seen D.may_leave self.new (apply_all s batch.now)) }
         ensures read_now { OnOk result (self.new.unread ≡ false) }
         ensures side { OnOk result (self.new.side ≡ self.old.side) }
         ensures format { OnOk result (self.new.standing.format ≡ self.old.standing.format) }
-        ensures generation {
-            OnOk result (self.new.standing.generation ≡ self.old.standing.generation)
-        }
+        ensures generation { OnOk result (self.new.standing.generation ≡ self.old.standing.generation) }
         ensures first_length { OnOk result (self.new.first_length ≡ self.old.first_length) }
         ensures memory { result ≡ Err Memory → self.new ≡ self.old }
         ensures doubt { result ≡ Err Disk → self.new.unread ≡ true }
@@ -101,47 +93,33 @@ impl<D: LeaseDisk> Journal<D> {
         Ok(())
     }
 
-    /// Opens the journal of a pair: syncs both sides, reads them, and makes a start at `m` where they
-    /// are blank or damaged. After `Ok` the replay stands for the journal; after a fault it is to be
-    /// cleared, and the pair is handed back.
+    /// Opens the journal of a pair: syncs both sides, reads them, and makes a start at `m` where
+    /// they are blank or damaged. After `Ok` the replay stands for the journal; after a fault it is
+    /// to be cleared, and the pair is handed back.
     pub fn recover<R: Replay>(
         alloc: Global,
         pair: DiskPair<D>,
         m: Moment,
         replay: &mut R,
     ) -> Result<(Journal<D>, Found), Unopened<D>>
-        ensures found {
-            D.tells → IfOk result
-                (λ opened. FoundMeans m (D.seen pair.a) (D.seen pair.b) (R.state replay.new)
-                    opened.1)
-        }
-        ensures started {
-            IfOk result
-                (λ opened. HasStarted m opened.0.side opened.0.standing (R.state replay.new)
-                    opened.1)
-        }
-        ensures settled {
-            D.tells → IfOk result
-                (λ opened. IsSettled D.seen D.may_leave opened.0 (R.state replay.new))
-        }
-        ensures moments {
-            D.tells → IfOk result
-                (λ opened. Opens D.seen D.moment D.left_since D.may_leave m pair opened.0.pair)
-        }
-        ensures refused_moments {
-            D.tells → IfErr result
-                (λ refused. Opens D.seen D.moment D.left_since D.may_leave m pair refused.pair
-                    ⊎ LeavesOld D.moment D.left_since D.may_leave pair refused.pair)
-        }
+        ensures found { D.tells → IfOk result
+            (λ opened. FoundMeans m (D.seen pair.a) (D.seen pair.b) (R.state replay.new)
+            opened.1) }
+        ensures started { IfOk result
+            (λ opened. HasStarted m opened.0.side opened.0.standing (R.state replay.new)
+            opened.1) }
+        ensures settled { D.tells → IfOk result
+            (λ opened. IsSettled D.seen D.may_leave opened.0 (R.state replay.new)) }
+        ensures moments { D.tells → IfOk result
+            (λ opened. Opens D.seen D.moment D.left_since D.may_leave m pair opened.0.pair) }
+        ensures refused_moments { D.tells → IfErr result
+            (λ refused. Opens D.seen D.moment D.left_since D.may_leave m pair refused.pair
+            ⊎ LeavesOld D.moment D.left_since D.may_leave pair refused.pair) }
         ensures ready { IfOk result (λ opened. opened.0.unread ≡ false) }
-        ensures first_length {
-            IfOk result (λ opened. opened.0.first_length ≡ opened.0.standing.length)
-        }
+        ensures first_length { IfOk result (λ opened. opened.0.first_length ≡ opened.0.standing.length) }
         ensures later { IfOk result (λ opened. PairHasCause D.faults pair opened.0.pair ⊥) }
-        ensures cause {
-            IfErr result
-                (λ refused. PairHasCause D.faults pair refused.pair (refused.fault ≡ Disk))
-        }
+        ensures cause { IfErr result
+            (λ refused. PairHasCause D.faults pair refused.pair (refused.fault ≡ Disk)) }
     {
         let mut pair = pair;
         match open(alloc, &mut pair, m, replay) {
@@ -166,26 +144,16 @@ impl<D: LeaseDisk> Journal<D> {
         m: Moment,
         replay: &mut R,
     ) -> Result<Found, JournalFault>
-        ensures found {
-            D.tells → IfOk result
-                (FoundMeans m (D.seen self.old.pair.a) (D.seen self.old.pair.b)
-                    (R.state replay.new))
-        }
-        ensures started {
-            IfOk result (HasStarted m self.new.side self.new.standing (R.state replay.new))
-        }
-        ensures settled {
-            D.tells → OnOk result (IsSettled D.seen D.may_leave self.new (R.state replay.new))
-        }
-        ensures opens {
-            D.tells → OnOk result
-                (Opens D.seen D.moment D.left_since D.may_leave m self.old.pair self.new.pair)
-        }
-        ensures moments {
-            D.tells
-                → Opens D.seen D.moment D.left_since D.may_leave m self.old.pair self.new.pair
-                    ⊎ LeavesOld D.moment D.left_since D.may_leave self.old.pair self.new.pair
-        }
+        ensures found { D.tells → IfOk result
+            (FoundMeans m (D.seen self.old.pair.a) (D.seen self.old.pair.b)
+            (R.state replay.new)) }
+        ensures started { IfOk result (HasStarted m self.new.side self.new.standing (R.state replay.new)) }
+        ensures settled { D.tells → OnOk result (IsSettled D.seen D.may_leave self.new (R.state replay.new)) }
+        ensures opens { D.tells → OnOk result
+            (Opens D.seen D.moment D.left_since D.may_leave m self.old.pair self.new.pair) }
+        ensures moments { D.tells
+            → Opens D.seen D.moment D.left_since D.may_leave m self.old.pair self.new.pair
+            ⊎ LeavesOld D.moment D.left_since D.may_leave self.old.pair self.new.pair }
         ensures ready { OnOk result (self.new.unread ≡ false) }
         ensures first_length { OnOk result (self.new.first_length ≡ self.new.standing.length) }
         ensures doubt { IsErr result → self.new.unread ≡ true }
@@ -207,10 +175,8 @@ impl<D: LeaseDisk> Journal<D> {
         pair: &mut DiskPair<D>,
         replay: &mut R,
     ) -> Result<Found, JournalFault>
-        ensures found {
-            D.tells → IfOk result
-                (ViewMeans (D.seen pair.old.a) (D.seen pair.old.b) (R.state replay.new))
-        }
+        ensures found { D.tells → IfOk result
+            (ViewMeans (D.seen pair.old.a) (D.seen pair.old.b) (R.state replay.new)) }
         ensures cleared { IfOk result (IsClearedUnless (R.state replay.new)) }
         ensures read { ArePairRead D.moment D.left_since D.may_leave pair.old pair.new }
         ensures seen { D.tells → AreSeenStill D.seen pair.old pair.new }
@@ -237,33 +203,23 @@ impl<D: LeaseDisk> Journal<D> {
         requires formed { AllByRecursion IsWellFormedRecord snapshot.now }
         requires read { self.old.unread ≡ false }
         requires fit { D.tells → AllFit empty_state snapshot.now }
-        requires same {
-            D.tells → (s : State) → IsSettled D.seen D.may_leave self.old s
-                → state_of snapshot.now ≡ s
-        }
+        requires same { D.tells → (s : State) → IsSettled D.seen D.may_leave self.old s
+            → state_of snapshot.now ≡ s }
         requires next { self.old.standing.generation < 2 ^ 64 - 1 }
-        ensures moments {
-            D.tells → (s : State) → IsSettled D.seen D.may_leave self.old s
-                → PairLeavesOnly D.moment D.left_since D.may_leave self.old.pair self.new.pair
-                    (StandsFor s)
-        }
-        ensures settled {
-            D.tells → (s : State) → IsSettled D.seen D.may_leave self.old s
-                → OnOk result (IsSettled D.seen D.may_leave self.new s)
-        }
+        ensures moments { D.tells → (s : State) → IsSettled D.seen D.may_leave self.old s
+            → PairLeavesOnly D.moment D.left_since D.may_leave self.old.pair self.new.pair
+            (StandsFor s) }
+        ensures settled { D.tells → (s : State) → IsSettled D.seen D.may_leave self.old s
+            → OnOk result (IsSettled D.seen D.may_leave self.new s) }
         ensures ready { OnOk result (self.new.unread ≡ false) }
         ensures side { OnOk result (self.new.side ≡ other self.old.side) }
         ensures format { OnOk result (self.new.standing.format ≡ Second) }
-        ensures generation {
-            OnOk result (self.new.standing.generation ≡ self.old.standing.generation + 1)
-        }
+        ensures generation { OnOk result (self.new.standing.generation ≡ self.old.standing.generation + 1) }
         ensures first_length { OnOk result (self.new.first_length ≡ self.new.standing.length) }
-        ensures cut {
-            D.tells → (s : State) → IsSettled D.seen D.may_leave self.old s
-                → OnOk result
-                    (of_side self.old.side (D.seen self.new.pair.a) (D.seen self.new.pair.b)
-                        ≡ 0 ∷ [])
-        }
+        ensures cut { D.tells → (s : State) → IsSettled D.seen D.may_leave self.old s
+            → OnOk result
+            (of_side self.old.side (D.seen self.new.pair.a) (D.seen self.new.pair.b)
+            ≡ 0 ∷ []) }
         ensures memory { result ≡ Err Memory → self.new ≡ self.old }
         ensures doubt { result ≡ Err Disk → self.new.unread ≡ true }
         ensures cause { PairHasCause D.faults self.old.pair self.new.pair (result ≡ Err Disk) }

@@ -40,10 +40,8 @@ pub(crate) fn judge<D: LeaseDisk, R: Replay>(
     pair: &mut DiskPair<D>,
     replay: &mut R,
 ) -> Result<Verdict, JournalFault>
-    ensures found {
-        D.tells → IfOk result
-            (AreFound (D.seen pair.old.a) (D.seen pair.old.b) (R.state replay.new))
-    }
+    ensures found { D.tells → IfOk result
+        (AreFound (D.seen pair.old.a) (D.seen pair.old.b) (R.state replay.new)) }
     ensures reach { IfOk result IsFoundInReach }
     ensures read { ArePairRead D.moment D.left_since D.may_leave pair.old pair.new }
     ensures seen { D.tells → AreSeenStill D.seen pair.old pair.new }

@@ -1,8 +1,8 @@
 //! What two sides stand for. A proof that needs a law calls its function.
 ghost use Rattle.lease_journal.specs.Laws.{OneReading, OneState, RecoveredAlone, BlankIsWhole, OctetsTellFormats, FirstHasNext, FirstStandsBare, StandingIsReached, StandingHasSnapshot};
 
-/// Two sides stand for one list of records in one format at most, and then they are neither blank nor
-/// damaged. Nor are blank ones damaged.
+/// Two sides stand for one list of records in one format at most, and then they are neither blank
+/// nor damaged. Nor are blank ones damaged.
 pub fn one_journal()
     ensures one { OneReading }
     ensures state { OneState }
@@ -10,8 +10,8 @@ pub fn one_journal()
     ensures apart { BlankIsWhole }
 {}
 
-/// Octet 5 of a side tells its format. One of the first format has a next generation, and stands for a
-/// state with no ends and no address.
+/// Octet 5 of a side tells its format. One of the first format has a next generation, and stands for
+/// a state with no ends and no address.
 pub fn formats_differ()
     ensures octet { OctetsTellFormats }
     ensures next { FirstHasNext }

@@ -1,5 +1,5 @@
-//! A journal of records in gated frames on two sides. A crash at any moment leaves sides that stand for
-//! the records before a call, or for those with all that the call adds.
+//! A journal of records in gated frames on two sides. A crash at any moment leaves sides that stand
+//! for the records before a call, or for those with all that the call adds.
 #![tactic(auto)]
 
 mod appending;
@@ -11,6 +11,7 @@ mod heads;
 mod journals;
 mod judging;
 mod laws;
+mod layout;
 mod openings;
 mod sides;
 #[cfg(test)]
@@ -21,3 +22,4 @@ mod writes;
 pub use errors::{Found, JournalFault, Unopened};
 pub use journals::Journal;
 pub use laws::{formats_differ, one_journal, snapshots_take_over};
+pub use layout::MOST_RECORDS;

@@ -62,15 +62,11 @@ fn front_of<D: LeaseDisk>(disk: &mut D) -> Result<Front, Failed>
 
 /// What stands in front of a side.
 fn front_of_side<D: LeaseDisk>(pair: &mut DiskPair<D>, side: Side) -> Result<Front, Failed>
-    ensures size {
-        D.tells → IfOk result
-            (λ front. front.size ≡ length (of_side side (D.seen pair.old.a) (D.seen pair.old.b)))
-    }
-    ensures gate {
-        D.tells → IfOk result
-            (λ front. GateMeans (of_side side (D.seen pair.old.a) (D.seen pair.old.b))
-                front.is_shut)
-    }
+    ensures size { D.tells → IfOk result
+        (λ front. front.size ≡ length (of_side side (D.seen pair.old.a) (D.seen pair.old.b))) }
+    ensures gate { D.tells → IfOk result
+        (λ front. GateMeans (of_side side (D.seen pair.old.a) (D.seen pair.old.b))
+        front.is_shut) }
     ensures most { IfOk result (λ front. front.size ≤ 2 ^ 62) }
     ensures read { ArePairRead D.moment D.left_since D.may_leave pair.old pair.new }
     ensures seen { D.tells → AreSeenStill D.seen pair.old pair.new }
@@ -84,20 +80,14 @@ fn front_of_side<D: LeaseDisk>(pair: &mut DiskPair<D>, side: Side) -> Result<Fro
 
 /// Shuts a side that has no octets or an open gate, and says how many octets it has then.
 fn prepare<D: LeaseDisk>(pair: &mut DiskPair<D>, side: Side) -> Result<u64, Failed>
-    ensures moments {
-        D.tells → AreDurable D.seen D.may_leave pair.old
-            → PairLeavesOnly D.moment D.left_since D.may_leave pair.old pair.new
-                (ChangesSide side MayShut (D.seen pair.old.a) (D.seen pair.old.b))
-    }
-    ensures shut {
-        D.tells → IfOk result
-            (λ size. IsPrepared side size (D.seen pair.old.a) (D.seen pair.old.b)
-                (D.seen pair.new.a) (D.seen pair.new.b))
-    }
-    ensures durable {
-        D.tells → AreDurable D.seen D.may_leave pair.old
-            → OnOk result (AreDurable D.seen D.may_leave pair.new)
-    }
+    ensures moments { D.tells → AreDurable D.seen D.may_leave pair.old
+        → PairLeavesOnly D.moment D.left_since D.may_leave pair.old pair.new
+        (ChangesSide side MayShut (D.seen pair.old.a) (D.seen pair.old.b)) }
+    ensures shut { D.tells → IfOk result
+        (λ size. IsPrepared side size (D.seen pair.old.a) (D.seen pair.old.b)
+        (D.seen pair.new.a) (D.seen pair.new.b)) }
+    ensures durable { D.tells → AreDurable D.seen D.may_leave pair.old
+        → OnOk result (AreDurable D.seen D.may_leave pair.new) }
     ensures most { IfOk result (λ size. size ≤ 2 ^ 62) }
     ensures cause { PairHasCause D.faults pair.old pair.new (IsErr result) }
 {
@@ -109,35 +99,29 @@ fn prepare<D: LeaseDisk>(pair: &mut DiskPair<D>, side: Side) -> Result<u64, Fail
     Ok(front.size.max(1))
 }
 
-/// Writes all that stands behind the gate of a side that gives way, and opens it. Says how many octets
-/// the side has then.
+/// Writes all that stands behind the gate of a side that gives way, and opens it. Says how many
+/// octets the side has then.
 pub(crate) fn begin_side<D: LeaseDisk>(
     pair: &mut DiskPair<D>,
     side: Side,
     text: &[u8],
 ) -> Result<u64, Failed>
-    ensures moments {
-        D.tells → (generation : ℕ) (batches : List (List Record))
-            → AreDurable D.seen D.may_leave pair.old
-            → AreBatches Second (parity_of side) generation batches
-            → text.now ≡ hidden_text generation batches ++ 0 ∷ []
-            → PairLeavesOnly D.moment D.left_since D.may_leave pair.old pair.new
-                (ChangesSide side (MayBegin (parity_of side) generation batches)
-                    (D.seen pair.old.a) (D.seen pair.old.b))
-    }
-    ensures begun {
-        D.tells → (generation : ℕ) (batches : List (List Record))
-            → AreDurable D.seen D.may_leave pair.old
-            → AreBatches Second (parity_of side) generation batches
-            → text.now ≡ hidden_text generation batches ++ 0 ∷ []
-            → IfOk result
-                (λ size. IsBegun side size generation batches (D.seen pair.old.a)
-                    (D.seen pair.old.b) (D.seen pair.new.a) (D.seen pair.new.b))
-    }
-    ensures durable {
-        D.tells → AreDurable D.seen D.may_leave pair.old
-            → OnOk result (AreDurable D.seen D.may_leave pair.new)
-    }
+    ensures moments { D.tells → (generation : ℕ) (batches : List (List Record))
+        → AreDurable D.seen D.may_leave pair.old
+        → AreBatches Second (parity_of side) generation batches
+        → text.now ≡ hidden_text generation batches ++ 0 ∷ []
+        → PairLeavesOnly D.moment D.left_since D.may_leave pair.old pair.new
+        (ChangesSide side (MayBegin (parity_of side) generation batches)
+        (D.seen pair.old.a) (D.seen pair.old.b)) }
+    ensures begun { D.tells → (generation : ℕ) (batches : List (List Record))
+        → AreDurable D.seen D.may_leave pair.old
+        → AreBatches Second (parity_of side) generation batches
+        → text.now ≡ hidden_text generation batches ++ 0 ∷ []
+        → IfOk result
+        (λ size. IsBegun side size generation batches (D.seen pair.old.a)
+        (D.seen pair.old.b) (D.seen pair.new.a) (D.seen pair.new.b)) }
+    ensures durable { D.tells → AreDurable D.seen D.may_leave pair.old
+        → OnOk result (AreDurable D.seen D.may_leave pair.new) }
     ensures most { IfOk result (λ size. size ≤ 2 ^ 62) }
     ensures within { OnOk result (length text.now < 2 ^ 62) }
     ensures cause { PairHasCause D.faults pair.old pair.new (IsErr result) }
@@ -157,17 +141,13 @@ fn start<D: LeaseDisk, R: Replay>(
 ) -> Result<Standing, JournalFault>
     ensures replayed { OnOk result (R.state replay.new ≡ fresh_state m) }
     ensures written { IfOk result IsNew }
-    ensures moments {
-        D.tells → AreDurable D.seen D.may_leave pair.old
-            → IsBlank (D.seen pair.old.a) (D.seen pair.old.b)
-            → PairLeavesOnly D.moment D.left_since D.may_leave pair.old pair.new (IsStarting m)
-    }
-    ensures settled {
-        D.tells → AreDurable D.seen D.may_leave pair.old
-            → IsBlank (D.seen pair.old.a) (D.seen pair.old.b)
-            → IfOk result
-                (λ standing. IsSettledBy D.seen D.may_leave A standing pair.new (fresh_state m))
-    }
+    ensures moments { D.tells → AreDurable D.seen D.may_leave pair.old
+        → IsBlank (D.seen pair.old.a) (D.seen pair.old.b)
+        → PairLeavesOnly D.moment D.left_since D.may_leave pair.old pair.new (IsStarting m) }
+    ensures settled { D.tells → AreDurable D.seen D.may_leave pair.old
+        → IsBlank (D.seen pair.old.a) (D.seen pair.old.b)
+        → IfOk result
+        (λ standing. IsSettledBy D.seen D.may_leave A standing pair.new (fresh_state m)) }
     ensures reach { IfOk result IsInReach }
     ensures cause { PairHasCause D.faults pair.old pair.new (result ≡ Err Disk) }
 {
@@ -188,28 +168,20 @@ fn start<D: LeaseDisk, R: Replay>(
 }
 
 /// Shuts a side that was judged to be open.
-fn shut_open<D: LeaseDisk>(
-    pair: &mut DiskPair<D>,
-    side: Side,
-    judged: Judged,
-) -> Result<(), Failed>
-    ensures moments {
-        D.tells → AreDurable D.seen D.may_leave pair.old
-            → IsJudged (parity_of side) (of_side side (D.seen pair.old.a) (D.seen pair.old.b)) judged
-            → PairLeavesOnly D.moment D.left_since D.may_leave pair.old pair.new
-                (ChangesSide side MayShut (D.seen pair.old.a) (D.seen pair.old.b))
-    }
-    ensures closed {
-        D.tells
-            → IsJudged (parity_of side) (of_side side (D.seen pair.old.a) (D.seen pair.old.b)) judged
-            → OnOk result
-                (ChangesSide side (λ _ octets. IsClosedSide octets) (D.seen pair.old.a)
-                    (D.seen pair.old.b) (D.seen pair.new.a) (D.seen pair.new.b))
-    }
-    ensures durable {
-        AreDurable D.seen D.may_leave pair.old
-            → OnOk result (AreDurable D.seen D.may_leave pair.new)
-    }
+fn shut_open<D: LeaseDisk>(pair: &mut DiskPair<D>, side: Side, judged: Judged) -> Result<(), Failed>
+    ensures moments { D.tells → AreDurable D.seen D.may_leave pair.old
+        → IsJudged (parity_of side) (of_side side (D.seen pair.old.a) (D.seen pair.old.b))
+        judged
+        → PairLeavesOnly D.moment D.left_since D.may_leave pair.old pair.new
+        (ChangesSide side MayShut (D.seen pair.old.a) (D.seen pair.old.b)) }
+    ensures closed { D.tells
+        → IsJudged (parity_of side) (of_side side (D.seen pair.old.a) (D.seen pair.old.b))
+        judged
+        → OnOk result
+        (ChangesSide side (λ _ octets. IsClosedSide octets) (D.seen pair.old.a)
+        (D.seen pair.old.b) (D.seen pair.new.a) (D.seen pair.new.b)) }
+    ensures durable { AreDurable D.seen D.may_leave pair.old
+        → OnOk result (AreDurable D.seen D.may_leave pair.new) }
     ensures cause { PairHasCause D.faults pair.old pair.new (IsErr result) }
 {
     if let Judged::Closed = judged {
@@ -220,21 +192,15 @@ fn shut_open<D: LeaseDisk>(
 
 /// Shuts each open side: first the one in the grammar, then those that aren't, a before b.
 fn shut_all<D: LeaseDisk>(pair: &mut DiskPair<D>, a: Judged, b: Judged) -> Result<(), Failed>
-    ensures moments {
-        D.tells → AreDurable D.seen D.may_leave pair.old
-            → AreBroken (D.seen pair.old.a) (D.seen pair.old.b) a b
-            → PairLeavesOnly D.moment D.left_since D.may_leave pair.old pair.new
-                (λ x y. IsDamaged x y ⊎ IsBlank x y)
-    }
-    ensures blank {
-        D.tells → AreDurable D.seen D.may_leave pair.old
-            → AreBroken (D.seen pair.old.a) (D.seen pair.old.b) a b
-            → OnOk result (IsBlank (D.seen pair.new.a) (D.seen pair.new.b))
-    }
-    ensures durable {
-        AreDurable D.seen D.may_leave pair.old
-            → OnOk result (AreDurable D.seen D.may_leave pair.new)
-    }
+    ensures moments { D.tells → AreDurable D.seen D.may_leave pair.old
+        → AreBroken (D.seen pair.old.a) (D.seen pair.old.b) a b
+        → PairLeavesOnly D.moment D.left_since D.may_leave pair.old pair.new
+        (λ x y. IsDamaged x y ⊎ IsBlank x y) }
+    ensures blank { D.tells → AreDurable D.seen D.may_leave pair.old
+        → AreBroken (D.seen pair.old.a) (D.seen pair.old.b) a b
+        → OnOk result (IsBlank (D.seen pair.new.a) (D.seen pair.new.b)) }
+    ensures durable { AreDurable D.seen D.may_leave pair.old
+        → OnOk result (AreDurable D.seen D.may_leave pair.new) }
     ensures cause { PairHasCause D.faults pair.old pair.new (IsErr result) }
 {
     match b {
@@ -261,7 +227,8 @@ fn sync_both<D: LeaseDisk>(pair: &mut DiskPair<D>) -> Result<(), Failed>
     Ok(())
 }
 
-/// Starts a journal at `m` on side a, where an open side isn't in the grammar: shuts each open side first.
+/// Starts a journal at `m` on side a, where an open side isn't in the grammar: shuts each open side
+/// first.
 fn start_anew<D: LeaseDisk, R: Replay>(
     alloc: Global,
     pair: &mut DiskPair<D>,
@@ -272,18 +239,14 @@ fn start_anew<D: LeaseDisk, R: Replay>(
 ) -> Result<Standing, JournalFault>
     ensures replayed { OnOk result (R.state replay.new ≡ fresh_state m) }
     ensures written { IfOk result IsNew }
-    ensures moments {
-        D.tells → AreDurable D.seen D.may_leave pair.old
-            → AreBroken (D.seen pair.old.a) (D.seen pair.old.b) a b
-            → PairLeavesOnly D.moment D.left_since D.may_leave pair.old pair.new
-                (IsStartingAnew m)
-    }
-    ensures settled {
-        D.tells → AreDurable D.seen D.may_leave pair.old
-            → AreBroken (D.seen pair.old.a) (D.seen pair.old.b) a b
-            → IfOk result
-                (λ standing. IsSettledBy D.seen D.may_leave A standing pair.new (fresh_state m))
-    }
+    ensures moments { D.tells → AreDurable D.seen D.may_leave pair.old
+        → AreBroken (D.seen pair.old.a) (D.seen pair.old.b) a b
+        → PairLeavesOnly D.moment D.left_since D.may_leave pair.old pair.new
+        (IsStartingAnew m) }
+    ensures settled { D.tells → AreDurable D.seen D.may_leave pair.old
+        → AreBroken (D.seen pair.old.a) (D.seen pair.old.b) a b
+        → IfOk result
+        (λ standing. IsSettledBy D.seen D.may_leave A standing pair.new (fresh_state m)) }
     ensures reach { IfOk result IsInReach }
     ensures cause { PairHasCause D.faults pair.old pair.new (result ≡ Err Disk) }
 {
@@ -307,30 +270,22 @@ fn start_by<D: LeaseDisk, R: Replay>(
     replay: &mut R,
     verdict: Verdict,
 ) -> Result<Opened, JournalFault>
-    ensures started {
-        IfOk result
-            (λ opened. HasStarted m opened.side opened.standing (R.state replay.new) opened.found)
-    }
-    ensures found {
-        D.tells
-            → AreFound (D.seen pair.old.a) (D.seen pair.old.b) (R.state replay.old) verdict
-            → IfOk result
-                (λ opened. FoundMeans m (D.seen pair.old.a) (D.seen pair.old.b)
-                    (R.state replay.new) opened.found)
-    }
-    ensures settled {
-        D.tells → AreDurable D.seen D.may_leave pair.old
-            → AreFound (D.seen pair.old.a) (D.seen pair.old.b) (R.state replay.old) verdict
-            → IfOk result
-                (λ opened. IsSettledBy D.seen D.may_leave opened.side opened.standing pair.new
-                    (R.state replay.new))
-    }
-    ensures moments {
-        D.tells → AreDurable D.seen D.may_leave pair.old
-            → AreFound (D.seen pair.old.a) (D.seen pair.old.b) (R.state replay.old) verdict
-            → PairLeavesOnly D.moment D.left_since D.may_leave pair.old pair.new
-                (MayOpen m (D.seen pair.old.a) (D.seen pair.old.b))
-    }
+    ensures started { IfOk result
+        (λ opened. HasStarted m opened.side opened.standing (R.state replay.new) opened.found) }
+    ensures found { D.tells
+        → AreFound (D.seen pair.old.a) (D.seen pair.old.b) (R.state replay.old) verdict
+        → IfOk result
+        (λ opened. FoundMeans m (D.seen pair.old.a) (D.seen pair.old.b)
+        (R.state replay.new) opened.found) }
+    ensures settled { D.tells → AreDurable D.seen D.may_leave pair.old
+        → AreFound (D.seen pair.old.a) (D.seen pair.old.b) (R.state replay.old) verdict
+        → IfOk result
+        (λ opened. IsSettledBy D.seen D.may_leave opened.side opened.standing pair.new
+        (R.state replay.new)) }
+    ensures moments { D.tells → AreDurable D.seen D.may_leave pair.old
+        → AreFound (D.seen pair.old.a) (D.seen pair.old.b) (R.state replay.old) verdict
+        → PairLeavesOnly D.moment D.left_since D.may_leave pair.old pair.new
+        (MayOpen m (D.seen pair.old.a) (D.seen pair.old.b)) }
     ensures reach { IsFoundInReach verdict → IfOk result (λ opened. IsInReach opened.standing) }
     ensures cause { PairHasCause D.faults pair.old pair.new (result ≡ Err Disk) }
 {
@@ -366,29 +321,19 @@ pub(crate) fn open<D: LeaseDisk, R: Replay>(
     m: Moment,
     replay: &mut R,
 ) -> Result<Opened, JournalFault>
-    ensures found {
-        D.tells → IfOk result
-            (λ opened. FoundMeans m (D.seen pair.old.a) (D.seen pair.old.b) (R.state replay.new)
-                opened.found)
-    }
-    ensures started {
-        IfOk result
-            (λ opened. HasStarted m opened.side opened.standing (R.state replay.new) opened.found)
-    }
-    ensures settled {
-        D.tells → IfOk result
-            (λ opened. IsSettledBy D.seen D.may_leave opened.side opened.standing pair.new
-                (R.state replay.new))
-    }
+    ensures found { D.tells → IfOk result
+        (λ opened. FoundMeans m (D.seen pair.old.a) (D.seen pair.old.b) (R.state replay.new)
+        opened.found) }
+    ensures started { IfOk result
+        (λ opened. HasStarted m opened.side opened.standing (R.state replay.new) opened.found) }
+    ensures settled { D.tells → IfOk result
+        (λ opened. IsSettledBy D.seen D.may_leave opened.side opened.standing pair.new
+        (R.state replay.new)) }
     ensures reach { IfOk result (λ opened. IsInReach opened.standing) }
-    ensures opens {
-        D.tells → OnOk result (Opens D.seen D.moment D.left_since D.may_leave m pair.old pair.new)
-    }
-    ensures moments {
-        D.tells
-            → Opens D.seen D.moment D.left_since D.may_leave m pair.old pair.new
-                ⊎ LeavesOld D.moment D.left_since D.may_leave pair.old pair.new
-    }
+    ensures opens { D.tells → OnOk result (Opens D.seen D.moment D.left_since D.may_leave m pair.old pair.new) }
+    ensures moments { D.tells
+        → Opens D.seen D.moment D.left_since D.may_leave m pair.old pair.new
+        ⊎ LeavesOld D.moment D.left_since D.may_leave pair.old pair.new }
     ensures cause { PairHasCause D.faults pair.old pair.new (result ≡ Err Disk) }
 {
     sync_both(pair)?;

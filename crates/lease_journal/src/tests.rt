@@ -297,15 +297,25 @@ fn changed(alloc: Global, octets: &[u8], place: usize, mask: u8) -> Result<Vec<u
 #[test]
 fn read(rt: HostRuntime) -> Result<(), Fail> {
     let alloc = rt.alloc();
-    // octets of each side, the place of an octet and how it is changed, when the journal is opened, and
-    // what is seen before and after that
+    // octets of each side, the place of an octet and how it is changed, when the journal is opened,
+    // and what is seen before and after that
     let cases: [(&[u8], usize, u8, &[u8], usize, u8, u64, Seen, u64); 9] = [
         (&LEASED, 0, 0, &[], 0, 0, 1500, recovered(1000, 1), 1000),
         // the lease's protocol, or a start cut after the gate was closed
         (&LEASED, 88, 0x03, &[], 0, 0, 1500, DAMAGED, 1500),
         (&LEASED, 0, 0x01, &[], 0, 0, 1600, BLANK, 1600),
         // the same of a compaction that was stopped before side a was shut
-        (&LEASED, 0, 0, &COMPACTED, 0, 0, 1500, recovered(1000, 1), 1000),
+        (
+            &LEASED,
+            0,
+            0,
+            &COMPACTED,
+            0,
+            0,
+            1500,
+            recovered(1000, 1),
+            1000,
+        ),
         (&LEASED, 0, 0, &COMPACTED, 87, 0x03, 1500, DAMAGED, 1500),
         (&LEASED, 0, 0x01, &COMPACTED, 87, 0x03, 1600, DAMAGED, 1600),
         // the first format, in which a record of kind 8 isn't known, nor the last generation
@@ -398,6 +408,30 @@ fn sides_of_every_kind(rt: HostRuntime) -> Result<(), Fail> {
     Ok(())
 }
 
+/// A side with one frame of a Start at 1000 and so many Marks.
+fn marked(alloc: Global, marks: u8) -> Result<Vec<u8>, Fail> {
+    let mut side = STARTED[..15].to_vec(alloc)?;
+    let size = 9 + 9 * u32::from(marks);
+    side.extend_from_slice(&size.to_be_bytes())?;
+    side.extend_from_slice(&STARTED[19..28])?;
+    for _ in 0..marks {
+        side.push(7)?;
+        side.extend_from_slice(&STARTED[20..28])?;
+    }
+    side.push(0)?;
+    Ok(side)
+}
+
+#[test]
+fn most_records(rt: HostRuntime) -> Result<(), Fail> {
+    let alloc = rt.alloc();
+    let mut full = sides(alloc, &marked(alloc, 15)?, &[])?;
+    assert!(rt; view_of(alloc, &mut full)? == Some(recovered(1000, 0)));
+    let mut more = sides(alloc, &marked(alloc, 16)?, &[])?;
+    assert!(rt; view_of(alloc, &mut more)? == Some(DAMAGED));
+    Ok(())
+}
+
 /// What is done to a journal.
 #[derive(Clone, Copy, Debug, PartialEq, Eq)]
 enum Deed {
@@ -452,13 +486,7 @@ fn are_left(
 }
 
 /// Whether that is so where any device call of a side is the last one.
-fn is_kept(
-    alloc: Global,
-    a: &[u8],
-    b: &[u8],
-    deed: Deed,
-    images: &[Seen],
-) -> Result<bool, Fail> {
+fn is_kept(alloc: Global, a: &[u8], b: &[u8], deed: Deed, images: &[Seen]) -> Result<bool, Fail> {
     for stops_b in [false, true] {
         let mut done = false;
         for call in 0..60 {
@@ -493,9 +521,25 @@ fn stops(rt: HostRuntime) -> Result<(), Fail> {
     let kept = recovered(1000, 1);
     let fresh = recovered(1500, 0);
     assert!(rt; is_kept(alloc, &[], &[], Deed::Open, &[BLANK, fresh])?);
-    assert!(rt; is_kept(alloc, &before, &[], Deed::Append, &[recovered(1000, 0), kept])?);
+    assert!(rt;
+        is_kept(
+            alloc,
+            &before,
+            &[],
+            Deed::Append,
+            &[recovered(1000, 0), kept]
+        )?
+    );
     assert!(rt; is_kept(alloc, &LEASED, &[], Deed::Compact, &[kept])?);
     assert!(rt; is_kept(alloc, &LEASED, &[0xff; 140], Deed::Compact, &[kept])?);
-    assert!(rt; is_kept(alloc, &LEASED, &broken, Deed::Open, &[DAMAGED, BLANK, fresh])?);
+    assert!(rt;
+        is_kept(
+            alloc,
+            &LEASED,
+            &broken,
+            Deed::Open,
+            &[DAMAGED, BLANK, fresh]
+        )?
+    );
     Ok(())
 }

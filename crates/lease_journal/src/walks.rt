@@ -2,6 +2,7 @@
 ghost use Rattle.std.specs.Prelude.{◌≡◌, ◌+◌, ◌<◌, ◌≤◌, ◌^◌, Ok, Err, true, false, drop, length, take, IfOk, IfSome, OnOk};
 ghost use Rattle.pcp_io.specs.Faults.{HasCause, HasRisen};
 ghost use Rattle.pcp_base.specs.States.{empty_state};
+ghost use Rattle.lease_journal.specs.declared.layout.TheConstants.{LONGEST_FRAME, SIDE_HEAD};
 ghost use Rattle.lease_journal.specs.declared.errors.JournalFault.TheVariants.{Disk};
 ghost use Rattle.lease_journal.specs.Formats.{FitsBy, apply_by, IsReplaying};
 ghost use Rattle.lease_journal.specs.Judging.{IsJudged, Replayed};
@@ -13,6 +14,7 @@ ghost use Rattle.lease_journal.specs.Writes.{parity_of};
 use crate::errors::JournalFault;
 use crate::formats::Format;
 use crate::heads::read_head;
+use crate::layout::{MOST_FRAMED, MOST_RECORDS, SHORTEST_SIDE, SIDE_HEAD};
 use crate::sides::Side;
 use lease_disk::LeaseDisk;
 use lease_records::read_record;
@@ -83,10 +85,8 @@ pub(crate) fn fill<D: LeaseDisk>(
 ) -> Result<usize, Failed>
     requires { place + length piece.old ≤ 2 ^ 62 }
     ensures bound { IfOk result (λ n. n ≤ length piece.new) }
-    ensures reads {
-        D.tells → IfOk result
-            (λ n. take n piece.new ≡ take (length piece.new) (drop place (D.seen disk.old)))
-    }
+    ensures reads { D.tells → IfOk result
+        (λ n. take n piece.new ≡ take (length piece.new) (drop place (D.seen disk.old))) }
     ensures read { IsRead D.moment D.left_since D.may_leave disk.old disk.new }
     ensures seen { D.tells → D.seen disk.new ≡ D.seen disk.old }
     ensures cause { HasCause (D.faults disk.old) (D.faults disk.new) result }
@@ -111,9 +111,7 @@ fn admit<R: Replay>(
 ) -> Result<bool, Memory>
     requires { IsReplaying format R.replaying R.replaying_first replay.old }
     ensures fits { result ≡ Ok true → FitsBy format (R.state replay.old) entry.now }
-    ensures applied {
-        result ≡ Ok true → R.state replay.new ≡ apply_by format (R.state replay.old) entry.now
-    }
+    ensures applied { result ≡ Ok true → R.state replay.new ≡ apply_by format (R.state replay.old) entry.now }
     ensures refused { result ≡ Ok false → ¬ (FitsBy format (R.state replay.old) entry.now) }
     ensures ready { OnOk result (IsReplaying format R.replaying R.replaying_first replay.new) }
 {
@@ -123,7 +121,8 @@ fn admit<R: Replay>(
     }
 }
 
-/// Hands the records of a frame to a replay. False where the octets aren't 1 to 16 records that fit.
+/// Hands the records of a frame to a replay. False where the octets aren't 1 to
+/// [`MOST_RECORDS`] records that fit.
 fn read_batch<R: Replay>(
     alloc: Global,
     format: Format,
@@ -131,15 +130,13 @@ fn read_batch<R: Replay>(
     replay: &mut R,
 ) -> Result<bool, Memory>
     requires { IsReplaying format R.replaying R.replaying_first replay.old }
-    ensures means {
-        IfOk result (BatchMeans format (R.state replay.old) (R.state replay.new) octets.now)
-    }
+    ensures means { IfOk result (BatchMeans format (R.state replay.old) (R.state replay.new) octets.now) }
     ensures ready { OnOk result (IsReplaying format R.replaying R.replaying_first replay.new) }
 {
     let mut at = 0;
     let mut count = 0_usize;
     while at < octets.len() {
-        if count == 16 {
+        if count == MOST_RECORDS {
             return Ok(false);
         }
         let Ok((record, size)) = read_record(&octets[at..]) else {
@@ -162,9 +159,7 @@ fn walk_frame<R: Replay>(
     replay: &mut R,
 ) -> Result<Turn, Memory>
     requires { IsReplaying format R.replaying R.replaying_first replay.old }
-    ensures means {
-        IfOk result (TurnMeans format (R.state replay.old) (R.state replay.new) octets.now)
-    }
+    ensures means { IfOk result (TurnMeans format (R.state replay.old) (R.state replay.new) octets.now) }
     ensures ready { OnOk result (IsReplaying format R.replaying R.replaying_first replay.new) }
 {
     let [gate, rest @ ..] = octets else {
@@ -180,7 +175,7 @@ fn walk_frame<R: Replay>(
     if size == 0 {
         return Ok(Turn::Over(Stop::Stuck));
     }
-    if size > 4096 {
+    if size > MOST_FRAMED {
         return Ok(Turn::Over(Stop::Stuck));
     }
     if rest.len() < size {
@@ -193,8 +188,8 @@ fn walk_frame<R: Replay>(
     }
 }
 
-/// Walks over the whole frames in front of the octets. Says how many octets they have, and what stands
-/// behind them.
+/// Walks over the whole frames in front of the octets. Says how many octets they have, and what
+/// stands behind them.
 fn walk_piece<R: Replay>(
     alloc: Global,
     format: Format,
@@ -202,11 +197,9 @@ fn walk_piece<R: Replay>(
     replay: &mut R,
 ) -> Result<(usize, Stop), Memory>
     requires { IsReplaying format R.replaying R.replaying_first replay.old }
-    ensures means {
-        IfOk result
-            (λ found. PieceMeans format (R.state replay.old) (R.state replay.new) octets.now
-                found.0 found.1)
-    }
+    ensures means { IfOk result
+        (λ found. PieceMeans format (R.state replay.old) (R.state replay.new) octets.now
+        found.0 found.1) }
     ensures within { IfOk result (λ found. found.0 ≤ length octets.now) }
     ensures ready { OnOk result (IsReplaying format R.replaying R.replaying_first replay.new) }
 {
@@ -221,8 +214,8 @@ fn walk_piece<R: Replay>(
 }
 
 /// Walks over a side of this size from the gate of its first frame on, and hands its records to a
-/// replay. Gives the place of the closed gate at which the walk ends, or none where the side isn't in
-/// the grammar.
+/// replay. Gives the place of the closed gate at which the walk ends, or none where the side isn't
+/// in the grammar.
 fn walk<D: LeaseDisk, R: Replay>(
     alloc: Global,
     format: Format,
@@ -231,22 +224,20 @@ fn walk<D: LeaseDisk, R: Replay>(
     buffer: &mut [u8],
     replay: &mut R,
 ) -> Result<Option<u64>, JournalFault>
-    requires past { 14 ≤ size }
+    requires past { SIDE_HEAD ≤ size }
     requires most { size ≤ 2 ^ 62 }
-    requires room { 4101 ≤ length buffer.old }
+    requires room { LONGEST_FRAME ≤ length buffer.old }
     requires ready { IsReplaying format R.replaying R.replaying_first replay.old }
     requires empty { R.state replay.old ≡ empty_state }
-    ensures means {
-        D.tells → size ≡ length (D.seen disk.old)
-            → IfOk result (WalkMeans format (R.state replay.new) (D.seen disk.old))
-    }
+    ensures means { D.tells → size ≡ length (D.seen disk.old)
+        → IfOk result (WalkMeans format (R.state replay.new) (D.seen disk.old)) }
     ensures most { IfOk result (λ end. IfSome end (λ place. place < size)) }
     ensures read { IsRead D.moment D.left_since D.may_leave disk.old disk.new }
     ensures seen { D.tells → D.seen disk.new ≡ D.seen disk.old }
     ensures later { D.faults disk.old ≤ D.faults disk.new }
     ensures cause { result ≡ Err Disk → HasRisen (D.faults disk.old) (D.faults disk.new) }
 {
-    let mut place = 14;
+    let mut place = SIDE_HEAD as u64;
     while place < size {
         let wanted = (size - place).min(buffer.len() as u64) as usize;
         let count = fill(disk, place, &mut buffer[..wanted])?;
@@ -262,8 +253,8 @@ fn walk<D: LeaseDisk, R: Replay>(
     Ok(None)
 }
 
-/// Judges a side. Where it is in the grammar the replay then holds its records, and where it is closed
-/// what it held before.
+/// Judges a side. Where it is in the grammar the replay then holds its records, and where it is
+/// closed what it held before.
 pub(crate) fn judge_side<D: LeaseDisk, R: Replay>(
     alloc: Global,
     side: Side,
@@ -271,15 +262,11 @@ pub(crate) fn judge_side<D: LeaseDisk, R: Replay>(
     buffer: &mut [u8],
     replay: &mut R,
 ) -> Result<Judged, JournalFault>
-    requires room { 4101 ≤ length buffer.old }
-    ensures judged {
-        D.tells → IfOk result (IsJudged (parity_of side) (D.seen disk.old))
-    }
-    ensures replayed {
-        D.tells → IfOk result
-            (λ judged. Replayed (parity_of side) (D.seen disk.old) judged
-                (R.state replay.old) (R.state replay.new))
-    }
+    requires room { LONGEST_FRAME ≤ length buffer.old }
+    ensures judged { D.tells → IfOk result (IsJudged (parity_of side) (D.seen disk.old)) }
+    ensures replayed { D.tells → IfOk result
+        (λ judged. Replayed (parity_of side) (D.seen disk.old) judged
+        (R.state replay.old) (R.state replay.new)) }
     ensures reach { IfOk result IsJudgedInReach }
     ensures room { length buffer.new ≡ length buffer.old }
     ensures read { IsRead D.moment D.left_since D.may_leave disk.old disk.new }
@@ -288,12 +275,12 @@ pub(crate) fn judge_side<D: LeaseDisk, R: Replay>(
     ensures cause { result ≡ Err Disk → HasRisen (D.faults disk.old) (D.faults disk.new) }
 {
     let size = disk.len()?;
-    let mut head = [0; 14];
+    let mut head = [0; SIDE_HEAD];
     let count = fill(disk, 0, &mut head)?;
-    if size < 15 {
+    if size < SHORTEST_SIDE as u64 {
         return Ok(Judged::Closed);
     }
-    if count < 14 {
+    if count < SIDE_HEAD {
         return Ok(Judged::Closed);
     }
     if head[0] != 1 {
@@ -304,7 +291,7 @@ pub(crate) fn judge_side<D: LeaseDisk, R: Replay>(
     };
     replay.clear();
     match walk(alloc, format, disk, size, buffer, replay)? {
-        Some(end) if end > 14 => Ok(Judged::Good(Standing {
+        Some(end) if end > SIDE_HEAD as u64 => Ok(Judged::Good(Standing {
             format,
             generation,
             end,

@@ -12,9 +12,9 @@ returns-in-Good-Good-2 g c =
     let third = c.in_ok-other-in-Good-Good-2 in
     record {
       found = λ told.
-      let first = subst (λ (j : Judged). IsJudged 0 (d.seen c.args.pair.now.a) j) c.in-Good-Good-2.is-0 (c.in_ok-a.ensures.judged told) in
-      let then_ = subst (λ (l : List _). IsJudged 0 l third.other) (c.in_ok-a.ensures.seen told) (third.ensures.judged told) in
-      absurd (no_other 0 (d.seen c.args.pair.now.a) _ first.0 third.other first.1 then_ (λ y is. search rules));
+          let first = subst (λ (j : Judged). IsJudged 0 (d.seen c.args.pair.now.a) j) c.in-Good-Good-2.is-0 (c.in_ok-a.ensures.judged told) in
+          let then_ = subst (λ (l : List _). IsJudged 0 l third.other) (c.in_ok-a.ensures.seen told) (third.ensures.judged told) in
+          absurd (no_other 0 (d.seen c.args.pair.now.a) _ first.0 third.other first.1 then_ (λ y is. search rules));
       reach = tt;
       read = record {
         a = read_both d.may_leave d.moment d.left_since laws.counts_now laws.only_now c.args.pair.now.a c.judge_side.new.disk c.judge_side-in-Good-Good-2.new.disk c.in_ok-a.ensures.read third.ensures.read;

@@ -7,7 +7,7 @@ use Rattle.lease_journal.proofs.StandingLaws.{stands_for}
 use Rattle.lease_journal.proofs.tests.compact.Goals as goal
 
 pub compact-requires-clause-formed : goal.compact-requires-clause-formed
-compact-requires-clause-formed g c = 
+compact-requires-clause-formed g c =
     let d = g.D.LeaseDisk in
     let j = c.args.journal.now in
     let now = c.args.replay.now in

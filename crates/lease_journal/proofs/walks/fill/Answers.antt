@@ -20,7 +20,7 @@ loop-filled-preserved g c =
       within = omega (arith, same, c.in_ok-count.ensures.bound, long, so_far.within);
       sized = same ∙ so_far.sized;
       octets = λ told. filled_more (d.seen c.args.disk.now) piece (ys ++ post_of at k piece) c.args.place at n so_far.within (so_far.octets told)
-      (take-append-le n ys (post_of at k piece) c.in_ok-count.ensures.bound ∙ (c.in_ok-count.ensures.reads told).front ∙ ap (λ (l : List ℕ). take n (drop (c.args.place + at) l)) (so_far.seen_still told));
+          (take-append-le n ys (post_of at k piece) c.in_ok-count.ensures.bound ∙ (c.in_ok-count.ensures.reads told).front ∙ ap (λ (l : List ℕ). take n (drop (c.args.place + at) l)) (so_far.seen_still told));
       seen_still = λ told. c.in_ok-count.ensures.unchanged told ∙ so_far.seen_still told;
       read = read_more d.may_leave d.moment d.left_since laws.counts_now laws.only_now c.args.disk.now c.loop-filled.disk c.read_at.new.self so_far.read c.read_at.ensures.still c.read_at.ensures.time c.read_at.ensures.crash c.read_at.ensures.images;
       later = omega (arith, so_far.later, c.read_at.ensures.cause.later);

@@ -5,9 +5,9 @@ use Rattle.lease_journal.proofs.BatchLemmas.{read_one, full, unreadable, unfit, 
 use Rattle.lease_journal.proofs.SideWalks.{from_place}
 use Rattle.lease_journal.proofs.walks.read_batch.Goals as goal
 
-pub returns-then-count-eq16-clause-means : goal.returns-then-count-eq16-clause-means
-returns-then-count-eq16-clause-means g c =
-    full _ _ _ _ _ _ c.loop-at.invariant.0 (omega (arith, c.loop-at-test.true)) (omega (arith, c.if-count-eq16.true))
+pub returns-then-count-eq-MOST_RECORDS-clause-means : goal.returns-then-count-eq-MOST_RECORDS-clause-means
+returns-then-count-eq-MOST_RECORDS-clause-means g c =
+    full _ _ _ _ _ _ c.loop-at.invariant.0 (omega (arith, c.loop-at-test.true)) (omega (arith, c.if-count-eq-MOST_RECORDS.true))
 
 pub returns-in_default-clause-means : goal.returns-in_default-clause-means
 returns-in_default-clause-means g c =
@@ -21,12 +21,13 @@ returns-then-not-branch-clause-means g c =
     (c.admit.ensures.refused (search rules))
 
 pub loop-at-preserved : goal.loop-at-preserved
-loop-at-preserved g c =
-    (read_one _ _ _ _ _ _ _ c.in-Ok.size c.in-Ok.record c.loop-at.invariant.0 (λ is. omega (arith, is, c.if-count-eq16.false))
-    (subst (λ (l : List ℕ). c.in-Ok.size ≤ length l) (from_place c.args.octets.now c.loop-at.at) c.in-Ok.ensures.within)
-    (subst (λ (l : List ℕ). IsRecordText (take c.in-Ok.size l) c.in-Ok.record) (from_place c.args.octets.now c.loop-at.at) c.in-Ok.ensures.found)
-    (c.admit.ensures.fits (search rules)) (c.admit.ensures.applied (search rules)),
-    c.in_ok-admit.ensures.ready)
+loop-at-preserved g c = (
+  read_one _ _ _ _ _ _ _ c.in-Ok.size c.in-Ok.record c.loop-at.invariant.0 (λ is. omega (arith, is, c.if-count-eq-MOST_RECORDS.false))
+      (subst (λ (l : List ℕ). c.in-Ok.size ≤ length l) (from_place c.args.octets.now c.loop-at.at) c.in-Ok.ensures.within)
+      (subst (λ (l : List ℕ). IsRecordText (take c.in-Ok.size l) c.in-Ok.record) (from_place c.args.octets.now c.loop-at.at) c.in-Ok.ensures.found)
+      (c.admit.ensures.fits (search rules)) (c.admit.ensures.applied (search rules)),
+  c.in_ok-admit.ensures.ready,
+)
 
 pub returns-clause-means : goal.returns-clause-means
 returns-clause-means g c = read_all _ _ _ _ _ _ c.loop-at.invariant.0 (omega (arith, c.loop-at-test.false))

@@ -87,9 +87,9 @@ loop-place-preserved g c =
       within = few;
       roomy = omega (arith, so_far.roomy, long, c.min-wanted.ensures, length-append c.fill.new.piece (drop wanted c.loop-place.buffer), length-drop wanted c.loop-place.buffer);
       frames = λ told all.
-      let reads = piece_reads octets (d.seen c.loop-place.disk) c.fill.new.piece (drop wanted c.loop-place.buffer) place wanted count c.in_ok-count.ensures.bound (c.in_ok-count.ensures.reads told) (so_far.still told) long in
-      subst (λ (t : State). HasFrames c.args.format empty_state t (drop 14 octets) (place + used - 14)) (sym short.2)
-      (goes_on_walking c.args.format octets piece place wanted so_far.past reads before means.mid used c.in_ok-used.ensures.within (so_far.frames told all) means.frames);
+          let reads = piece_reads octets (d.seen c.loop-place.disk) c.fill.new.piece (drop wanted c.loop-place.buffer) place wanted count c.in_ok-count.ensures.bound (c.in_ok-count.ensures.reads told) (so_far.still told) long in
+          subst (λ (t : State). HasFrames c.args.format empty_state t (drop 14 octets) (place + used - 14)) (sym short.2)
+          (goes_on_walking c.args.format octets piece place wanted so_far.past reads before means.mid used c.in_ok-used.ensures.within (so_far.frames told all) means.frames);
       still = λ told. c.in_ok-count.ensures.seen told ∙ so_far.still told;
       read = read_both d.may_leave d.moment d.left_since g.met.D.LeaseDisk.counts_now g.met.D.LeaseDisk.only_now c.args.disk.now c.loop-place.disk c.fill.new.disk so_far.read c.in_ok-count.ensures.read;
       later = omega (arith, so_far.later, c.fill.ensures.cause.later);

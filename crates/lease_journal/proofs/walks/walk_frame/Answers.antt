@@ -41,7 +41,7 @@ returns-then-branch g c =
     let read = subst (λ (l : List ℕ). IsReadBatch c.args.format s now (take size l)) rest_is means in
     record {
       means = subst (λ (l : List ℕ). IsFramed c.args.format s now l (5 + size)) (sym whole)
-      (framed c.args.format s rest size enough is within now (omega (arith, c.if-size-eq0.false)) (omega (arith, c.if-size-gt4096.false)) (IsBytes-take 4 rest (IsBytes-drop 1 octets (λ i. omega (arith, c.type_inv.octets i)))) read);
+          (framed c.args.format s rest size enough is within now (omega (arith, c.if-size-eq0.false)) (omega (arith, c.if-size-gt-MOST_FRAMED.false)) (IsBytes-take 4 rest (IsBytes-drop 1 octets (λ i. omega (arith, c.type_inv.octets i)))) read);
       ready = c.in_ok-read_batch.ensures.ready;
     }
 
