@@ -13,18 +13,13 @@ use Rattle.mapping_table.specs.Kept.{place_of_lease, port_of_lease, map_keying, 
 use Rattle.ordered_index.proofs.Entries.{find_is, find_none}
 use Rattle.ordered_index.proofs.OrderLaws.{flip, port_total, place_total, place_of-one, protocol_one, ports_between, ports_up_to, places_between, places_up_to}
 use Rattle.ordered_index.specs.declared.numbered.Numbered.{Numbered}
+use Rattle.ordered_index.proofs.EntryLaws.{none_some, some_one}
 use Rattle.ordered_index.proofs.Keeping.{key-to, key-from, port-to, port-from}
 use Rattle.mapping_table.proofs.MapKeeping.{map_laws}
 use Rattle.mapping_table.proofs.Separates.{IsOwned-from_owns, owns-from_IsOwned, one_covers, one_owns, lease_is}
 
 some_is : {X : Type 0} (o : Option X) (x : X) → o ≡ Some x → IsSome o
 some_is o x h = subst IsSome (sym h) refl
-
-some_one : {X : Type 0} (o : Option X) (x y : X) → o ≡ Some x → o ≡ Some y → x ≡ y
-some_one o x y a b = let both : Some x ≡ Some y = sym a ∙ b in cc
-
-none_some : {X : Type 0} (o : Option X) (x : X) → o ≡ None → o ≡ Some x → ⊥
-none_some o x a b = let both : None ≡ Some x = sym a ∙ b in cc
 
 clash : (b : Bool) → b ≡ true → b ≡ false → ⊥
 clash b h k = let no : true ≡ false = sym h ∙ k in cc

@@ -15,6 +15,7 @@ use Rattle.mapping_table.specs.Kept.{place_of_lease, map_keying, AreKeptMaps}
 use Rattle.ordered_index.proofs.Entries.{false_by, any_in, any_at, find_in, find_none_at, entry_at}
 use Rattle.ordered_index.proofs.OrderLaws.{place_total, place_of-one, places_between, places_up_to}
 use Rattle.ordered_index.specs.declared.numbered.Numbered.{Numbered}
+use Rattle.ordered_index.proofs.EntryLaws.{none_some}
 use Rattle.ordered_index.proofs.Keeping.{key-to, key-from}
 use Rattle.mapping_table.proofs.MapKeeping.{map_laws}
 use Rattle.mapping_table.proofs.Separates.{lease_is}
@@ -29,9 +30,6 @@ with_port e port = record { address = e.address; protocol = e.protocol; port = p
 some_of : {X : Type 0} (o : Option X) → IsSome o → (x : X) × (o ≡ Some x)
 some_of None h = absurd (let no : false ≡ true = h in cc)
 some_of (Some x) h = (x, refl)
-
-none_some : {X : Type 0} (o : Option X) (x : X) → o ≡ None → o ≡ Some x → ⊥
-none_some o x a b = let both : None ≡ Some x = sym a ∙ b in cc
 
 module _ (it : Numbered MapLease Place (ℕ × ℕ)) (h : AreKeptMaps it) (e : Endpoint) where
   -- a lease that covers a port

@@ -11,14 +11,11 @@ use Rattle.pcp_base.specs.Tables.{EachTwo, IsMapLease, covers}
 use Rattle.pcp_base.proofs.Members.{All-weaker, All-both}
 use Rattle.pcp_base.proofs.Same.{same_address-Decides, same_protocol-Decides}
 use Rattle.pcp_base.proofs.TableLemmas.{IsCovered-from_covers}
+use Rattle.ordered_index.proofs.Keeping.{each_weaker}
 use Rattle.ordered_index.proofs.OrderLaws.{protocol_one}
 use Rattle.mapping_table.specs.Kept.{port_of_lease}
 use Rattle.mapping_table.specs.MapLists.{owns, runs_meet, AreSeparate, AreSoundMaps}
 use Rattle.ordered_index.proofs.Entries.{one_passes, All-at}
-
-each_weaker : {X : Type 0} (R S : X → X → Type 0) → ((x y : X) → R x y → S x y) → (xs : List X) → EachTwo R xs → EachTwo S xs
-each_weaker R S f [] h = tt
-each_weaker R S f (x ∷ xs) h = (All-weaker (R x) (S x) (f x) xs h.0, each_weaker R S f xs h.1)
 
 -- what `owns` says
 pub record IsOwned (l : MapLease) (of : Protocol) (port : ℕ) : Type 0 where

@@ -1,20 +1,18 @@
 -- The MAP leases of a sound table.
-use Rattle.std.proofs.Common.{◌≡◌, ℕ, zero, suc, ◌+◌, ◌-◌, ◌<◌, ◌≤◌, ◌&&◌, ◌==◌, leb, Bool, true, false, List, [], ◌∷◌, length, map, flat_map, refl, inl, inr, sym, ap, ◌∙◌, subst, arith}
+use Rattle.std.proofs.Common.{◌≡◌, ℕ, zero, suc, ◌+◌, ◌-◌, ◌<◌, ◌≤◌, ◌==◌, leb, Bool, true, false, List, [], ◌∷◌, map, flat_map, refl, inl, inr, sym, ◌∙◌, subst, arith}
 use Rattle.std.specs.List.{range_with_len}
 use Rattle.std.proofs.lemmas.Bool.{and_parts, eqb-true, leb-true, leb-false, ltb-true}
 use Rattle.std.proofs.lemmas.Bool.Decides.{Decides-eqb}
-use Rattle.pcp_base.specs.declared.addresses.Address.{Address}
-use Rattle.pcp_base.specs.declared.leases.Protocol.{Protocol}
 use Rattle.pcp_base.specs.declared.leases.Endpoint.{Endpoint}
 use Rattle.pcp_base.specs.declared.leases.MapLease.{MapLease}
 use Rattle.pcp_base.specs.declared.leases.Owner.{Owner}
 use Rattle.pcp_base.specs.Owners.{map_owner, map_owners, peer_owner, owners}
 use Rattle.pcp_base.specs.Sound.{Sound}
-use Rattle.pcp_base.specs.Tables.{Table, EachTwo, AreApart, IsMapLease, covers, same_address, same_protocol}
+use Rattle.pcp_base.specs.Tables.{Table, EachTwo, AreApart, IsMapLease, covers}
 use Rattle.pcp_base.proofs.Members.{IsIn, All-IsIn, All-from_IsIn, Contains-from_IsIn, IsIn-left, flat_map-IsIn, map-IsIn}
 use Rattle.pcp_base.proofs.Same.{same_address-Decides, same_protocol-Decides}
 use Rattle.pcp_base.proofs.TableLemmas.{covers-from_IsCovered, owner-covered}
-use Rattle.ordered_index.proofs.EndedLaws.{false_by}
+use Rattle.ordered_index.proofs.Entries.{false_by}
 use Rattle.mapping_table.specs.MapLists.{runs_meet, AreSeparate, AreSoundMaps}
 
 -- a port that is in both runs

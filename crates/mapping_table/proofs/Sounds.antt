@@ -1,5 +1,5 @@
 -- Sound leases, of which some are taken out.
-use Rattle.std.proofs.Common.{◌≡◌, ◌≤◌, Bool, List, length, Result, Ok, Err, OnOk, OnErr, filter, subst, sym, arith}
+use Rattle.std.proofs.Common.{◌≤◌, Bool, List, length, filter, arith}
 use Rattle.pcp_base.proofs.Members.{All-filter, EachTwo-filter}
 use Rattle.pcp_base.proofs.TableLemmas.{length-fewer}
 use Rattle.pcp_base.specs.declared.leases.MapLease.{MapLease}

@@ -14,10 +14,14 @@ pub(crate) fn are_sound(leases: &[MapLease]) -> bool
     leases.len() <= MOST_LEASES && are_leases(leases) && are_all_separate(leases)
 }
 
+/// Whether each may stand in a table.
 fn are_leases(leases: &[MapLease]) -> bool
     ensures { OnTrue result (AllByRecursion IsMapLease leases.now) }
 {
-    leases.iter().all(|lease| is_lease(lease))
+    match leases {
+        [] => true,
+        [first, rest @ ..] => is_lease(first) && are_leases(rest),
+    }
 }
 
 /// Whether the lease has ports that are in their ranges, and no filter.

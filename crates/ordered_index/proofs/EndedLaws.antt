@@ -1,5 +1,5 @@
 -- The expiries up to a moment are a range, and its least number.
-use Rattle.std.proofs.Common.{◌≡◌, ℕ, ◌+◌, ◌<◌, ◌≤◌, ◌&&◌, ◌==◌, nat_lt, Bool, true, false, not, cond, List, [], ◌∷◌, length, filter, count_by, Option, Some, None, IfSome, IfNone, refl, sym, ap, ◌∙◌, subst, arith}
+use Rattle.std.proofs.Common.{◌≡◌, ℕ, ◌+◌, ◌<◌, ◌≤◌, ◌&&◌, ◌==◌, nat_lt, Bool, true, not, cond, List, [], ◌∷◌, length, filter, count_by, Option, Some, None, IfSome, IfNone, refl, sym, ap, ◌∙◌, arith}
 use Rattle.std.specs.Prelude.{⊤}
 use Rattle.std.specs.List.{AllByRecursion, list_any}
 use Rattle.std.specs.Ordering.{nat_cmp, ordering_then, is_le, MatchOrdering}
@@ -7,16 +7,13 @@ use Rattle.std.specs.declared.cmp.Ordering.{Ordering}
 use Rattle.std.specs.declared.cmp.Ordering.TheVariants.{Less, Equal, Greater}
 use Rattle.std.specs.declared.ops.Bound.TheVariants.{Excluded, Unbounded}
 use Rattle.std.specs.BTreeMap.Range.{range_contains, entries_between}
-use Rattle.std.proofs.lemmas.Bool.{and_parts, and_from, ltb-true, lt-ltb}
+use Rattle.std.proofs.lemmas.Bool.{and_from, ltb-true, lt-ltb}
 use Rattle.std.proofs.lemmas.Cmp.{ranked}
 use Rattle.std.proofs.lemmas.List.Sums.{length-filter}
-use Rattle.pcp_base.proofs.Members.{IsIn, All-IsIn, All-from_IsIn, IsIn-filter, filter-IsIn, any-some, some-any}
+use Rattle.pcp_base.proofs.Members.{All-IsIn, All-from_IsIn, IsIn-filter, filter-IsIn, any-some, some-any}
+use Rattle.ordered_index.proofs.Entries.{false_by}
 use Rattle.ordered_index.specs.Ended.{has_ended, IsFirstEnded}
 use Rattle.ordered_index.specs.Steps.{expiry_cmp}
-
-pub false_by : (b : Bool) → (b ≡ true → ⊥) → b ≡ false
-false_by true h = absurd (h refl)
-false_by false h = refl
 
 least_cases : (n : ℕ) (o : Ordering) → MatchOrdering o (0 < n) (0 ≡ n) (n < 0) → is_le o ≡ true
 least_cases n Less h = refl

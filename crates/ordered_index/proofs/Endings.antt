@@ -1,5 +1,5 @@
 -- The leases that have ended, in the list.
-use Rattle.std.proofs.Common.{◌≡◌, ℕ, suc, ◌+◌, ◌-◌, ◌<◌, ◌≤◌, ◌&&◌, ◌==◌, nat_lt, Bool, true, false, not, cond, List, [], ◌∷◌, filter, find, length, count_by, Option, Some, None, IsSome, refl, sym, ap, ◌∙◌, subst, arith}
+use Rattle.std.proofs.Common.{◌≡◌, ℕ, suc, ◌+◌, ◌-◌, ◌<◌, ◌≤◌, ◌&&◌, ◌==◌, nat_lt, Bool, true, false, not, cond, List, [], ◌∷◌, find, length, count_by, Some, None, refl, sym, ap, ◌∙◌, subst, arith}
 use Rattle.std.specs.Prelude.{⊤}
 use Rattle.std.specs.List.{AllByRecursion}
 use Rattle.std.specs.List.Sorted.{IsStrictlySortedBy}
@@ -7,7 +7,7 @@ use Rattle.std.specs.Map.{keys_of, values_of}
 use Rattle.std.specs.Ordering.{nat_cmp, MatchOrdering}
 use Rattle.std.specs.declared.cmp.Ordering.{Ordering}
 use Rattle.std.specs.declared.cmp.Ordering.TheVariants.{Less}
-use Rattle.std.specs.BTreeMap.{BTreeMap, IsOrdered, get, is_at, values}
+use Rattle.std.specs.BTreeMap.{get, is_at, values}
 use Rattle.std.proofs.lemmas.Bool.{and_parts, eqb-true}
 use Rattle.std.proofs.lemmas.Cmp.{ranked}
 use Rattle.std.proofs.lemmas.List.Filters.{length-filter_both}
@@ -18,8 +18,8 @@ use Rattle.ordered_index.specs.declared.numbered.Numbered.{Numbered}
 use Rattle.ordered_index.specs.Ended.{has_ended, IsFirstEnded}
 use Rattle.ordered_index.specs.Kept.{Keying, IsKept}
 use Rattle.ordered_index.specs.Steps.{expiry_cmp}
-use Rattle.ordered_index.proofs.Entries.{at, number_same, number_self, entry_at, find_none}
-use Rattle.ordered_index.proofs.EntryLaws.{tally, count-cons, count-some, none_some, some_one}
+use Rattle.ordered_index.proofs.Entries.{at, number_same, entry_at, find_none}
+use Rattle.ordered_index.proofs.EntryLaws.{count-cons, count-some, some_one}
 use Rattle.ordered_index.proofs.Keeping.{AreLaws, due-to, due-from, expiry_total, expiry_exact}
 use Rattle.ordered_index.proofs.Mirrorings.{entry-at, at-entry}
 

@@ -1,5 +1,5 @@
 -- Leases and their maps after a call.
-use Rattle.std.proofs.Common.{◌≡◌, ℕ, ◌+◌, ◌<◌, ◌≤◌, Bool, true, false, not, cond, List, [], ◌∷◌, ◌++◌, filter, find, length, count_by, Option, Some, None, IsSome, Result, Ok, Err, OnOk, OnErr, refl, sym, ap, ◌∙◌, subst, arith}
+use Rattle.std.proofs.Common.{◌≡◌, ℕ, ◌+◌, ◌<◌, Bool, true, false, not, cond, List, [], ◌∷◌, ◌++◌, filter, find, count_by, Some, None, IsSome, Result, Ok, Err, OnOk, OnErr, refl, sym, ap, ◌∙◌, subst, arith}
 use Rattle.std.specs.Prelude.{⊤}
 use Rattle.std.specs.List.{AllByRecursion}
 use Rattle.std.specs.List.Sorted.{IsStrictlySortedBy}
@@ -7,17 +7,17 @@ use Rattle.std.specs.Map.{lookup, set_value, remove_entry, keys_of, values_of}
 use Rattle.std.specs.Ordering.{nat_cmp}
 use Rattle.std.specs.declared.cmp.Ordering.{Ordering}
 use Rattle.std.specs.Cmp.{IsTotalOrder, nat_cmp_total}
-use Rattle.std.specs.BTreeMap.{BTreeMap, IsOrdered, get, is_at, values, insert_entry}
+use Rattle.std.specs.BTreeMap.{BTreeMap, IsOrdered, get, is_at, values}
 use Rattle.std.proofs.lemmas.Cmp.{on_total, then_total}
 use Rattle.std.proofs.lemmas.Map.Lookups.{CmpEqualImpliesEq, exact_unsigned, exact_pairs}
 use Rattle.pcp_base.specs.Tables.{EachTwo, put}
 use Rattle.pcp_base.proofs.Members.{All-weaker}
 use Rattle.ordered_index.specs.declared.numbered.Numbered.{Numbered}
-use Rattle.ordered_index.specs.MapSteps.{without_other}
 use Rattle.ordered_index.specs.Steps.{expiry_cmp, IsBlank, Appends, Replaces, Forgets, Stays}
 use Rattle.ordered_index.specs.Kept.{Mirrors, Keying, IsKept}
 use Rattle.ordered_index.proofs.EntryLaws.{tally, count-set, none_some, none_by, some_one, key-self}
-use Rattle.ordered_index.proofs.Mirrorings.{entry-at, at-entry, at_key, mirrored-to, mirrored-from, mirrors-inserted, mirrors-removed, mirrors-moved, index-to, index-from}
+use Rattle.ordered_index.proofs.Mirrorings.{entry-at, at-entry, mirrored-to, mirrored-from, mirrors-inserted, mirrors-removed, mirrors-moved, index-to, index-from}
+use Rattle.ordered_index.proofs.OrderLaws.{at_exact}
 use Rattle.ordered_index.proofs.Entries.{All-at, number_same, number_self, number_other, values_append, insert_last, keys_below, none_passes, passes_at, set_value-put, remove_entry-filter, find_is, find_none, one_passes}
 
 pub expiry_total : IsTotalOrder expiry_cmp
@@ -58,7 +58,8 @@ pub each-last : {X : Type 0} (R : X → X → Type 0) (xs : List X) (y : X) → 
 each-last R [] y h = tt
 each-last R (x ∷ xs) y h = (all_last (R x) xs y h.0, each-last R xs y h.1)
 
-each_weaker : {X : Type 0} (R S : X → X → Type 0) → ((x y : X) → R x y → S x y) → (xs : List X) → EachTwo R xs → EachTwo S xs
+-- by what is weaker of each two
+pub each_weaker : {X : Type 0} (R S : X → X → Type 0) → ((x y : X) → R x y → S x y) → (xs : List X) → EachTwo R xs → EachTwo S xs
 each_weaker R S f [] h = tt
 each_weaker R S f (x ∷ xs) h = (All-weaker (R x) (S x) (f x) xs h.0, each_weaker R S f xs h.1)
 
@@ -91,13 +92,13 @@ module _ {L K P : Type 0} (by : Keying L K P) (laws : AreLaws by) (it : Numbered
   due-to n l a =
       let r = mirrored-to due_of it.leases.entries it.expiries.entries kept.expiries (λ b. is_at (expiry_cmp (by.expiry l, n)) b.0) (n, l) (at-entry nat_cmp_total exact_unsigned it.leases kept.ordered n l a)
       (key-self expiry_total (by.expiry l, n)) in
-      ap (get expiry_cmp it.expiries) (at_key expiry_exact (by.expiry l, n) r.0.0 r.2) ∙ entry-at expiry_total expiry_exact it.expiries kept.expiries_ordered r.0.0 r.0.1 r.1
+      ap (get expiry_cmp it.expiries) (at_exact expiry_exact (by.expiry l, n) r.0.0 r.2) ∙ entry-at expiry_total expiry_exact it.expiries kept.expiries_ordered r.0.0 r.0.1 r.1
 
   pub due-from : (k : ℕ × ℕ) → get expiry_cmp it.expiries k ≡ Some tt → (l : L) × (get nat_cmp it.leases k.1 ≡ Some l) × (by.expiry l ≡ k.0)
   due-from k a =
       let r = mirrored-from due_of it.leases.entries it.expiries.entries kept.expiries (λ b. is_at (expiry_cmp k) b.0) (k, tt) (at-entry expiry_total expiry_exact it.expiries kept.expiries_ordered k tt a)
       (key-self expiry_total k) in
-      let same : k ≡ (by.expiry r.0.1, r.0.0) = at_key expiry_exact k (by.expiry r.0.1, r.0.0) r.2 in
+      let same : k ≡ (by.expiry r.0.1, r.0.0) = at_exact expiry_exact k (by.expiry r.0.1, r.0.0) r.2 in
       (r.0.1, ap (λ (z : ℕ × ℕ). get nat_cmp it.leases z.1) same ∙ entry-at nat_cmp_total exact_unsigned it.leases kept.ordered r.0.0 r.0.1 r.1, ap (λ (z : ℕ × ℕ). z.0) (sym same))
 
   pub number-has : (k : K) (n : ℕ) → get by.key_cmp it.keys k ≡ Some n → IsSome (get nat_cmp it.leases n)
@@ -194,7 +195,7 @@ module _ {L K P : Type 0} (by : Keying L K P) (laws : AreLaws by) (it : Numbered
         let stays : get nat_cmp new.leases m ≡ Some y.0 = h.leases.changed m ∙ ap (λ t. cond t (Some l) (get nat_cmp it.leases m)) apart ∙ y.1 in
         let test : L → Bool = λ z. is_at (by.port_cmp to) (by.port z) in
         let same : m ≡ n = one_passes test new.leases.entries m n y.0 l (each_weaker (λ a b. by.port a ≡ by.port b → ⊥) (λ a b. test a ≡ true → test b ≡ true → ⊥)
-        (λ a b apart_ports s t. apart_ports (sym (at_key laws.port_exact to (by.port a) s) ∙ at_key laws.port_exact to (by.port b) t)) (values new.leases) two)
+        (λ a b apart_ports s t. apart_ports (sym (at_exact laws.port_exact to (by.port a) s) ∙ at_exact laws.port_exact to (by.port b) t)) (values new.leases) two)
         stays at_new (ap (is_at (by.port_cmp to)) y.2 ∙ key-self laws.port_total to) (ap (is_at (by.port_cmp to)) (sym to_is) ∙ key-self laws.port_total to) in
         let yes : is_at (nat_cmp n) m ≡ true = ap (is_at (nat_cmp n)) same ∙ number_self n in
         let both : true ≡ false = sym yes ∙ apart in cc)

@@ -1,5 +1,5 @@
 -- The least number of some entries, one after the other.
-use Rattle.std.proofs.Common.{rules, ◌≡◌, ℕ, ◌<◌, ◌≤◌, ◌⊎◌, ◌==◌, leb, Bool, true, false, cond, List, [], ◌∷◌, Option, Some, None, IfSome, IfNone, refl, sym, ap, ◌∙◌, subst, inl, inr, arith}
+use Rattle.std.proofs.Common.{rules, ◌≡◌, ℕ, ◌≤◌, ◌⊎◌, ◌==◌, leb, Bool, true, false, cond, List, [], ◌∷◌, Option, Some, None, IfSome, IfNone, refl, ap, ◌∙◌, inl, inr, arith}
 use Rattle.std.specs.Prelude.{⊤}
 use Rattle.std.specs.List.{AllByRecursion, list_any, fold}
 use Rattle.std.proofs.lemmas.Bool.{leb-true, leb-false, or_left, or_right}
@@ -16,7 +16,7 @@ abbrev LeastOf : Option ℕ → List Due → Option ℕ → Type 0
 LeastOf a es None = (a ≡ None) × (es ≡ [])
 LeastOf a es (Some n) = ((a ≡ Some n) ⊎ (list_any (λ e. e.0.1 == n) es ≡ true)) × IfSome a (λ k. n ≤ k) × AllByRecursion (λ e. n ≤ e.0.1) es
 
-same_number : (n : ℕ) → (n == n) ≡ true
+pub same_number : (n : ℕ) → (n == n) ≡ true
 same_number n = search rules
 
 number_here : (e : Due) (es : List Due) (n : ℕ) → Some e.0.1 ≡ Some n → list_any (λ x. x.0.1 == n) (e ∷ es) ≡ true

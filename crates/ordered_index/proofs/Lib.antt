@@ -7,3 +7,4 @@ pub mod OrderLaws
 pub mod Keeping
 pub mod Endings
 pub mod Puts
+pub mod FirstAndRest

@@ -1,5 +1,5 @@
 -- Entries that mirror those of the leases, after one came, changed or went.
-use Rattle.std.proofs.Common.{rules, ◌≡◌, ℕ, ◌+◌, ◌<◌, ◌&&◌, ◌==◌, Bool, true, false, cond, List, Option, Some, None, refl, sym, ap, ◌∙◌, subst, arith, count_by}
+use Rattle.std.proofs.Common.{◌≡◌, ℕ, ◌<◌, ◌&&◌, ◌==◌, Bool, true, false, cond, List, Some, None, refl, sym, ap, ◌∙◌, subst, arith, count_by}
 use Rattle.std.specs.List.Sorted.{IsStrictlySortedBy}
 use Rattle.std.specs.Map.{lookup, set_value, remove_entry, keys_of}
 use Rattle.std.specs.Ordering.{nat_cmp}
@@ -12,10 +12,9 @@ use Rattle.std.proofs.lemmas.Map.Views.{btree_map_get_iff}
 use Rattle.pcp_base.proofs.Members.{IsIn, IsIn-from_Contains, Contains-from_IsIn}
 use Rattle.ordered_index.specs.MapSteps.{without_other}
 use Rattle.ordered_index.specs.Kept.{Mirrors}
-use Rattle.ordered_index.proofs.EntryLaws.{tally, equal, key-self, count-some, some-counted, count-inserted, count-removed, count-set, inserted-same, lookup-inserted}
-
-same_number : (n : ℕ) → (n == n) ≡ true
-same_number n = search rules
+use Rattle.ordered_index.proofs.Leasts.{same_number}
+use Rattle.ordered_index.proofs.OrderLaws.{at_exact}
+use Rattle.ordered_index.proofs.EntryLaws.{tally, key-self, count-some, some-counted, count-inserted, count-removed, count-set, inserted-same, lookup-inserted}
 
 -- an entry of a map is what the map has under its key
 pub entry-at : {K V : Type 0} {R : K → K → Ordering} → IsTotalOrder R → CmpEqualImpliesEq R → (m : BTreeMap K V) → IsOrdered R m → (k : K) (v : V) → IsIn (k, v) m.entries → get R m k ≡ Some v
@@ -30,9 +29,6 @@ module _ {A B : Type 0} (image : A → B) (xs : List A) (bs : List B) (h : Mirro
 
   pub mirrored-from : (test : B → Bool) (b : B) → IsIn b bs → test b ≡ true → (a : A) × IsIn a xs × (test (image a) ≡ true)
   mirrored-from test b i t = some-counted (λ x. test (image x)) xs (subst (λ n. 0 < n) (h test) (count-some test bs b i t))
-
-pub at_key : {K : Type 0} {R : K → K → Ordering} → CmpEqualImpliesEq R → (x y : K) → is_at (R x) y ≡ true → x ≡ y
-at_key {R = R} exact x y h = exact x y (equal (R x y) h)
 
 module _ {L K V : Type 0} {R : K → K → Ordering} (o : IsTotalOrder R) (exact : CmpEqualImpliesEq R) (image : ℕ × L → K × V)
     (ls : List (ℕ × L)) (es : List (K × V)) (h : Mirrors image ls es) (n : ℕ) where
@@ -58,7 +54,7 @@ module _ {L K V : Type 0} {R : K → K → Ordering} (o : IsTotalOrder R) (exact
       lookup (is_at (nat_cmp n)) ls ≡ Some x → lookup (is_at (R from)) es ≡ Some v → (b ≡ false → lookup (is_at (R to)) es ≡ None) →
       Mirrors image (set_value (is_at (nat_cmp n)) ls l) (cond b (insert_entry R es to v) (remove_entry (is_at (R from)) (insert_entry R es to v)))
   moved_step x l from to v true e before after sorted at_number at_from free test =
-      let same : from ≡ to = at_key exact from to e in
+      let same : from ≡ to = at_exact exact from to e in
       let there : lookup (is_at (R to)) es ≡ Some v = ap (λ z. lookup (is_at (R z)) es) (sym same) ∙ at_from in
       let stays : count_by test (insert_entry R es to v) ≡ count_by test es = ap (count_by test) (inserted-same o to v es sorted there) in
       let b = count-set nat_cmp_total n (λ z. test (image z)) exact_unsigned x l ls at_number in
@@ -94,7 +90,7 @@ module _ {L K : Type 0} {R : K → K → Ordering} (o : IsTotalOrder R) (exact :
       let r = mirrored-to (λ (e : ℕ × L). (key e.1, e.0)) leases.entries map.entries h (is_entry (key l) n) (n, l) (at-entry nat_cmp_total exact_unsigned leases ordered n l a)
       (and_from _ _ (key-self o (key l)) (same_number n)) in
       let t = and_parts _ _ r.2 in
-      let k : key l ≡ r.0.0 = at_key exact (key l) r.0.0 t.0 in
+      let k : key l ≡ r.0.0 = at_exact exact (key l) r.0.0 t.0 in
       let number : r.0.1 ≡ n = eqb-true r.0.1 n t.1 in
       ap (get R map) k ∙ entry-at o exact map map_ordered r.0.0 r.0.1 r.1 ∙ ap Some number
 
@@ -105,7 +101,7 @@ module _ {L K : Type 0} {R : K → K → Ordering} (o : IsTotalOrder R) (exact :
       (and_from _ _ (key-self o k) (same_number n)) in
       let t = and_parts _ _ r.2 in
       let number : r.0.0 ≡ n = eqb-true r.0.0 n t.1 in
-      (r.0.1, ap (get nat_cmp leases) (sym number) ∙ entry-at nat_cmp_total exact_unsigned leases ordered r.0.0 r.0.1 r.1, sym (at_key exact k (key r.0.1) t.0))
+      (r.0.1, ap (get nat_cmp leases) (sym number) ∙ entry-at nat_cmp_total exact_unsigned leases ordered r.0.0 r.0.1 r.1, sym (at_exact exact k (key r.0.1) t.0))
 
   -- two leases with one key are one
   pub index-one : (n m : ℕ) (x y : L) → get nat_cmp leases n ≡ Some x → get nat_cmp leases m ≡ Some y → key x ≡ key y → n ≡ m

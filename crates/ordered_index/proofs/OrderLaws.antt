@@ -13,6 +13,7 @@ use Rattle.pcp_base.specs.declared.leases.Protocol.{Protocol}
 use Rattle.pcp_base.specs.declared.leases.Protocol.TheVariants.{Tcp, Udp}
 use Rattle.pcp_base.specs.declared.leases.Endpoint.{Endpoint}
 use Rattle.pcp_base.specs.Protocols.{protocol_number}
+use Rattle.ordered_index.proofs.EntryLaws.{equal}
 use Rattle.ordered_index.specs.Orders.{Place, port_at, place_of, port_cmp, place_cmp}
 
 pub not_gt_first : (o r : Ordering) → is_gt (ordering_then o r) ≡ false → is_gt o ≡ false
@@ -54,13 +55,8 @@ module _ {K : Type 0} {R : K → K → Ordering} (o : IsTotalOrder R) where
   pub at_self : (x : K) → is_at (R x) x ≡ true
   at_self x = ap is_eq (tied_itself o x)
 
-equal_by : (o : Ordering) → is_eq o ≡ true → o ≡ Equal
-equal_by Less h = absurd (let no : false ≡ true = h in cc)
-equal_by Equal h = refl
-equal_by Greater h = absurd (let no : false ≡ true = h in cc)
-
 pub at_exact : {K : Type 0} {R : K → K → Ordering} → CmpEqualImpliesEq R → (x y : K) → is_at (R x) y ≡ true → x ≡ y
-at_exact {R = R} exact x y h = exact x y (equal_by (R x y) h)
+at_exact {R = R} exact x y h = exact x y (equal (R x y) h)
 
 pub port_total : IsTotalOrder port_cmp
 port_total = then_total (on_total (λ (p : ℕ × ℕ). p.0) nat_cmp_total) (on_total (λ (p : ℕ × ℕ). p.1) nat_cmp_total)

@@ -12,7 +12,7 @@ use Rattle.pcp_base.proofs.Same.{same_endpoint-Decides}
 use Rattle.ordered_index.specs.declared.numbered.Numbered.{Numbered}
 use Rattle.ordered_index.specs.Orders.{Place, place_of, place_cmp, IsFirstKey, IsFirst}
 use Rattle.ordered_index.proofs.Entries.{any_in, any_at, entry_at}
-use Rattle.ordered_index.proofs.EndedLaws.{false_by}
+use Rattle.ordered_index.proofs.Entries.{false_by}
 use Rattle.ordered_index.proofs.EntryLaws.{none_some}
 use Rattle.ordered_index.proofs.Keeping.{key-to, key-from}
 use Rattle.ordered_index.proofs.OrderLaws.{place_total, place_of-one, places_between, places_less, less_places}

@@ -1,5 +1,5 @@
 -- PEER leases and their maps after a call.
-use Rattle.std.proofs.Common.{◌≡◌, ℕ, ◌&&◌, ◌==◌, Bool, true, false, List, [], ◌∷◌, not, Some, None, IsSome, Result, OnOk, OnErr, sym, ap, ◌∙◌, subst}
+use Rattle.std.proofs.Common.{◌≡◌, ℕ, ◌&&◌, ◌==◌, Bool, true, false, List, not, Some, None, IsSome, Result, OnOk, OnErr, sym, ap, ◌∙◌, subst}
 use Rattle.std.specs.Ordering.{nat_cmp}
 use Rattle.std.specs.Cmp.{IsTotalOrder, nat_cmp_total}
 use Rattle.std.specs.BTreeMap.{get, values}
@@ -12,12 +12,11 @@ use Rattle.pcp_base.specs.declared.leases.Protocol.{Protocol}
 use Rattle.pcp_base.specs.declared.leases.Endpoint.{Endpoint}
 use Rattle.pcp_base.specs.declared.leases.PeerLease.{PeerLease}
 use Rattle.pcp_base.specs.Tables.{EachTwo, is_peer_of, same_endpoint, same_protocol}
-use Rattle.pcp_base.proofs.Members.{All-weaker}
 use Rattle.pcp_base.proofs.Same.{same_address-Decides, same_endpoint-Decides, same_protocol-Decides}
 use Rattle.ordered_index.specs.declared.numbered.Numbered.{Numbered}
 use Rattle.ordered_index.specs.Orders.{place_of}
 use Rattle.ordered_index.specs.Steps.{Appends, Replaces, Forgets, Stays}
-use Rattle.ordered_index.proofs.Keeping.{AreLaws, Tells, TellsPort, port-free, number-has, put-appended, put-replaced, taken-out, none-found, none-gone, put-either}
+use Rattle.ordered_index.proofs.Keeping.{each_weaker, AreLaws, Tells, TellsPort, port-free, number-has, put-appended, put-replaced, taken-out, none-found, none-gone, put-either}
 use Rattle.ordered_index.proofs.OrderLaws.{both_equal, place_of-one, protocol_one, address_same}
 use Rattle.peer_table.specs.PeerLists.{AreFellows, AreSoundPeers, opens, with_peer, PutsPeer, RemovesPeer}
 use Rattle.pcp_base.specs.Protocols.{protocol_number}
@@ -81,10 +80,6 @@ peer_opens protocol port remote remote_port = record {
       ((Decides-eqb l.external port).1 (ap (λ (o : Opening). o.1) same)))
       ((same_address-Decides l.remote remote).1 (address_same l.remote remote (ap (λ (o : Opening). o.2) same)))) ((Decides-eqb l.remote_port remote_port).1 (ap (λ (o : Opening). o.3) same));
 }
-
-each_weaker : {X : Type 0} (R S : X → X → Type 0) → ((x y : X) → R x y → S x y) → (xs : List X) → EachTwo R xs → EachTwo S xs
-each_weaker R S f [] h = tt
-each_weaker R S f (x ∷ xs) h = (All-weaker (R x) (S x) (f x) xs h.0, each_weaker R S f xs h.1)
 
 open_apart : (a b : PeerLease) → AreFellows a b → opening_of_lease a ≡ opening_of_lease b → ⊥
 open_apart a b h same =

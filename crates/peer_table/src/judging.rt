@@ -13,10 +13,17 @@ use pcp_base::{MOST_LEASES, MOST_PEERS, PeerLease};
 pub(crate) fn are_sound(leases: &[PeerLease]) -> bool
     ensures { OnTrue result (AreSoundPeers leases.now) }
 {
-    leases.len() <= MOST_LEASES
-        && leases.iter().all(is_lease)
-        && are_all_fellows(leases)
-        && are_few(leases)
+    leases.len() <= MOST_LEASES && are_leases(leases) && are_all_fellows(leases) && are_few(leases)
+}
+
+/// Whether each may stand in a table.
+fn are_leases(leases: &[PeerLease]) -> bool
+    ensures { OnTrue result (AllByRecursion IsPeerLease leases.now) }
+{
+    match leases {
+        [] => true,
+        [first, rest @ ..] => is_lease(first) && are_leases(rest),
+    }
 }
 
 fn is_lease(lease: &PeerLease) -> bool

@@ -1,4 +1,4 @@
-use Rattle.std.proofs.Common.{rules, ◌≡◌, length, sym, ap, ◌∙◌, filter}
+use Rattle.std.proofs.Common.{rules, ◌≡◌, length, ap, ◌∙◌}
 use Rattle.ordered_index.proofs.EndedLaws.{ended-part, ended-length}
 use Rattle.ordered_index.proofs.expiries.count_ended.Goals as goal
 

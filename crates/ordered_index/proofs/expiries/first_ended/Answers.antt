@@ -1,7 +1,7 @@
-use Rattle.std.proofs.Common.{◌≡◌, Some, None, List, [], filter, refl, sym, ap, ◌∙◌, subst}
-use Rattle.ordered_index.specs.Ended.{has_ended, IsFirstEnded}
+use Rattle.std.proofs.Common.{◌≡◌, None, filter, refl, sym, ap, ◌∙◌}
+use Rattle.ordered_index.specs.Ended.{has_ended}
 use Rattle.ordered_index.proofs.EndedLaws.{ended-part, first-ended}
-use Rattle.ordered_index.proofs.Leasts.{Due, least_of, LeastOf-is, least-found, least-least, least-none}
+use Rattle.ordered_index.proofs.Leasts.{least_of, LeastOf-is, least-found, least-least, least-none}
 use Rattle.ordered_index.proofs.expiries.first_ended.Goals as goal
 
 pub loop-expiry-init : goal.loop-expiry-init
