@@ -15,7 +15,8 @@ is_live_map m l = nat_lt m l.expiry
 -- whether the lease owns the external port
 abbrev pub owns : Protocol → ℕ → MapLease → Bool
 owns protocol port l =
-    same_protocol l.protocol protocol && nat_le l.external port && nat_lt port (l.external + l.count)
+    same_protocol l.protocol protocol && nat_le l.external port
+    && nat_lt port (l.external + l.count)
 
 -- the lease that covers the endpoint
 abbrev pub map_covering : Endpoint → List MapLease → Option MapLease

@@ -141,7 +141,8 @@ impl PlainMapTable {
         self.leases.iter().find(|lease| owns(lease, protocol, port))
     }
 
-    /// The least internal port above the endpoint's that a lease of its address and protocol covers.
+    /// The least internal port above the endpoint's that a lease of its address and protocol
+    /// covers.
     pub fn next_internal(&self, endpoint: &Endpoint) -> Option<u16>
         ensures { IsNextCovered endpoint.now self.now result }
     {

@@ -115,7 +115,8 @@ impl MapTable {
         self.kept.leases.get(&number)
     }
 
-    /// The least internal port above the endpoint's that a lease of its address and protocol covers.
+    /// The least internal port above the endpoint's that a lease of its address and protocol
+    /// covers.
     pub fn next_internal(&self, endpoint: &Endpoint) -> Option<u16>
         ensures { IsNextCovered endpoint.now self.now result }
     {

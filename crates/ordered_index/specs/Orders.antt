@@ -31,7 +31,8 @@ module _ {K : Type 0} (cmp : K → K → Ordering) where
   pub record IsLastKey (m : BTreeMap K ℕ) (k : K) (n : ℕ) (last : K) : Type 0 where
     pub found : get cmp m last ≡ Some n
     pub up_to : is_gt (cmp last k) ≡ false
-    pub greatest : (q : K) → is_gt (cmp q k) ≡ false → IsSome (get cmp m q) → is_lt (cmp last q) ≡ false
+    pub greatest : (q : K) → is_gt (cmp q k) ≡ false → IsSome (get cmp m q)
+        → is_lt (cmp last q) ≡ false
 
   -- the number of the last key up to this one, None where there is none
   abbrev pub IsLast : BTreeMap K ℕ → K → Option ℕ → Type 0
@@ -42,7 +43,8 @@ module _ {K : Type 0} (cmp : K → K → Ordering) where
   pub record IsFirstKey (m : BTreeMap K ℕ) (k first : K) : Type 0 where
     pub found : IsSome (get cmp m first)
     pub from : is_gt (cmp k first) ≡ false
-    pub least : (q : K) → is_gt (cmp k q) ≡ false → IsSome (get cmp m q) → is_gt (cmp first q) ≡ false
+    pub least : (q : K) → is_gt (cmp k q) ≡ false → IsSome (get cmp m q)
+        → is_gt (cmp first q) ≡ false
 
   -- the first key from this one on, None where there is none
   abbrev pub IsFirst : BTreeMap K ℕ → K → Option K → Type 0

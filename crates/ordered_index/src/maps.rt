@@ -27,7 +27,8 @@ pub(crate) fn insert_both<A: Ord + Copy, X: Copy, B: Ord + Copy, Y: Copy>(
     second_entry: (B, Y),
 ) -> Result<(), AllocError>
     ensures first { OnOk result (Inserts A.cmp first.old first.new first_entry.0 first_entry.1) }
-    ensures second { OnOk result (Inserts B.cmp second.old second.new second_entry.0 second_entry.1) }
+    ensures second { OnOk result
+        (Inserts B.cmp second.old second.new second_entry.0 second_entry.1) }
     ensures first_stays { OnErr result (first.new.entries ≡ first.old.entries) }
     ensures second_stays { OnErr result (second.new.entries ≡ second.old.entries) }
 {

@@ -12,8 +12,8 @@ use pcp_base::{Address, Endpoint, Memory, Moment, Nonce, PeerLease, Protocol};
 use std::alloc::{AllocError, Global};
 use std::process::Abort;
 
-/// A call, and the answer that is wanted. Remotes are 198.51.100.0 and so on, of UDP. Leases are told
-/// by their expiries.
+/// A call, and the answer that is wanted. Remotes are 198.51.100.0 and so on. Leases are told by
+/// their expiries.
 #[derive(Clone, Copy)]
 enum Call {
     /// A host and its port, the external port, a remote and its port, and the expiry.
