@@ -42,24 +42,6 @@ way_torn parity generation octets image (inr (format, h, batches, side, less)) (
     has_gate [] e = absurd (omega (arith, e))
     has_gate (x ∷ l) e = omega arith
 
--- the side that counts stays, and the other gives way still
-pub counts_still : (parity : ℕ) (here : List ℕ) (other : ℕ) (there image : List ℕ) (format : Format) (records : List Record) (c : Counts parity here other there format records) → GivesWay other image c.generation → Counts parity here other image format records
-counts_still parity here other there image format records c way = record { generation = c.generation; batches = c.batches; is = c.is; holds = c.holds; other = way }
-
--- a new side of a greater generation counts
-pub counts_new : (old_format new_format : Format) (parity : ℕ) (here : List ℕ) (other : ℕ) (image : List ℕ) (g : ℕ) (batches : List (List Record)) (h : ℕ) (snapshot : List (List Record)) → IsOpenSide old_format parity here g batches → IsOpenSide new_format other image h snapshot → g < h
-    → Counts other image parity here new_format (records_of snapshot)
-counts_new old_format new_format parity here other image g batches h snapshot old new less = record { generation = h; batches = snapshot; is = new; holds = refl; other = inr (old_format, g, batches, old, less) }
-
--- while the gate of the new side is written, either side counts, and both stand for the same, whatever the format of the old one
-pub compacting : (here there image : List ℕ) (format : Format) (records : List Record) (c : Counts 0 here 1 there format records) (h : ℕ) (snapshot : List (List Record)) (are : AreBatches Second 1 h snapshot) (behind : List ℕ) (gate : ℕ)
-    → c.generation < h → state_of (records_of snapshot) ≡ state_by format records → Torn 0 1 (hidden 1 h snapshot are behind gate) image → StandsFor (state_by format records) here image
-compacting here there image format records c h snapshot are behind gate less same torn =
-    ⊎_elim
-    (λ (shut : IsShut image). (format, records, inl (counts_still 0 here 1 there image format records c (inl (shut_closed image shut))), refl))
-    (λ (side : IsOpenSide Second 1 image h snapshot). (Second, records_of snapshot, inr (counts_new format Second 0 here 1 image c.generation c.batches h snapshot c.is side less), same))
-    (gate_opens 1 h snapshot are behind gate image torn)
-
 -- while the gate of a start is written, the other side being closed
 pub starting : (m : ℕ) (fits : m < 2 ^ 40) (other image behind : List ℕ) (gate : ℕ) → IsClosedSide other → Torn 0 1 (hidden 0 0 ((start_at m ∷ []) ∷ []) (first_batches m fits) behind gate) image → IsStarting m image other
 starting m fits other image behind gate closed torn =
@@ -67,12 +49,3 @@ starting m fits other image behind gate closed torn =
     (λ (shut : IsShut image). inl (shut_closed image shut, closed))
     (λ (side : IsOpenSide Second 0 image 0 ((start_at m ∷ []) ∷ [])). inr (Second, start_at m ∷ [], inl (record { generation = 0; batches = (start_at m ∷ []) ∷ []; is = side; holds = refl; other = inl closed }), refl))
     (gate_opens 0 0 ((start_at m ∷ []) ∷ []) (first_batches m fits) behind gate image torn)
-
--- while the gate of a good side is shut beside a bad one
-pub shuts_good : (a b : List ℕ) → IsBadSide 0 a → IsDamaged a b
-shuts_good a b bad = inl bad
-
--- while the gate of a bad side is shut beside a closed one
-pub shuts_bad : (a image b : List ℕ) → IsBadSide 0 a → IsClosedSide b → 0 < length a → get_or a 0 0 ≡ 1 → Torn 0 1 a image → IsDamaged image b ⊎ IsBlank image b
-shuts_bad a image b bad closed some is torn =
-    ⊎_elim (λ (same : image ≡ a). inl (inl (subst (IsBadSide 0) (sym same) bad))) (λ (shut : IsShut image). inr (shut_closed image shut, closed)) (open_torn a image some is torn)

@@ -15,10 +15,6 @@ pub record IsShut (octets : List ℕ) : Type 0 where
 abbrev pub hidden_text : ℕ → List (List Record) → List ℕ
 hidden_text generation batches = drop 1 (side_text Second generation batches)
 
--- a side that begins: shut, or open with these batches
-abbrev pub IsShutOrOpen : ℕ → ℕ → List (List Record) → List ℕ → Type 0
-IsShutOrOpen parity generation batches octets = IsShut octets ⊎ IsOpenSide Second parity octets generation batches
-
 -- these records, in batches, as they stand behind the gate of a side of this generation
 pub record IsHidden (generation : ℕ) (records : List Record) (octets : List ℕ) : Type 0 where
   pub batches : List (List Record)

@@ -19,10 +19,6 @@ abbrev pub of_side : {T : Type 0} → Side → T → T → T
 of_side A a b = a
 of_side B a b = b
 
-abbrev pub disk_of : {D : Type 0} → Side → DiskPair D → D
-disk_of A pair = pair.a
-disk_of B pair = pair.b
-
 -- a and b, of which a step changed this side alone
 pub record ChangesSide (side : Side) (step : List ℕ → List ℕ → Type 0)
     (a b x y : List ℕ) : Type 0 where
