@@ -1,0 +1,4 @@
+pub mod LeaseTerms
+pub mod Lookups
+pub mod OwnerOrder
+pub mod Picks

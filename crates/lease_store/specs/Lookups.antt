@@ -1,0 +1,60 @@
+-- What is asked of a lease table at a moment (our own; filters: RFC 6887, section 13.3).
+use Rattle.std.specs.Prelude.{ℕ, ◌+◌, ◌-◌, ◌&&◌, ◌||◌, ◌==◌, max, Bool, List, ◌++◌, length, map, flat_map, filter, find, count_by, Option}
+use Rattle.std.specs.List.{list_any, range_with_len}
+use Rattle.std.specs.Option.{option_map}
+use Rattle.pcp_base.specs.declared.addresses.Address.{Address}
+use Rattle.pcp_base.specs.declared.leases.Protocol.{Protocol}
+use Rattle.pcp_base.specs.declared.leases.Endpoint.{Endpoint}
+use Rattle.pcp_base.specs.declared.leases.MapLease.{MapLease}
+use Rattle.pcp_base.specs.declared.leases.PeerLease.{PeerLease}
+use Rattle.pcp_base.specs.declared.leases.Owner.{Owner}
+use Rattle.pcp_base.specs.Tables.{Table, live, covers, names, is_peer_of, same_address}
+use Rattle.pcp_base.specs.Owners.{map_owners, peer_owner, is_port}
+use Rattle.pcp_base.specs.States.{State}
+use Rattle.filter_rules.specs.Filters.{allows}
+
+-- the live MAP lease that covers the endpoint
+abbrev pub covering : Table → ℕ → Endpoint → Option MapLease
+covering t m e = find (λ l. covers l e) (live t m).maps
+
+-- the live PEER lease with this key: its endpoint, remote address and remote port
+abbrev pub peering : Table → ℕ → Endpoint → Address → ℕ → Option PeerLease
+peering t m e remote remote_port = find (is_peer_of e remote remote_port) (live t m).peers
+
+-- the external port of the live PEER leases that name the endpoint
+abbrev pub named_port : Table → ℕ → Endpoint → Option ℕ
+named_port t m e = option_map (λ l. l.external) (find (λ l. names l e) (live t m).peers)
+
+-- how many live PEER leases name the endpoint
+abbrev pub peer_count : Table → ℕ → Endpoint → ℕ
+peer_count t m e = count_by (λ l. names l e) (live t m).peers
+
+-- how many leases are live, MAP and PEER together
+abbrev pub lease_count : Table → ℕ → ℕ
+lease_count t m = length (live t m).maps + length (live t m).peers
+
+-- this port of the endpoint's address and protocol
+abbrev pub with_port : Endpoint → ℕ → Endpoint
+with_port e port = record { address = e.address; protocol = e.protocol; port = port }
+
+-- whether a live lease covers or names this port of the endpoint's address and protocol
+abbrev pub is_taken_inside : Table → ℕ → Endpoint → ℕ → Bool
+is_taken_inside t m e port = list_any (λ l. covers l (with_port e port)) (live t m).maps
+    || list_any (λ l. names l (with_port e port)) (live t m).peers
+
+-- the next greater internal port, of the endpoint's address and protocol, that a live lease covers or names
+unfoldable pub next_inside : Table → ℕ → Endpoint → Option ℕ
+next_inside t m e = find (is_taken_inside t m e) (range_with_len (e.port + 1) (65535 - e.port))
+
+-- owned ports through which this remote peer may send: those of MAP leases whose filters allow it, and those
+-- of PEER leases with exactly this remote
+abbrev pub owners_for : Table → Address → ℕ → List Owner
+owners_for t remote remote_port =
+    flat_map map_owners (filter (λ l. allows l.filters remote remote_port) t.maps)
+    ++ map peer_owner (filter (λ l. same_address l.remote remote && l.remote_port == remote_port) t.peers)
+
+-- The endpoint to which a remote peer may send through this port, by the live leases; a moment before the last
+-- one counts as that.
+abbrev pub look : State → Protocol → ℕ → Address → ℕ → ℕ → Option Endpoint
+look s protocol port remote remote_port m = option_map (λ o. o.endpoint)
+    (find (is_port protocol port) (owners_for (live s.table (max m s.last)) remote remote_port))

@@ -1,0 +1,192 @@
+//! The state that records made, as decisions ask for it.
+ghost use Rattle.std.specs.Prelude.{◌≡◌, ℕ, ◌≤◌, Ok, true, false, is_some, OnOk, IfOk};
+ghost use Rattle.pcp_base.specs.Tables.{live};
+ghost use Rattle.pcp_base.specs.States.{State, empty_state};
+ghost use Rattle.pcp_base.specs.Apply.{apply, apply_first};
+ghost use Rattle.pcp_base.specs.Fits.{Fits, FitsFirst};
+ghost use Rattle.pcp_base.specs.Reached.{IsReached};
+ghost use Rattle.external_pool.specs.Calls.{IsAsk};
+ghost use Rattle.lease_store.specs.declared.terms.Terms.{Terms};
+ghost use Rattle.lease_store.specs.LeaseTerms.{AreTerms};
+ghost use Rattle.lease_store.specs.Lookups.{covering, peering, named_port, peer_count, lease_count, next_inside, look};
+ghost use Rattle.lease_store.specs.OwnerOrder.{owners_in_order};
+ghost use Rattle.lease_store.specs.Picks.{pick_answer};
+
+use crate::terms::Terms;
+use external_pool::{PickAsk, PickRefused, Picked};
+use pcp_base::{
+    Address, End, Endpoint, MapLease, Memory, Moment, Owner, PeerLease, Protocol, Record,
+};
+use std::alloc::Global;
+
+/// A value that stands for the state that records have made, at a moment that is reached. Leases that
+/// ended since the last record stay in the state until a record is applied, but at the moment reached
+/// they count as ended, and their ports as resting. After `Memory` it is to be cleared; no other call
+/// but `terms` may be made before.
+pub trait LeaseStore {
+    /// The table, the ends, the base, the address, the last moment, and whether a Start came.
+    ghost state: { Self → State };
+
+    /// The greatest of the last moment and of the moments that were reached since it was new or cleared.
+    ghost reached: { Self → ℕ };
+
+    /// The terms on which ports are leased; they never change.
+    ghost terms: { Self → Terms };
+
+    /// It is new or was cleared, and nothing but `admit` changed it since.
+    ghost replaying: { Self → Type 0 };
+
+    /// It is new or was cleared, and nothing but `admit_first` changed it since.
+    ghost replaying_first: { Self → Type 0 };
+
+    /// Begins anew, without a record.
+    fn clear(&mut self)
+        ensures empty { state self.new ≡ empty_state }
+        ensures reached { reached self.new ≡ 0 }
+        ensures terms { terms self.new ≡ terms self.old }
+        ensures ready { replaying self.new }
+        ensures ready_first { replaying_first self.new };
+
+    /// Applies a record that fits; false, and nothing changes, exactly where it doesn't fit.
+    fn admit(&mut self, alloc: Global, kept: &Record) -> Result<bool, Memory>
+        requires { replaying self.old }
+        ensures fits { result ≡ Ok true → Fits (state self.old) kept.now }
+        ensures applied { result ≡ Ok true → state self.new ≡ apply (state self.old) kept.now }
+        ensures refused { result ≡ Ok false → ¬ (Fits (state self.old) kept.now) }
+        ensures unchanged { result ≡ Ok false → state self.new ≡ state self.old }
+        ensures reached { OnOk result (reached self.new ≡ (state self.new).last) }
+        ensures terms { terms self.new ≡ terms self.old }
+        ensures ready { OnOk result (replaying self.new) };
+
+    /// `admit` by the rules of the first format, which knows no ends and no address.
+    fn admit_first(&mut self, alloc: Global, kept: &Record) -> Result<bool, Memory>
+        requires { replaying_first self.old }
+        ensures fits { result ≡ Ok true → FitsFirst (state self.old) kept.now }
+        ensures applied { result ≡ Ok true → state self.new ≡ apply_first (state self.old) kept.now }
+        ensures refused { result ≡ Ok false → ¬ (FitsFirst (state self.old) kept.now) }
+        ensures unchanged { result ≡ Ok false → state self.new ≡ state self.old }
+        ensures reached { OnOk result (reached self.new ≡ (state self.new).last) }
+        ensures terms { terms self.new ≡ terms self.old }
+        ensures ready { OnOk result (replaying_first self.new) };
+
+    /// Applies a record that fits, and whose moment isn't below the one reached.
+    fn apply(&mut self, alloc: Global, kept: &Record) -> Result<(), Memory>
+        requires sound { IsReached (state self.old) }
+        requires fits { Fits (state self.old) kept.now }
+        requires later { reached self.old ≤ kept.now.moment }
+        ensures applied { OnOk result (state self.new ≡ apply (state self.old) kept.now) }
+        ensures reached { OnOk result (reached self.new ≡ kept.now.moment) }
+        ensures terms { terms self.new ≡ terms self.old };
+
+    /// Moves on to a moment that isn't below the one reached. The state stays.
+    fn reach(&mut self, m: Moment)
+        requires sound { IsReached (state self.old) }
+        requires later { reached self.old ≤ m }
+        ensures state { state self.new ≡ state self.old }
+        ensures reached { reached self.new ≡ m }
+        ensures terms { terms self.new ≡ terms self.old };
+
+    /// The terms on which ports are leased.
+    fn terms(&self) -> Terms
+        ensures value { result ≡ terms self.now }
+        ensures allowed { AreTerms result };
+
+    /// The MAP lease, live at the moment reached, that covers the endpoint.
+    fn covering(&self, endpoint: &Endpoint) -> Option<MapLease>
+        requires { IsReached (state self.now) }
+        ensures { result ≡ covering (state self.now).table (reached self.now) endpoint.now };
+
+    /// The PEER lease, live at the moment reached, of this endpoint and remote.
+    fn peering(&self, endpoint: &Endpoint, remote: &Address, remote_port: u16) -> Option<PeerLease>
+        requires { IsReached (state self.now) }
+        ensures { result
+            ≡ peering (state self.now).table (reached self.now) endpoint.now remote.now remote_port };
+
+    /// The external port of the PEER leases, live at the moment reached, that name the endpoint.
+    fn named_port(&self, endpoint: &Endpoint) -> Option<u16>
+        requires { IsReached (state self.now) }
+        ensures { result ≡ named_port (state self.now).table (reached self.now) endpoint.now };
+
+    /// How many PEER leases, live at the moment reached, name the endpoint.
+    fn peer_count(&self, endpoint: &Endpoint) -> u32
+        requires { IsReached (state self.now) }
+        ensures { result ≡ peer_count (state self.now).table (reached self.now) endpoint.now };
+
+    /// The next greater internal port, of the endpoint's address and protocol, that a lease covers or
+    /// names which is live at the moment reached.
+    fn next_inside(&self, endpoint: &Endpoint) -> Option<u16>
+        requires { IsReached (state self.now) }
+        ensures { result ≡ next_inside (state self.now).table (reached self.now) endpoint.now };
+
+    /// How many leases are live at the moment reached.
+    fn lease_count(&self) -> u32
+        requires { IsReached (state self.now) }
+        ensures { result ≡ lease_count (state self.now).table (reached self.now) };
+
+    /// The ports that an address would be given at the moment reached, by the rules of
+    /// [`Pool::pick`](external_pool::Pool::pick).
+    fn pick(&self, who: &Address, protocol: Protocol, ask: &PickAsk) -> Result<Picked, PickRefused>
+        requires sound { IsReached (state self.now) }
+        requires ask { IsAsk ask.now }
+        ensures { result
+            ≡ pick_answer (terms self.now) (state self.now) (reached self.now) who.now protocol ask.now };
+
+    /// The endpoint to which a remote peer may send through this external port. A moment below the last
+    /// one counts as that.
+    fn look(
+        &self,
+        protocol: Protocol,
+        port: u16,
+        remote: &Address,
+        remote_port: u16,
+        m: Moment,
+    ) -> Option<Endpoint>
+        requires { IsReached (state self.now) }
+        ensures { result ≡ look (state self.now) protocol port remote.now remote_port m };
+
+    /// Whether a MAP lease that is live at `m` covers the endpoint.
+    fn covered(&self, endpoint: &Endpoint, m: Moment) -> bool
+        requires { IsReached (state self.now) }
+        ensures { result ≡ is_some (covering (state self.now).table m endpoint.now) };
+
+    /// How many leases are live at `m`, MAP and PEER together.
+    fn leases(&self, m: Moment) -> u32
+        requires { IsReached (state self.now) }
+        ensures { result ≡ lease_count (state self.now).table m };
+
+    /// The MAP leases that are live at `m`, in the order granted.
+    fn maps(&self, alloc: Global, m: Moment) -> Result<Vec<MapLease>, Memory>
+        requires { IsReached (state self.now) }
+        ensures { IfOk result (λ v. v.items ≡ (live (state self.now).table m).maps) };
+
+    /// The PEER leases that are live at `m`, in the order granted.
+    fn peers(&self, alloc: Global, m: Moment) -> Result<Vec<PeerLease>, Memory>
+        requires { IsReached (state self.now) }
+        ensures { IfOk result (λ v. v.items ≡ (live (state self.now).table m).peers) };
+
+    /// The ports that leases own which are live at `m`, in the order of protocol number and port.
+    fn owners(&self, alloc: Global, m: Moment) -> Result<Vec<Owner>, Memory>
+        requires { IsReached (state self.now) }
+        ensures { IfOk result (λ v. v.items ≡ owners_in_order (state self.now).table m) };
+
+    /// The ends of the state, in the order of protocol number and port.
+    fn ends(&self, alloc: Global) -> Result<Vec<End>, Memory>
+        requires { IsReached (state self.now) }
+        ensures { IfOk result (λ v. v.items ≡ (state self.now).ends) };
+
+    /// The base of the state, 0 before a Start.
+    fn base(&self) -> Moment
+        requires { IsReached (state self.now) }
+        ensures { result ≡ (state self.now).base };
+
+    /// The moment of the last record, 0 before a Start.
+    fn last(&self) -> Moment
+        requires { IsReached (state self.now) }
+        ensures value { result ≡ (state self.now).last }
+        ensures passed { result ≤ reached self.now };
+
+    /// The external address of the state, if a record told one.
+    fn address(&self) -> Option<Address>
+        requires { IsReached (state self.now) }
+        ensures { result ≡ (state self.now).address };
+}
