@@ -19,15 +19,16 @@ use pcp_base::{
 };
 use std::alloc::Global;
 
-/// A value that stands for the state that records have made, at a moment that is reached. Leases that
-/// ended since the last record stay in the state until a record is applied, but at the moment reached
-/// they count as ended, and their ports as resting. After `Memory` it is to be cleared; no other call
-/// but `terms` may be made before.
+/// A value that stands for the state that records have made, at a moment that is reached. Leases
+/// that ended since the last record stay in the state until a record is applied, but at the moment
+/// reached they count as ended, and their ports as resting. After `Memory` it is to be cleared; no
+/// other call but `terms` may be made before.
 pub trait LeaseStore {
     /// The table, the ends, the base, the address, the last moment, and whether a Start came.
     ghost state: { Self → State };
 
-    /// The greatest of the last moment and of the moments that were reached since it was new or cleared.
+    /// The greatest of the last moment and of the moments that were reached since it was new or
+    /// cleared.
     ghost reached: { Self → ℕ };
 
     /// The terms on which ports are leased; they never change.
@@ -62,7 +63,8 @@ pub trait LeaseStore {
     fn admit_first(&mut self, alloc: Global, kept: &Record) -> Result<bool, Memory>
         requires { replaying_first self.old }
         ensures fits { result ≡ Ok true → FitsFirst (state self.old) kept.now }
-        ensures applied { result ≡ Ok true → state self.new ≡ apply_first (state self.old) kept.now }
+        ensures applied { result ≡ Ok true →
+            state self.new ≡ apply_first (state self.old) kept.now }
         ensures refused { result ≡ Ok false → ¬ (FitsFirst (state self.old) kept.now) }
         ensures unchanged { result ≡ Ok false → state self.new ≡ state self.old }
         ensures reached { OnOk result (reached self.new ≡ (state self.new).last) }
@@ -99,8 +101,8 @@ pub trait LeaseStore {
     /// The PEER lease, live at the moment reached, of this endpoint and remote.
     fn peering(&self, endpoint: &Endpoint, remote: &Address, remote_port: u16) -> Option<PeerLease>
         requires { IsReached (state self.now) }
-        ensures { result
-            ≡ peering (state self.now).table (reached self.now) endpoint.now remote.now remote_port };
+        ensures { result ≡ peering (state self.now).table (reached self.now)
+            endpoint.now remote.now remote_port };
 
     /// The external port of the PEER leases, live at the moment reached, that name the endpoint.
     fn named_port(&self, endpoint: &Endpoint) -> Option<u16>
@@ -112,8 +114,8 @@ pub trait LeaseStore {
         requires { IsReached (state self.now) }
         ensures { result ≡ peer_count (state self.now).table (reached self.now) endpoint.now };
 
-    /// The next greater internal port, of the endpoint's address and protocol, that a lease covers or
-    /// names which is live at the moment reached.
+    /// The next greater internal port, of the endpoint's address and protocol, that a lease covers
+    /// or names which is live at the moment reached.
     fn next_inside(&self, endpoint: &Endpoint) -> Option<u16>
         requires { IsReached (state self.now) }
         ensures { result ≡ next_inside (state self.now).table (reached self.now) endpoint.now };
@@ -123,16 +125,18 @@ pub trait LeaseStore {
         requires { IsReached (state self.now) }
         ensures { result ≡ lease_count (state self.now).table (reached self.now) };
 
-    /// The ports that an address would be given at the moment reached, by the rules of
-    /// [`Pool::pick`](external_pool::Pool::pick).
-    fn pick(&self, who: &Address, protocol: Protocol, ask: &PickAsk) -> Result<Picked, PickRefused>
+    /// The ports that would be given at the moment reached, the first one to this endpoint, by the
+    /// rules of [`Pool::pick`](external_pool::Pool::pick). The ask is for at least one port, with
+    /// room for one.
+    fn pick(&self, endpoint: &Endpoint, ask: &PickAsk) -> Result<Picked, PickRefused>
         requires sound { IsReached (state self.now) }
         requires ask { IsAsk ask.now }
-        ensures { result
-            ≡ pick_answer (terms self.now) (state self.now) (reached self.now) who.now protocol ask.now };
+        requires internal { ask.now.internal ≡ endpoint.now.port }
+        ensures { result ≡ pick_answer (terms self.now) (state self.now) (reached self.now)
+            endpoint.now ask.now };
 
-    /// The endpoint to which a remote peer may send through this external port. A moment below the last
-    /// one counts as that.
+    /// The endpoint to which a remote peer may send through this external port. A moment below the
+    /// last one counts as that.
     fn look(
         &self,
         protocol: Protocol,

@@ -1,0 +1,62 @@
+-- What decisions on MAP and PEER requests have in common (RFC 6887, section 15; lifetimes of
+-- refusals are our own).
+use Rattle.std.specs.Prelude.{ℕ, ◌-◌, ◌^◌, ◌==◌, ◌||◌, min, max, nat_le, Bool, true, bytes_eq, replicate, Some, None}
+use Rattle.pcp_base.specs.declared.addresses.Address.{Address}
+use Rattle.pcp_base.specs.declared.codes.Code.{Code}
+use Rattle.pcp_base.specs.declared.codes.Code.TheVariants.{NotAuthorized}
+use Rattle.pcp_base.specs.declared.asks.Answer.{Answer}
+use Rattle.pcp_base.specs.declared.asks.Answer.TheVariants.{Refused, Gone}
+use Rattle.pcp_base.specs.declared.records.Change.{Change}
+use Rattle.pcp_base.specs.Refusals.{parsed}
+use Rattle.pcp_base.specs.Tables.{Table, same_address}
+use Rattle.pcp_base.specs.Pairing.{v4_octets}
+use Rattle.pcp_base.specs.declared.leases.TheConstants.{MOST_LEASES}
+use Rattle.lease_store.specs.declared.terms.Terms.{Terms}
+use Rattle.lease_store.specs.Lookups.{lease_count}
+use Rattle.lease_core.specs.declared.decided.Decided.{Decided}
+
+-- seconds that are granted: those asked for, raised to the least lifetime and lowered to the
+-- greatest
+abbrev pub granted_lifetime : Terms → ℕ → ℕ
+granted_lifetime terms asked = min (max asked terms.lifetime_min) terms.lifetime_max
+
+-- an answer without a record
+abbrev pub answered : Answer → Decided
+answered answer = record { answer = answer; kept = None }
+
+-- an answer with a record of this moment
+abbrev pub kept_at : ℕ → Answer → Change → Decided
+kept_at m answer change =
+    record { answer = answer; kept = Some (record { moment = m; change = change }) }
+
+-- a refusal of a request that could be read
+abbrev pub refused : Code → Decided
+refused code = answered (Refused (parsed code))
+
+-- NOT_AUTHORIZED, since the nonce of the lease differs; told is what the lease still has
+abbrev pub refused_until : ℕ → ℕ → Decided
+refused_until m expiry = answered (Refused (record {
+  code = NotAuthorized;
+  parsed = true;
+  lifetime = min (expiry - m) (2 ^ 32 - 1);
+}))
+
+-- the lease is deleted
+abbrev pub gone : ℕ → Change → Decided
+gone m change = kept_at m Gone change
+
+-- whether there are as many live leases as there may be
+abbrev pub is_full : Table → ℕ → Bool
+is_full t m = nat_le MOST_LEASES (lease_count t m)
+
+-- whether an external port is the suggested one, where one is suggested
+abbrev pub is_port_met : ℕ → ℕ → Bool
+is_port_met suggested port = suggested == 0 || suggested == port
+
+-- whether no address is suggested: all octets are zero, or it is 0.0.0.0
+abbrev pub is_no_address : Address → Bool
+is_no_address a = bytes_eq a.0 (replicate 16 0) || bytes_eq a.0 (v4_octets 0 0 0 0)
+
+-- whether the external address is the suggested one, where one is suggested
+abbrev pub is_address_met : Address → Address → Bool
+is_address_met suggested address = is_no_address suggested || same_address suggested address

@@ -1,0 +1,4 @@
+pub mod Answers
+pub mod Decide
+pub mod DecideMap
+pub mod DecidePeer

@@ -1,0 +1,6 @@
+//! What is decided on requests, in the state that records made (RFC 6887, sections 11, 12 and 15).
+#![tactic(auto)]
+
+mod decided;
+
+pub use decided::Decided;
