@@ -60,9 +60,6 @@ choice_by (Some port) terms s m ask = Some (record { start = port; count = 1 })
 choice_by None terms s m ask =
     pick terms s m ask.endpoint ask.port (parity_asked ask) (room_for terms s m ask)
 
-abbrev pub choice_of : Terms → State → ℕ → MapAsk → Option Picked
-choice_of terms s m ask = choice_by (named_port s.table m ask.endpoint) terms s m ask
-
 -- whether there is a choice that is all that was asked for and suggested
 abbrev pub is_wanted : Terms → MapAsk → Option Picked → Bool
 is_wanted terms ask None = false
@@ -152,24 +149,24 @@ covered_cases terms m ask lease =
     })
     ∷ []
 
--- none does
-abbrev pub uncovered_cases : Terms → State → ℕ → MapAsk → List (Case Decided)
-uncovered_cases terms s m ask =
+-- none does; named is the external port of PEER leases that name the endpoint
+abbrev pub uncovered_cases : Terms → State → ℕ → MapAsk → Option ℕ → Option Picked
+    → List (Case Decided)
+uncovered_cases terms s m ask named choice =
     -- a deletion
     (record { applies = ask.lifetime == 0; result = answered Gone })
     -- no PEER lease names the endpoint, and the address owns its quota
     ∷ (record {
-      applies = is_none (named_port s.table m ask.endpoint)
-          && nat_le terms.quota (owned s.table m ask.endpoint.address);
+      applies = is_none named && nat_le terms.quota (owned s.table m ask.endpoint.address);
       result = refused UserExQuota;
     })
     -- PREFER_FAILURE, and there is no choice, or it isn't all that was asked for and suggested
     ∷ (record {
-      applies = ask.prefer && not (is_wanted terms ask (choice_of terms s m ask));
+      applies = ask.prefer && not (is_wanted terms ask choice);
       result = refused CannotProvideExternal;
     })
     -- no port
-    ∷ (record { applies = is_none (choice_of terms s m ask); result = refused NoResources })
+    ∷ (record { applies = is_none choice; result = refused NoResources })
     -- no room for a lease
     ∷ (record { applies = is_full s.table m; result = refused NoResources })
     ∷ (record { applies = has_excess [] ask; result = refused ExcessiveRemotePeers })
@@ -180,13 +177,24 @@ abbrev pub granted : Terms → ℕ → MapAsk → Option Picked → Decided
 granted terms m ask choice =
     mapped terms m ask (new_lease terms m ask (unwrap_or choice (record { start = 0; count = 0 })))
 
-abbrev pub decide_map_by : Terms → State → ℕ → MapAsk → Option MapLease → Decided
-decide_map_by terms s m ask (Some lease) =
+abbrev pub uncovered_by : Terms → State → ℕ → MapAsk → Option ℕ → Option Picked → Decided
+uncovered_by terms s m ask named choice =
+    unwrap_or (first_case (uncovered_cases terms s m ask named choice))
+    (granted terms m ask choice)
+
+abbrev pub uncovered : Terms → State → ℕ → MapAsk → Option ℕ → Decided
+uncovered terms s m ask named =
+    uncovered_by terms s m ask named (choice_by named terms s m ask)
+
+abbrev pub covered : Terms → ℕ → MapAsk → MapLease → Decided
+covered terms m ask lease =
     unwrap_or (first_case (covered_cases terms m ask lease))
     (mapped terms m ask (renewed terms m ask lease))
+
+abbrev pub decide_map_by : Terms → State → ℕ → MapAsk → Option MapLease → Decided
+decide_map_by terms s m ask (Some lease) = covered terms m ask lease
 decide_map_by terms s m ask None =
-    unwrap_or (first_case (uncovered_cases terms s m ask))
-    (granted terms m ask (choice_of terms s m ask))
+    uncovered terms s m ask (named_port s.table m ask.endpoint)
 
 unfoldable pub decide_map : Terms → State → ℕ → MapAsk → Decided
 decide_map terms s m ask = decide_map_by terms s m ask (covering s.table m ask.endpoint)

@@ -36,9 +36,6 @@ peer_choice_by (Some port) terms s m ask = Some port
 peer_choice_by None terms s m ask =
     option_map (λ run. run.start) (pick terms s m ask.endpoint ask.port None 1)
 
-abbrev pub peer_choice_of : Terms → State → ℕ → PeerAsk → Option ℕ
-peer_choice_of terms s m ask = peer_choice_by (given_port s.table m ask.endpoint) terms s m ask
-
 -- ---- what is told and kept of a lease
 
 -- the lease is granted or renewed
@@ -80,9 +77,9 @@ known_cases m ask lease =
     })
     ∷ []
 
--- there is none
-abbrev pub unknown_cases : Terms → State → ℕ → PeerAsk → List (Case Decided)
-unknown_cases terms s m ask =
+-- there is none; given is the external port that a live lease gives the endpoint
+abbrev pub unknown_cases : Terms → State → ℕ → PeerAsk → Option ℕ → Option ℕ → List (Case Decided)
+unknown_cases terms s m ask given choice =
     -- a deletion
     (record { applies = ask.lifetime == 0; result = answered Gone })
     -- the endpoint has all the PEER leases that it may have
@@ -92,12 +89,11 @@ unknown_cases terms s m ask =
     })
     -- no live lease gives the endpoint a port, and the address owns its quota
     ∷ (record {
-      applies = is_none (given_port s.table m ask.endpoint)
-          && nat_le terms.quota (owned s.table m ask.endpoint.address);
+      applies = is_none given && nat_le terms.quota (owned s.table m ask.endpoint.address);
       result = refused UserExQuota;
     })
     -- no port
-    ∷ (record { applies = is_none (peer_choice_of terms s m ask); result = refused NoResources })
+    ∷ (record { applies = is_none choice; result = refused NoResources })
     -- no room for a lease
     ∷ (record { applies = is_full s.table m; result = refused NoResources })
     ∷ []
@@ -106,13 +102,24 @@ unknown_cases terms s m ask =
 abbrev pub granted_peer : Terms → ℕ → PeerAsk → Option ℕ → Decided
 granted_peer terms m ask choice = peered terms m ask (new_peer terms m ask (unwrap_or choice 0))
 
-abbrev pub decide_peer_by : Terms → State → ℕ → PeerAsk → Option PeerLease → Decided
-decide_peer_by terms s m ask (Some lease) =
+abbrev pub unknown_by : Terms → State → ℕ → PeerAsk → Option ℕ → Option ℕ → Decided
+unknown_by terms s m ask given choice =
+    unwrap_or (first_case (unknown_cases terms s m ask given choice))
+    (granted_peer terms m ask choice)
+
+abbrev pub unknown : Terms → State → ℕ → PeerAsk → Option ℕ → Decided
+unknown terms s m ask given =
+    unknown_by terms s m ask given (peer_choice_by given terms s m ask)
+
+abbrev pub known : Terms → ℕ → PeerAsk → PeerLease → Decided
+known terms m ask lease =
     unwrap_or (first_case (known_cases m ask lease))
     (peered terms m ask (renewed_peer terms m ask lease))
+
+abbrev pub decide_peer_by : Terms → State → ℕ → PeerAsk → Option PeerLease → Decided
+decide_peer_by terms s m ask (Some lease) = known terms m ask lease
 decide_peer_by terms s m ask None =
-    unwrap_or (first_case (unknown_cases terms s m ask))
-    (granted_peer terms m ask (peer_choice_of terms s m ask))
+    unknown terms s m ask (given_port s.table m ask.endpoint)
 
 unfoldable pub decide_peer : Terms → State → ℕ → PeerAsk → Decided
 decide_peer terms s m ask =

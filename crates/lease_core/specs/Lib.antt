@@ -1,4 +1,5 @@
 pub mod Answers
+pub mod Chosen
 pub mod Decide
 pub mod DecideMap
 pub mod DecidePeer

@@ -1,6 +1,8 @@
 //! What is decided on requests, in the state that records made (RFC 6887, sections 11, 12 and 15).
 #![tactic(auto)]
 
+mod answers;
 mod decided;
+mod mapping;
 
 pub use decided::Decided;

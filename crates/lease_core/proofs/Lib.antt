@@ -1,0 +1,4 @@
+pub mod PickLemmas
+pub mod MapCases
+pub mod RoomLemmas
+pub mod MapSteps

@@ -1,0 +1,83 @@
+//! What decisions on MAP and PEER requests have in common.
+ghost use Rattle.std.specs.Prelude.{◌≡◌, ◌<◌, ◌≤◌, ◌^◌};
+ghost use Rattle.lease_store.specs.LeaseTerms.{AreTerms};
+ghost use Rattle.lease_core.specs.Answers.{answered, gone, granted_lifetime, is_address_met, is_no_address, is_port_met, kept_at, refused, refused_until};
+
+use crate::decided::Decided;
+use lease_store::Terms;
+use pcp_base::{Address, Answer, Change, Code, Moment, Record, Refusal};
+
+/// The seconds that are granted.
+pub(crate) fn granted_lifetime(terms: &Terms, asked: u32) -> u32
+    ensures { result ≡ granted_lifetime terms.now asked }
+{
+    asked.max(terms.lifetime_min).min(terms.lifetime_max)
+}
+
+/// An answer without a record.
+pub(crate) fn answered(answer: Answer) -> Decided
+    ensures { result ≡ answered answer }
+{
+    Decided { answer, kept: None }
+}
+
+/// An answer with a record of this moment.
+pub(crate) fn kept_at(m: Moment, answer: Answer, change: Change) -> Decided
+    ensures { result ≡ kept_at m answer change }
+{
+    Decided {
+        answer,
+        kept: Some(Record { moment: m, change }),
+    }
+}
+
+/// A refusal of a request that could be read.
+pub(crate) fn refused(code: Code) -> Decided
+    ensures { result ≡ refused code }
+{
+    answered(Answer::Refused(Refusal {
+        code,
+        parsed: true,
+        lifetime: code.lifetime(),
+    }))
+}
+
+/// The refusal of a request whose nonce isn't that of the lease: it tells what the lease still has.
+pub(crate) fn refused_until(m: Moment, expiry: u64) -> Decided
+    ensures { result ≡ refused_until m expiry }
+{
+    let left = expiry.saturating_sub(m.get()).min(u64::from(u32::MAX));
+    answered(Answer::Refused(Refusal {
+        code: Code::NotAuthorized,
+        parsed: true,
+        lifetime: left as u32,
+    }))
+}
+
+/// The lease is deleted.
+pub(crate) fn gone(m: Moment, change: Change) -> Decided
+    ensures { result ≡ gone m change }
+{
+    kept_at(m, Answer::Gone, change)
+}
+
+/// Whether an external port is the suggested one, where one is suggested.
+pub(crate) fn is_port_met(suggested: u16, port: u16) -> bool
+    ensures { result ≡ is_port_met suggested port }
+{
+    suggested == 0 || suggested == port
+}
+
+/// Whether no address is suggested.
+fn is_no_address(address: &Address) -> bool
+    ensures { result ≡ is_no_address address.now }
+{
+    address.0 == [0; 16] || *address == Address::v4(0, 0, 0, 0)
+}
+
+/// Whether the external address is the suggested one, where one is suggested.
+pub(crate) fn is_address_met(suggested: &Address, address: &Address) -> bool
+    ensures { result ≡ is_address_met suggested.now address.now }
+{
+    is_no_address(suggested) || suggested == address
+}

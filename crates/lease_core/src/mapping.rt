@@ -1,0 +1,314 @@
+//! What is decided on MAP requests (RFC 6887, sections 11.3, 13 and 15; sets of ports: RFC 7753).
+ghost use Rattle.std.specs.Prelude.{◌≡◌, ◌+◌, ◌-◌, ◌<◌, ◌≤◌, ◌^◌, ◌&&◌, ℕ, [], None, Some, if◌then◌else◌};
+ghost use Rattle.pcp_base.specs.States.{State};
+ghost use Rattle.pcp_base.specs.Asks.{IsMapAsk};
+ghost use Rattle.pcp_base.specs.Reached.{IsReached};
+ghost use Rattle.pcp_base.specs.Tables.{IsMapLease, covers};
+ghost use Rattle.filter_rules.specs.Filters.{fold_filters as folded};
+ghost use Rattle.lease_store.specs.LeaseTerms.{AreTerms};
+ghost use Rattle.lease_store.specs.Lookups.{named_port};
+ghost use Rattle.pcp_base.specs.declared.codes.Code.TheVariants.{ExcessiveRemotePeers};
+ghost use Rattle.lease_core.specs.Answers.{is_address_met, is_port_met, refused};
+ghost use Rattle.lease_core.specs.DecideMap.{covered, decide_map, has_excess, is_wanted, mapped, new_lease, own_port, parity_of, port_told, renewed, room_inside, set_told, size_asked, uncovered, up_to_next};
+ghost use Rattle.lease_core.specs.Chosen.{chosen, chosen_by, code_of, granted_by, pick_ask};
+
+use crate::answers::{
+    answered, gone, granted_lifetime, is_address_met, is_port_met, kept_at, refused, refused_until,
+};
+use crate::decided::Decided;
+use external_pool::{PickAsk, PickRefused, Picked};
+use filter_rules::fold_filters;
+use lease_store::{LeaseStore, Terms};
+use pcp_base::{
+    Answer, Change, Code, Filters, MOST_LEASES, MOST_PORTS, MapAsk, MapLease, Moment, PortSet,
+};
+
+/// The external port of the endpoint itself.
+fn own_port(ask: &MapAsk, lease: &MapLease) -> u16
+    requires { own_port ask.now lease.now < 2 ^ 16 }
+    ensures { result ≡ own_port ask.now lease.now }
+{
+    lease.external + ask.endpoint.port.saturating_sub(lease.internal)
+}
+
+/// The external port that is told.
+fn port_told(ask: &MapAsk, lease: &MapLease) -> u16
+    requires { own_port ask.now lease.now < 2 ^ 16 }
+    ensures { result ≡ port_told ask.now lease.now }
+{
+    match ask.set {
+        None => own_port(ask, lease),
+        Some(_set) => {
+            if lease.count > 1 {
+                lease.external
+            } else {
+                own_port(ask, lease)
+            }
+        }
+    }
+}
+
+/// The set that is told, if any.
+fn set_told(asked: Option<PortSet>, lease: &MapLease) -> Option<PortSet>
+    ensures { result ≡ set_told asked lease.now }
+{
+    let set = asked?;
+    if lease.count > 1 {
+        Some(PortSet {
+            size: lease.count,
+            first: lease.internal,
+            parity: set.parity,
+        })
+    } else {
+        None
+    }
+}
+
+/// The lease is granted or renewed.
+fn mapped(terms: &Terms, m: Moment, ask: &MapAsk, lease: MapLease) -> Decided
+    requires { own_port ask.now lease < 2 ^ 16 }
+    ensures { result ≡ mapped terms.now m ask.now lease }
+{
+    let answer = Answer::Mapped {
+        lifetime: granted_lifetime(terms, ask.lifetime),
+        external: port_told(ask, &lease),
+        address: terms.external.address,
+        set: set_told(ask.set, &lease),
+    };
+    kept_at(m, answer, Change::Map(lease))
+}
+
+/// Whether the port that would be told and the external address are the suggested ones.
+fn is_met(terms: &Terms, ask: &MapAsk, lease: &MapLease) -> bool
+    requires { own_port ask.now lease.now < 2 ^ 16 }
+    ensures { result ≡ (is_port_met ask.now.port (port_told ask.now lease.now)
+        && is_address_met ask.now.address terms.now.external.address) }
+{
+    is_port_met(ask.port, port_told(ask, lease))
+        && is_address_met(&ask.address, &terms.external.address)
+}
+
+/// The lease is renewed, unless it would have too many filters.
+fn renew(terms: &Terms, m: Moment, ask: &MapAsk, lease: &MapLease) -> Decided
+    requires { own_port ask.now lease.now < 2 ^ 16 }
+    ensures { result ≡ (if has_excess lease.now.filters ask.now then refused ExcessiveRemotePeers
+        else mapped terms.now m ask.now (renewed terms.now m ask.now lease.now)) }
+{
+    let Ok(filters) = fold_filters(&lease.filters, ask.filters.items()) else {
+        return refused(Code::ExcessiveRemotePeers);
+    };
+    let renewed = MapLease {
+        expiry: m.get() + u64::from(granted_lifetime(terms, ask.lifetime)),
+        filters,
+        ..*lease
+    };
+    mapped(terms, m, ask, renewed)
+}
+
+/// What is decided where this live lease covers the endpoint.
+fn decide_covered(terms: &Terms, m: Moment, ask: &MapAsk, lease: &MapLease) -> Decided
+    requires { own_port ask.now lease.now < 2 ^ 16 }
+    ensures { result ≡ covered terms.now m ask.now lease.now }
+{
+    if lease.nonce != ask.nonce {
+        return refused_until(m, lease.expiry);
+    }
+    if ask.lifetime == 0 {
+        return gone(m, Change::DropMap(lease.first_endpoint()));
+    }
+    if ask.prefer && !is_met(terms, ask, lease) {
+        return refused(Code::CannotProvideExternal);
+    }
+    renew(terms, m, ask, lease)
+}
+
+/// How many ports are asked for.
+fn size_asked(ask: &MapAsk) -> u32
+    ensures { result ≡ size_asked ask.now }
+{
+    match ask.set {
+        None => 1,
+        Some(set) => u32::from(set.size),
+    }
+}
+
+/// The remainder by 2 that the first external port is to have, if one is asked.
+fn parity_of(set: Option<PortSet>, internal: u16) -> Option<u8>
+    ensures { result ≡ parity_of set internal }
+{
+    let set = set?;
+    if set.parity {
+        Some((internal % 2) as u8)
+    } else {
+        None
+    }
+}
+
+/// No more ports than up to the next internal port in use.
+fn up_to_next(next: Option<u16>, internal: u16, room: u32) -> u32
+    ensures { result ≡ up_to_next next internal room }
+{
+    match next {
+        None => room,
+        Some(next) => room.min(u32::from(next.saturating_sub(internal))),
+    }
+}
+
+/// How many ports may be given from the endpoint on, apart from the quota.
+fn room_inside<S: LeaseStore>(store: &S, m: Moment, ask: &MapAsk) -> u32
+    requires sound { IsReached (S.state store.now) }
+    requires reached { S.reached store.now ≡ m }
+    ensures { result ≡ room_inside (S.state store.now) m ask.now }
+{
+    let internal = ask.endpoint.port;
+    let room = size_asked(ask)
+        .min(u32::from(MOST_PORTS))
+        .min(65536 - u32::from(internal));
+    up_to_next(store.next_inside(&ask.endpoint), internal, room)
+}
+
+/// The code for what a pool refuses.
+fn code_of(refused: PickRefused) -> Code
+    ensures { result ≡ code_of refused }
+{
+    match refused {
+        PickRefused::Quota(_) => Code::UserExQuota,
+        PickRefused::CannotProvide => Code::CannotProvideExternal,
+        PickRefused::NoPort => Code::NoResources,
+    }
+}
+
+/// What a pool is asked for.
+fn pick_ask<S: LeaseStore>(store: &S, m: Moment, ask: &MapAsk) -> PickAsk
+    requires sound { IsReached (S.state store.now) }
+    requires reached { S.reached store.now ≡ m }
+    ensures { result ≡ pick_ask (S.terms store.now) (S.state store.now) m ask.now }
+{
+    let address = store.terms().external.address;
+    PickAsk {
+        internal: ask.endpoint.port,
+        suggested: ask.port,
+        asked: size_asked(ask),
+        room: room_inside(store, m, ask),
+        parity: parity_of(ask.set, ask.endpoint.port),
+        must: ask.prefer,
+        here: is_address_met(&ask.address, &address),
+    }
+}
+
+/// The ports that are picked, or why none are.
+fn pick_ports<S: LeaseStore>(store: &S, m: Moment, ask: &MapAsk) -> Result<Picked, Code>
+    requires sound { IsReached (S.state store.now) }
+    requires reached { S.reached store.now ≡ m }
+    requires ask { IsMapAsk ask.now }
+    ensures { result ≡ chosen_by None (S.terms store.now) (S.state store.now) m ask.now }
+{
+    match store.pick(&ask.endpoint, &pick_ask(store, m, ask)) {
+        Ok(run) => Ok(run),
+        Err(refused) => Err(code_of(refused)),
+    }
+}
+
+/// Whether the ports are all that was asked for and suggested.
+fn is_wanted(terms: &Terms, ask: &MapAsk, run: Picked) -> bool
+    ensures { result ≡ is_wanted terms.now ask.now (Some run) }
+{
+    run.count == size_asked(ask)
+        && is_port_met(ask.port, run.start)
+        && is_address_met(&ask.address, &terms.external.address)
+}
+
+/// The port that a PEER lease gives the endpoint, unless PREFER_FAILURE wants another.
+fn judge_named(terms: &Terms, ask: &MapAsk, port: u16) -> Result<Picked, Code>
+    ensures { (s : State) (m : ℕ) → result ≡ chosen_by (Some port) terms.now s m ask.now }
+{
+    let run = Picked {
+        start: port,
+        count: 1,
+    };
+    if ask.prefer && !is_wanted(terms, ask, run) {
+        return Err(Code::CannotProvideExternal);
+    }
+    Ok(run)
+}
+
+/// The ports that a new lease is given, or why there are none.
+fn choose<S: LeaseStore>(store: &S, m: Moment, ask: &MapAsk) -> Result<Picked, Code>
+    requires sound { IsReached (S.state store.now) }
+    requires reached { S.reached store.now ≡ m }
+    requires ask { IsMapAsk ask.now }
+    ensures { result ≡ chosen (S.terms store.now) (S.state store.now) m ask.now }
+{
+    match store.named_port(&ask.endpoint) {
+        Some(port) => judge_named(&store.terms(), ask, port),
+        None => pick_ports(store, m, ask),
+    }
+}
+
+/// A lease of these ports, unless it would have too many filters.
+fn grant_new(terms: &Terms, m: Moment, ask: &MapAsk, run: Picked) -> Decided
+    requires { run.count < 2 ^ 16 }
+    ensures { result ≡ (if has_excess [] ask.now then refused ExcessiveRemotePeers
+        else mapped terms.now m ask.now (new_lease terms.now m ask.now run)) }
+{
+    let Ok(filters) = fold_filters(&Filters::none(), ask.filters.items()) else {
+        return refused(Code::ExcessiveRemotePeers);
+    };
+    let lease = MapLease {
+        address: ask.endpoint.address,
+        protocol: ask.endpoint.protocol,
+        internal: ask.endpoint.port,
+        count: run.count as u16,
+        external: run.start,
+        nonce: ask.nonce,
+        granted: m,
+        expiry: m.get() + u64::from(granted_lifetime(terms, ask.lifetime)),
+        filters,
+    };
+    mapped(terms, m, ask, lease)
+}
+
+/// What is decided on a MAP request that no live lease covers, and that is no deletion.
+fn grant<S: LeaseStore>(store: &S, m: Moment, ask: &MapAsk) -> Decided
+    requires sound { IsReached (S.state store.now) }
+    requires reached { S.reached store.now ≡ m }
+    requires ask { IsMapAsk ask.now }
+    ensures { result ≡ granted_by (S.terms store.now) (S.state store.now) m ask.now
+        (chosen (S.terms store.now) (S.state store.now) m ask.now) }
+{
+    let run = match choose(store, m, ask) {
+        Ok(run) => run,
+        Err(code) => return refused(code),
+    };
+    if store.lease_count() as usize >= MOST_LEASES {
+        return refused(Code::NoResources);
+    }
+    grant_new(&store.terms(), m, ask, run)
+}
+
+/// What is decided on a MAP request that no live lease covers.
+fn decide_uncovered<S: LeaseStore>(store: &S, m: Moment, ask: &MapAsk) -> Decided
+    requires sound { IsReached (S.state store.now) }
+    requires reached { S.reached store.now ≡ m }
+    requires ask { IsMapAsk ask.now }
+    ensures { result ≡ uncovered (S.terms store.now) (S.state store.now) m ask.now
+        (named_port (S.state store.now).table m ask.now.endpoint) }
+{
+    if ask.lifetime == 0 {
+        return answered(Answer::Gone);
+    }
+    grant(store, m, ask)
+}
+
+/// What is decided on a MAP request at the moment reached.
+pub(crate) fn decide_map<S: LeaseStore>(store: &S, m: Moment, ask: &MapAsk) -> Decided
+    requires sound { IsReached (S.state store.now) }
+    requires reached { S.reached store.now ≡ m }
+    requires ask { IsMapAsk ask.now }
+    ensures { result ≡ decide_map (S.terms store.now) (S.state store.now) m ask.now }
+{
+    match store.covering(&ask.endpoint) {
+        Some(lease) => decide_covered(&store.terms(), m, ask, &lease),
+        None => decide_uncovered(store, m, ask),
+    }
+}
