@@ -1,9 +1,11 @@
 -- What decisions on MAP and PEER requests have in common (RFC 6887, section 15; lifetimes of
 -- refusals are our own).
-use Rattle.std.specs.Prelude.{ℕ, ◌-◌, ◌^◌, ◌==◌, ◌||◌, min, max, nat_le, Bool, true, bytes_eq, replicate, Some, None}
+use Rattle.std.specs.Prelude.{ℕ, ◌+◌, ◌-◌, ◌^◌, ◌==◌, ◌||◌, min, max, nat_le, Bool, true, bytes_eq, replicate, Some, None}
 use Rattle.pcp_base.specs.declared.addresses.Address.{Address}
 use Rattle.pcp_base.specs.declared.codes.Code.{Code}
-use Rattle.pcp_base.specs.declared.codes.Code.TheVariants.{NotAuthorized}
+use Rattle.pcp_base.specs.declared.codes.Code.TheVariants.{NotAuthorized, NoResources, UserExQuota, CannotProvideExternal}
+use Rattle.pcp_base.specs.declared.leases.Endpoint.{Endpoint}
+use Rattle.pcp_base.specs.declared.leases.MapLease.{MapLease}
 use Rattle.pcp_base.specs.declared.asks.Answer.{Answer}
 use Rattle.pcp_base.specs.declared.asks.Answer.TheVariants.{Refused, Gone}
 use Rattle.pcp_base.specs.declared.records.Change.{Change}
@@ -11,6 +13,8 @@ use Rattle.pcp_base.specs.Refusals.{parsed}
 use Rattle.pcp_base.specs.Tables.{Table, same_address}
 use Rattle.pcp_base.specs.Pairing.{v4_octets}
 use Rattle.pcp_base.specs.declared.leases.TheConstants.{MOST_LEASES}
+use Rattle.external_pool.specs.declared.asks.PickRefused.{PickRefused}
+use Rattle.external_pool.specs.declared.asks.PickRefused.TheVariants.{Quota, CannotProvide, NoPort}
 use Rattle.lease_store.specs.declared.terms.Terms.{Terms}
 use Rattle.lease_store.specs.Lookups.{lease_count}
 use Rattle.lease_core.specs.declared.decided.Decided.{Decided}
@@ -44,6 +48,16 @@ refused_until m expiry = answered (Refused (record {
 -- the lease is deleted
 abbrev pub gone : ℕ → Change → Decided
 gone m change = kept_at m Gone change
+
+-- the code for what a pool refuses
+abbrev pub code_of : PickRefused → Code
+code_of (Quota count) = UserExQuota
+code_of CannotProvide = CannotProvideExternal
+code_of NoPort = NoResources
+
+-- the external port that a MAP lease gives an endpoint that it covers
+abbrev pub port_within : Endpoint → MapLease → ℕ
+port_within e lease = lease.external + (e.port - lease.internal)
 
 -- whether there are as many live leases as there may be
 abbrev pub is_full : Table → ℕ → Bool

@@ -9,20 +9,14 @@ use Rattle.pcp_base.specs.States.{State}
 use Rattle.external_pool.specs.declared.asks.PickAsk.{PickAsk}
 use Rattle.external_pool.specs.declared.asks.Picked.{Picked}
 use Rattle.external_pool.specs.declared.asks.PickRefused.{PickRefused}
-use Rattle.external_pool.specs.declared.asks.PickRefused.TheVariants.{Quota, CannotProvide, NoPort}
 use Rattle.lease_store.specs.declared.terms.Terms.{Terms}
 use Rattle.lease_store.specs.Lookups.{named_port}
 use Rattle.lease_store.specs.Picks.{pick}
 use Rattle.lease_core.specs.declared.decided.Decided.{Decided}
-use Rattle.lease_core.specs.Answers.{refused, is_full, is_address_met}
+use Rattle.lease_core.specs.Answers.{code_of, refused, is_full, is_address_met}
 use Rattle.lease_core.specs.DecideMap.{size_asked, parity_asked, room_inside, room_for, is_wanted, has_excess, mapped, new_lease}
 
--- the code for what a pool refuses
-abbrev pub code_of : PickRefused → Code
-code_of (Quota count) = UserExQuota
-code_of CannotProvide = CannotProvideExternal
-code_of NoPort = NoResources
-
+-- the refusal of a pool by its code
 abbrev pub coded : Result Picked PickRefused → Result Picked Code
 coded (Ok run) = Ok run
 coded (Err cause) = Err (code_of cause)

@@ -20,7 +20,7 @@ use Rattle.lease_store.specs.declared.terms.Terms.{Terms}
 use Rattle.lease_store.specs.Lookups.{covering, named_port, next_inside}
 use Rattle.lease_store.specs.Picks.{pick}
 use Rattle.lease_core.specs.declared.decided.Decided.{Decided}
-use Rattle.lease_core.specs.Answers.{granted_lifetime, answered, kept_at, refused, refused_until, gone, is_port_met, is_address_met, is_full}
+use Rattle.lease_core.specs.Answers.{granted_lifetime, answered, kept_at, refused, refused_until, gone, is_port_met, is_address_met, is_full, port_within}
 
 -- ---- what is asked
 
@@ -68,16 +68,12 @@ is_wanted terms ask (Some run) = run.count == size_asked ask
 
 -- ---- what is told and kept of a lease
 
--- the external port of the endpoint itself
-abbrev pub own_port : MapAsk → MapLease → ℕ
-own_port ask lease = lease.external + (ask.endpoint.port - lease.internal)
-
 -- where the request has PORT_SET and the lease more than one port, the first external port is told,
 -- else that of the endpoint itself
 abbrev pub port_told_by : Option PortSet → MapAsk → MapLease → ℕ
-port_told_by None ask lease = own_port ask lease
+port_told_by None ask lease = port_within ask.endpoint lease
 port_told_by (Some set) ask lease =
-    if nat_lt 1 lease.count then lease.external else own_port ask lease
+    if nat_lt 1 lease.count then lease.external else port_within ask.endpoint lease
 
 abbrev pub port_told : MapAsk → MapLease → ℕ
 port_told ask lease = port_told_by ask.set ask lease

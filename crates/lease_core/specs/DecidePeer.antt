@@ -1,10 +1,9 @@
 -- What is decided on a PEER request (RFC 6887, sections 12.3 and 15; the choice of ports and the order
 -- of the cases are our own).
-use Rattle.std.specs.Prelude.{ℕ, ◌+◌, ◌-◌, ◌==◌, ◌&&◌, nat_le, not, bytes_eq, List, [], ◌∷◌, Option, Some, None, is_none, unwrap_or}
+use Rattle.std.specs.Prelude.{ℕ, ◌+◌, ◌==◌, ◌&&◌, nat_le, not, bytes_eq, List, [], ◌∷◌, Option, Some, None, is_none, unwrap_or}
 use Rattle.std.specs.Option.{option_map, option_or}
 use Rattle.pcp_base.specs.declared.leases.TheConstants.{MOST_PEERS}
 use Rattle.pcp_base.specs.declared.leases.Endpoint.{Endpoint}
-use Rattle.pcp_base.specs.declared.leases.MapLease.{MapLease}
 use Rattle.pcp_base.specs.declared.leases.PeerLease.{PeerLease}
 use Rattle.pcp_base.specs.declared.codes.Code.TheVariants.{NoResources, UserExQuota}
 use Rattle.pcp_base.specs.declared.asks.PeerAsk.{PeerAsk}
@@ -18,13 +17,9 @@ use Rattle.lease_store.specs.declared.terms.Terms.{Terms}
 use Rattle.lease_store.specs.Lookups.{covering, peering, named_port, peer_count}
 use Rattle.lease_store.specs.Picks.{pick}
 use Rattle.lease_core.specs.declared.decided.Decided.{Decided}
-use Rattle.lease_core.specs.Answers.{granted_lifetime, answered, kept_at, refused, refused_until, gone, is_full}
+use Rattle.lease_core.specs.Answers.{granted_lifetime, answered, kept_at, refused, refused_until, gone, is_full, port_within}
 
 -- ---- which port is given
-
--- the external port that a MAP lease gives an endpoint that it covers
-abbrev pub port_within : Endpoint → MapLease → ℕ
-port_within e lease = lease.external + (e.port - lease.internal)
 
 -- the external port that a live lease gives the endpoint
 abbrev pub given_port : Table → ℕ → Endpoint → Option ℕ

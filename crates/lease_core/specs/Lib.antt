@@ -1,5 +1,6 @@
 pub mod Answers
 pub mod Chosen
+pub mod ChosenPeer
 pub mod Decide
 pub mod DecideMap
 pub mod DecidePeer

@@ -1,11 +1,12 @@
 //! What decisions on MAP and PEER requests have in common.
-ghost use Rattle.std.specs.Prelude.{◌≡◌, ◌<◌, ◌≤◌, ◌^◌};
+ghost use Rattle.std.specs.Prelude.{◌≡◌, ◌<◌, ◌^◌};
 ghost use Rattle.lease_store.specs.LeaseTerms.{AreTerms};
-ghost use Rattle.lease_core.specs.Answers.{answered, gone, granted_lifetime, is_address_met, is_no_address, is_port_met, kept_at, refused, refused_until};
+ghost use Rattle.lease_core.specs.Answers.{answered, code_of, gone, granted_lifetime, is_address_met, is_no_address, is_port_met, kept_at, port_within, refused, refused_until};
 
 use crate::decided::Decided;
+use external_pool::PickRefused;
 use lease_store::Terms;
-use pcp_base::{Address, Answer, Change, Code, Moment, Record, Refusal};
+use pcp_base::{Address, Answer, Change, Code, Endpoint, MapLease, Moment, Record, Refusal};
 
 /// The seconds that are granted.
 pub(crate) fn granted_lifetime(terms: &Terms, asked: u32) -> u32
@@ -59,6 +60,25 @@ pub(crate) fn gone(m: Moment, change: Change) -> Decided
     ensures { result ≡ gone m change }
 {
     kept_at(m, Answer::Gone, change)
+}
+
+/// The external port that a lease gives an endpoint that it covers.
+pub(crate) fn port_within(endpoint: &Endpoint, lease: &MapLease) -> u16
+    requires { port_within endpoint.now lease.now < 2 ^ 16 }
+    ensures { result ≡ port_within endpoint.now lease.now }
+{
+    lease.external + endpoint.port.saturating_sub(lease.internal)
+}
+
+/// The code for what a pool refuses.
+pub(crate) fn code_of(refused: PickRefused) -> Code
+    ensures { result ≡ code_of refused }
+{
+    match refused {
+        PickRefused::Quota(_) => Code::UserExQuota,
+        PickRefused::CannotProvide => Code::CannotProvideExternal,
+        PickRefused::NoPort => Code::NoResources,
+    }
 }
 
 /// Whether an external port is the suggested one, where one is suggested.

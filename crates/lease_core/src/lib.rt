@@ -3,6 +3,9 @@
 
 mod answers;
 mod decided;
+mod deciding;
 mod mapping;
+mod peering;
 
 pub use decided::Decided;
+pub use deciding::decide;

@@ -8,41 +8,34 @@ ghost use Rattle.filter_rules.specs.Filters.{fold_filters as folded};
 ghost use Rattle.lease_store.specs.LeaseTerms.{AreTerms};
 ghost use Rattle.lease_store.specs.Lookups.{named_port};
 ghost use Rattle.pcp_base.specs.declared.codes.Code.TheVariants.{ExcessiveRemotePeers};
-ghost use Rattle.lease_core.specs.Answers.{is_address_met, is_port_met, refused};
-ghost use Rattle.lease_core.specs.DecideMap.{covered, decide_map, has_excess, is_wanted, mapped, new_lease, own_port, parity_of, port_told, renewed, room_inside, set_told, size_asked, uncovered, up_to_next};
-ghost use Rattle.lease_core.specs.Chosen.{chosen, chosen_by, code_of, granted_by, pick_ask};
+ghost use Rattle.lease_core.specs.Answers.{is_address_met, is_port_met, port_within, refused};
+ghost use Rattle.lease_core.specs.DecideMap.{covered, decide_map, has_excess, is_wanted, mapped, new_lease, parity_of, port_told, renewed, room_inside, set_told, size_asked, uncovered, up_to_next};
+ghost use Rattle.lease_core.specs.Chosen.{chosen, chosen_by, granted_by, pick_ask};
 
 use crate::answers::{
-    answered, gone, granted_lifetime, is_address_met, is_port_met, kept_at, refused, refused_until,
+    answered, code_of, gone, granted_lifetime, is_address_met, is_port_met, kept_at, port_within,
+    refused, refused_until,
 };
 use crate::decided::Decided;
-use external_pool::{PickAsk, PickRefused, Picked};
+use external_pool::{PickAsk, Picked};
 use filter_rules::fold_filters;
 use lease_store::{LeaseStore, Terms};
 use pcp_base::{
     Answer, Change, Code, Filters, MOST_LEASES, MOST_PORTS, MapAsk, MapLease, Moment, PortSet,
 };
 
-/// The external port of the endpoint itself.
-fn own_port(ask: &MapAsk, lease: &MapLease) -> u16
-    requires { own_port ask.now lease.now < 2 ^ 16 }
-    ensures { result ≡ own_port ask.now lease.now }
-{
-    lease.external + ask.endpoint.port.saturating_sub(lease.internal)
-}
-
 /// The external port that is told.
 fn port_told(ask: &MapAsk, lease: &MapLease) -> u16
-    requires { own_port ask.now lease.now < 2 ^ 16 }
+    requires { port_within ask.now.endpoint lease.now < 2 ^ 16 }
     ensures { result ≡ port_told ask.now lease.now }
 {
     match ask.set {
-        None => own_port(ask, lease),
+        None => port_within(&ask.endpoint, lease),
         Some(_set) => {
             if lease.count > 1 {
                 lease.external
             } else {
-                own_port(ask, lease)
+                port_within(&ask.endpoint, lease)
             }
         }
     }
@@ -66,7 +59,7 @@ fn set_told(asked: Option<PortSet>, lease: &MapLease) -> Option<PortSet>
 
 /// The lease is granted or renewed.
 fn mapped(terms: &Terms, m: Moment, ask: &MapAsk, lease: MapLease) -> Decided
-    requires { own_port ask.now lease < 2 ^ 16 }
+    requires { port_within ask.now.endpoint lease < 2 ^ 16 }
     ensures { result ≡ mapped terms.now m ask.now lease }
 {
     let answer = Answer::Mapped {
@@ -80,7 +73,7 @@ fn mapped(terms: &Terms, m: Moment, ask: &MapAsk, lease: MapLease) -> Decided
 
 /// Whether the port that would be told and the external address are the suggested ones.
 fn is_met(terms: &Terms, ask: &MapAsk, lease: &MapLease) -> bool
-    requires { own_port ask.now lease.now < 2 ^ 16 }
+    requires { port_within ask.now.endpoint lease.now < 2 ^ 16 }
     ensures { result ≡ (is_port_met ask.now.port (port_told ask.now lease.now)
         && is_address_met ask.now.address terms.now.external.address) }
 {
@@ -90,7 +83,7 @@ fn is_met(terms: &Terms, ask: &MapAsk, lease: &MapLease) -> bool
 
 /// The lease is renewed, unless it would have too many filters.
 fn renew(terms: &Terms, m: Moment, ask: &MapAsk, lease: &MapLease) -> Decided
-    requires { own_port ask.now lease.now < 2 ^ 16 }
+    requires { port_within ask.now.endpoint lease.now < 2 ^ 16 }
     ensures { result ≡ (if has_excess lease.now.filters ask.now then refused ExcessiveRemotePeers
         else mapped terms.now m ask.now (renewed terms.now m ask.now lease.now)) }
 {
@@ -107,7 +100,7 @@ fn renew(terms: &Terms, m: Moment, ask: &MapAsk, lease: &MapLease) -> Decided
 
 /// What is decided where this live lease covers the endpoint.
 fn decide_covered(terms: &Terms, m: Moment, ask: &MapAsk, lease: &MapLease) -> Decided
-    requires { own_port ask.now lease.now < 2 ^ 16 }
+    requires { port_within ask.now.endpoint lease.now < 2 ^ 16 }
     ensures { result ≡ covered terms.now m ask.now lease.now }
 {
     if lease.nonce != ask.nonce {
@@ -165,17 +158,6 @@ fn room_inside<S: LeaseStore>(store: &S, m: Moment, ask: &MapAsk) -> u32
         .min(u32::from(MOST_PORTS))
         .min(65536 - u32::from(internal));
     up_to_next(store.next_inside(&ask.endpoint), internal, room)
-}
-
-/// The code for what a pool refuses.
-fn code_of(refused: PickRefused) -> Code
-    ensures { result ≡ code_of refused }
-{
-    match refused {
-        PickRefused::Quota(_) => Code::UserExQuota,
-        PickRefused::CannotProvide => Code::CannotProvideExternal,
-        PickRefused::NoPort => Code::NoResources,
-    }
 }
 
 /// What a pool is asked for.
