@@ -3,3 +3,7 @@ pub mod MapCases
 pub mod RoomLemmas
 pub mod MapSteps
 pub mod PeerSteps
+pub mod FilterLaws
+pub mod OpenPorts
+pub mod Inside
+pub mod Deeds

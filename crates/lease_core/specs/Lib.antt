@@ -4,3 +4,4 @@ pub mod ChosenPeer
 pub mod Decide
 pub mod DecideMap
 pub mod DecidePeer
+pub mod Laws

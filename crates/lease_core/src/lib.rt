@@ -4,8 +4,10 @@
 mod answers;
 mod decided;
 mod deciding;
+mod laws;
 mod mapping;
 mod peering;
 
 pub use decided::Decided;
 pub use deciding::decide;
+pub use laws::{decisions_fit, decisions_keep_owners, nonces_match, rests_are_kept};
