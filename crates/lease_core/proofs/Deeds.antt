@@ -1,7 +1,7 @@
 -- What is kept of requests, by what was found.
-use Rattle.std.proofs.Common.{◌≡◌, ◌∙◌, ℕ, ◌+◌, ◌-◌, ◌<◌, ◌≤◌, Bool, true, false, List, [], ◌∷◌, Option, Some, None, if◌then◌else◌, refl, ap, sym, arith}
+use Rattle.std.proofs.Common.{◌≡◌, ℕ, Bool, true, false, List, [], Option, Some, None, if◌then◌else◌, refl, ap}
 use Rattle.std.specs.Prelude.{◌&&◌, ◌==◌, not, nat_le, is_none, unwrap_or, bytes_eq}
-use Rattle.std.proofs.lemmas.Bool.{cond_both, not-false}
+use Rattle.std.proofs.lemmas.Bool.{not-false}
 use Rattle.std.proofs.lemmas.Slice.Eq.{bytes_eq-Decides}
 use Rattle.pcp_base.specs.declared.addresses.Nonce.{Nonce}
 use Rattle.pcp_base.specs.declared.leases.TheConstants.{MOST_PEERS}

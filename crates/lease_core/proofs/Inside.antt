@@ -1,7 +1,7 @@
 -- Internal ports up to the next one in use.
-use Rattle.std.proofs.Common.{◌≡◌, ◌∙◌, ℕ, zero, suc, ◌+◌, ◌-◌, ◌<◌, ◌≤◌, Bool, true, false, List, [], ◌∷◌, Option, Some, None, find, refl, ap, sym, subst, arith, inl, inr}
-use Rattle.std.specs.Prelude.{◌⊎◌, ◌||◌, min, IfSome}
-use Rattle.std.specs.List.{AllByRecursion, list_any, range_with_len}
+use Rattle.std.proofs.Common.{◌≡◌, ℕ, zero, suc, ◌+◌, ◌-◌, ◌<◌, ◌≤◌, Bool, false, Option, Some, None, find, refl, subst, arith, inl, inr}
+use Rattle.std.specs.Prelude.{min}
+use Rattle.std.specs.List.{list_any, range_with_len}
 use Rattle.std.proofs.lemmas.Bool.{cond_both, cases_lt, or_parts}
 use Rattle.pcp_base.specs.declared.leases.Endpoint.{Endpoint}
 use Rattle.pcp_base.specs.declared.leases.MapLease.{MapLease}
@@ -12,7 +12,7 @@ use Rattle.pcp_base.specs.Asks.{IsMapAsk}
 use Rattle.pcp_base.specs.Tables.{Table, live, covers, names}
 use Rattle.pcp_base.specs.States.{State}
 use Rattle.pcp_base.proofs.Members.{All-IsIn, IsIn, any-none, find-none}
-use Rattle.lease_store.specs.Lookups.{covering, is_taken_inside, named_port, next_inside, with_port}
+use Rattle.lease_store.specs.Lookups.{is_taken_inside, next_inside, with_port}
 use Rattle.lease_core.specs.DecideMap.{room_inside, size_asked, up_to_next}
 use Rattle.lease_core.proofs.RoomLemmas.{room-few}
 

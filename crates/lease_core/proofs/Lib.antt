@@ -7,3 +7,7 @@ pub mod FilterLaws
 pub mod OpenPorts
 pub mod Inside
 pub mod Deeds
+pub mod Fresh
+pub mod MapFits
+pub mod PeerFits
+pub mod DecisionLaws

@@ -1,25 +1,23 @@
 -- What is known of open and of vacant ports.
-use Rattle.std.proofs.Common.{◌≡◌, ◌∙◌, ℕ, zero, suc, ◌+◌, ◌-◌, ◌<◌, ◌≤◌, Bool, true, false, List, [], ◌∷◌, Option, Some, None, refl, ap, sym, subst, arith}
-use Rattle.std.specs.Prelude.{◌&&◌, ◌||◌, ◌==◌, not, nat_le}
-use Rattle.std.specs.List.{AllByRecursion, list_all, list_any, range_with_len}
+use Rattle.std.proofs.Common.{◌≡◌, ◌∙◌, ℕ, zero, suc, ◌+◌, ◌<◌, ◌≤◌, Bool, true, false, Option, Some, refl, ap, sym, subst, arith}
+use Rattle.std.specs.Prelude.{◌&&◌, not, nat_le}
+use Rattle.std.specs.List.{list_all, range_with_len}
 use Rattle.std.proofs.lemmas.Bool.{and_parts, and_from, not-true, leb-true, eq-eqb}
-use Rattle.pcp_base.specs.declared.leases.Protocol.{Protocol}
 use Rattle.pcp_base.specs.declared.leases.Endpoint.{Endpoint}
-use Rattle.pcp_base.specs.declared.leases.End.{End}
 use Rattle.pcp_base.specs.Protocols.{protocol_number}
-use Rattle.pcp_base.specs.Tables.{Table, live, same_endpoint}
+use Rattle.pcp_base.specs.Tables.{live, same_endpoint}
 use Rattle.pcp_base.specs.Owners.{owners, is_owned}
 use Rattle.pcp_base.specs.Ends.{is_end_of, resting, rests, rests_for}
 use Rattle.pcp_base.specs.States.{State}
-use Rattle.pcp_base.proofs.Members.{All-IsIn, All-weaker, any-none, none-any, IsIn}
+use Rattle.pcp_base.proofs.Members.{All-IsIn, All-weaker, any-none, none-any}
 use Rattle.pcp_base.proofs.Same.{same_endpoint-Decides}
 use Rattle.pcp_base.proofs.RestLaws.{rests_for-some}
 use Rattle.external_pool.specs.PortUses.{is_in_range}
 use Rattle.external_pool.specs.declared.asks.Picked.{Picked}
 use Rattle.lease_store.specs.declared.terms.Terms.{Terms}
 use Rattle.lease_store.specs.Lookups.{with_port}
-use Rattle.lease_store.specs.Picks.{goes_back, has_parity, is_open_at, is_open_from, is_unowned_at, is_vacant_at, is_vacant_run, pick, rests_for_another, run_of}
-use Rattle.lease_core.proofs.PickLemmas.{IsRun, IsPicked, back, vacant, pick-picked}
+use Rattle.lease_store.specs.Picks.{has_parity, is_open_at, is_open_from, is_unowned_at, is_vacant_at, pick, rests_for_another}
+use Rattle.lease_core.proofs.PickLemmas.{back, vacant, pick-picked}
 
 pub all-range : (p : ℕ → Bool) (a n i : ℕ) → list_all p (range_with_len a n) ≡ true → i < n → p (a + i) ≡ true
 all-range p a zero i h below = absurd (omega arith)

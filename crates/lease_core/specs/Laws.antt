@@ -70,7 +70,7 @@ ports_given change = []
 
 -- no port that rests for one endpoint is given to another
 abbrev pub RestsAreKept : Type 0
-RestsAreKept = (terms : Terms) (s : State) (m : ℕ) (ask : Ask) → IsReached s →
+RestsAreKept = (terms : Terms) (s : State) (m : ℕ) (ask : Ask) → MayDecide terms s m ask →
     IfSome (decide terms s m ask).kept (λ r.
     (o : Owner) (e : Endpoint) → Contains (ports_given r.change) o → e.protocol ≡ o.protocol →
     rests_for s m o.external e ≡ true → e ≡ o.endpoint)

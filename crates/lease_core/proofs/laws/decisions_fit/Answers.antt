@@ -1,0 +1,5 @@
+use Rattle.lease_core.proofs.DecisionLaws.{decisions-fit}
+use Rattle.lease_core.proofs.laws.decisions_fit.Goals as goal
+
+pub returns : goal.returns
+returns c terms s m ask may = decisions-fit terms s m ask may
