@@ -2,12 +2,14 @@
 #![tactic(auto)]
 
 mod answers;
+mod cores;
 mod decided;
 mod deciding;
 mod laws;
 mod mapping;
 mod peering;
 
+pub use cores::LeaseCore;
 pub use decided::Decided;
 pub use deciding::decide;
 pub use laws::{decisions_fit, decisions_keep_owners, nonces_match, rests_are_kept};
