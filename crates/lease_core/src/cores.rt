@@ -160,43 +160,47 @@ impl<S: LeaseStore> LeaseCore<S> {
 impl<S: LeaseStore> Replay for LeaseCore<S> {
     ghost state = { S.state };
 
-    ghost replaying = { S.replaying };
+    ghost replaying = { λ core. S.replaying core × (S.reached core ≡ (S.state core).last) };
 
-    ghost replaying_first = { S.replaying_first };
+    ghost replaying_first = {
+        λ core. S.replaying_first core × (S.reached core ≡ (S.state core).last)
+    };
 
     fn clear(&mut self)
         ensures empty { S.state self.new ≡ empty_state }
         ensures reached { S.reached self.new ≡ 0 }
         ensures terms { S.terms self.new ≡ S.terms self.old }
-        ensures ready { S.replaying self.new }
-        ensures ready_first { S.replaying_first self.new }
+        ensures ready { S.replaying self.new × (S.reached self.new ≡ (S.state self.new).last) }
+        ensures ready_first {
+            S.replaying_first self.new × (S.reached self.new ≡ (S.state self.new).last)
+        }
     {
         self.store.clear();
     }
 
     fn admit(&mut self, alloc: Global, kept: &Record) -> Result<bool, Memory>
-        requires { S.replaying self.old }
+        requires { S.replaying self.old × (S.reached self.old ≡ (S.state self.old).last) }
         ensures fits { result ≡ Ok true → Fits (S.state self.old) kept.now }
         ensures applied { result ≡ Ok true → S.state self.new ≡ apply (S.state self.old) kept.now }
         ensures refused { result ≡ Ok false → ¬ (Fits (S.state self.old) kept.now) }
         ensures unchanged { result ≡ Ok false → S.state self.new ≡ S.state self.old }
-        ensures reached { OnOk result (S.reached self.new ≡ (S.state self.new).last) }
         ensures terms { S.terms self.new ≡ S.terms self.old }
-        ensures ready { OnOk result (S.replaying self.new) }
+        ensures ready { OnOk result
+            (S.replaying self.new × (S.reached self.new ≡ (S.state self.new).last)) }
     {
         self.store.admit(alloc, kept)
     }
 
     fn admit_first(&mut self, alloc: Global, kept: &Record) -> Result<bool, Memory>
-        requires { S.replaying_first self.old }
+        requires { S.replaying_first self.old × (S.reached self.old ≡ (S.state self.old).last) }
         ensures fits { result ≡ Ok true → FitsFirst (S.state self.old) kept.now }
         ensures applied { result ≡ Ok true →
             S.state self.new ≡ apply_first (S.state self.old) kept.now }
         ensures refused { result ≡ Ok false → ¬ (FitsFirst (S.state self.old) kept.now) }
         ensures unchanged { result ≡ Ok false → S.state self.new ≡ S.state self.old }
-        ensures reached { OnOk result (S.reached self.new ≡ (S.state self.new).last) }
         ensures terms { S.terms self.new ≡ S.terms self.old }
-        ensures ready { OnOk result (S.replaying_first self.new) }
+        ensures ready { OnOk result
+            (S.replaying_first self.new × (S.reached self.new ≡ (S.state self.new).last)) }
     {
         self.store.admit_first(alloc, kept)
     }
