@@ -11,3 +11,4 @@ pub mod Fresh
 pub mod MapFits
 pub mod PeerFits
 pub mod DecisionLaws
+pub mod DecideFacts
