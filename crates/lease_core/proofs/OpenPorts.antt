@@ -94,19 +94,19 @@ pub picked-open : (terms : Terms) (s : State) (m : ℕ) (e : Endpoint) (suggeste
 picked-open terms s m e suggested parity room run h i below =
     elim (pick-picked terms s m e suggested parity room run h) [
       | back suggests goes same ↦ (
-        let count : room ≡ run.count = ap (λ (r : Picked). r.count) same in
-        let start : suggested ≡ run.start = ap (λ (r : Picked). r.start) same in
-        let both = and_parts (has_parity parity suggested) (list_all (is_open_from terms s m e suggested) (range_with_len 0 room)) goes in
-        let zero_less : 0 + i ≡ i = omega arith in
-        let at = subst (λ k. is_open_from terms s m e suggested k ≡ true) zero_less
-        (all-range (is_open_from terms s m e suggested) 0 room i both.1 (omega arith)) in
-        open-port terms s m (with_port e (e.port + i)) (run.start + i)
-        (subst (λ n. is_open_at terms s m (with_port e (e.port + i)) (n + i) ≡ true) start at))
+          let count : room ≡ run.count = ap (λ (r : Picked). r.count) same in
+          let start : suggested ≡ run.start = ap (λ (r : Picked). r.start) same in
+          let both = and_parts (has_parity parity suggested) (list_all (is_open_from terms s m e suggested) (range_with_len 0 room)) goes in
+          let zero_less : 0 + i ≡ i = omega arith in
+          let at = subst (λ k. is_open_from terms s m e suggested k ≡ true) zero_less
+          (all-range (is_open_from terms s m e suggested) 0 room i both.1 (omega arith)) in
+          open-port terms s m (with_port e (e.port + i)) (run.start + i)
+          (subst (λ n. is_open_at terms s m (with_port e (e.port + i)) (n + i) ≡ true) start at))
       | vacant r ↦ (
-        let both = and_parts (has_parity parity run.start) (list_all (is_vacant_at terms s m e.protocol) (range_with_len run.start run.count)) r.vacant in
-        open-port terms s m (with_port e (e.port + i)) (run.start + i)
-        (vacant-open terms s m (with_port e (e.port + i)) (run.start + i)
-        (all-range (is_vacant_at terms s m e.protocol) run.start run.count i both.1 below)))
+          let both = and_parts (has_parity parity run.start) (list_all (is_vacant_at terms s m e.protocol) (range_with_len run.start run.count)) r.vacant in
+          open-port terms s m (with_port e (e.port + i)) (run.start + i)
+          (vacant-open terms s m (with_port e (e.port + i)) (run.start + i)
+          (all-range (is_vacant_at terms s m e.protocol) run.start run.count i both.1 below)))
     ]
 
 -- and there is one at least

@@ -58,6 +58,14 @@ room-few s m ask formed =
     let below : ask.endpoint.port ≤ 65535 = formed.internal.below in
     (omega arith, omega arith)
 
+-- one port has room
+pub room-one : (s : State) (m : ℕ) (ask : MapAsk) → IsMapAsk ask → size_asked ask ≡ 1 → 1 ≡ room_inside s m ask
+room-one s m ask formed one =
+    let some = room-some s m ask formed in
+    let few : room_inside s m ask ≤ min (size_asked ask) (min MOST_PORTS (65536 - ask.endpoint.port)) =
+    up_to-few (next_inside s.table m ask.endpoint) ask.endpoint.port
+    (min (size_asked ask) (min MOST_PORTS (65536 - ask.endpoint.port))) in omega arith
+
 pub may_ask : (terms : Terms) (s : State) (m : ℕ) (ask : MapAsk) → IsMapAsk ask → IsAsk (pick_ask terms s m ask)
 may_ask terms s m ask formed = record {
   room = room-some s m ask formed;

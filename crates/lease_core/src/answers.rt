@@ -1,5 +1,5 @@
 //! What decisions on MAP and PEER requests have in common.
-ghost use Rattle.std.specs.Prelude.{◌≡◌, ◌<◌, ◌^◌};
+ghost use Rattle.std.specs.Prelude.{◌≡◌, ◌+◌, ◌<◌, ◌^◌};
 ghost use Rattle.lease_store.specs.LeaseTerms.{AreTerms};
 ghost use Rattle.lease_core.specs.Answers.{answered, code_of, gone, granted_lifetime, is_address_met, is_no_address, is_port_met, kept_at, port_within, refused, refused_until};
 
@@ -13,6 +13,13 @@ pub(crate) fn granted_lifetime(terms: &Terms, asked: u32) -> u32
     ensures { result ≡ granted_lifetime terms.now asked }
 {
     asked.max(terms.lifetime_min).min(terms.lifetime_max)
+}
+
+/// When a lease ends that is granted or renewed at `m` for as many seconds as are granted.
+pub(crate) fn expiry_of(terms: &Terms, m: Moment, asked: u32) -> u64
+    ensures { result ≡ m + granted_lifetime terms.now asked }
+{
+    m.get() + u64::from(granted_lifetime(terms, asked))
 }
 
 /// An answer without a record.

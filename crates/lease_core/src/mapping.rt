@@ -13,8 +13,8 @@ ghost use Rattle.lease_core.specs.DecideMap.{covered, decide_map, has_excess, is
 ghost use Rattle.lease_core.specs.Chosen.{chosen, chosen_by, granted_by, pick_ask};
 
 use crate::answers::{
-    answered, code_of, gone, granted_lifetime, is_address_met, is_port_met, kept_at, port_within,
-    refused, refused_until,
+    answered, code_of, expiry_of, gone, granted_lifetime, is_address_met, is_port_met, kept_at,
+    port_within, refused, refused_until,
 };
 use crate::decided::Decided;
 use external_pool::{PickAsk, Picked};
@@ -46,15 +46,14 @@ fn set_told(asked: Option<PortSet>, lease: &MapLease) -> Option<PortSet>
     ensures { result ≡ set_told asked lease.now }
 {
     let set = asked?;
-    if lease.count > 1 {
-        Some(PortSet {
-            size: lease.count,
-            first: lease.internal,
-            parity: set.parity,
-        })
-    } else {
-        None
+    if lease.count <= 1 {
+        return None;
     }
+    Some(PortSet {
+        size: lease.count,
+        first: lease.internal,
+        parity: set.parity,
+    })
 }
 
 /// The lease is granted or renewed.
@@ -91,7 +90,7 @@ fn renew(terms: &Terms, m: Moment, ask: &MapAsk, lease: &MapLease) -> Decided
         return refused(Code::ExcessiveRemotePeers);
     };
     let renewed = MapLease {
-        expiry: m.get() + u64::from(granted_lifetime(terms, ask.lifetime)),
+        expiry: expiry_of(terms, m, ask.lifetime),
         filters,
         ..*lease
     };
@@ -151,10 +150,15 @@ fn up_to_next(next: Option<u16>, internal: u16, room: u32) -> u32
 fn room_inside<S: LeaseStore>(store: &S, m: Moment, ask: &MapAsk) -> u32
     requires sound { IsReached (S.state store.now) }
     requires reached { S.reached store.now ≡ m }
+    requires ask { IsMapAsk ask.now }
     ensures { result ≡ room_inside (S.state store.now) m ask.now }
 {
     let internal = ask.endpoint.port;
-    let room = size_asked(ask)
+    let size = size_asked(ask);
+    if size == 1 {
+        return 1;
+    }
+    let room = size
         .min(u32::from(MOST_PORTS))
         .min(65536 - u32::from(internal));
     up_to_next(store.next_inside(&ask.endpoint), internal, room)
@@ -164,6 +168,7 @@ fn room_inside<S: LeaseStore>(store: &S, m: Moment, ask: &MapAsk) -> u32
 fn pick_ask<S: LeaseStore>(store: &S, m: Moment, ask: &MapAsk) -> PickAsk
     requires sound { IsReached (S.state store.now) }
     requires reached { S.reached store.now ≡ m }
+    requires ask { IsMapAsk ask.now }
     ensures { result ≡ pick_ask (S.terms store.now) (S.state store.now) m ask.now }
 {
     let address = store.terms().external.address;
@@ -244,7 +249,7 @@ fn grant_new(terms: &Terms, m: Moment, ask: &MapAsk, run: Picked) -> Decided
         external: run.start,
         nonce: ask.nonce,
         granted: m,
-        expiry: m.get() + u64::from(granted_lifetime(terms, ask.lifetime)),
+        expiry: expiry_of(terms, m, ask.lifetime),
         filters,
     };
     mapped(terms, m, ask, lease)

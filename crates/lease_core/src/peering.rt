@@ -7,7 +7,8 @@ ghost use Rattle.lease_core.specs.DecidePeer.{decide_peer, given_port, known, ne
 ghost use Rattle.lease_core.specs.ChosenPeer.{picked_port, port_chosen, port_granted_by};
 
 use crate::answers::{
-    answered, code_of, gone, granted_lifetime, kept_at, port_within, refused, refused_until,
+    answered, code_of, expiry_of, gone, granted_lifetime, kept_at, port_within, refused,
+    refused_until,
 };
 use crate::decided::Decided;
 use external_pool::PickAsk;
@@ -42,7 +43,7 @@ fn decide_known(terms: &Terms, m: Moment, ask: &PeerAsk, lease: &PeerLease) -> D
         );
     }
     let renewed = PeerLease {
-        expiry: m.get() + u64::from(granted_lifetime(terms, ask.lifetime)),
+        expiry: expiry_of(terms, m, ask.lifetime),
         ..*lease
     };
     peered(terms, m, ask, renewed)
@@ -59,7 +60,7 @@ fn grant_port(terms: &Terms, m: Moment, ask: &PeerAsk, port: u16) -> Decided
         remote_port: ask.remote_port,
         nonce: ask.nonce,
         granted: m,
-        expiry: m.get() + u64::from(granted_lifetime(terms, ask.lifetime)),
+        expiry: expiry_of(terms, m, ask.lifetime),
     };
     peered(terms, m, ask, lease)
 }
