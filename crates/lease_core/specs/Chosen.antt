@@ -1,4 +1,4 @@
--- How ports are chosen for a MAP request that no live lease covers (our own; for private contracts).
+-- How ports are chosen for a MAP request that no live lease covers (for private contracts alone).
 use Rattle.std.specs.Prelude.{ℕ, ◌&&◌, nat_le, not, [], Option, Some, None, Result, Ok, Err, if◌then◌else◌}
 use Rattle.std.specs.Option.{ok_or}
 use Rattle.pcp_base.specs.declared.codes.Code.{Code}

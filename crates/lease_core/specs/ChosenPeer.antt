@@ -29,7 +29,9 @@ port_ask ask = record {
 abbrev pub picked_port : Terms → State → ℕ → PeerAsk → Result ℕ Code
 picked_port terms s m ask =
     if nat_le terms.quota (owned s.table m ask.endpoint.address) then Err UserExQuota
-    else ok_or (option_map (λ run. run.start) (pick terms s m ask.endpoint ask.port None 1)) NoResources
+    else ok_or
+    (option_map (λ run. run.start) (pick terms s m ask.endpoint ask.port None 1))
+    NoResources
 
 abbrev pub port_chosen_by : Option ℕ → Terms → State → ℕ → PeerAsk → Result ℕ Code
 port_chosen_by (Some port) terms s m ask = Ok port

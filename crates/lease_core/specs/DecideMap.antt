@@ -1,5 +1,5 @@
--- What is decided on a MAP request (RFC 6887, sections 11.3, 13 and 15; sets of ports: RFC 7753; the
--- choice of ports and the order of the cases are our own).
+-- What is decided on a MAP request (RFC 6887, sections 11.3, 13 and 15; sets of ports: RFC 7753;
+-- the choice of ports and the order of the cases are our own).
 use Rattle.std.specs.Prelude.{ℕ, ◌+◌, ◌-◌, ◌%◌, ◌==◌, ◌&&◌, nat_le, nat_lt, min, not, Bool, false, bytes_eq, List, [], ◌∷◌, length, Option, Some, None, is_none, unwrap_or, if◌then◌else◌}
 use Rattle.std.specs.Option.{option_map_or}
 use Rattle.pcp_base.specs.declared.leases.TheConstants.{MOST_PORTS, MOST_FILTERS}

@@ -1,5 +1,5 @@
--- What is decided on a PEER request (RFC 6887, sections 12.3 and 15; the choice of ports and the order
--- of the cases are our own).
+-- What is decided on a PEER request (RFC 6887, sections 12.3 and 15; the choice of ports and the
+-- order of the cases are our own).
 use Rattle.std.specs.Prelude.{ℕ, ◌+◌, ◌==◌, ◌&&◌, nat_le, not, bytes_eq, List, [], ◌∷◌, Option, Some, None, is_none, unwrap_or}
 use Rattle.std.specs.Option.{option_map, option_or}
 use Rattle.pcp_base.specs.declared.leases.TheConstants.{MOST_PEERS}

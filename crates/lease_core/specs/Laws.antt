@@ -19,8 +19,8 @@ use Rattle.lease_store.specs.declared.terms.Terms.{Terms}
 use Rattle.lease_store.specs.LeaseTerms.{AreTerms}
 use Rattle.lease_core.specs.Decide.{decide}
 
--- a well formed ask, at a moment that isn't below the last one, in a state that fitting records made of
--- which the first was a Start
+-- a well formed ask, at a moment that isn't below the last one, in a state that fitting records
+-- made, of which the first was a Start
 pub record MayDecide (terms : Terms) (s : State) (m : ℕ) (ask : Ask) : Type 0 where
   pub allowed : AreTerms terms
   pub reached : IsReached s

@@ -162,14 +162,16 @@ impl<S: LeaseStore> Replay for LeaseCore<S> {
 
     ghost replaying = { λ core. S.replaying core × (S.reached core ≡ (S.state core).last) };
 
-    ghost replaying_first = { λ core. S.replaying_first core × (S.reached core ≡ (S.state core).last) };
+    ghost replaying_first = { λ core. S.replaying_first core
+        × (S.reached core ≡ (S.state core).last) };
 
     fn clear(&mut self)
         ensures empty { S.state self.new ≡ empty_state }
         ensures reached { S.reached self.new ≡ 0 }
         ensures terms { S.terms self.new ≡ S.terms self.old }
         ensures ready { S.replaying self.new × (S.reached self.new ≡ (S.state self.new).last) }
-        ensures ready_first { S.replaying_first self.new × (S.reached self.new ≡ (S.state self.new).last) }
+        ensures ready_first { S.replaying_first self.new
+            × (S.reached self.new ≡ (S.state self.new).last) }
     {
         self.store.clear();
     }

@@ -42,8 +42,8 @@ abbrev pub is_taken_inside : Table → ℕ → Endpoint → ℕ → Bool
 is_taken_inside t m e port = list_any (λ l. covers l (with_port e port)) (live t m).maps
     || list_any (λ l. names l (with_port e port)) (live t m).peers
 
--- the next greater internal port, of the endpoint's address and protocol, that a live lease covers or
--- names
+-- the next greater internal port, of the endpoint's address and protocol, that a live lease covers
+-- or names
 unfoldable pub next_inside : Table → ℕ → Endpoint → Option ℕ
 next_inside t m e = find (is_taken_inside t m e) (range_with_len (e.port + 1) (65535 - e.port))
 
@@ -51,15 +51,15 @@ next_inside t m e = find (is_taken_inside t m e) (range_with_len (e.port + 1) (6
 abbrev pub is_with : Address → ℕ → PeerLease → Bool
 is_with remote remote_port l = same_address l.remote remote && l.remote_port == remote_port
 
--- owned ports through which this remote peer may send: those of MAP leases whose filters allow it, and
--- those of PEER leases with exactly this remote
+-- owned ports through which this remote peer may send: those of MAP leases whose filters allow it,
+-- and those of PEER leases with exactly this remote
 abbrev pub owners_for : Table → Address → ℕ → List Owner
 owners_for t remote remote_port =
     flat_map map_owners (filter (λ l. allows l.filters remote remote_port) t.maps)
     ++ map peer_owner (filter (is_with remote remote_port) t.peers)
 
--- The endpoint to which a remote peer may send through this port, by the live leases; a moment before
--- the last one counts as that.
+-- The endpoint to which a remote peer may send through this port, by the live leases; a moment
+-- before the last one counts as that.
 abbrev pub look : State → Protocol → ℕ → Address → ℕ → ℕ → Option Endpoint
 look s protocol port remote remote_port m = option_map (λ o. o.endpoint)
     (find (is_port protocol port) (owners_for (live s.table (max m s.last)) remote remote_port))

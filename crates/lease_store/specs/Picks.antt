@@ -32,8 +32,8 @@ abbrev pub rests_for_another : State → ℕ → ℕ → Endpoint → Bool
 rests_for_another s m port e =
     list_any (λ x. is_end_of e.protocol port x && not (same_endpoint x.endpoint e)) (resting s m)
 
--- A port is open to an endpoint where it is in the range, no live lease owns it, and it rests for no
--- other endpoint.
+-- A port is open to an endpoint where it is in the range, no live lease owns it, and it rests for
+-- no other endpoint.
 abbrev pub is_open_at : Terms → State → ℕ → Endpoint → ℕ → Bool
 is_open_at terms s m e port =
     is_unowned_at terms s m e.protocol port && not (rests_for_another s m port e)
@@ -47,8 +47,8 @@ has_parity (Some remainder) n = n % 2 == remainder
 abbrev pub is_open_from : Terms → State → ℕ → Endpoint → ℕ → ℕ → Bool
 is_open_from terms s m e start i = is_open_at terms s m (with_port e (e.port + i)) (start + i)
 
--- each of the n ports from start on is open to the endpoint that it would be given to, and start meets
--- the parity asked
+-- each of the n ports from start on is open to the endpoint that it would be given to, and start
+-- meets the parity asked
 abbrev pub goes_back : Terms → State → ℕ → Endpoint → Option ℕ → ℕ → ℕ → Bool
 goes_back terms s m e parity start n = has_parity parity start
     && list_all (is_open_from terms s m e start) (range_with_len 0 n)
@@ -66,8 +66,8 @@ first_vacant terms s m protocol parity n = find (is_vacant_run terms s m protoco
 abbrev pub run_of : ℕ → ℕ → Picked
 run_of count start = record { start = start; count = count }
 
--- the greatest number of ports, from 1 to room, that are vacant in a row from some start that meets the
--- parity asked, and the least such start
+-- the greatest number of ports, from 1 to room, that are vacant in a row from some start that meets
+-- the parity asked, and the least such start
 abbrev pub longest_run : Terms → State → ℕ → Protocol → Option ℕ → ℕ → Option Picked
 longest_run terms s m protocol parity zero = None
 longest_run terms s m protocol parity (suc n) = option_or
@@ -86,8 +86,8 @@ abbrev pub pick_for : Terms → State → ℕ → Endpoint → PickAsk → Optio
 pick_for terms s m e ask = pick terms s m e ask.suggested ask.parity
     (min ask.room (terms.quota - owned s.table m e.address))
 
--- What is answered to an ask for ports, of which the first would go to the endpoint: an address that
--- owns its quota gets none, and any other the pick.
+-- What is answered to an ask for ports, of which the first would go to the endpoint: an address
+-- that owns its quota gets none, and any other the pick.
 abbrev pub pick_answer : Terms → State → ℕ → Endpoint → PickAsk → Result Picked PickRefused
 pick_answer terms s m e ask =
     if nat_le terms.quota (owned s.table m e.address) then Err (Quota (owned s.table m e.address))
