@@ -1,0 +1,4 @@
+pub mod Anys
+pub mod PortLemmas
+pub mod RestLemmas
+pub mod LookLemmas

@@ -1,0 +1,2 @@
+pub mod OwnedPorts
+pub mod RecentEnds

@@ -1,0 +1,9 @@
+//! A plain, slow store of the state that records made: a [`PlainReplay`](plain_replay::PlainReplay),
+//! whose lists are searched. Faster bodies of [`LeaseStore`](lease_store::LeaseStore) are compared with
+//! it.
+#![tactic(auto)]
+
+mod lookups;
+mod owned;
+mod rests;
+
