@@ -1,5 +1,5 @@
 -- Whether one of a list passes, where the list is made of another.
-use Rattle.std.proofs.Common.{◌≡◌, Bool, true, false, cond, ◌&&◌, ◌||◌, List, [], ◌∷◌, ◌++◌, map, flat_map, filter, refl, ap, ◌∙◌}
+use Rattle.std.proofs.Common.{◌≡◌, Bool, true, false, cond, ◌&&◌, ◌||◌, List, [], ◌∷◌, map, flat_map, filter, refl, ap, ◌∙◌}
 use Rattle.std.specs.List.{list_any}
 use Rattle.std.proofs.lemmas.List.Folds.{list_any-append}
 
@@ -24,7 +24,6 @@ either_kept p false x xs rest h = h
 pub any-filter : {X : Type 0} (p q : X → Bool) (xs : List X) → list_any p (filter q xs) ≡ list_any (λ x. q x && p x) xs
 any-filter p q [] = refl
 any-filter p q (x ∷ xs) = either_kept p (q x) x (filter q xs) (list_any (λ y. q y && p y) xs) (any-filter p q xs)
-
 
 none_any : {X : Type 0} (xs : List X) → list_any (λ x. false) xs ≡ false
 none_any [] = refl

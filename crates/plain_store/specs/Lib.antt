@@ -1,2 +1,4 @@
 pub mod OwnedPorts
 pub mod RecentEnds
+pub mod AddressPorts
+pub mod Stores

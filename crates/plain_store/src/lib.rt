@@ -3,7 +3,12 @@
 //! it.
 #![tactic(auto)]
 
+mod counts;
 mod lookups;
+mod order;
 mod owned;
+mod picks;
 mod rests;
+mod store;
 
+pub use store::PlainStore;

@@ -63,16 +63,24 @@ pub(crate) fn named_port(replay: &PlainReplay, m: Moment, endpoint: &Endpoint) -
     naming(replay.peers(), m, endpoint).map(|lease| lease.external)
 }
 
-/// How many live PEER leases name the endpoint.
-pub(crate) fn peer_count(replay: &PlainReplay, m: Moment, endpoint: &Endpoint) -> usize
-    ensures value { result ≡ peer_count replay.now.table m endpoint.now }
+fn naming_count(peers: &[PeerLease], m: Moment, endpoint: &Endpoint) -> usize
+    ensures value { result ≡
+        count_by (λ l. names l endpoint.now) (filter (λ l. nat_lt m l.expiry) peers.now) }
+    ensures few { result ≤ length peers.now }
 {
-    replay
-        .peers()
+    peers
         .iter()
         .filter(|lease| lease.is_live(m))
         .filter(|lease| lease.endpoint == *endpoint)
         .count()
+}
+
+/// How many live PEER leases name the endpoint.
+pub(crate) fn peer_count(replay: &PlainReplay, m: Moment, endpoint: &Endpoint) -> u32
+    requires { IsReached replay.now }
+    ensures { result ≡ peer_count replay.now.table m endpoint.now }
+{
+    naming_count(replay.peers(), m, endpoint) as u32
 }
 
 fn live_maps(maps: &[MapLease], m: Moment) -> usize
@@ -88,10 +96,11 @@ fn live_peers(peers: &[PeerLease], m: Moment) -> usize
 }
 
 /// How many leases are live, MAP and PEER together.
-pub(crate) fn lease_count(replay: &PlainReplay, m: Moment) -> usize
+pub(crate) fn lease_count(replay: &PlainReplay, m: Moment) -> u32
+    requires { IsReached replay.now }
     ensures { result ≡ lease_count replay.now.table m }
 {
-    live_maps(replay.maps(), m) + live_peers(replay.peers(), m)
+    live_maps(replay.maps(), m) as u32 + live_peers(replay.peers(), m) as u32
 }
 
 fn is_covered(maps: &[MapLease], m: Moment, endpoint: &Endpoint) -> bool
@@ -244,8 +253,14 @@ fn look_at(
     ensures { result ≡ option_map (λ o. o.endpoint) (find (is_port protocol port)
         (owners_for (live replay.now.table m) remote.now remote_port)) }
 {
-    behind_map(replay.maps(), m, protocol, port, remote, remote_port)
-        .or(behind_peer(replay.peers(), m, protocol, port, remote, remote_port))
+    behind_map(replay.maps(), m, protocol, port, remote, remote_port).or(behind_peer(
+        replay.peers(),
+        m,
+        protocol,
+        port,
+        remote,
+        remote_port,
+    ))
 }
 
 /// The endpoint to which a remote peer may send through this port. A moment below the last one counts
@@ -261,5 +276,12 @@ pub(crate) fn look(
     requires { IsReached replay.now }
     ensures { result ≡ look replay.now protocol port remote.now remote_port m }
 {
-    look_at(replay, protocol, port, remote, remote_port, later(m, replay.last()))
+    look_at(
+        replay,
+        protocol,
+        port,
+        remote,
+        remote_port,
+        later(m, replay.last()),
+    )
 }

@@ -8,9 +8,7 @@ ghost use Rattle.lease_store.specs.Picks.{rests_for_another};
 ghost use Rattle.plain_store.specs.RecentEnds as recent;
 
 use crate::owned::{is_map_owner, is_owned, is_peer_owner};
-use pcp_base::{
-    Address, End, Endpoint, MapLease, Moment, PeerLease, Protocol, REST_SECONDS,
-};
+use pcp_base::{Address, End, Endpoint, MapLease, Moment, PeerLease, Protocol, REST_SECONDS};
 use plain_replay::PlainReplay;
 
 /// Whether it ended less than 120 seconds before `m`, and not after it.
@@ -44,7 +42,8 @@ fn end_leaves(rest: &End, m: Moment, protocol: Protocol, port: u32) -> bool
 fn maps_leave(maps: &[MapLease], m: Moment, protocol: Protocol, port: u32) -> bool
     ensures { result ≡ list_any (recent.map_leaves m protocol port) maps.now }
 {
-    maps.iter().any(|lease| map_leaves(lease, m, protocol, port))
+    maps.iter()
+        .any(|lease| map_leaves(lease, m, protocol, port))
 }
 
 fn peers_leave(peers: &[PeerLease], m: Moment, protocol: Protocol, port: u32) -> bool
@@ -162,8 +161,7 @@ fn maps_leave_another(
     ensures { result ≡ list_any
         (recent.map_leaves_another m port (with_port other.now internal)) maps.now }
 {
-    maps.iter()
-        .any(|lease| map_leaves_another(lease, m, port, other, internal))
+    maps.iter().any(|lease| map_leaves_another(lease, m, port, other, internal))
 }
 
 fn peers_leave_another(
@@ -176,18 +174,10 @@ fn peers_leave_another(
     ensures { result ≡ list_any
         (recent.peer_leaves_another m port (with_port other.now internal)) peers.now }
 {
-    peers
-        .iter()
-        .any(|lease| peer_leaves_another(lease, m, port, other, internal))
+    peers.iter().any(|lease| peer_leaves_another(lease, m, port, other, internal))
 }
 
-fn ends_leave_another(
-    ends: &[End],
-    m: Moment,
-    port: u32,
-    other: &Endpoint,
-    internal: u32,
-) -> bool
+fn ends_leave_another(ends: &[End], m: Moment, port: u32, other: &Endpoint, internal: u32) -> bool
     ensures { result ≡ list_any
         (recent.end_leaves_another m port (with_port other.now internal)) ends.now }
 {

@@ -1,4 +1,4 @@
-use Rattle.std.proofs.Common.{◌≡◌, ◌∙◌, sym, filter, find, nat_lt, Bool, Some}
+use Rattle.std.proofs.Common.{sym, filter, nat_lt, Bool}
 use Rattle.pcp_base.specs.declared.leases.MapLease.{MapLease}
 use Rattle.pcp_base.specs.Tables.{IsMapLease}
 use Rattle.pcp_base.proofs.Members.{All-filter, All-IsIn, find-some}

@@ -1,6 +1,5 @@
-use Rattle.std.proofs.Common.{sym, ap, ◌∙◌, filter, nat_lt, Bool}
+use Rattle.std.proofs.Common.{sym, ◌∙◌}
 use Rattle.pcp_base.specs.Tables.{live}
-use Rattle.pcp_base.specs.declared.leases.MapLease.{MapLease}
 use Rattle.plain_store.proofs.PortLemmas.{owned_of_either}
 use Rattle.plain_store.proofs.owned.is_owned.Goals as goal
 

@@ -1,4 +1,4 @@
-use Rattle.std.proofs.Common.{sym, ap, ◌∙◌}
+use Rattle.std.proofs.Common.{sym}
 use Rattle.plain_store.proofs.RestLemmas.{rests_is, where_left, where_not_left}
 use Rattle.plain_store.proofs.rests.rests.Goals as goal
 

@@ -1,4 +1,4 @@
-use Rattle.std.proofs.Common.{sym, ap, ◌∙◌}
+use Rattle.std.proofs.Common.{sym}
 use Rattle.lease_store.specs.Lookups.{with_port}
 use Rattle.plain_store.proofs.RestLemmas.{rests_for_another_is, where_left, where_not_left}
 use Rattle.plain_store.proofs.rests.rests_for_another.Goals as goal
