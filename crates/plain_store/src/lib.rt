@@ -1,6 +1,6 @@
-//! A plain, slow store of the state that records made: a [`PlainReplay`](plain_replay::PlainReplay),
-//! whose lists are searched. Faster bodies of [`LeaseStore`](lease_store::LeaseStore) are compared with
-//! it.
+//! A plain, slow store of the state that records made: a
+//! [`PlainReplay`](plain_replay::PlainReplay), whose lists are searched. Faster bodies of
+//! [`LeaseStore`](lease_store::LeaseStore) are compared with it.
 #![tactic(auto)]
 
 mod counts;
@@ -10,5 +10,7 @@ mod owned;
 mod picks;
 mod rests;
 mod store;
+#[cfg(test)]
+mod tests;
 
 pub use store::PlainStore;

@@ -263,8 +263,8 @@ fn look_at(
     ))
 }
 
-/// The endpoint to which a remote peer may send through this port. A moment below the last one counts
-/// as that.
+/// The endpoint to which a remote peer may send through this port. A moment below the last one
+/// counts as that.
 pub(crate) fn look(
     replay: &PlainReplay,
     protocol: Protocol,

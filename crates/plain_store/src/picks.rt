@@ -175,8 +175,8 @@ impl PlainStore {
         Some(Picked { start, count: n })
     }
 
-    /// The greatest number of ports, from 1 to `room`, that are vacant in a row from some start that
-    /// meets the parity asked, and the least such start.
+    /// The greatest number of ports, from 1 to `room`, that are vacant in a row from some start
+    /// that meets the parity asked, and the least such start.
     fn longest_run(&self, protocol: Protocol, parity: Option<u8>, room: u32) -> Option<Picked>
         requires { room ≤ MOST_QUOTA }
         ensures { result ≡ picks.longest_run self.now.terms self.now.state self.now.reached

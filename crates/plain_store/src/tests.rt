@@ -1,0 +1,416 @@
+//! A store that some records made, and what it tells at moments that come later.
+ghost use Rattle.std.specs.Prelude.{◌≡◌, OnOk, IfOk};
+ghost use Rattle.pcp_base.specs.Reached.{IsReached, IsReachedFirst};
+ghost use Rattle.lease_store.specs.LeaseTerms.{AreTerms};
+
+use super::PlainStore;
+use PickRefused::{CannotProvide, Quota};
+use Protocol::{Tcp, Udp};
+use external_pool::{PickAsk, PickRefused, Picked};
+use lease_store::{LeaseStore, Terms};
+use pcp_base::{
+    Address, Change, Endpoint, External, Filter, Filters, MapLease, Moment, Nonce, PeerLease,
+    Protocol, Record,
+};
+use std::alloc::Global;
+use std::test::*;
+
+/// A change of the host 10.0.0.H.
+#[derive(Clone, Copy, Debug)]
+enum Act {
+    Start,
+    /// 192.0.2.1
+    Renumber,
+    /// Protocol, host, internal port, how many ports, external port, moment granted, expiry.
+    Map(Protocol, u8, u16, u16, u16, u64, u64),
+    /// The same, where 198.51.100.7 alone may send, from port 443.
+    Filtered(Protocol, u8, u16, u16, u16, u64, u64),
+    /// Host, internal port, external port, the last number of the remote address 198.51.100.N,
+    /// moment granted, expiry. The remote port is 443.
+    Peer(u8, u16, u16, u8, u64, u64),
+    /// Host, internal port.
+    DropMap(u8, u16),
+}
+
+static RECORDS: [(u64, Act); 10] = [
+    (1000, Act::Start),
+    (1000, Act::Renumber),
+    (1010, Act::Filtered(Udp, 5, 5000, 2, 1024, 1010, 1130)),
+    // A second lease of an endpoint has its port.
+    (1015, Act::Peer(5, 5000, 1024, 9, 1015, 1135)),
+    (1020, Act::Peer(6, 6000, 1026, 7, 1020, 1200)),
+    // A renewal changes the expiry.
+    (1030, Act::Filtered(Udp, 5, 5000, 2, 1024, 1010, 1140)),
+    (1040, Act::Map(Udp, 7, 7000, 1, 1028, 1040, 1500)),
+    (1045, Act::Map(Tcp, 10, 7000, 1, 1027, 1045, 1500)),
+    (1050, Act::DropMap(7, 7000)),
+    // This host owns its quota, outside the range.
+    (1055, Act::Map(Udp, 9, 9000, 4, 2000, 1055, 1300)),
+];
+
+/// The moment, host, internal port, suggestion, room, parity, whether nothing else will do, and the
+/// answer. The range is 1024 to 1031, the quota 4.
+struct Ask(
+    u64,
+    u8,
+    u16,
+    u16,
+    u32,
+    Option<u8>,
+    bool,
+    Result<(u16, u32), PickRefused>,
+);
+
+static ASKS: [Ask; 19] = [
+    // 1024 to 1026 are owned, and 1028 rests for the port 7000 of host 7.
+    Ask(1060, 8, 8000, 0, 1, None, false, Ok((1027, 1))),
+    Ask(1060, 8, 8000, 0, 2, None, false, Ok((1029, 2))),
+    Ask(1060, 8, 8000, 0, 4, None, false, Ok((1029, 3))),
+    Ask(1060, 8, 8000, 0, 4, Some(0), false, Ok((1030, 2))),
+    Ask(1060, 8, 8000, 1028, 1, None, false, Ok((1027, 1))),
+    Ask(1060, 7, 7000, 1028, 1, None, false, Ok((1028, 1))),
+    Ask(1060, 7, 7001, 1028, 1, None, false, Ok((1027, 1))),
+    Ask(1060, 8, 8000, 1030, 1, Some(1), false, Ok((1027, 1))),
+    Ask(1060, 8, 8000, 1024, 1, None, true, Err(CannotProvide)),
+    // Host 5 owns two ports by two leases, and host 9 four.
+    Ask(1060, 5, 5100, 0, 4, None, false, Ok((1029, 2))),
+    Ask(1060, 9, 9100, 0, 1, None, false, Err(Quota(4))),
+    // The leases of host 5 ended at 1140: its ports rest for their endpoints.
+    Ask(1140, 8, 8000, 0, 8, None, false, Ok((1029, 3))),
+    Ask(1140, 5, 5000, 1024, 2, None, false, Ok((1024, 2))),
+    Ask(1140, 5, 5001, 1024, 1, None, false, Ok((1027, 1))),
+    // At 1260 the rest is over; 1026 ended at 1200.
+    Ask(1259, 8, 8000, 1025, 1, None, false, Ok((1027, 1))),
+    Ask(1260, 8, 8000, 1025, 1, None, false, Ok((1025, 1))),
+    Ask(1260, 8, 8000, 0, 8, None, false, Ok((1027, 4))),
+    Ask(1299, 9, 9000, 2000, 1, None, false, Err(Quota(4))),
+    // Outside the range nothing is given.
+    Ask(1300, 9, 9000, 2000, 1, None, false, Ok((1024, 1))),
+];
+
+/// The moment, protocol, external port, the last number of the remote address, and the host and
+/// internal port.
+struct Sight(u64, Protocol, u16, u8, Option<(u8, u16)>);
+
+static SIGHTS: [Sight; 8] = [
+    Sight(1060, Udp, 1024, 7, Some((5, 5000))),
+    Sight(1060, Udp, 1025, 7, Some((5, 5001))),
+    // A filter, and a remote that only the PEER lease has.
+    Sight(1060, Udp, 1025, 9, None),
+    Sight(1060, Udp, 1024, 9, Some((5, 5000))),
+    Sight(1060, Tcp, 1024, 7, None),
+    Sight(1060, Udp, 1026, 8, None),
+    Sight(1140, Udp, 1024, 7, None),
+    // A moment before the last one.
+    Sight(0, Udp, 2003, 1, Some((9, 9003))),
+];
+
+/// Protocol, external port, host and internal port, in order.
+static OWNERS: [(Protocol, u16, u8, u16); 8] = [
+    (Tcp, 1027, 10, 7000),
+    (Udp, 1024, 5, 5000),
+    (Udp, 1025, 5, 5001),
+    (Udp, 1026, 6, 6000),
+    (Udp, 2000, 9, 9000),
+    (Udp, 2001, 9, 9001),
+    (Udp, 2002, 9, 9002),
+    (Udp, 2003, 9, 9003),
+];
+
+fn terms() -> Terms
+    ensures { AreTerms result }
+{
+    Terms {
+        external: External {
+            address: Address::v4(192, 0, 2, 1),
+            low: 1024,
+            high: 1031,
+        },
+        quota: 4,
+        lifetime_min: 120,
+        lifetime_max: 86_400,
+    }
+}
+
+fn moment(seconds: u64) -> Result<Moment, Fail> {
+    Ok(Moment::of(seconds).ok_or("no moment")?)
+}
+
+fn remote(number: u8) -> Address {
+    Address::v4(198, 51, 100, number)
+}
+
+fn endpoint(protocol: Protocol, host: u8, port: u16) -> Endpoint {
+    Endpoint {
+        address: Address::v4(10, 0, 0, host),
+        protocol,
+        port,
+    }
+}
+
+fn map(
+    first: Endpoint,
+    count: u16,
+    external: u16,
+    granted: Moment,
+    expiry: u64,
+    filters: Filters,
+) -> MapLease {
+    MapLease {
+        address: first.address,
+        protocol: first.protocol,
+        internal: first.port,
+        count,
+        external,
+        nonce: Nonce([7; 12]),
+        granted,
+        expiry,
+        filters,
+    }
+}
+
+fn one_filter() -> Filters {
+    let mut filters = Filters::none();
+    let _has_room = filters.push(Filter {
+        prefix: 128,
+        port: 443,
+        remote: remote(7),
+    });
+    filters
+}
+
+fn change(act: Act) -> Result<Change, Fail> {
+    Ok(match act {
+        Act::Start => Change::Start,
+        Act::Renumber => Change::Renumber(Address::v4(192, 0, 2, 1)),
+        Act::Map(protocol, host, port, count, external, at, expiry) => Change::Map(map(
+            endpoint(protocol, host, port),
+            count,
+            external,
+            moment(at)?,
+            expiry,
+            Filters::none(),
+        )),
+        Act::Filtered(protocol, host, port, count, external, at, expiry) => Change::Map(map(
+            endpoint(protocol, host, port),
+            count,
+            external,
+            moment(at)?,
+            expiry,
+            one_filter(),
+        )),
+        Act::Peer(host, port, external, number, at, expiry) => Change::Peer(PeerLease {
+            endpoint: endpoint(Udp, host, port),
+            external,
+            remote: remote(number),
+            remote_port: 443,
+            nonce: Nonce([7; 12]),
+            granted: moment(at)?,
+            expiry,
+        }),
+        Act::DropMap(host, port) => Change::DropMap(endpoint(Udp, host, port)),
+    })
+}
+
+/// Applies a record, where the other store, which stands for the same, admits it.
+fn applies(
+    alloc: Global,
+    store: &mut PlainStore,
+    other: &mut PlainStore,
+    row: &(u64, Act),
+) -> Result<bool, Fail>
+    requires reached { IsReached store.old.state }
+    requires same { other.old.state ≡ store.old.state }
+    requires moment { store.old.reached ≡ store.old.state.last }
+    ensures reached { OnOk result (IsReached store.new.state) }
+    ensures same { OnOk result (other.new.state ≡ store.new.state) }
+    ensures moment { OnOk result (store.new.reached ≡ store.new.state.last) }
+{
+    let kept = Record {
+        moment: moment(row.0)?,
+        change: change(row.1)?,
+    };
+    if kept.moment.get() < store.last().get() {
+        return Ok(false);
+    }
+    if !other.admit(alloc, &kept)? {
+        return Ok(false);
+    }
+    store.apply(alloc, &kept)?;
+    Ok(true)
+}
+
+/// Whether the record is admitted by the rules of the first format.
+fn admits_first(alloc: Global, store: &mut PlainStore, row: &(u64, Act)) -> Result<bool, Fail>
+    requires { IsReachedFirst store.old.state }
+    ensures { OnOk result (IsReachedFirst store.new.state) }
+{
+    let kept = Record {
+        moment: moment(row.0)?,
+        change: change(row.1)?,
+    };
+    Ok(store.admit_first(alloc, &kept)?)
+}
+
+/// The store that these records made.
+fn made(alloc: Global, rows: &[(u64, Act)]) -> Result<PlainStore, Fail>
+    ensures reached { IfOk result (λ s. IsReached s.state) }
+    ensures moment { IfOk result (λ s. s.reached ≡ s.state.last) }
+{
+    let mut store = PlainStore::new(alloc, terms())?;
+    let mut other = PlainStore::new(alloc, terms())?;
+    for row in rows {
+        if !applies(alloc, &mut store, &mut other, row)? {
+            return Err("a record doesn't fit".into());
+        }
+    }
+    Ok(store)
+}
+
+/// Whether the ask is answered so.
+fn is_answered(store: &PlainStore, ask: &Ask) -> bool
+    requires { IsReached store.now.state }
+{
+    if ask.4 == 0 {
+        return false;
+    }
+    let first = endpoint(Udp, ask.1, ask.2);
+    let picked = store.pick(
+        &first,
+        &PickAsk {
+            internal: first.port,
+            suggested: ask.3,
+            asked: ask.4,
+            room: ask.4,
+            parity: ask.5,
+            must: ask.6,
+            here: true,
+        },
+    );
+    picked == ask.7.map(|(start, count)| Picked { start, count })
+}
+
+/// The first ask that is answered otherwise.
+fn first_other(store: &mut PlainStore, asks: &[Ask]) -> Result<Option<usize>, Fail>
+    requires reached { IsReached store.old.state }
+    requires moment { store.old.reached ≡ store.old.state.last }
+    ensures { OnOk result (IsReached store.new.state) }
+{
+    let mut now = store.last();
+    for (i, ask) in asks.iter().enumerate() {
+        let m = moment(ask.0)?;
+        if m.get() < now.get() {
+            return Ok(Some(i));
+        }
+        store.reach(m);
+        now = m;
+        if !is_answered(store, ask) {
+            return Ok(Some(i));
+        }
+    }
+    Ok(None)
+}
+
+/// The first remote peer that sees something else.
+fn first_unseen(store: &PlainStore, sights: &[Sight]) -> Result<Option<usize>, Fail>
+    requires { IsReached store.now.state }
+{
+    for (i, sight) in sights.iter().enumerate() {
+        let m = moment(sight.0)?;
+        let seen = store.look(sight.1, sight.2, &remote(sight.3), 443, m);
+        if seen != sight.4.map(|(host, port)| endpoint(Udp, host, port)) {
+            return Ok(Some(i));
+        }
+    }
+    Ok(None)
+}
+
+/// Whether the leases are found that cover and name these endpoints.
+fn finds_leases(store: &PlainStore) -> bool
+    requires { IsReached store.now.state }
+{
+    let (first, second) = (endpoint(Udp, 5, 5000), endpoint(Udp, 5, 5001));
+    let other = endpoint(Udp, 6, 6000);
+    store.covering(&second).map(|lease| lease.external) == Some(1024)
+        && store.covering(&endpoint(Udp, 5, 5002)) == None
+        && store
+            .peering(&other, &remote(7), 443)
+            .map(|lease| lease.external)
+            == Some(1026)
+        && store.peering(&other, &remote(8), 443) == None
+        && store.named_port(&first) == Some(1024)
+        && store.named_port(&second) == None
+        && store.peer_count(&first) == 1
+        && store.peer_count(&second) == 0
+}
+
+/// Whether the ports inside and the leases are told and counted.
+fn tells_leases(store: &PlainStore) -> Result<bool, Fail>
+    requires { IsReached store.now.state }
+{
+    let first = endpoint(Udp, 5, 5000);
+    let (live, over) = (moment(1139)?, moment(1140)?);
+    Ok(
+        store.next_inside(&endpoint(Udp, 5, 4000)) == Some(5000)
+            && store.next_inside(&first) == Some(5001)
+            && store.next_inside(&endpoint(Udp, 5, 5001)) == None
+            && store.covered(&first, live)
+            && !store.covered(&first, over)
+            && store.lease_count() == 5
+            && store.leases(over) == 3,
+    )
+}
+
+/// Whether the lists are those of the records.
+fn tells_lists(alloc: Global, store: &PlainStore) -> Result<bool, Fail>
+    requires { IsReached store.now.state }
+{
+    let over = moment(1140)?;
+    let maps = store.maps(alloc, over)?;
+    let peers = store.peers(alloc, over)?;
+    let ends = store.ends(alloc)?;
+    Ok(
+        maps.iter().map(|lease| lease.external).eq([1027, 2000])
+            && peers.iter().map(|lease| lease.external).eq([1026])
+            && ends.iter().map(|rest| rest.external).eq([1028]),
+    )
+}
+
+/// Whether the owned ports stand in their order.
+fn tells_owners(alloc: Global, store: &PlainStore) -> Result<bool, Fail>
+    requires { IsReached store.now.state }
+{
+    let owners = store.owners(alloc, moment(1060)?)?;
+    Ok(
+        owners.len() == OWNERS.len()
+            && owners.iter().zip(&OWNERS).all(|(owner, want)| {
+                owner.protocol == want.0
+                    && owner.external == want.1
+                    && owner.endpoint == endpoint(want.0, want.2, want.3)
+            }),
+    )
+}
+
+#[test]
+fn tells_the_state(rt: HostRuntime) -> Result<(), Fail> {
+    let mut store = made(rt.alloc(), &RECORDS)?;
+    assert!(rt; finds_leases(&store) && tells_leases(&store)?);
+    assert!(rt; tells_lists(rt.alloc(), &store)? && tells_owners(rt.alloc(), &store)?);
+    assert!(rt; store.base().get() == 1000 && store.last().get() == 1055);
+    assert!(rt; store.address() == Some(Address::v4(192, 0, 2, 1)) && store.terms() == terms());
+    store.clear();
+    assert!(rt; store.lease_count() == 0 && store.last().get() == 0);
+    let fits = admits_first(rt.alloc(), &mut store, &(5, Act::Start))?;
+    assert!(rt; fits && store.base().get() == 5);
+    let fits = admits_first(rt.alloc(), &mut store, &(5, Act::Renumber))?;
+    assert!(rt; !fits && store.address() == None);
+    Ok(())
+}
+
+#[test]
+fn answers_by_the_state(rt: HostRuntime) -> Result<(), Fail> {
+    let mut store = made(rt.alloc(), &RECORDS)?;
+    assert!(rt; first_unseen(&store, &SIGHTS)? == None);
+    assert!(rt; first_other(&mut store, &ASKS)? == None);
+    Ok(())
+}
