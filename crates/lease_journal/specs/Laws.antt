@@ -37,7 +37,8 @@ BlankIsWhole = (a b : List ℕ) → IsBlank a b → ¬ (IsDamaged a b)
 -- octet 5 of a side tells its format
 abbrev pub OctetsTellFormats : Type 0
 OctetsTellFormats = (f : Format) (parity : ℕ) (octets : List ℕ) (g : ℕ)
-    (batches : List (List Record)) → IsOpenSide f parity octets g batches → get_or octets 5 0 ≡ format_octet f
+    (batches : List (List Record)) → IsOpenSide f parity octets g batches →
+    get_or octets 5 0 ≡ format_octet f
 
 -- a side of the first format has a next generation
 abbrev pub FirstHasNext : Type 0

@@ -18,8 +18,8 @@ head_text format generation =
 abbrev pub side_text : Format → ℕ → List (List Record) → List ℕ
 side_text format generation batches = head_text format generation ++ frames_text batches
 
--- What an open side in the grammar may hold. Side a has even generations (parity 0), side b odd ones
--- (1).
+-- What an open side in the grammar may hold. Side a has even generations (parity 0), side b odd
+-- ones (1).
 pub record AreBatches (format : Format) (parity generation : ℕ)
     (batches : List (List Record)) : Type 0 where
   pub width : generation < 2 ^ 64

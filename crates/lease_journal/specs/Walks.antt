@@ -26,7 +26,8 @@ pub record IsReadBatch (format : Format) (s now : State) (octets : List ℕ) : T
 -- no batch that fits has these octets
 abbrev pub IsNoBatch : Format → State → List ℕ → Type 0
 IsNoBatch format s octets =
-    (batch : List Record) → IsBatch batch → AllFitBy format s batch → ¬ (octets ≡ records_text batch)
+    (batch : List Record) → IsBatch batch → AllFitBy format s batch →
+    ¬ (octets ≡ records_text batch)
 
 abbrev pub BatchMeans : Format → (s now : State) → List ℕ → Bool → Type 0
 BatchMeans format s now octets true = IsReadBatch format s now octets

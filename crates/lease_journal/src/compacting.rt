@@ -24,15 +24,16 @@ fn retire_side<D: LeaseDisk>(pair: &mut DiskPair<D>, side: Side) -> Result<(), F
     ensures settled { D.tells → (standing : Standing) (s : State)
         → IsSettledBy D.seen D.may_leave (other side) standing pair.old s
         → OnOk result (IsSettledBy D.seen D.may_leave (other side) standing pair.new s) }
-    ensures cut { D.tells → OnOk result (of_side side (D.seen pair.new.a) (D.seen pair.new.b) ≡ 0 ∷ []) }
+    ensures cut { D.tells → OnOk result
+        (of_side side (D.seen pair.new.a) (D.seen pair.new.b) ≡ 0 ∷ []) }
     ensures cause { PairHasCause D.faults pair.old pair.new (IsErr result) }
 {
     write_side(pair, side, 0, &[0])?;
     cut_side(pair, side, 1)
 }
 
-/// Writes the other side, behind its gate this text, and opens it; then shuts the side that counted.
-/// Says how many octets the other side has then.
+/// Writes the other side, behind its gate this text, and opens it; then shuts the side that
+/// counted. Says how many octets the other side has then.
 pub(crate) fn take_over<D: LeaseDisk>(
     pair: &mut DiskPair<D>,
     side: Side,
@@ -53,7 +54,8 @@ pub(crate) fn take_over<D: LeaseDisk>(
           end = length text.now;
           length = size;
         }) pair.new s) }
-    ensures cut { D.tells → OnOk result (of_side side (D.seen pair.new.a) (D.seen pair.new.b) ≡ 0 ∷ []) }
+    ensures cut { D.tells → OnOk result
+        (of_side side (D.seen pair.new.a) (D.seen pair.new.b) ≡ 0 ∷ []) }
     ensures most { IfOk result (λ size. size ≤ 2 ^ 62) }
     ensures within { OnOk result (length text.now < 2 ^ 62) }
     ensures cause { PairHasCause D.faults pair.old pair.new (IsErr result) }

@@ -62,15 +62,16 @@ impl<D: LeaseDisk> Journal<D> {
     ghost use Rattle.lease_journal.specs.Writes.{of_side, other};
 
     /// Appends 1 to [`MOST_RECORDS`] well formed records that fit, in one frame, to a journal of
-    /// format 2. At each moment a crash leaves all of them or none; from `Ok` on all. After `Memory`
-    /// nothing has changed; after `Disk` the journal is to be read `again`.
+    /// format 2. At each moment a crash leaves all of them or none; from `Ok` on all. After
+    /// `Memory` nothing has changed; after `Disk` the journal is to be read `again`.
     pub fn append(&mut self, alloc: Global, batch: &[Record]) -> Result<(), JournalFault>
         requires some { 1 ≤ length batch.now }
         requires few { length batch.now ≤ MOST_RECORDS }
         requires formed { AllByRecursion IsWellFormedRecord batch.now }
         requires read { self.old.unread ≡ false }
         requires second { self.old.standing.format ≡ Second }
-        requires fit { D.tells → (s : State) → IsSettled D.seen D.may_leave self.old s → AllFit s batch.now }
+        requires fit { D.tells → (s : State) → IsSettled D.seen D.may_leave self.old s
+            → AllFit s batch.now }
         ensures moments { D.tells → (s : State) → IsSettled D.seen D.may_leave self.old s
             → PairLeavesOnly D.moment D.left_since D.may_leave self.old.pair self.new.pair
             (StandsForWithOrWithout s batch.now) }
@@ -79,7 +80,8 @@ impl<D: LeaseDisk> Journal<D> {
         ensures read_now { OnOk result (self.new.unread ≡ false) }
         ensures side { OnOk result (self.new.side ≡ self.old.side) }
         ensures format { OnOk result (self.new.standing.format ≡ self.old.standing.format) }
-        ensures generation { OnOk result (self.new.standing.generation ≡ self.old.standing.generation) }
+        ensures generation { OnOk result
+            (self.new.standing.generation ≡ self.old.standing.generation) }
         ensures first_length { OnOk result (self.new.first_length ≡ self.old.first_length) }
         ensures memory { result ≡ Err Memory → self.new ≡ self.old }
         ensures doubt { result ≡ Err Disk → self.new.unread ≡ true }
@@ -116,7 +118,8 @@ impl<D: LeaseDisk> Journal<D> {
             (λ refused. Opens D.seen D.moment D.left_since D.may_leave m pair refused.pair
             ⊎ LeavesOld D.moment D.left_since D.may_leave pair refused.pair) }
         ensures ready { IfOk result (λ opened. opened.0.unread ≡ false) }
-        ensures first_length { IfOk result (λ opened. opened.0.first_length ≡ opened.0.standing.length) }
+        ensures first_length { IfOk result
+            (λ opened. opened.0.first_length ≡ opened.0.standing.length) }
         ensures later { IfOk result (λ opened. PairHasCause D.faults pair opened.0.pair ⊥) }
         ensures cause { IfErr result
             (λ refused. PairHasCause D.faults pair refused.pair (refused.fault ≡ Disk)) }
@@ -147,8 +150,10 @@ impl<D: LeaseDisk> Journal<D> {
         ensures found { D.tells → IfOk result
             (FoundMeans m (D.seen self.old.pair.a) (D.seen self.old.pair.b)
             (R.state replay.new)) }
-        ensures started { IfOk result (HasStarted m self.new.side self.new.standing (R.state replay.new)) }
-        ensures settled { D.tells → OnOk result (IsSettled D.seen D.may_leave self.new (R.state replay.new)) }
+        ensures started { IfOk result
+            (HasStarted m self.new.side self.new.standing (R.state replay.new)) }
+        ensures settled { D.tells → OnOk result
+            (IsSettled D.seen D.may_leave self.new (R.state replay.new)) }
         ensures opens { D.tells → OnOk result
             (Opens D.seen D.moment D.left_since D.may_leave m self.old.pair self.new.pair) }
         ensures moments { D.tells
@@ -214,7 +219,8 @@ impl<D: LeaseDisk> Journal<D> {
         ensures ready { OnOk result (self.new.unread ≡ false) }
         ensures side { OnOk result (self.new.side ≡ other self.old.side) }
         ensures format { OnOk result (self.new.standing.format ≡ Second) }
-        ensures generation { OnOk result (self.new.standing.generation ≡ self.old.standing.generation + 1) }
+        ensures generation { OnOk result
+            (self.new.standing.generation ≡ self.old.standing.generation + 1) }
         ensures first_length { OnOk result (self.new.first_length ≡ self.new.standing.length) }
         ensures cut { D.tells → (s : State) → IsSettled D.seen D.may_leave self.old s
             → OnOk result

@@ -10,8 +10,8 @@ pub fn one_journal()
     ensures apart { BlankIsWhole }
 {}
 
-/// Octet 5 of a side tells its format. One of the first format has a next generation, and stands for
-/// a state with no ends and no address.
+/// Octet 5 of a side tells its format. One of the first format has a next generation, and stands
+/// for a state with no ends and no address.
 pub fn formats_differ()
     ensures octet { OctetsTellFormats }
     ensures next { FirstHasNext }

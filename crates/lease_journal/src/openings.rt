@@ -330,7 +330,8 @@ pub(crate) fn open<D: LeaseDisk, R: Replay>(
         (λ opened. IsSettledBy D.seen D.may_leave opened.side opened.standing pair.new
         (R.state replay.new)) }
     ensures reach { IfOk result (λ opened. IsInReach opened.standing) }
-    ensures opens { D.tells → OnOk result (Opens D.seen D.moment D.left_since D.may_leave m pair.old pair.new) }
+    ensures opens { D.tells → OnOk result
+        (Opens D.seen D.moment D.left_since D.may_leave m pair.old pair.new) }
     ensures moments { D.tells
         → Opens D.seen D.moment D.left_since D.may_leave m pair.old pair.new
         ⊎ LeavesOld D.moment D.left_since D.may_leave pair.old pair.new }

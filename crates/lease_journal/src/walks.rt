@@ -111,7 +111,8 @@ fn admit<R: Replay>(
 ) -> Result<bool, Memory>
     requires { IsReplaying format R.replaying R.replaying_first replay.old }
     ensures fits { result ≡ Ok true → FitsBy format (R.state replay.old) entry.now }
-    ensures applied { result ≡ Ok true → R.state replay.new ≡ apply_by format (R.state replay.old) entry.now }
+    ensures applied { result ≡ Ok true
+        → R.state replay.new ≡ apply_by format (R.state replay.old) entry.now }
     ensures refused { result ≡ Ok false → ¬ (FitsBy format (R.state replay.old) entry.now) }
     ensures ready { OnOk result (IsReplaying format R.replaying R.replaying_first replay.new) }
 {
@@ -130,7 +131,8 @@ fn read_batch<R: Replay>(
     replay: &mut R,
 ) -> Result<bool, Memory>
     requires { IsReplaying format R.replaying R.replaying_first replay.old }
-    ensures means { IfOk result (BatchMeans format (R.state replay.old) (R.state replay.new) octets.now) }
+    ensures means { IfOk result
+        (BatchMeans format (R.state replay.old) (R.state replay.new) octets.now) }
     ensures ready { OnOk result (IsReplaying format R.replaying R.replaying_first replay.new) }
 {
     let mut at = 0;
@@ -159,7 +161,8 @@ fn walk_frame<R: Replay>(
     replay: &mut R,
 ) -> Result<Turn, Memory>
     requires { IsReplaying format R.replaying R.replaying_first replay.old }
-    ensures means { IfOk result (TurnMeans format (R.state replay.old) (R.state replay.new) octets.now) }
+    ensures means { IfOk result
+        (TurnMeans format (R.state replay.old) (R.state replay.new) octets.now) }
     ensures ready { OnOk result (IsReplaying format R.replaying R.replaying_first replay.new) }
 {
     let [gate, rest @ ..] = octets else {

@@ -16,7 +16,8 @@ fn write_durably<D: LeaseDisk>(disk: &mut D, place: u64, piece: &[u8]) -> Result
     ensures moments { Only (D.seen disk.old) (D.may_leave disk.old)
         → LeavesOnly D.moment D.left_since disk.old disk.new
         (Torn place (length piece.now) (D.seen disk.old)) }
-    ensures written { D.tells → OnOk result (D.seen disk.new ≡ after_write (D.seen disk.old) place piece.now) }
+    ensures written { D.tells → OnOk result
+        (D.seen disk.new ≡ after_write (D.seen disk.old) place piece.now) }
     ensures durable { OnOk result (Only (D.seen disk.new) (D.may_leave disk.new)) }
     ensures most { OnOk result (place + length piece.now ≤ 2 ^ 62) }
     ensures cause { HasCause (D.faults disk.old) (D.faults disk.new) result }
