@@ -1,5 +1,5 @@
 -- What opening a journal leaves, once both sides are synced.
-use Rattle.std.proofs.Common.{◌≡◌, inl, inr, Result, Ok, Err, ℕ, List, [], ◌∷◌, ◌≤◌, refl, sym, ◌∙◌, subst}
+use Rattle.std.proofs.Common.{◌≡◌, inl, inr, Result, Ok, Err, ℕ, List, [], ◌∷◌, ◌≤◌, sym, ◌∙◌, subst}
 use Rattle.std.specs.Prelude.{◌⊎◌, OnOk}
 use Rattle.pcp_base.specs.States.{State}
 use Rattle.lease_disk.specs.declared.disks.DiskPair.{DiskPair}
@@ -8,9 +8,11 @@ use Rattle.lease_disk.proofs.CallLemmas.{has_now}
 use Rattle.lease_disk.proofs.PairLemmas.{pair_goes_on, pair_weaker}
 use Rattle.lease_journal.specs.declared.judging.Verdict.{Verdict}
 use Rattle.lease_journal.specs.declared.judging.Verdict.TheVariants.{Counting, Neither, Broken}
-use Rattle.lease_journal.specs.declared.errors.Found.{Found}
-use Rattle.lease_journal.specs.Journals.{IsBlank, IsDamaged, IsStarting, IsStartingAnew, StandsFor}
-use Rattle.lease_journal.specs.Openings.{FoundMeans, LeavesOld, MayOpen, Opens}
+use Rattle.lease_journal.specs.declared.formats.Format.{Format}
+use Rattle.lease_journal.specs.declared.formats.Format.TheVariants.{First, Second}
+use Rattle.lease_journal.specs.Formats.{IsReplaying}
+use Rattle.lease_journal.specs.Journals.{IsBlank, IsDamaged, IsStarting, IsStartingAnew}
+use Rattle.lease_journal.specs.Openings.{LeavesOld, MayOpen, Opens}
 use Rattle.lease_journal.specs.Reads.{ArePairRead, AreSeenStill}
 use Rattle.lease_journal.specs.Verdicts.{AreFound}
 use Rattle.lease_journal.specs.Writes.{AreDurable}
@@ -100,3 +102,8 @@ module _ {D : Type 0} (moment : D → ℕ) (left_since : D → ℕ → List ℕ 
           from = pair_goes_on moment left_since may_leave synced judged new P (pair_still moment left_since may_leave counts_now only_now P synced judged here read)
               (pair_weaker moment left_since may_leave judged new (MayOpen m (seen judged.a) (seen judged.b)) P run (λ x y may. same_octets (λ (a b : List ℕ). MayOpen m a b x y) (seen old.a) (seen old.b) (seen judged.a) (seen judged.b) same_a same_b may));
         }
+
+-- a replay that takes records of some format takes those of one of the two
+pub replays_by : {R : Type 0} (replaying replaying_first : R → Type 0) (replay : R) (f : Format) → IsReplaying f replaying replaying_first replay → replaying_first replay ⊎ replaying replay
+replays_by replaying replaying_first replay First takes = inl takes
+replays_by replaying replaying_first replay Second takes = inr takes

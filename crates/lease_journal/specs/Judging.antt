@@ -5,7 +5,7 @@ use Rattle.pcp_base.specs.States.{State}
 use Rattle.lease_journal.specs.declared.walks.Judged.{Judged}
 use Rattle.lease_journal.specs.declared.walks.Judged.TheVariants.{Closed, Bad, Good}
 use Rattle.lease_journal.specs.declared.walks.Standing.{Standing}
-use Rattle.lease_journal.specs.Formats.{state_by}
+use Rattle.lease_journal.specs.Formats.{IsReplaying, state_by}
 use Rattle.lease_journal.specs.Frames.{records_of}
 use Rattle.lease_journal.specs.Sides.{side_text, IsOpenSide, IsClosedSide, IsBadSide}
 
@@ -29,3 +29,11 @@ abbrev pub Replayed : ℕ → List ℕ → Judged → (before now : State) → T
 Replayed parity octets (Good standing) before now = IsStanding parity octets standing now
 Replayed parity octets Closed before now = now ≡ before
 Replayed parity octets Bad before now = ⊤
+
+-- the replay takes records of the format of a side in the grammar; a closed side leaves it as is
+abbrev pub ReplaysOn : {R : Type 0} → (replaying replaying_first : R → Type 0)
+    → (old new : R) → Judged → Type 0
+ReplaysOn replaying replaying_first old new (Good standing) =
+    IsReplaying standing.format replaying replaying_first new
+ReplaysOn replaying replaying_first old new Closed = new ≡ old
+ReplaysOn replaying replaying_first old new Bad = ⊤

@@ -39,6 +39,13 @@ IsClearedUnless now Recovered = ⊤
 IsClearedUnless now Blank = now ≡ empty_state
 IsClearedUnless now Damaged = now ≡ empty_state
 
+-- the replay takes records of one of the formats; where no records were found, of both
+abbrev pub ViewReplays : {R : Type 0} → (replaying replaying_first : R → Type 0) → R → Found
+    → Type 0
+ViewReplays replaying replaying_first replay Recovered = replaying_first replay ⊎ replaying replay
+ViewReplays replaying replaying_first replay Blank = replaying_first replay × replaying replay
+ViewReplays replaying replaying_first replay Damaged = replaying_first replay × replaying replay
+
 -- a side that a start has written: in format 2, with generation 0
 pub record IsNew (standing : Standing) : Type 0 where
   pub second : standing.format ≡ Second

@@ -5,6 +5,7 @@ use Rattle.lease_journal.specs.declared.judging.Verdict.{Verdict}
 use Rattle.lease_journal.specs.declared.judging.Verdict.TheVariants.{Counting, Neither, Broken}
 use Rattle.lease_journal.specs.declared.walks.Judged.{Judged}
 use Rattle.lease_journal.specs.declared.walks.Judged.TheVariants.{Closed, Bad, Good}
+use Rattle.lease_journal.specs.Formats.{HasNext, IsReplaying}
 use Rattle.lease_journal.specs.Journals.{IsBlank, IsDamaged}
 use Rattle.lease_journal.specs.Judging.{IsJudged}
 use Rattle.lease_journal.specs.Settled.{StandsBy}
@@ -33,3 +34,23 @@ abbrev pub IsFoundInReach : Verdict → Type 0
 IsFoundInReach (Counting side standing) = IsInReach standing
 IsFoundInReach Neither = ⊤
 IsFoundInReach (Broken judged_a judged_b) = ⊤
+
+-- a side that was judged to be in the grammar has a next generation, by its format
+abbrev pub IsJudgedWithNext : Judged → Type 0
+IsJudgedWithNext Closed = ⊤
+IsJudgedWithNext Bad = ⊤
+IsJudgedWithNext (Good standing) = HasNext standing.format standing.generation
+
+-- and so has the side that counts
+abbrev pub IsFoundWithNext : Verdict → Type 0
+IsFoundWithNext (Counting side standing) = HasNext standing.format standing.generation
+IsFoundWithNext Neither = ⊤
+IsFoundWithNext (Broken judged_a judged_b) = ⊤
+
+-- the replay takes records of the format of the side that counts
+abbrev pub IsFoundReplaying : {R : Type 0} → (replaying replaying_first : R → Type 0) → R
+    → Verdict → Type 0
+IsFoundReplaying replaying replaying_first replay (Counting side standing) =
+    IsReplaying standing.format replaying replaying_first replay
+IsFoundReplaying replaying replaying_first replay Neither = ⊤
+IsFoundReplaying replaying replaying_first replay (Broken judged_a judged_b) = ⊤

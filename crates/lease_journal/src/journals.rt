@@ -54,9 +54,9 @@ impl<D: LeaseDisk> Journal<D> {
     ghost use Rattle.lease_journal.specs.declared.errors.JournalFault.TheVariants.{Disk, Memory};
     ghost use Rattle.lease_journal.specs.declared.formats.Format.TheVariants.{Second};
     ghost use Rattle.lease_journal.specs.declared.layout.TheConstants.{MOST_RECORDS};
-    ghost use Rattle.lease_journal.specs.Formats.{format_octet};
+    ghost use Rattle.lease_journal.specs.Formats.{HasNext, IsReplaying, format_octet};
     ghost use Rattle.lease_journal.specs.Journals.{StandsFor, StandsForWithOrWithout};
-    ghost use Rattle.lease_journal.specs.Openings.{FoundMeans, HasStarted, IsClearedUnless, LeavesOld, Opens, ViewMeans};
+    ghost use Rattle.lease_journal.specs.Openings.{FoundMeans, HasStarted, IsClearedUnless, LeavesOld, Opens, ViewMeans, ViewReplays};
     ghost use Rattle.lease_journal.specs.Reads.{ArePairRead, AreSeenStill};
     ghost use Rattle.lease_journal.specs.Views.{IsSettled};
     ghost use Rattle.lease_journal.specs.Writes.{of_side, other};
@@ -96,8 +96,8 @@ impl<D: LeaseDisk> Journal<D> {
     }
 
     /// Opens the journal of a pair: syncs both sides, reads them, and makes a start at `m` where
-    /// they are blank or damaged. After `Ok` the replay stands for the journal; after a fault it is
-    /// to be cleared, and the pair is handed back.
+    /// they are blank or damaged. After `Ok` the replay stands for the journal and takes more records
+    /// of its format; after a fault it is to be cleared, and the pair is handed back.
     pub fn recover<R: Replay>(
         alloc: Global,
         pair: DiskPair<D>,
@@ -118,6 +118,11 @@ impl<D: LeaseDisk> Journal<D> {
             (λ refused. Opens D.seen D.moment D.left_since D.may_leave m pair refused.pair
             ⊎ LeavesOld D.moment D.left_since D.may_leave pair refused.pair) }
         ensures ready { IfOk result (λ opened. opened.0.unread ≡ false) }
+        ensures replaying { IfOk result
+            (λ opened. IsReplaying opened.0.standing.format R.replaying R.replaying_first
+            replay.new) }
+        ensures next { IfOk result
+            (λ opened. HasNext opened.0.standing.format opened.0.standing.generation) }
         ensures first_length { IfOk result
             (λ opened. opened.0.first_length ≡ opened.0.standing.length) }
         ensures later { IfOk result (λ opened. PairHasCause D.faults pair opened.0.pair ⊥) }
@@ -160,6 +165,9 @@ impl<D: LeaseDisk> Journal<D> {
             → Opens D.seen D.moment D.left_since D.may_leave m self.old.pair self.new.pair
             ⊎ LeavesOld D.moment D.left_since D.may_leave self.old.pair self.new.pair }
         ensures ready { OnOk result (self.new.unread ≡ false) }
+        ensures replaying { OnOk result
+            (IsReplaying self.new.standing.format R.replaying R.replaying_first replay.new) }
+        ensures next { OnOk result (HasNext self.new.standing.format self.new.standing.generation) }
         ensures first_length { OnOk result (self.new.first_length ≡ self.new.standing.length) }
         ensures doubt { IsErr result → self.new.unread ≡ true }
         ensures cause { PairHasCause D.faults self.old.pair self.new.pair (result ≡ Err Disk) }
@@ -173,8 +181,9 @@ impl<D: LeaseDisk> Journal<D> {
         Ok(opened.found)
     }
 
-    /// Reads the journal of a pair and writes nothing. Where it is blank or damaged the replay is
-    /// left cleared; after a fault it is to be cleared.
+    /// Reads the journal of a pair and writes nothing. After `Recovered` the replay takes more
+    /// records of the format that was read. Where it is blank or damaged the replay is left cleared;
+    /// after a fault it is to be cleared.
     pub fn view<R: Replay>(
         alloc: Global,
         pair: &mut DiskPair<D>,
@@ -183,6 +192,7 @@ impl<D: LeaseDisk> Journal<D> {
         ensures found { D.tells → IfOk result
             (ViewMeans (D.seen pair.old.a) (D.seen pair.old.b) (R.state replay.new)) }
         ensures cleared { IfOk result (IsClearedUnless (R.state replay.new)) }
+        ensures replaying { IfOk result (ViewReplays R.replaying R.replaying_first replay.new) }
         ensures read { ArePairRead D.moment D.left_since D.may_leave pair.old pair.new }
         ensures seen { D.tells → AreSeenStill D.seen pair.old pair.new }
         ensures cause { PairHasCause D.faults pair.old pair.new (result ≡ Err Disk) }

@@ -4,7 +4,7 @@ ghost use Rattle.pcp_io.specs.Faults.{HasRisen};
 ghost use Rattle.lease_disk.specs.Pairs.{PairHasCause};
 ghost use Rattle.lease_journal.specs.declared.errors.JournalFault.TheVariants.{Disk};
 ghost use Rattle.lease_journal.specs.Reads.{ArePairRead, AreSeenStill};
-ghost use Rattle.lease_journal.specs.Verdicts.{AreFound, IsFoundInReach};
+ghost use Rattle.lease_journal.specs.Verdicts.{AreFound, IsFoundInReach, IsFoundReplaying, IsFoundWithNext};
 
 use crate::errors::JournalFault;
 use crate::sides::Side;
@@ -43,6 +43,8 @@ pub(crate) fn judge<D: LeaseDisk, R: Replay>(
     ensures found { D.tells → IfOk result
         (AreFound (D.seen pair.old.a) (D.seen pair.old.b) (R.state replay.new)) }
     ensures reach { IfOk result IsFoundInReach }
+    ensures next { IfOk result IsFoundWithNext }
+    ensures ready { IfOk result (IsFoundReplaying R.replaying R.replaying_first replay.new) }
     ensures read { ArePairRead D.moment D.left_since D.may_leave pair.old pair.new }
     ensures seen { D.tells → AreSeenStill D.seen pair.old pair.new }
     ensures cause { PairHasCause D.faults pair.old pair.new (result ≡ Err Disk) }

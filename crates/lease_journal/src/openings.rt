@@ -7,6 +7,7 @@ ghost use Rattle.lease_journal.specs.declared.errors.JournalFault.TheVariants.{D
 ghost use Rattle.lease_journal.specs.declared.formats.Format.TheVariants.{Second};
 ghost use Rattle.lease_journal.specs.declared.sides.Side.TheVariants.{A};
 ghost use Rattle.lease_journal.specs.Beginnings.{GateMeans, IsBegun, IsPrepared, MayBegin, MayShut};
+ghost use Rattle.lease_journal.specs.Formats.{HasNext, IsReplaying};
 ghost use Rattle.lease_journal.specs.Journals.{IsBlank, IsDamaged, IsStarting, IsStartingAnew, fresh_state};
 ghost use Rattle.lease_journal.specs.Judging.{IsJudged};
 ghost use Rattle.lease_journal.specs.Openings.{FoundMeans, HasStarted, IsNew, LeavesOld, MayOpen, Opens};
@@ -14,7 +15,7 @@ ghost use Rattle.lease_journal.specs.Reads.{ArePairRead, AreSeenStill, IsRead};
 ghost use Rattle.lease_journal.specs.Settled.{IsSettledBy};
 ghost use Rattle.lease_journal.specs.Shut.{hidden_text};
 ghost use Rattle.lease_journal.specs.Sides.{AreBatches, IsClosedSide};
-ghost use Rattle.lease_journal.specs.Verdicts.{AreBroken, AreFound, IsFoundInReach};
+ghost use Rattle.lease_journal.specs.Verdicts.{AreBroken, AreFound, IsFoundInReach, IsFoundReplaying, IsFoundWithNext};
 ghost use Rattle.lease_journal.specs.Views.{IsInReach};
 ghost use Rattle.lease_journal.specs.Writes.{AreDurable, ChangesSide, of_side, parity_of};
 
@@ -140,6 +141,7 @@ fn start<D: LeaseDisk, R: Replay>(
     replay: &mut R,
 ) -> Result<Standing, JournalFault>
     ensures replayed { OnOk result (R.state replay.new ≡ fresh_state m) }
+    ensures ready { OnOk result (R.replaying replay.new) }
     ensures written { IfOk result IsNew }
     ensures moments { D.tells → AreDurable D.seen D.may_leave pair.old
         → IsBlank (D.seen pair.old.a) (D.seen pair.old.b)
@@ -238,6 +240,7 @@ fn start_anew<D: LeaseDisk, R: Replay>(
     b: Judged,
 ) -> Result<Standing, JournalFault>
     ensures replayed { OnOk result (R.state replay.new ≡ fresh_state m) }
+    ensures ready { OnOk result (R.replaying replay.new) }
     ensures written { IfOk result IsNew }
     ensures moments { D.tells → AreDurable D.seen D.may_leave pair.old
         → AreBroken (D.seen pair.old.a) (D.seen pair.old.b) a b
@@ -287,6 +290,12 @@ fn start_by<D: LeaseDisk, R: Replay>(
         → PairLeavesOnly D.moment D.left_since D.may_leave pair.old pair.new
         (MayOpen m (D.seen pair.old.a) (D.seen pair.old.b)) }
     ensures reach { IsFoundInReach verdict → IfOk result (λ opened. IsInReach opened.standing) }
+    ensures next { IsFoundWithNext verdict
+        → IfOk result (λ opened. HasNext opened.standing.format opened.standing.generation) }
+    ensures ready { IsFoundReplaying R.replaying R.replaying_first replay.old verdict
+        → IfOk result
+        (λ opened. IsReplaying opened.standing.format R.replaying R.replaying_first
+        replay.new) }
     ensures cause { PairHasCause D.faults pair.old pair.new (result ≡ Err Disk) }
 {
     match verdict {
@@ -330,6 +339,11 @@ pub(crate) fn open<D: LeaseDisk, R: Replay>(
         (λ opened. IsSettledBy D.seen D.may_leave opened.side opened.standing pair.new
         (R.state replay.new)) }
     ensures reach { IfOk result (λ opened. IsInReach opened.standing) }
+    ensures next { IfOk result
+        (λ opened. HasNext opened.standing.format opened.standing.generation) }
+    ensures ready { IfOk result
+        (λ opened. IsReplaying opened.standing.format R.replaying R.replaying_first
+        replay.new) }
     ensures opens { D.tells → OnOk result
         (Opens D.seen D.moment D.left_since D.may_leave m pair.old pair.new) }
     ensures moments { D.tells

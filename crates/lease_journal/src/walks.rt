@@ -5,9 +5,9 @@ ghost use Rattle.pcp_base.specs.States.{empty_state};
 ghost use Rattle.lease_journal.specs.declared.layout.TheConstants.{LONGEST_FRAME, SIDE_HEAD};
 ghost use Rattle.lease_journal.specs.declared.errors.JournalFault.TheVariants.{Disk};
 ghost use Rattle.lease_journal.specs.Formats.{FitsBy, apply_by, IsReplaying};
-ghost use Rattle.lease_journal.specs.Judging.{IsJudged, Replayed};
+ghost use Rattle.lease_journal.specs.Judging.{IsJudged, Replayed, ReplaysOn};
 ghost use Rattle.lease_journal.specs.Reads.{IsRead};
-ghost use Rattle.lease_journal.specs.Verdicts.{IsJudgedInReach};
+ghost use Rattle.lease_journal.specs.Verdicts.{IsJudgedInReach, IsJudgedWithNext};
 ghost use Rattle.lease_journal.specs.Walks.{BatchMeans, PieceMeans, TurnMeans, WalkMeans};
 ghost use Rattle.lease_journal.specs.Writes.{parity_of};
 
@@ -235,6 +235,7 @@ fn walk<D: LeaseDisk, R: Replay>(
     ensures means { D.tells → size ≡ length (D.seen disk.old)
         → IfOk result (WalkMeans format (R.state replay.new) (D.seen disk.old)) }
     ensures most { IfOk result (λ end. IfSome end (λ place. place < size)) }
+    ensures ready { OnOk result (IsReplaying format R.replaying R.replaying_first replay.new) }
     ensures read { IsRead D.moment D.left_since D.may_leave disk.old disk.new }
     ensures seen { D.tells → D.seen disk.new ≡ D.seen disk.old }
     ensures later { D.faults disk.old ≤ D.faults disk.new }
@@ -256,8 +257,8 @@ fn walk<D: LeaseDisk, R: Replay>(
     Ok(None)
 }
 
-/// Judges a side. Where it is in the grammar the replay then holds its records, and where it is
-/// closed what it held before.
+/// Judges a side. Where it is in the grammar the replay then holds its records and takes more of its
+/// format, and where it is closed nothing has changed in the replay.
 pub(crate) fn judge_side<D: LeaseDisk, R: Replay>(
     alloc: Global,
     side: Side,
@@ -271,6 +272,8 @@ pub(crate) fn judge_side<D: LeaseDisk, R: Replay>(
         (λ judged. Replayed (parity_of side) (D.seen disk.old) judged
         (R.state replay.old) (R.state replay.new)) }
     ensures reach { IfOk result IsJudgedInReach }
+    ensures next { IfOk result IsJudgedWithNext }
+    ensures ready { IfOk result (ReplaysOn R.replaying R.replaying_first replay.old replay.new) }
     ensures room { length buffer.new ≡ length buffer.old }
     ensures read { IsRead D.moment D.left_since D.may_leave disk.old disk.new }
     ensures seen { D.tells → D.seen disk.new ≡ D.seen disk.old }

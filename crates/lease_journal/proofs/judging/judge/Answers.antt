@@ -1,4 +1,4 @@
-use Rattle.std.proofs.Common.{◌≡◌, List, ◌∙◌, sym, subst, arith, rules}
+use Rattle.std.proofs.Common.{List, ◌∙◌, subst, arith, rules}
 use Rattle.lease_journal.specs.declared.walks.Judged.{Judged}
 use Rattle.lease_journal.specs.Judging.{IsJudged}
 use Rattle.lease_journal.proofs.FillLemmas.{read_both}
@@ -16,6 +16,8 @@ returns-in-Good-Good-2 g c =
           let then_ = subst (λ (l : List _). IsJudged 0 l third.other) (c.in_ok-a.ensures.seen told) (third.ensures.judged told) in
           absurd (no_other 0 (d.seen c.args.pair.now.a) _ first.0 third.other first.1 then_ (λ y is. search rules));
       reach = tt;
+      next = tt;
+      ready = tt;
       read = record {
         a = read_both d.may_leave d.moment d.left_since laws.counts_now laws.only_now c.args.pair.now.a c.judge_side.new.disk c.judge_side-in-Good-Good-2.new.disk c.in_ok-a.ensures.read third.ensures.read;
         b = c.in_ok-b.ensures.read;
