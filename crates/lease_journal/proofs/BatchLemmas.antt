@@ -1,21 +1,19 @@
 -- Reading the records of a frame one by one.
-use Rattle.std.proofs.Common.{◌≡◌, inl, inr, ℕ, ◌+◌, ◌<◌, ◌≤◌, List, [], ◌∷◌, ◌++◌, length, take, drop, Result, Ok, Err, OnErr, refl, sym, ◌∙◌, ap, subst, arith, append_assoc, take-append-drop, drop-drop, length-append, length-drop}
-use Rattle.std.specs.Prelude.{IsErr}
+use Rattle.std.proofs.Common.{◌≡◌, ℕ, ◌+◌, ◌<◌, ◌≤◌, List, [], ◌∷◌, ◌++◌, length, take, drop, Ok, refl, sym, ◌∙◌, ap, subst, arith, append_assoc, take-append-drop, drop-drop, length-append, length-drop}
 use Rattle.std.proofs.lemmas.List.{append-nil, take_at, drop_all}
 use Rattle.std.specs.List.{AllByRecursion}
 use Rattle.pcp_base.specs.declared.records.Record.{Record}
 use Rattle.pcp_base.specs.Records.{IsWellFormedRecord}
 use Rattle.pcp_base.specs.States.{State}
 use Rattle.pcp_base.specs.Apply.{apply, apply_first}
-use Rattle.lease_records.specs.declared.reading.NotRecord.{NotRecord}
 use Rattle.lease_records.specs.RecordTexts.{record_text, IsRecordText, IsReadAgain}
 use Rattle.lease_records.specs.Values.{IsValue}
 use Rattle.lease_journal.specs.declared.formats.Format.{Format}
 use Rattle.lease_journal.specs.declared.formats.Format.TheVariants.{First, Second}
 use Rattle.lease_journal.specs.Formats.{AllFitBy, FitsBy, apply_by, apply_all_by}
-use Rattle.lease_journal.specs.Frames.{IsBatch, records_text}
+use Rattle.lease_journal.specs.Frames.{records_text}
 use Rattle.lease_journal.specs.Walks.{IsReadBatch, IsNoBatch}
-use Rattle.lease_journal.proofs.WalkLaws.{FollowOn, follow_on, fit-back}
+use Rattle.lease_journal.proofs.WalkLaws.{follow_on, fit-back}
 
 records_text-push : (known : List Record) (r : Record) (rest : List ℕ) → records_text (known ++ r ∷ []) ++ rest ≡ records_text known ++ (record_text r ++ rest)
 records_text-push [] r rest = ap (λ (l : List ℕ). l ++ rest) (append-nil (record_text r))

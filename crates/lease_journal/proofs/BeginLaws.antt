@@ -1,6 +1,5 @@
 -- What is left of a side while it is written anew.
-use Rattle.std.proofs.Common.{◌≡◌, inl, inr, ⊎_elim, ℕ, ◌+◌, ◌<◌, max, List, [], ◌∷◌, ◌++◌, length, get_or, drop, refl, sym, ◌∙◌, ap, subst, arith, length-append, length-drop}
-use Rattle.std.specs.Prelude.{◌⊎◌}
+use Rattle.std.proofs.Common.{◌≡◌, inl, inr, ⊎_elim, ℕ, ◌+◌, max, List, [], ◌∷◌, ◌++◌, length, get_or, drop, sym, ◌∙◌, ap, subst, arith, length-append, length-drop}
 use Rattle.pcp_base.specs.declared.records.Record.{Record}
 use Rattle.lease_disk.specs.Contents.{after_write}
 use Rattle.lease_disk.specs.Images.{Torn}
@@ -9,7 +8,7 @@ use Rattle.lease_journal.specs.declared.sides.Side.{Side}
 use Rattle.lease_journal.specs.Beginnings.{IsBegun, IsPrepared, MayBegin, MayShut}
 use Rattle.lease_journal.specs.Shut.{IsShut, hidden_text}
 use Rattle.lease_journal.specs.Sides.{AreBatches, IsClosedSide, IsOpenSide}
-use Rattle.lease_journal.specs.Writes.{ChangesSide, of_side, other, parity_of}
+use Rattle.lease_journal.specs.Writes.{ChangesSide, of_side, parity_of}
 use Rattle.lease_journal.proofs.Begins.{shut_closed, shut_torn, hidden, hidden_written, gate_opens, gate_is_open}
 
 begun_long : (h text octets image : List ℕ) (size now : ℕ) → text ≡ h ++ 0 ∷ [] → size ≡ length octets → now ≡ max size (1 + length text) → image ≡ 1 ∷ (h ++ 0 ∷ drop (1 + length (h ++ 0 ∷ [])) octets) → now ≡ length image

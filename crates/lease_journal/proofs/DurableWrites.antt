@@ -1,5 +1,5 @@
 -- A change of a disk and the sync behind it.
-use Rattle.std.proofs.Common.{inl, ◌≡◌, ℕ, ◌≤◌, List, refl, sym, subst}
+use Rattle.std.proofs.Common.{inl, ℕ, ◌≤◌, List, sym, subst}
 use Rattle.lease_disk.specs.ImageLaws.{torn-same}
 use Rattle.lease_disk.specs.Images.{Torn, CutOrNot, Follows, NoMore, Only}
 use Rattle.lease_disk.specs.Moments.{Elapses, LeavesOnly}

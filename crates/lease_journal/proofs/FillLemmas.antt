@@ -1,9 +1,8 @@
 -- Reading a side part by part.
-use Rattle.std.proofs.Common.{◌≡◌, ℕ, ◌+◌, ◌-◌, ◌<◌, ◌≤◌, ◌↔◌, List, ◌++◌, length, take, drop, refl, sym, ◌∙◌, ap, arith, take-add, take_all, drop-drop, length-take, length-drop, length-append}
+use Rattle.std.proofs.Common.{◌≡◌, ℕ, ◌+◌, ◌≤◌, List, ◌++◌, length, take, drop, refl, sym, ◌∙◌, ap, arith, take-add, take_all, drop-drop, length-take, length-drop}
 use Rattle.std.proofs.lemmas.List.{take_at, drop_at}
-use Rattle.lease_disk.specs.Contents.{ReadsFrom}
 use Rattle.lease_disk.specs.Images.{NoMore}
-use Rattle.lease_disk.specs.Moments.{Elapses, LeavesOnly}
+use Rattle.lease_disk.specs.Moments.{Elapses}
 use Rattle.lease_disk.proofs.CallLemmas.{started, goes_on_still, goes_on_run, weaker, has_now}
 use Rattle.lease_journal.specs.Reads.{IsRead}
 

@@ -1,17 +1,15 @@
 -- What a side is, by its head and the walk over its frames.
-use Rattle.std.proofs.Common.{◌≡◌, inl, inr, ℕ, ◌+◌, ◌-◌, ◌<◌, ◌≤◌, List, [], ◌∷◌, ◌++◌, length, take, drop, get_or, refl, sym, ◌∙◌, ap, subst, arith, append_assoc, take_all, take-append-drop, drop-drop, length-append}
+use Rattle.std.proofs.Common.{◌≡◌, inl, inr, ℕ, ◌-◌, ◌<◌, ◌≤◌, List, [], ◌∷◌, ◌++◌, length, take, drop, get_or, sym, ◌∙◌, ap, subst, arith, append_assoc, take_all, take-append-drop, drop-drop, length-append}
 use Rattle.std.proofs.lemmas.List.{get_or-take}
 use Rattle.pcp_base.specs.declared.records.Record.{Record}
 use Rattle.pcp_base.specs.States.{State, empty_state}
 use Rattle.lease_journal.specs.declared.formats.Format.{Format}
-use Rattle.lease_journal.specs.declared.walks.Standing.{Standing}
-use Rattle.lease_journal.specs.Appending.{MayFollow}
-use Rattle.lease_journal.specs.Formats.{AllFitBy, state_by}
-use Rattle.lease_journal.specs.Frames.{frames_text, records_of}
+use Rattle.lease_journal.specs.Formats.{AllFitBy}
+use Rattle.lease_journal.specs.Frames.{frames_text}
 use Rattle.lease_journal.specs.Heads.{IsHead}
 use Rattle.lease_journal.specs.Judging.{IsStanding}
 use Rattle.lease_journal.specs.Sides.{head_text, side_text, IsOpenSide, IsClosedSide, IsBadSide}
-use Rattle.lease_journal.specs.Walks.{IsStuckAt, IsEnded, HasFrames, WalkEnds, WalkFails}
+use Rattle.lease_journal.specs.Walks.{HasFrames, WalkEnds, WalkFails}
 use Rattle.lease_journal.proofs.WalkLaws.{IsStuck, stuck_not_open}
 
 -- the head of an open side is its first 14 octets

@@ -3,15 +3,11 @@ use Rattle.std.proofs.Common.{◌≡◌, inl, inr, ⊎_elim, ℕ, ◌^◌, ◌<�
 use Rattle.std.specs.Prelude.{◌⊎◌}
 use Rattle.pcp_base.specs.declared.records.Record.{Record}
 use Rattle.pcp_base.specs.declared.records.Change.TheVariants.{Start}
-use Rattle.pcp_base.specs.Apply.{state_of}
 use Rattle.pcp_base.proofs.TableLemmas.{Sound-empty}
 use Rattle.lease_disk.specs.Images.{Torn}
-use Rattle.lease_journal.specs.Formats.{state_by}
-use Rattle.lease_journal.specs.declared.formats.Format.{Format}
 use Rattle.lease_journal.specs.declared.formats.Format.TheVariants.{Second}
-use Rattle.lease_journal.specs.Frames.{records_of}
-use Rattle.lease_journal.specs.Sides.{AreBatches, IsOpenSide, IsClosedSide, IsBadSide}
-use Rattle.lease_journal.specs.Journals.{IsBlank, IsDamaged, GivesWay, Counts, StandsFor, IsStarting}
+use Rattle.lease_journal.specs.Sides.{AreBatches, IsOpenSide, IsClosedSide}
+use Rattle.lease_journal.specs.Journals.{GivesWay, IsStarting}
 use Rattle.lease_journal.specs.Shut.{IsShut}
 use Rattle.lease_journal.proofs.Begins.{shut_closed, short_torn, open_torn, hidden, gate_opens}
 

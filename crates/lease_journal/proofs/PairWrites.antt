@@ -1,7 +1,6 @@
 -- A durable change of one side of a pair.
-use Rattle.std.proofs.Common.{inl, ◌≡◌, ℕ, ◌≤◌, List, refl, sym, subst}
+use Rattle.std.proofs.Common.{◌≡◌, ℕ, List, refl, sym, subst}
 use Rattle.lease_disk.specs.declared.disks.DiskPair.{DiskPair}
-use Rattle.lease_disk.specs.Images.{Only}
 use Rattle.lease_disk.specs.Moments.{LeavesOnly}
 use Rattle.lease_disk.specs.Pairs.{PairLeavesOnly}
 use Rattle.lease_disk.proofs.CallLemmas.{weaker}

@@ -1,10 +1,10 @@
 -- Reading what stands in front of a side, and shutting it.
-use Rattle.std.proofs.Common.{◌≡◌, ◌≢◌, inl, inr, ⊎_elim, ℕ, ◌<◌, ◌≤◌, max, List, [], ◌∷◌, length, get_or, take, drop, refl, sym, ◌∙◌, ap, subst, arith, take_all, length-take, length-drop, true, false}
+use Rattle.std.proofs.Common.{◌≡◌, inl, inr, ⊎_elim, ℕ, ◌<◌, ◌≤◌, max, List, [], ◌∷◌, length, get_or, take, drop, refl, sym, ◌∙◌, ap, subst, arith, take_all, length-take, length-drop}
 use Rattle.std.specs.Prelude.{◌⊎◌}
 use Rattle.std.proofs.lemmas.Bool.{cases_eq}
 use Rattle.std.proofs.lemmas.List.{get_or-take}
 use Rattle.lease_disk.specs.Contents.{after_write}
-use Rattle.lease_disk.specs.Images.{Only, Torn}
+use Rattle.lease_disk.specs.Images.{Torn}
 use Rattle.lease_disk.specs.Pairs.{HoldsNow, PairLeavesOnly}
 use Rattle.lease_disk.specs.declared.disks.DiskPair.{DiskPair}
 use Rattle.lease_disk.proofs.CallLemmas.{has_now, weaker}
@@ -13,7 +13,7 @@ use Rattle.lease_journal.specs.declared.sides.Side.{Side}
 use Rattle.lease_journal.specs.declared.sides.Side.TheVariants.{A, B}
 use Rattle.lease_journal.specs.declared.walks.Judged.{Judged}
 use Rattle.lease_journal.specs.declared.walks.Judged.TheVariants.{Closed, Bad, Good}
-use Rattle.lease_journal.specs.Beginnings.{GateMeans, IsPrepared, MayShut}
+use Rattle.lease_journal.specs.Beginnings.{IsPrepared, MayShut}
 use Rattle.lease_journal.specs.Judging.{IsJudged}
 use Rattle.lease_journal.specs.Reads.{IsRead, ArePairRead, AreSeenStill}
 use Rattle.lease_journal.specs.Shut.{IsShut}

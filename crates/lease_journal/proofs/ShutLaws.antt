@@ -1,5 +1,5 @@
 -- What is left of two sides of which one isn't in the grammar, while each open one is shut.
-use Rattle.std.proofs.Common.{◌≡◌, inl, inr, ⊎_elim, ℕ, ◌<◌, ◌≤◌, List, refl, sym, subst, arith}
+use Rattle.std.proofs.Common.{◌≡◌, inl, inr, ⊎_elim, ℕ, ◌≤◌, List, refl, sym, subst, arith}
 use Rattle.std.specs.Prelude.{◌⊎◌}
 use Rattle.pcp_io.specs.Faults.{HasRisen}
 use Rattle.lease_disk.specs.declared.disks.DiskPair.{DiskPair}

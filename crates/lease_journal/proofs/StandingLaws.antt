@@ -1,11 +1,10 @@
 -- What a journal stands for where one side counts.
-use Rattle.std.proofs.Common.{◌≡◌, inl, inr, ℕ, List, [], ◌∷◌, ◌++◌, refl, sym, ◌∙◌, ap, subst}
+use Rattle.std.proofs.Common.{◌≡◌, inl, inr, ℕ, List, [], ◌∷◌, ◌++◌, refl, sym, subst}
 use Rattle.pcp_base.specs.declared.records.Record.{Record}
-use Rattle.pcp_base.specs.States.{State, empty_state}
-use Rattle.pcp_base.specs.Apply.{apply, apply_all, state_of}
+use Rattle.pcp_base.specs.States.{State}
+use Rattle.pcp_base.specs.Apply.{apply, apply_all}
 use Rattle.lease_journal.specs.Formats.{state_by}
 use Rattle.lease_journal.specs.declared.formats.Format.{Format}
-use Rattle.lease_journal.specs.declared.formats.Format.TheVariants.{Second}
 use Rattle.lease_journal.specs.Frames.{records_of}
 use Rattle.lease_journal.specs.Sides.{IsOpenSide}
 use Rattle.lease_journal.specs.Journals.{GivesWay, StandsFor, StandsForWithOrWithout}

@@ -1,6 +1,5 @@
 -- A start on side a, where both sides are closed.
 use Rattle.std.proofs.Common.{◌≡◌, inl, inr, ℕ, ◌^◌, ◌<◌, ◌%◌, List, [], ◌∷◌, ◌++◌, length, drop, Bool, true, false, Result, Ok, refl, sym, ◌∙◌, ap, subst, arith, length-append, length-drop}
-use Rattle.std.specs.Prelude.{◌⊎◌}
 use Rattle.pcp_base.specs.declared.errors.Memory.{Memory}
 use Rattle.pcp_base.specs.declared.records.Record.{Record}
 use Rattle.pcp_base.specs.States.{State, empty_state}
@@ -14,7 +13,7 @@ use Rattle.lease_journal.specs.Beginnings.{IsBegun, MayBegin}
 use Rattle.lease_journal.specs.Journals.{IsBlank, IsStarting, StandsFor, fresh_state}
 use Rattle.lease_journal.specs.Settled.{StandsBy}
 use Rattle.lease_journal.specs.Shut.{IsHidden, hidden_text}
-use Rattle.lease_journal.specs.Sides.{AreBatches, IsClosedSide, IsOpenSide, side_text}
+use Rattle.lease_journal.specs.Sides.{AreBatches, IsClosedSide, side_text}
 use Rattle.lease_journal.specs.Writes.{AreDurable, ChangesSide}
 use Rattle.lease_journal.proofs.PairLaws.{first_batches, start_at}
 use Rattle.lease_journal.proofs.StandingLaws.{counts_a}

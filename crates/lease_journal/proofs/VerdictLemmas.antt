@@ -1,9 +1,8 @@
 -- What both sides are, by what each is.
-use Rattle.std.proofs.Common.{◌≡◌, inl, inr, ℕ, ◌%◌, ◌<◌, ◌≤◌, List, refl, sym, ◌∙◌, ap, arith}
+use Rattle.std.proofs.Common.{◌≡◌, inl, inr, ℕ, ◌%◌, ◌<◌, ◌≤◌, List, refl, arith}
 use Rattle.pcp_base.specs.States.{State}
 use Rattle.lease_journal.specs.declared.sides.Side.TheVariants.{A, B}
 use Rattle.lease_journal.specs.declared.walks.Standing.{Standing}
-use Rattle.lease_journal.specs.Journals.{IsDamaged}
 use Rattle.lease_journal.specs.Judging.{IsJudged, IsStanding}
 use Rattle.lease_journal.specs.Settled.{StandsBy}
 use Rattle.lease_journal.specs.Sides.{IsClosedSide}

@@ -1,6 +1,5 @@
 -- A journal in which nothing is in doubt (our own).
-use Rattle.std.specs.Prelude.{◌≡◌, ℕ, ◌+◌, max, List}
-use Rattle.pcp_base.specs.declared.records.Record.{Record}
+use Rattle.std.specs.Prelude.{ℕ, ◌+◌, max, List}
 use Rattle.pcp_base.specs.States.{State}
 use Rattle.lease_disk.specs.declared.disks.DiskPair.{DiskPair}
 use Rattle.lease_journal.specs.declared.sides.Side.{Side}

@@ -1,10 +1,10 @@
 -- A side with a gate that isn't open (our own).
-use Rattle.std.specs.Prelude.{◌≡◌, ◌≢◌, ◌⊎◌, ℕ, ◌<◌, List, [], ◌∷◌, ◌++◌, length, get_or, drop}
+use Rattle.std.specs.Prelude.{◌≡◌, ◌≢◌, ℕ, ◌<◌, List, [], ◌∷◌, ◌++◌, length, get_or, drop}
 use Rattle.std.specs.List.{AllByRecursion}
 use Rattle.pcp_base.specs.declared.records.Record.{Record}
 use Rattle.lease_journal.specs.declared.formats.Format.TheVariants.{Second}
 use Rattle.lease_journal.specs.Frames.{IsBatch, records_of}
-use Rattle.lease_journal.specs.Sides.{side_text, IsOpenSide}
+use Rattle.lease_journal.specs.Sides.{side_text}
 
 pub record IsShut (octets : List ℕ) : Type 0 where
   pub some : 0 < length octets

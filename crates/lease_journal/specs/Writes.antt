@@ -1,7 +1,7 @@
 -- The two sides of a pair by name, and what writing to one of them leaves (our own).
 use Rattle.std.specs.Prelude.{◌≡◌, ℕ, List}
 use Rattle.lease_disk.specs.declared.disks.DiskPair.{DiskPair}
-use Rattle.lease_disk.specs.Images.{Torn, Only}
+use Rattle.lease_disk.specs.Images.{Only}
 use Rattle.lease_journal.specs.declared.sides.Side.{Side}
 use Rattle.lease_journal.specs.declared.sides.Side.TheVariants.{A, B}
 

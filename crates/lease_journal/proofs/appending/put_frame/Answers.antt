@@ -1,4 +1,4 @@
-use Rattle.std.proofs.Common.{inl, sym, subst, ap, ℕ, List, ◌+◌, length, ◌≡◌, ◌∷◌, []}
+use Rattle.std.proofs.Common.{inl, subst, ℕ, List, ◌+◌, length, ◌≡◌, ◌∷◌, []}
 use Rattle.lease_disk.specs.Contents.{after_write}
 use Rattle.lease_disk.specs.Images.{Torn}
 use Rattle.lease_disk.proofs.PairLemmas.{pair_goes_on, pair_weaker}

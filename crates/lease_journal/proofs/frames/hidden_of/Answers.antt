@@ -1,5 +1,5 @@
-use Rattle.std.proofs.Common.{◌∙◌, arith, rules}
-use Rattle.lease_journal.proofs.HiddenLaws.{batch_formed, hides_none, hides_next, hides_all}
+use Rattle.std.proofs.Common.{◌∙◌, rules}
+use Rattle.lease_journal.proofs.HiddenLaws.{hides_next, hides_all}
 use Rattle.lease_journal.proofs.frames.hidden_of.Goals as goal
 
 pub loop-batch-init : goal.loop-batch-init

@@ -1,4 +1,4 @@
-use Rattle.std.proofs.Common.{◌≡◌, length, ap, arith}
+use Rattle.std.proofs.Common.{length, ap, arith}
 use Rattle.lease_journal.proofs.SizeLemmas.{is_batch}
 use Rattle.lease_journal.proofs.frames.put_frame_text.Goals as goal
 

@@ -1,4 +1,4 @@
-use Rattle.std.proofs.Common.{◌≡◌, ℕ, List, [], ◌∷◌, ◌++◌, length, ap, arith, rules}
+use Rattle.std.proofs.Common.{length, rules}
 use Rattle.lease_disk.proofs.PairLemmas.{pair_goes_on, pair_weaker}
 use Rattle.lease_journal.specs.Beginnings.{MayBegin}
 use Rattle.lease_journal.specs.Writes.{ChangesSide, parity_of}

@@ -1,4 +1,4 @@
-use Rattle.std.proofs.Common.{◌≡◌, List, ℕ, Bool, sym, subst}
+use Rattle.std.proofs.Common.{Bool, subst}
 use Rattle.lease_disk.proofs.PairLemmas.{pair_goes_on, pair_weaker}
 use Rattle.lease_journal.specs.Beginnings.{GateMeans, MayShut}
 use Rattle.lease_journal.specs.Writes.{ChangesSide, of_side}

@@ -1,4 +1,4 @@
-use Rattle.std.proofs.Common.{◌≡◌, ℕ, ◌-◌, ◌≤◌, List, length, take, drop, subst, arith, rules, Ok}
+use Rattle.std.proofs.Common.{ℕ, ◌≤◌, List, length, take, subst, arith, rules, Ok}
 use Rattle.pcp_base.specs.declared.records.Record.{Record}
 use Rattle.lease_records.specs.RecordTexts.{IsRecordText, IsReadAgain}
 use Rattle.lease_journal.proofs.BatchLemmas.{read_one, full, unreadable, unfit, read_all}

@@ -1,4 +1,4 @@
-use Rattle.std.proofs.Common.{◌≡◌, ℕ, ◌+◌, ◌-◌, ◌≤◌, List, ◌++◌, length, take, drop, sym, ◌∙◌, subst, arith, length-take, length-drop, length-append}
+use Rattle.std.proofs.Common.{◌≡◌, ℕ, ◌+◌, ◌-◌, ◌≤◌, ◌++◌, length, take, drop, sym, ◌∙◌, subst, arith, length-take, length-drop, length-append}
 use Rattle.pcp_base.specs.States.{State, empty_state}
 use Rattle.lease_journal.specs.declared.walks.Stop.{Stop}
 use Rattle.lease_journal.specs.Walks.{HasFrames, StopMeans}

@@ -1,4 +1,4 @@
-use Rattle.std.proofs.Common.{◌≡◌, ℕ, length, ◌∙◌, refl, sym, subst, ap, arith}
+use Rattle.std.proofs.Common.{◌≡◌, length, ◌∙◌, refl, sym, subst, ap, arith}
 use Rattle.pcp_base.specs.Apply.{apply_all}
 use Rattle.lease_journal.specs.declared.walks.Standing.{Standing}
 use Rattle.pcp_base.specs.States.{State}

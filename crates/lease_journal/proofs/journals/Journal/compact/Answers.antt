@@ -1,13 +1,9 @@
-use Rattle.std.proofs.Common.{◌≡◌, ◌∙◌, ◌+◌, ◌-◌, ◌^◌, ◌<◌, sym, subst, ap, arith, length}
+use Rattle.std.proofs.Common.{◌≡◌, ◌+◌, ◌-◌, ◌^◌, ◌<◌, subst, ap, arith, length}
 use Rattle.pcp_base.specs.States.{State}
-use Rattle.pcp_base.specs.Apply.{state_of}
 use Rattle.lease_disk.proofs.PairLemmas.{pair_started}
-use Rattle.lease_journal.specs.Compactions.{TakesOver}
 use Rattle.lease_journal.specs.Journals.{StandsFor}
 use Rattle.lease_journal.specs.Settled.{IsSettledBy}
 use Rattle.lease_journal.specs.Views.{JournalView, IsSettled}
-use Rattle.lease_journal.specs.declared.walks.Standing.{Standing}
-use Rattle.lease_journal.specs.declared.formats.Format.TheVariants.{Second}
 use Rattle.lease_journal.proofs.CompactLaws.{next_over, settled_at}
 use Rattle.lease_journal.proofs.StandingLaws.{settled_holds}
 use Rattle.lease_journal.proofs.journals.Journal.compact.Goals as goal
