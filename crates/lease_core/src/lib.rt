@@ -2,6 +2,7 @@
 #![tactic(auto)]
 
 mod answers;
+mod core_of;
 mod cores;
 mod decided;
 mod deciding;
@@ -9,6 +10,7 @@ mod laws;
 mod mapping;
 mod peering;
 
+pub use core_of::Core;
 pub use cores::LeaseCore;
 pub use decided::Decided;
 pub use deciding::decide;
