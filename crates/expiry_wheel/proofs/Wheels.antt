@@ -99,10 +99,10 @@ none_kept : (s : ℕ) → kept_at (None ∷ []) s ≡ None
 none_kept zero = refl
 none_kept (suc s) = get_or_past [] s None (omega arith)
 
-pub wheel_new : (slots : BTreeMap ℕ ℕ) (tree : List (Option Pair)) → slots.entries ≡ [] → tree ≡ None ∷ [] → IsWheel slots tree
-wheel_new slots tree empty one =
+-- with no id, and all slots free
+pub wheel_clear : (slots : BTreeMap ℕ ℕ) (tree : List (Option Pair)) → slots.entries ≡ [] → ((s : ℕ) → kept_at tree s ≡ None) → IsWheel slots tree
+wheel_clear slots tree empty kept =
     let ids : (q : ℕ) → get nat_cmp slots q ≡ None = (λ q. ap (lookup (is_at (nat_cmp q))) empty) in
-    let kept : (s : ℕ) → kept_at tree s ≡ None = (λ s. ap (λ (t : List (Option Pair)). kept_at t s) one ∙ none_kept s) in
     let zero_pairs : btree_map_len slots ≡ 0 = ap length empty in
     record {
       paired = record {
@@ -113,6 +113,9 @@ wheel_new slots tree empty one =
       };
       counted = ap (λ (es : List (ℕ × ℕ)). fin.len (expiries_in es (kept_at tree))) empty ∙ len-empty nat_cmp ℕ ∙ sym zero_pairs;
     }
+
+pub wheel_new : (slots : BTreeMap ℕ ℕ) (tree : List (Option Pair)) → slots.entries ≡ [] → tree ≡ None ∷ [] → IsWheel slots tree
+wheel_new slots tree empty one = wheel_clear slots tree empty (λ s. ap (λ (t : List (Option Pair)). kept_at t s) one ∙ none_kept s)
 
 -- room is left for an id that has no slot
 pub room_left : (slots : BTreeMap ℕ ℕ) (tree : List (Option Pair)) (view : FinMap nat_cmp ℕ) (id e : ℕ) → IsWheel slots tree → expiries_in slots.entries (kept_at tree) ≡ view → fin.len (fin.insert view id e) ≤ 262144 → get nat_cmp slots id ≡ None → btree_map_len slots < 262144

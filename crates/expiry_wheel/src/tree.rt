@@ -91,6 +91,16 @@ fn fill(nodes: &mut [Node])
     }
 }
 
+/// Frees all nodes.
+fn blank(nodes: &mut [Node])
+    ensures len { length nodes.new ≡ length nodes.old }
+    ensures free { (i : ℕ) → kept_at nodes.new i ≡ None }
+{
+    for i in 0..nodes.len() {
+        nodes[i] = None;
+    }
+}
+
 /// Adds free nodes until there are `count`.
 fn add_free(nodes: &mut Vec<Node>, count: usize) -> Result<(), AllocError>
     requires { vec_len nodes.old ≤ count }
@@ -146,6 +156,14 @@ impl Tree {
         let more = MOST_PAIRS.min(2 * slots);
         self.nodes = widened(alloc, &self.nodes, more)?;
         Ok(())
+    }
+
+    /// Frees all slots. There are as many as before.
+    pub fn clear(&mut self)
+        ensures len { length self.new ≡ length self.old }
+        ensures free { (slot : ℕ) → kept_at self.new slot ≡ None }
+    {
+        blank(&mut self.nodes);
     }
 
     /// What a slot keeps. It is one step.

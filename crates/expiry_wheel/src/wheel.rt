@@ -146,6 +146,14 @@ impl Wheel {
         })
     }
 
+    /// Takes out all pairs. It takes no memory.
+    pub fn clear(&mut self)
+        ensures { self.new ≡ map.empty }
+    {
+        self.slots.clear();
+        self.tree.clear();
+    }
+
     /// Sets the expiry of an id. The one error is want of memory, which changes nothing.
     pub fn put(&mut self, alloc: Global, id: u32, expiry: u64) -> Result<(), Memory>
         requires { map.len (map.insert self.old id expiry) ≤ MOST_PAIRS }

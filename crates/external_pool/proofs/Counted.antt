@@ -160,6 +160,16 @@ module _ (pool : Holdings) (counts : BTreeMap (List ℕ) ℕ) (is : IsCounted po
         omega (arith, is.counted other, owned_marked protocol start n value within other, none_in protocol start n within none other, nothing);
   }
 
+  -- ports of an address are at rest
+  pub counted_retired : (who : Address) (protocol : Protocol) (start n : ℕ) (value : Use) → start + n ≤ 65536 → AllHeldBy pool who protocol start n → is_held value ≡ false → (new : BTreeMap (List ℕ) ℕ)
+      → ((other : Address) → count_held new other ≡ count_held counts other - cond (same_address who other) n 0) → IsCounted (with_use protocol start n value pool) new
+  counted_retired who protocol start n value within all unheld new fewer = record {
+    whole = with_use-whole pool protocol start n value is.whole within;
+    counted = λ other.
+        let nothing : cond (is_held_by other value) n 0 ≡ 0 = ap (λ (b : Bool). cond b n 0) (not_by other value unheld) in
+        omega (arith, fewer other, is.counted other, owned_marked protocol start n value within other, all_in protocol start n within who all other, nothing);
+  }
+
 -- one port that isn't held
 pub none_held_at : (pool : Holdings) (protocol : Protocol) (port : ℕ) (value : Use) → use_of pool protocol port ≡ value → is_held value ≡ false → NoneHeld pool protocol port 1
 none_held_at pool protocol port value use_is unheld q from to =

@@ -1,6 +1,6 @@
 -- Uses after some of them were painted.
 use Rattle.std.proofs.Common.{◌≡◌, ℕ, zero, suc, ◌+◌, ◌-◌, ◌<◌, ◌≤◌, ◌&&◌, nat_le, nat_lt, Bool, true, false, cond, List, ◌++◌, length, take, drop, replicate, refl, sym, ap, ◌∙◌, arith, length-take-le, length-append, length-drop, get_or-take, get_or-drop, Vec}
-use Rattle.std.proofs.lemmas.List.{get_or-append_right, with_items_is, length-replicate, get_or_append_left, get_or-replicate}
+use Rattle.std.proofs.lemmas.List.{append-nil, drop_all, get_or-append_right, with_items_is, length-replicate, get_or_append_left, get_or-replicate}
 use Rattle.std.proofs.lemmas.Bool.Decides.{nat_tests}
 use Rattle.std.specs.Vec.{with_items}
 use Rattle.port_runs.specs.Ports.{is_in_run}
@@ -61,3 +61,8 @@ painted_items v old new start n value same is within =
     let new_is : new ≡ with_run start n value v.items = is ∙ ap (with_run start n value) same in
     let long : length new ≡ v.len = ap length new_is ∙ length-with_run start n value v.items within ∙ sym v.ok.0 in
     with_items_is v new long ∙ new_is
+
+-- all of a list painted free
+pub with_run-all : (each : List Use) (n : ℕ) → n ≡ length each → with_run 0 n Free each ≡ all_free n
+unfolding all_free
+with_run-all each n e = ap (λ (rest : List Use). replicate n Free ++ rest) (drop_all (0 + n) each (omega arith)) ∙ append-nil (replicate n Free)

@@ -37,6 +37,14 @@ fresh_pool low high quota = record {
   udp = uses_over low high (all_free 65536);
 }
 
+-- no port is held, and none rests; the quota and the range stay
+abbrev pub emptied : Holdings → Holdings
+emptied pool = record {
+  quota = pool.quota;
+  tcp = uses_over pool.tcp.low pool.tcp.high (all_free 65536);
+  udp = uses_over pool.udp.low pool.udp.high (all_free 65536);
+}
+
 -- the n ports from start on have this use, and nothing else changes
 abbrev pub with_use : Protocol → ℕ → ℕ → Use → Holdings → Holdings
 with_use Tcp start n value pool = record pool { tcp = with_uses start n value pool.tcp }

@@ -1,10 +1,10 @@
 //! The pool of both protocols.
 
 ghost use Rattle.std.specs.Prelude.{◌≡◌, ◌+◌, ◌≤◌, ℕ, IfOk};
-ghost use Rattle.external_pool.specs.Holdings.{uses_of, use_of, fresh_pool, with_use, pool_of};
+ghost use Rattle.external_pool.specs.Holdings.{uses_of, use_of, fresh_pool, emptied, with_use, pool_of};
 ghost use Rattle.external_pool.specs.Asking.{IsPickAnswer};
 ghost use Rattle.external_pool.specs.Calls.{IsAsk, MayHold, MayRelease, HoldsPorts, RestsPort, WakesPort};
-ghost use Rattle.external_pool.specs.declared.uses.Use.TheVariants.{Free};
+ghost use Rattle.external_pool.specs.declared.uses.Use.TheVariants.{Free, Resting};
 
 use crate::asks::{PickAsk, PickRefused, Picked, judge};
 use crate::counts::{count_of, lower, raise};
@@ -135,6 +135,23 @@ impl Pool {
         mark(&mut self.tcp, &mut self.udp, protocol, start, n, Use::Free);
     }
 
+    /// Ends the hold of a port, and lets it rest for the endpoint that owned it. It takes no memory.
+    pub fn retire(&mut self, external: u16, last: &Endpoint)
+        requires { MayRelease self.old last.now.address last.now.protocol external 1 }
+        ensures { self.new ≡ with_use last.now.protocol external 1
+            (Resting last.now.address last.now.port) self.old }
+    {
+        lower(&mut self.counts, &last.address, 1);
+        mark(
+            &mut self.tcp,
+            &mut self.udp,
+            last.protocol,
+            external,
+            1,
+            Use::Resting(last.address, last.port),
+        );
+    }
+
     /// Marks a port that isn't held and doesn't rest as resting for the endpoint that owned it
     /// last. It takes no memory, and so is never refused.
     pub fn rest(&mut self, _alloc: Global, external: u16, last: &Endpoint) -> Result<(), Memory>
@@ -168,5 +185,14 @@ impl Pool {
             Use::Free,
         );
         true
+    }
+
+    /// No port is held from now on, and none rests. Quota and range stay. It takes no memory.
+    pub fn clear(&mut self)
+        ensures { self.new ≡ emptied self.old }
+    {
+        self.counts.clear();
+        self.tcp.clear();
+        self.udp.clear();
     }
 }

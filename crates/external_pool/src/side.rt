@@ -116,6 +116,14 @@ impl Side {
         }
     }
 
+    /// No port is used from now on. It takes no memory.
+    pub fn clear(&mut self)
+        ensures { self.new ≡ the.uses_over self.old.low self.old.high (the.all_free 65536) }
+    {
+        let count = self.each.len() as u32;
+        self.mark(0, count, Use::Free);
+    }
+
     /// What a port is used for.
     pub fn use_at(&self, port: u16) -> Use
         ensures { result ≡ the.use_at self.now.each port }

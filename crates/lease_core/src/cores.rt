@@ -6,6 +6,7 @@ ghost use Rattle.pcp_base.specs.States.{empty_state};
 ghost use Rattle.pcp_base.specs.Apply.{apply, apply_first};
 ghost use Rattle.pcp_base.specs.Fits.{Fits, FitsFirst};
 ghost use Rattle.pcp_base.specs.Reached.{IsReached};
+ghost use Rattle.lease_store.specs.declared.terms.Terms.{Terms};
 ghost use Rattle.lease_store.specs.Lookups.{covering, lease_count, look};
 ghost use Rattle.lease_store.specs.OwnerOrder.{owners_in_order};
 ghost use Rattle.lease_core.specs.Decide.{decide as decided};
@@ -165,10 +166,14 @@ impl<S: LeaseStore> Replay for LeaseCore<S> {
     ghost replaying_first = { λ core. S.replaying_first core
         × (S.reached core ≡ (S.state core).last) };
 
+    ghost Lasting = { Terms };
+
+    ghost lasting = { S.terms };
+
     fn clear(&mut self)
         ensures empty { S.state self.new ≡ empty_state }
         ensures reached { S.reached self.new ≡ 0 }
-        ensures terms { S.terms self.new ≡ S.terms self.old }
+        ensures lasting { S.terms self.new ≡ S.terms self.old }
         ensures ready { S.replaying self.new × (S.reached self.new ≡ (S.state self.new).last) }
         ensures ready_first { S.replaying_first self.new
             × (S.reached self.new ≡ (S.state self.new).last) }
@@ -182,7 +187,7 @@ impl<S: LeaseStore> Replay for LeaseCore<S> {
         ensures applied { result ≡ Ok true → S.state self.new ≡ apply (S.state self.old) kept.now }
         ensures refused { result ≡ Ok false → ¬ (Fits (S.state self.old) kept.now) }
         ensures unchanged { result ≡ Ok false → S.state self.new ≡ S.state self.old }
-        ensures terms { S.terms self.new ≡ S.terms self.old }
+        ensures lasting { S.terms self.new ≡ S.terms self.old }
         ensures ready { OnOk result
             (S.replaying self.new × (S.reached self.new ≡ (S.state self.new).last)) }
     {
@@ -196,7 +201,7 @@ impl<S: LeaseStore> Replay for LeaseCore<S> {
             S.state self.new ≡ apply_first (S.state self.old) kept.now }
         ensures refused { result ≡ Ok false → ¬ (FitsFirst (S.state self.old) kept.now) }
         ensures unchanged { result ≡ Ok false → S.state self.new ≡ S.state self.old }
-        ensures terms { S.terms self.new ≡ S.terms self.old }
+        ensures lasting { S.terms self.new ≡ S.terms self.old }
         ensures ready { OnOk result
             (S.replaying_first self.new × (S.reached self.new ≡ (S.state self.new).last)) }
     {

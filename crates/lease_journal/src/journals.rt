@@ -128,6 +128,7 @@ impl<D: LeaseDisk> Journal<D> {
         ensures later { IfOk result (λ opened. PairHasCause D.faults pair opened.0.pair ⊥) }
         ensures cause { IfErr result
             (λ refused. PairHasCause D.faults pair refused.pair (refused.fault ≡ Disk)) }
+        ensures lasting { R.lasting replay.new ≡ R.lasting replay.old }
     {
         let mut pair = pair;
         match open(alloc, &mut pair, m, replay) {
@@ -171,6 +172,7 @@ impl<D: LeaseDisk> Journal<D> {
         ensures first_length { OnOk result (self.new.first_length ≡ self.new.standing.length) }
         ensures doubt { IsErr result → self.new.unread ≡ true }
         ensures cause { PairHasCause D.faults self.old.pair self.new.pair (result ≡ Err Disk) }
+        ensures lasting { R.lasting replay.new ≡ R.lasting replay.old }
     {
         self.unread = true;
         let opened = open(alloc, &mut self.pair, m, replay)?;
@@ -196,6 +198,7 @@ impl<D: LeaseDisk> Journal<D> {
         ensures read { ArePairRead D.moment D.left_since D.may_leave pair.old pair.new }
         ensures seen { D.tells → AreSeenStill D.seen pair.old pair.new }
         ensures cause { PairHasCause D.faults pair.old pair.new (result ≡ Err Disk) }
+        ensures lasting { R.lasting replay.new ≡ R.lasting replay.old }
     {
         match judge(alloc, pair, replay)? {
             Verdict::Counting(..) => Ok(Found::Recovered),

@@ -48,6 +48,7 @@ pub(crate) fn judge<D: LeaseDisk, R: Replay>(
     ensures read { ArePairRead D.moment D.left_since D.may_leave pair.old pair.new }
     ensures seen { D.tells → AreSeenStill D.seen pair.old pair.new }
     ensures cause { PairHasCause D.faults pair.old pair.new (result ≡ Err Disk) }
+    ensures lasting { R.lasting replay.new ≡ R.lasting replay.old }
 {
     let mut buffer = piece_of(alloc, PIECE)?;
     let a = judge_side(alloc, Side::A, &mut pair.a, &mut buffer, replay)?;

@@ -152,6 +152,7 @@ fn start<D: LeaseDisk, R: Replay>(
         (λ standing. IsSettledBy D.seen D.may_leave A standing pair.new (fresh_state m)) }
     ensures reach { IfOk result IsInReach }
     ensures cause { PairHasCause D.faults pair.old pair.new (result ≡ Err Disk) }
+    ensures lasting { R.lasting replay.new ≡ R.lasting replay.old }
 {
     let start = Record {
         moment: m,
@@ -252,6 +253,7 @@ fn start_anew<D: LeaseDisk, R: Replay>(
         (λ standing. IsSettledBy D.seen D.may_leave A standing pair.new (fresh_state m)) }
     ensures reach { IfOk result IsInReach }
     ensures cause { PairHasCause D.faults pair.old pair.new (result ≡ Err Disk) }
+    ensures lasting { R.lasting replay.new ≡ R.lasting replay.old }
 {
     shut_all(pair, a, b)?;
     start(alloc, pair, m, replay)
@@ -297,6 +299,7 @@ fn start_by<D: LeaseDisk, R: Replay>(
         (λ opened. IsReplaying opened.standing.format R.replaying R.replaying_first
         replay.new) }
     ensures cause { PairHasCause D.faults pair.old pair.new (result ≡ Err Disk) }
+    ensures lasting { R.lasting replay.new ≡ R.lasting replay.old }
 {
     match verdict {
         Verdict::Counting(side, standing) => Ok(Opened {
@@ -350,6 +353,7 @@ pub(crate) fn open<D: LeaseDisk, R: Replay>(
         → Opens D.seen D.moment D.left_since D.may_leave m pair.old pair.new
         ⊎ LeavesOld D.moment D.left_since D.may_leave pair.old pair.new }
     ensures cause { PairHasCause D.faults pair.old pair.new (result ≡ Err Disk) }
+    ensures lasting { R.lasting replay.new ≡ R.lasting replay.old }
 {
     sync_both(pair)?;
     let verdict = judge(alloc, pair, replay)?;

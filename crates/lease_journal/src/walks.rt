@@ -115,6 +115,7 @@ fn admit<R: Replay>(
         → R.state replay.new ≡ apply_by format (R.state replay.old) entry.now }
     ensures refused { result ≡ Ok false → ¬ (FitsBy format (R.state replay.old) entry.now) }
     ensures ready { OnOk result (IsReplaying format R.replaying R.replaying_first replay.new) }
+    ensures lasting { R.lasting replay.new ≡ R.lasting replay.old }
 {
     match format {
         Format::First => replay.admit_first(alloc, entry),
@@ -134,6 +135,7 @@ fn read_batch<R: Replay>(
     ensures means { IfOk result
         (BatchMeans format (R.state replay.old) (R.state replay.new) octets.now) }
     ensures ready { OnOk result (IsReplaying format R.replaying R.replaying_first replay.new) }
+    ensures lasting { R.lasting replay.new ≡ R.lasting replay.old }
 {
     let mut at = 0;
     let mut count = 0_usize;
@@ -164,6 +166,7 @@ fn walk_frame<R: Replay>(
     ensures means { IfOk result
         (TurnMeans format (R.state replay.old) (R.state replay.new) octets.now) }
     ensures ready { OnOk result (IsReplaying format R.replaying R.replaying_first replay.new) }
+    ensures lasting { R.lasting replay.new ≡ R.lasting replay.old }
 {
     let [gate, rest @ ..] = octets else {
         return Ok(Turn::Over(Stop::Short));
@@ -205,6 +208,7 @@ fn walk_piece<R: Replay>(
         found.0 found.1) }
     ensures within { IfOk result (λ found. found.0 ≤ length octets.now) }
     ensures ready { OnOk result (IsReplaying format R.replaying R.replaying_first replay.new) }
+    ensures lasting { R.lasting replay.new ≡ R.lasting replay.old }
 {
     let mut at = 0;
     while at < octets.len() {
@@ -240,6 +244,7 @@ fn walk<D: LeaseDisk, R: Replay>(
     ensures seen { D.tells → D.seen disk.new ≡ D.seen disk.old }
     ensures later { D.faults disk.old ≤ D.faults disk.new }
     ensures cause { result ≡ Err Disk → HasRisen (D.faults disk.old) (D.faults disk.new) }
+    ensures lasting { R.lasting replay.new ≡ R.lasting replay.old }
 {
     let mut place = SIDE_HEAD as u64;
     while place < size {
@@ -279,6 +284,7 @@ pub(crate) fn judge_side<D: LeaseDisk, R: Replay>(
     ensures seen { D.tells → D.seen disk.new ≡ D.seen disk.old }
     ensures later { D.faults disk.old ≤ D.faults disk.new }
     ensures cause { result ≡ Err Disk → HasRisen (D.faults disk.old) (D.faults disk.new) }
+    ensures lasting { R.lasting replay.new ≡ R.lasting replay.old }
 {
     let size = disk.len()?;
     let mut head = [0; SIDE_HEAD];

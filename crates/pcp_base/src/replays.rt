@@ -20,9 +20,16 @@ pub trait Replay {
     /// It is new or was cleared, and nothing but `admit_first` changed it since.
     ghost replaying_first: { Self → Type 0 };
 
+    /// What it is made with, and no call changes.
+    ghost Lasting: { Type 0 };
+
+    /// What it is made with, and no call changes.
+    ghost lasting: { Self → Lasting };
+
     /// Begins anew, without a record.
     fn clear(&mut self)
         ensures empty { state self.new ≡ empty_state }
+        ensures lasting { lasting self.new ≡ lasting self.old }
         ensures ready { replaying self.new }
         ensures ready_first { replaying_first self.new };
 
@@ -35,6 +42,7 @@ pub trait Replay {
             → state self.new ≡ apply (state self.old) kept.now }
         ensures refused { result ≡ Ok false → ¬ (Fits (state self.old) kept.now) }
         ensures unchanged { result ≡ Ok false → state self.new ≡ state self.old }
+        ensures lasting { lasting self.new ≡ lasting self.old }
         ensures ready { OnOk result (replaying self.new) };
 
     /// `admit` by the rules of the first format, which knows no ends and no address.
@@ -45,5 +53,6 @@ pub trait Replay {
             → state self.new ≡ apply_first (state self.old) kept.now }
         ensures refused { result ≡ Ok false → ¬ (FitsFirst (state self.old) kept.now) }
         ensures unchanged { result ≡ Ok false → state self.new ≡ state self.old }
+        ensures lasting { lasting self.new ≡ lasting self.old }
         ensures ready { OnOk result (replaying_first self.new) };
 }

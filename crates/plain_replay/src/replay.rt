@@ -1,5 +1,5 @@
 //! The state that records make, in three lists.
-ghost use Rattle.std.specs.Prelude.{◌≡◌, ◌↔◌, ◌||◌, if◌then◌else◌, IsTrue, IfOk, OnOk};
+ghost use Rattle.std.specs.Prelude.{◌≡◌, ◌↔◌, ◌||◌, ⊤, if◌then◌else◌, IsTrue, IfOk, OnOk};
 ghost use Rattle.pcp_base.specs.declared.records.Change.TheVariants.{Map, Peer};
 ghost use Rattle.pcp_base.specs.States.{empty_state};
 ghost use Rattle.pcp_base.specs.Tables.{live, IsMapLease};
@@ -355,6 +355,10 @@ impl Replay for PlainReplay {
     ghost replaying = { IsReached };
 
     ghost replaying_first = { IsReachedFirst };
+
+    ghost Lasting = { ⊤ };
+
+    ghost lasting = { λ _. tt };
 
     fn clear(&mut self) {
         states_are_sound();

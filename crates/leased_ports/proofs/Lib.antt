@@ -1,0 +1,7 @@
+pub mod PickLemmas
+pub mod ExpiryLemmas
+pub mod LastEndLemmas
+pub mod PoolLemmas
+pub mod StepLemmas
+pub mod MomentLemmas
+pub mod RecordLemmas

@@ -1,0 +1,8 @@
+use Rattle.leased_ports.proofs.MomentLemmas.{ports-later, ports-new}
+use Rattle.leased_ports.proofs.laws.ports_follow_states.Goals as goal
+
+pub returns-clause-new : goal.returns-clause-new
+returns-clause-new c = ports-new
+
+pub returns-clause-later : goal.returns-clause-later
+returns-clause-later c = ports-later

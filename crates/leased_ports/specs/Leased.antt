@@ -1,0 +1,86 @@
+-- What is known of the ports of an external address at a moment (our own).
+use Rattle.std.specs.Prelude.{◌≡◌, ℕ, ◌+◌, ◌*◌, ◌<◌, ◌≤◌, ◌^◌, List, Option, Some, None, map, replicate, slice_index_or, slice_set, if◌then◌else◌}
+use Rattle.pcp_base.specs.declared.leases.TheConstants.{REST_SECONDS}
+use Rattle.pcp_base.specs.declared.leases.Protocol.{Protocol}
+use Rattle.pcp_base.specs.declared.leases.Protocol.TheVariants.{Tcp, Udp}
+use Rattle.pcp_base.specs.declared.leases.End.{End}
+use Rattle.pcp_base.specs.Ends.{is_recent}
+use Rattle.pcp_base.specs.States.{State}
+use Rattle.lease_store.specs.declared.terms.Terms.{Terms}
+use Rattle.leased_ports.specs.LastEnds.{last_end}
+use Rattle.leased_ports.specs.declared.ends.TheConstants.{PLACES}
+
+pub record Leased : Type 0 where
+  -- the range of ports that are given, and how many an address may own
+  pub low : ℕ
+  pub high : ℕ
+  pub quota : ℕ
+  -- the moment that is reached
+  pub reached : ℕ
+  -- the last end of each port that is held or rests, at the port's place
+  pub ends : List (Option End)
+
+abbrev pub leased : (low high quota reached : ℕ) → List (Option End) → Leased
+leased low high quota reached ends = record {
+  low = low;
+  high = high;
+  quota = quota;
+  reached = reached;
+  ends = ends;
+}
+
+-- where the end of a port stands
+abbrev pub place : Protocol → ℕ → ℕ
+place Tcp port = 2 * port
+place Udp port = 2 * port + 1
+
+abbrev pub end_in : List (Option End) → ℕ → Option End
+end_in ends place = slice_index_or ends place None
+
+-- the last end of a port
+abbrev pub end_of : Leased → Protocol → ℕ → Option End
+end_of v protocol port = end_in v.ends (place protocol port)
+
+unfoldable pub no_ends : ℕ → List (Option End)
+no_ends count = replicate count None
+
+-- no port is held or rests, and the moment is 0
+abbrev pub fresh_ports : ℕ → ℕ → ℕ → Leased
+fresh_ports low high quota = leased low high quota 0 (no_ends PLACES)
+
+-- the same on the same range and quota
+abbrev pub vacated : Leased → Leased
+vacated v = fresh_ports v.low v.high v.quota
+
+-- the end, while it is recent
+abbrev pub while_recent : ℕ → Option End → Option End
+while_recent m None = None
+while_recent m (Some e) = if is_recent m e then Some e else None
+
+-- the same at a later moment
+abbrev pub at_moment : ℕ → Leased → Leased
+at_moment m v = record v { reached = m; ends = map (while_recent m) v.ends }
+
+-- the last end of the end's port is this one
+abbrev pub with_last_end : End → Leased → Leased
+with_last_end e v = record v {
+  ends = slice_set v.ends (place e.endpoint.protocol e.external) (Some e);
+}
+
+-- an end by which a port of 1 to 65535 is held or rests at m
+pub record IsLastEnd (m : ℕ) (e : End) : Type 0 where
+  pub external : 1 ≤ e.external
+  pub recent : m < e.end + REST_SECONDS
+  pub near : e.end < 2 ^ 41
+
+-- the value is that of the ports of a state at the moment reached
+pub record IsPortsOf (v : Leased) (s : State) : Type 0 where
+  pub passed : s.last ≤ v.reached
+  pub same : (protocol : Protocol) (port : ℕ) →
+      end_of v protocol port ≡ last_end s v.reached protocol port
+
+-- the ports are leased on these terms
+pub record IsOnTerms (v : Leased) (terms : Terms) : Type 0 where
+  pub low : v.low ≡ terms.external.low
+  pub high : v.high ≡ terms.external.high
+  pub quota : v.quota ≡ terms.quota

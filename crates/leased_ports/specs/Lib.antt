@@ -1,0 +1,7 @@
+pub mod LastEnds
+pub mod Leased
+pub mod Kept
+pub mod Steps
+pub mod Falling
+pub mod Recorded
+pub mod Laws

@@ -1,0 +1,14 @@
+//! The external ports of one address, as the state of its leases has them at a moment: which are
+//! held and for whom, which rest, and until when.
+#![tactic(auto)]
+
+mod ends;
+mod falls;
+pub mod laws;
+mod ports;
+mod schedule;
+#[cfg(test)]
+mod tests;
+mod uses;
+
+pub use ports::LeasedPorts;
