@@ -4,7 +4,7 @@ ghost use Rattle.pcp_base.specs.Tables.{live};
 ghost use Rattle.pcp_base.specs.States.{State, empty_state};
 ghost use Rattle.pcp_base.specs.Apply.{apply, apply_first};
 ghost use Rattle.pcp_base.specs.Fits.{Fits, FitsFirst};
-ghost use Rattle.pcp_base.specs.Reached.{IsReached};
+ghost use Rattle.pcp_base.specs.Reached.{IsReached, IsReachedFirst};
 ghost use Rattle.external_pool.specs.Calls.{IsAsk};
 ghost use Rattle.lease_store.specs.declared.terms.Terms.{Terms};
 ghost use Rattle.lease_store.specs.LeaseTerms.{AreTerms};
@@ -39,6 +39,12 @@ pub trait LeaseStore {
 
     /// It is new or was cleared, and nothing but `admit_first` changed it since.
     ghost replaying_first: { Self → Type 0 };
+
+    // Then records that fit have made the state.
+    ghost made: { (store : Self) → replaying store → IsReached (state store) };
+
+    // So they have in the first format.
+    ghost made_first: { (store : Self) → replaying_first store → IsReachedFirst (state store) };
 
     /// Begins anew, without a record.
     fn clear(&mut self)

@@ -68,6 +68,10 @@ impl LeaseStore for PlainStore {
 
     ghost replaying_first = { λ s. IsReachedFirst s.state };
 
+    ghost made = { λ s made. made };
+
+    ghost made_first = { λ s made. made };
+
     fn clear(&mut self) {
         self.replay.clear();
         self.reached = self.replay.last();
