@@ -17,7 +17,7 @@ use Rattle.pcp_base.specs.States.{State}
 use Rattle.lease_store.specs.declared.terms.Terms.{Terms}
 use Rattle.lease_store.specs.Lookups.{look, next_inside}
 use Rattle.lease_store.specs.Picks.{pick}
-use Rattle.lease_core.specs.Answers.{answered, kept_at, refused, refused_until}
+use Rattle.lease_core.specs.Answers.{answered, answered_with, refused, refused_until}
 use Rattle.lease_core.specs.DecideMap.{decide_map}
 use Rattle.lease_core.specs.DecidePeer.{decide_peer}
 
@@ -107,23 +107,23 @@ set size first = record { size = size; first = first; parity = false }
 -- ---- a request without options
 
 granted : decide_map (terms 1024 1030 64) (with [] []) 1010 (ask 5 3600 0)
-    ≡ kept_at 1010 (Mapped 3600 1024 (host 1) None) (Map (lease 5 1 1024 4610))
+    ≡ answered_with 1010 (Mapped 3600 1024 (host 1) None) (Map (lease 5 1 1024 4610))
 unfolding decide_map pick next_inside
 granted = refl
 
 -- a renewal moves the expiry alone
 renewed : decide_map (terms 1024 1030 64) (with (lease 5 1 1024 4610 ∷ []) []) 1015 (ask 5 3600 0)
-    ≡ kept_at 1015 (Mapped 3600 1024 (host 1) None) (Map (lease 5 1 1024 4615))
+    ≡ answered_with 1015 (Mapped 3600 1024 (host 1) None) (Map (lease 5 1 1024 4615))
 unfolding decide_map pick next_inside
 renewed = refl
 
 shortest : decide_map (terms 1024 1030 64) (with [] []) 1010 (ask 5 1 0)
-    ≡ kept_at 1010 (Mapped 120 1024 (host 1) None) (Map (lease 5 1 1024 1130))
+    ≡ answered_with 1010 (Mapped 120 1024 (host 1) None) (Map (lease 5 1 1024 1130))
 unfolding decide_map pick next_inside
 shortest = refl
 
 longest : decide_map (terms 1024 1030 64) (with [] []) 1010 (ask 5 4294967295 0)
-    ≡ kept_at 1010 (Mapped 86400 1024 (host 1) None) (Map (lease 5 1 1024 87410))
+    ≡ answered_with 1010 (Mapped 86400 1024 (host 1) None) (Map (lease 5 1 1024 87410))
 unfolding decide_map pick next_inside
 longest = refl
 
@@ -140,7 +140,7 @@ nothing_gone = refl
 -- a deletion takes the whole set
 set_gone : decide_map (terms 1024 1030 64) (with (lease 5 4 1024 4610 ∷ []) []) 1010
     (record (ask 5 0 0) { endpoint = endpoint 5 65532 })
-    ≡ kept_at 1010 Gone (DropMap (endpoint 5 65530))
+    ≡ answered_with 1010 Gone (DropMap (endpoint 5 65530))
 unfolding decide_map pick next_inside
 set_gone = refl
 
@@ -148,7 +148,7 @@ set_gone = refl
 
 -- the suggested port is another's
 moved : decide_map (terms 1024 1030 64) (with (lease 5 1 1024 4610 ∷ []) []) 1011 (ask 6 3600 1024)
-    ≡ kept_at 1011 (Mapped 3600 1025 (host 1) None) (Map (record (lease 6 1 1025 4611) { granted = 1011 }))
+    ≡ answered_with 1011 (Mapped 3600 1025 (host 1) None) (Map (record (lease 6 1 1025 4611) { granted = 1011 }))
 unfolding decide_map pick next_inside
 moved = refl
 
@@ -170,7 +170,7 @@ over_quota = refl
 
 -- ports of leases that ended don't count
 under_quota : decide_map (terms 1024 1030 4) (with (lease 5 4 1024 1130 ∷ []) []) 1300 (ask 5 3600 0)
-    ≡ kept_at 1300 (Mapped 3600 1024 (host 1) None) (Map (record (lease 5 1 1024 4900) { granted = 1300 }))
+    ≡ answered_with 1300 (Mapped 3600 1024 (host 1) None) (Map (record (lease 5 1 1024 4900) { granted = 1300 }))
 unfolding decide_map pick next_inside
 under_quota = refl
 
@@ -188,41 +188,41 @@ no_port_wanted = refl
 
 -- five ports are left of the eight that are asked for
 few_ports : decide_map (terms 1024 1028 64) (with [] []) 1010 (record (ask 5 3600 0) { endpoint = endpoint 5 65520; set = Some (set 8 65520) })
-    ≡ kept_at 1010 (Mapped 3600 1024 (host 1) (Some (set 5 65520))) (Map (record (lease 5 5 1024 4610) { internal = 65520 }))
+    ≡ answered_with 1010 (Mapped 3600 1024 (host 1) (Some (set 5 65520))) (Map (record (lease 5 5 1024 4610) { internal = 65520 }))
 unfolding decide_map pick next_inside
 few_ports = refl
 
 -- a request from within the set is told the whole of it where it asks for a set
 within_set : decide_map (terms 1024 1028 64) (with (lease 5 5 1024 4610 ∷ []) []) 1010
     (record (ask 5 3600 0) { endpoint = endpoint 5 65532; set = Some (set 1 65532) })
-    ≡ kept_at 1010 (Mapped 3600 1024 (host 1) (Some (set 5 65530))) (Map (lease 5 5 1024 4610))
+    ≡ answered_with 1010 (Mapped 3600 1024 (host 1) (Some (set 5 65530))) (Map (lease 5 5 1024 4610))
 unfolding decide_map pick next_inside
 within_set = refl
 
 -- and its own port where it doesn't
 own_port : decide_map (terms 1024 1028 64) (with (lease 5 5 1024 4610 ∷ []) []) 1010 (record (ask 5 3600 0) { endpoint = endpoint 5 65532 })
-    ≡ kept_at 1010 (Mapped 3600 1026 (host 1) None) (Map (lease 5 5 1024 4610))
+    ≡ answered_with 1010 (Mapped 3600 1026 (host 1) None) (Map (lease 5 5 1024 4610))
 unfolding decide_map pick next_inside
 own_port = refl
 
 -- a set ends before the next internal port in use
 up_to_next : decide_map (terms 1024 1030 64) (with (lease 5 1 1024 4610 ∷ []) []) 1010
     (record (ask 5 3600 0) { endpoint = endpoint 5 65528; set = Some (set 8 65528) })
-    ≡ kept_at 1010 (Mapped 3600 1025 (host 1) (Some (set 2 65528))) (Map (record (lease 5 2 1025 4610) { internal = 65528 }))
+    ≡ answered_with 1010 (Mapped 3600 1025 (host 1) (Some (set 2 65528))) (Map (record (lease 5 2 1025 4610) { internal = 65528 }))
 unfolding decide_map pick next_inside
 up_to_next = refl
 
 -- an odd internal port with the parity bit is given an odd external one
 odd : decide_map (terms 1024 1030 64) (with [] []) 1010
     (record (ask 5 3600 0) { endpoint = endpoint 5 65531; set = Some (record (set 2 65531) { parity = true }) })
-    ≡ kept_at 1010 (Mapped 3600 1025 (host 1) (Some (record (set 2 65531) { parity = true })))
+    ≡ answered_with 1010 (Mapped 3600 1025 (host 1) (Some (record (set 2 65531) { parity = true })))
     (Map (record (lease 5 2 1025 4610) { internal = 65531 }))
 unfolding decide_map pick next_inside
 odd = refl
 
 -- one port is no set
 no_set : decide_map (terms 1024 1030 64) (with [] []) 1010 (record (ask 5 3600 0) { set = Some (set 1 65530) })
-    ≡ kept_at 1010 (Mapped 3600 1024 (host 1) None) (Map (lease 5 1 1024 4610))
+    ≡ answered_with 1010 (Mapped 3600 1024 (host 1) None) (Map (lease 5 1 1024 4610))
 unfolding decide_map pick next_inside
 no_set = refl
 
@@ -230,17 +230,17 @@ no_set = refl
 
 -- a lease that ended at 1130 leaves its port to its own endpoint until 1250
 to_another : decide_map (terms 1024 1030 64) (with (lease 5 1 1024 1130 ∷ []) []) 1249 (ask 6 3600 1024)
-    ≡ kept_at 1249 (Mapped 3600 1025 (host 1) None) (Map (record (lease 6 1 1025 4849) { granted = 1249 }))
+    ≡ answered_with 1249 (Mapped 3600 1025 (host 1) None) (Map (record (lease 6 1 1025 4849) { granted = 1249 }))
 unfolding decide_map pick next_inside
 to_another = refl
 
 back_to_it : decide_map (terms 1024 1030 64) (with (lease 5 1 1024 1130 ∷ []) []) 1249 (ask 5 3600 1024)
-    ≡ kept_at 1249 (Mapped 3600 1024 (host 1) None) (Map (record (lease 5 1 1024 4849) { granted = 1249 }))
+    ≡ answered_with 1249 (Mapped 3600 1024 (host 1) None) (Map (record (lease 5 1 1024 4849) { granted = 1249 }))
 unfolding decide_map pick next_inside
 back_to_it = refl
 
 to_all : decide_map (terms 1024 1030 64) (with (lease 5 1 1024 1130 ∷ []) []) 1250 (ask 6 3600 0)
-    ≡ kept_at 1250 (Mapped 3600 1024 (host 1) None) (Map (record (lease 6 1 1024 4850) { granted = 1250 }))
+    ≡ answered_with 1250 (Mapped 3600 1024 (host 1) None) (Map (record (lease 6 1 1024 4850) { granted = 1250 }))
 unfolding decide_map pick next_inside
 to_all = refl
 
@@ -252,14 +252,14 @@ filter_of prefix port = record { prefix = prefix; port = port; remote = host 7 }
 -- a filter of prefix 0 empties the list, and the next begins it anew
 refiltered : decide_map (terms 1024 1030 64) (with (record (lease 5 1 1024 4610) { filters = filter_of 128 0 ∷ [] } ∷ []) []) 1010
     (record (ask 5 3600 0) { filters = filter_of 0 0 ∷ filter_of 120 53 ∷ [] })
-    ≡ kept_at 1010 (Mapped 3600 1024 (host 1) None) (Map (record (lease 5 1 1024 4610) { filters = filter_of 120 53 ∷ [] }))
+    ≡ answered_with 1010 (Mapped 3600 1024 (host 1) None) (Map (record (lease 5 1 1024 4610) { filters = filter_of 120 53 ∷ [] }))
 unfolding decide_map pick next_inside
 refiltered = refl
 
 -- without one they are added to the old ones
 more_filters : decide_map (terms 1024 1030 64) (with (record (lease 5 1 1024 4610) { filters = filter_of 128 1 ∷ [] } ∷ []) []) 1010
     (record (ask 5 3600 0) { filters = filter_of 128 1 ∷ filter_of 128 2 ∷ [] })
-    ≡ kept_at 1010 (Mapped 3600 1024 (host 1) None) (Map (record (lease 5 1 1024 4610) { filters = filter_of 128 1 ∷ filter_of 128 2 ∷ [] }))
+    ≡ answered_with 1010 (Mapped 3600 1024 (host 1) None) (Map (record (lease 5 1 1024 4610) { filters = filter_of 128 1 ∷ filter_of 128 2 ∷ [] }))
 unfolding decide_map pick next_inside
 more_filters = refl
 
@@ -275,29 +275,29 @@ ninth = refl
 -- ---- PEER requests
 
 peered : decide_peer (terms 1024 1030 64) (with [] []) 1010 (peer_ask 3600)
-    ≡ kept_at 1010 (Peered 3600 1024 (host 1)) (Peer (peer 1024 4610))
+    ≡ answered_with 1010 (Peered 3600 1024 (host 1)) (Peer (peer 1024 4610))
 unfolding decide_peer pick
 peered = refl
 
 -- an endpoint has one external port, by MAP and PEER leases
 same_port : decide_map (terms 1024 1030 64) (with [] (peer 1026 4610 ∷ [])) 1010 (ask 5 3600 1025)
-    ≡ kept_at 1010 (Mapped 3600 1026 (host 1) None) (Map (lease 5 1 1026 4610))
+    ≡ answered_with 1010 (Mapped 3600 1026 (host 1) None) (Map (lease 5 1 1026 4610))
 unfolding decide_map pick next_inside
 same_port = refl
 
 port_within_set : decide_peer (terms 1024 1030 64) (with (record (lease 5 3 1025 4610) { internal = 65529 } ∷ []) []) 1010 (peer_ask 3600)
-    ≡ kept_at 1010 (Peered 3600 1026 (host 1)) (Peer (peer 1026 4610))
+    ≡ answered_with 1010 (Peered 3600 1026 (host 1)) (Peer (peer 1026 4610))
 unfolding decide_peer pick
 port_within_set = refl
 
 -- the quota isn't asked for a port that the endpoint has
 same_port_over_quota : decide_map (terms 1024 1030 1) (with [] (peer 1026 4610 ∷ [])) 1010 (ask 5 3600 0)
-    ≡ kept_at 1010 (Mapped 3600 1026 (host 1) None) (Map (lease 5 1 1026 4610))
+    ≡ answered_with 1010 (Mapped 3600 1026 (host 1) None) (Map (lease 5 1 1026 4610))
 unfolding decide_map pick next_inside
 same_port_over_quota = refl
 
 peer_gone : decide_peer (terms 1024 1030 64) (with [] (peer 1026 4610 ∷ [])) 1010 (peer_ask 0)
-    ≡ kept_at 1010 Gone (DropPeer (endpoint 5 65530) (host 98) 53)
+    ≡ answered_with 1010 Gone (DropPeer (endpoint 5 65530) (host 98) 53)
 unfolding decide_peer pick
 peer_gone = refl
 
@@ -307,7 +307,7 @@ unfolding decide_peer pick
 other_peer_nonce = refl
 
 peer_renewed : decide_peer (terms 1024 1030 64) (with [] (peer 1026 4610 ∷ [])) 1020 (peer_ask 3600)
-    ≡ kept_at 1020 (Peered 3600 1026 (host 1)) (Peer (peer 1026 4620))
+    ≡ answered_with 1020 (Peered 3600 1026 (host 1)) (Peer (peer 1026 4620))
 unfolding decide_peer pick
 peer_renewed = refl
 

@@ -22,13 +22,14 @@ use Rattle.pcp_base.specs.Ends.{rests_for}
 use Rattle.pcp_base.specs.States.{State}
 use Rattle.pcp_base.specs.Apply.{apply}
 use Rattle.pcp_base.specs.Fits.{Fits, RestForNoOther}
+use Rattle.pcp_base.specs.Laws.{SuitingFits, ReachedIsKept, PortsHaveOneOwner}
 use Rattle.pcp_base.specs.Reached.{IsReached}
+use Rattle.pcp_base.specs.Rooms.{Suits}
+use Rattle.pcp_base.specs.Sound.{SoundState}
 use Rattle.pcp_base.proofs.Members.{All-IsIn, IsIn, IsIn-filter, IsIn-from_Contains, IsIn-left, IsIn-map, IsIn-right, find-none, flat_map-IsIn, map-IsIn}
 use Rattle.pcp_base.proofs.Same.{same_address-Decides, same_endpoint-Decides}
-use Rattle.pcp_base.proofs.ApplyLaws.{IsReached-apply, OneOwner-at}
 use Rattle.pcp_base.proofs.EndLemmas.{some-owned}
 use Rattle.pcp_base.proofs.RestLaws.{rests_for-unowned}
-use Rattle.pcp_base.proofs.RoomLaws.{Fits-from_Suits}
 use Rattle.pcp_base.proofs.TableLemmas.{Sound-live, key-same, other_key, same_key}
 use Rattle.lease_store.specs.declared.terms.Terms.{Terms}
 use Rattle.lease_store.specs.Lookups.{named_port}
@@ -62,44 +63,47 @@ may_peer terms s m ask h = record {
   formed = h.formed;
 }
 
+fits-by : (room : SuitingFits) (s : State) (r : Record) → SoundState s → Suits s r → Fits s r
+fits-by room s r sound suits = (room s r sound).1 suits
+
 abbrev FitsAt : State → ℕ → Record → Type 0
 FitsAt s m r = Fits s r × (r.moment ≡ m)
 
-map-fits : (terms : Terms) (s : State) (m : ℕ) (ask : MapAsk) (r : Record) → MayDecideMap terms s m ask →
+map-fits : (room : SuitingFits) (terms : Terms) (s : State) (m : ℕ) (ask : MapAsk) (r : Record) → MayDecideMap terms s m ask →
     MapDeed terms s m ask r → FitsAt s m r
-map-fits terms s m ask r may (drop lease found nonce same) = subst (FitsAt s m) same
-    (Fits-from_Suits s (record { moment = m; change = DropMap (first_endpoint lease) }) may.reached.sound (drop-suits terms s m ask lease may found), refl)
-map-fits terms s m ask r may (renew lease is same) = subst (FitsAt s m) same
-    (Fits-from_Suits s (record { moment = m; change = Map (renewed terms m ask lease) }) may.reached.sound (renew-suits terms s m ask lease may is), refl)
-map-fits terms s m ask r may (grant run is same) = subst (FitsAt s m) same
-    (Fits-from_Suits s (record { moment = m; change = Map (new_lease terms m ask run) }) may.reached.sound (grant-suits terms s m ask run may is), refl)
+map-fits room terms s m ask r may (drop lease found nonce same) = subst (FitsAt s m) same
+    (fits-by room s (record { moment = m; change = DropMap (first_endpoint lease) }) may.reached.sound (drop-suits terms s m ask lease may found), refl)
+map-fits room terms s m ask r may (renew lease is same) = subst (FitsAt s m) same
+    (fits-by room s (record { moment = m; change = Map (renewed terms m ask lease) }) may.reached.sound (renew-suits terms s m ask lease may is), refl)
+map-fits room terms s m ask r may (grant run is same) = subst (FitsAt s m) same
+    (fits-by room s (record { moment = m; change = Map (new_lease terms m ask run) }) may.reached.sound (grant-suits terms s m ask run may is), refl)
 
-peer-fits : (terms : Terms) (s : State) (m : ℕ) (ask : PeerAsk) (r : Record) → MayDecidePeer terms s m ask →
+peer-fits : (room : SuitingFits) (terms : Terms) (s : State) (m : ℕ) (ask : PeerAsk) (r : Record) → MayDecidePeer terms s m ask →
     PeerDeed terms s m ask r → FitsAt s m r
-peer-fits terms s m ask r may (drop_peer lease is same) = subst (FitsAt s m) same
-    (Fits-from_Suits s (record { moment = m; change = DropPeer ask.endpoint ask.remote ask.remote_port }) may.reached.sound (drop_peer-suits terms s m ask lease may is), refl)
-peer-fits terms s m ask r may (renew_peer lease is same) = subst (FitsAt s m) same
-    (Fits-from_Suits s (record { moment = m; change = Peer (renewed_peer terms m ask lease) }) may.reached.sound (renew_peer-suits terms s m ask lease may is), refl)
-peer-fits terms s m ask r may (grant_peer port is same) = subst (FitsAt s m) same
-    (Fits-from_Suits s (record { moment = m; change = Peer (new_peer terms m ask port) }) may.reached.sound (grant_peer-suits terms s m ask port may is), refl)
+peer-fits room terms s m ask r may (drop_peer lease is same) = subst (FitsAt s m) same
+    (fits-by room s (record { moment = m; change = DropPeer ask.endpoint ask.remote ask.remote_port }) may.reached.sound (drop_peer-suits terms s m ask lease may is), refl)
+peer-fits room terms s m ask r may (renew_peer lease is same) = subst (FitsAt s m) same
+    (fits-by room s (record { moment = m; change = Peer (renewed_peer terms m ask lease) }) may.reached.sound (renew_peer-suits terms s m ask lease may is), refl)
+peer-fits room terms s m ask r may (grant_peer port is same) = subst (FitsAt s m) same
+    (fits-by room s (record { moment = m; change = Peer (new_peer terms m ask port) }) may.reached.sound (grant_peer-suits terms s m ask port may is), refl)
 
-pub kept-fits : (terms : Terms) (s : State) (m : ℕ) (ask : Ask) → MayDecide terms s m ask →
+pub kept-fits : (room : SuitingFits) (terms : Terms) (s : State) (m : ℕ) (ask : Ask) → MayDecide terms s m ask →
     (r : Record) → (decide terms s m ask).kept ≡ Some r → FitsAt s m r
-kept-fits terms s m (Asks.Known refusal) may r h = absurd cc
-kept-fits terms s m Asks.Announce may r h = absurd cc
-kept-fits terms s m (Asks.Map ask) may r h = map-fits terms s m ask r (may_map terms s m ask may) (map_deed terms s m ask r h)
-kept-fits terms s m (Asks.Peer ask) may r h = peer-fits terms s m ask r (may_peer terms s m ask may) (peer_deed terms s m ask r h)
+kept-fits room terms s m (Asks.Known refusal) may r h = absurd cc
+kept-fits room terms s m Asks.Announce may r h = absurd cc
+kept-fits room terms s m (Asks.Map ask) may r h = map-fits room terms s m ask r (may_map terms s m ask may) (map_deed terms s m ask r h)
+kept-fits room terms s m (Asks.Peer ask) may r h = peer-fits room terms s m ask r (may_peer terms s m ask may) (peer_deed terms s m ask r h)
 
-pub decisions-fit : (terms : Terms) (s : State) (m : ℕ) (ask : Ask) → MayDecide terms s m ask →
+pub decisions-fit : (room : SuitingFits) (terms : Terms) (s : State) (m : ℕ) (ask : Ask) → MayDecide terms s m ask →
     IfSome (decide terms s m ask).kept (λ r. Fits s r × (r.moment ≡ m))
-decisions-fit terms s m ask may = if_some (decide terms s m ask).kept (FitsAt s m) (kept-fits terms s m ask may)
+decisions-fit room terms s m ask may = if_some (decide terms s m ask).kept (FitsAt s m) (kept-fits room terms s m ask may)
 
-pub decisions-keep : (terms : Terms) (s : State) (m : ℕ) (ask : Ask) → MayDecide terms s m ask →
+pub decisions-keep : (room : SuitingFits) (kept : ReachedIsKept) (one : PortsHaveOneOwner) (terms : Terms) (s : State) (m : ℕ) (ask : Ask) → MayDecide terms s m ask →
     IfSome (decide terms s m ask).kept (λ r. IsReached (apply s r) × ((n : ℕ) → OneOwner (owners (live (apply s r).table n))))
-decisions-keep terms s m ask may =
+decisions-keep room kept one terms s m ask may =
     if_some (decide terms s m ask).kept (λ r. IsReached (apply s r) × ((n : ℕ) → OneOwner (owners (live (apply s r).table n))))
-    (λ r h. let fits = (kept-fits terms s m ask may r h).0 in
-    (IsReached-apply s r may.reached fits, λ n. OneOwner-at (apply s r) n fits.sound))
+    (λ r h. let fits = (kept-fits room terms s m ask may r h).0 in
+    (kept s r may.reached fits, λ n. one (apply s r) n fits.sound))
 
 -- ---- nonces
 

@@ -29,8 +29,8 @@ abbrev pub answered : Answer → Decided
 answered answer = record { answer = answer; kept = None }
 
 -- an answer with a record of this moment
-abbrev pub kept_at : ℕ → Answer → Change → Decided
-kept_at m answer change =
+abbrev pub answered_with : ℕ → Answer → Change → Decided
+answered_with m answer change =
     record { answer = answer; kept = Some (record { moment = m; change = change }) }
 
 -- a refusal of a request that could be read
@@ -47,7 +47,7 @@ refused_until m expiry = answered (Refused (record {
 
 -- the lease is deleted
 abbrev pub gone : ℕ → Change → Decided
-gone m change = kept_at m Gone change
+gone m change = answered_with m Gone change
 
 -- the code for what a pool refuses
 abbrev pub code_of : PickRefused → Code

@@ -20,7 +20,7 @@ use Rattle.lease_store.specs.declared.terms.Terms.{Terms}
 use Rattle.lease_store.specs.Lookups.{covering, named_port, next_inside}
 use Rattle.lease_store.specs.Picks.{pick}
 use Rattle.lease_core.specs.declared.decided.Decided.{Decided}
-use Rattle.lease_core.specs.Answers.{granted_lifetime, answered, kept_at, refused, refused_until, gone, is_port_met, is_address_met, is_full, port_within}
+use Rattle.lease_core.specs.Answers.{granted_lifetime, answered, answered_with, refused, refused_until, gone, is_port_met, is_address_met, is_full, port_within}
 
 -- ---- what is asked
 
@@ -88,7 +88,7 @@ set_told (Some set) lease =
 
 -- the lease is granted or renewed
 abbrev pub mapped : Terms → ℕ → MapAsk → MapLease → Decided
-mapped terms m ask lease = kept_at m
+mapped terms m ask lease = answered_with m
     (Mapped (granted_lifetime terms ask.lifetime) (port_told ask lease) terms.external.address
     (set_told ask.set lease))
     (Map lease)

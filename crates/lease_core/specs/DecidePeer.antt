@@ -17,7 +17,7 @@ use Rattle.lease_store.specs.declared.terms.Terms.{Terms}
 use Rattle.lease_store.specs.Lookups.{covering, peering, named_port, peer_count}
 use Rattle.lease_store.specs.Picks.{pick}
 use Rattle.lease_core.specs.declared.decided.Decided.{Decided}
-use Rattle.lease_core.specs.Answers.{granted_lifetime, answered, kept_at, refused, refused_until, gone, is_full, port_within}
+use Rattle.lease_core.specs.Answers.{granted_lifetime, answered, answered_with, refused, refused_until, gone, is_full, port_within}
 
 -- ---- which port is given
 
@@ -35,7 +35,7 @@ peer_choice_by None terms s m ask =
 
 -- the lease is granted or renewed
 abbrev pub peered : Terms → ℕ → PeerAsk → PeerLease → Decided
-peered terms m ask lease = kept_at m
+peered terms m ask lease = answered_with m
     (Peered (granted_lifetime terms ask.lifetime) lease.external terms.external.address)
     (Peer lease)
 

@@ -1,7 +1,7 @@
 //! What decisions on MAP and PEER requests have in common.
 ghost use Rattle.std.specs.Prelude.{◌≡◌, ◌+◌, ◌<◌, ◌^◌};
 ghost use Rattle.lease_store.specs.LeaseTerms.{AreTerms};
-ghost use Rattle.lease_core.specs.Answers.{answered, code_of, gone, granted_lifetime, is_address_met, is_no_address, is_port_met, kept_at, port_within, refused, refused_until};
+ghost use Rattle.lease_core.specs.Answers.{answered, code_of, gone, granted_lifetime, is_address_met, is_no_address, is_port_met, answered_with, port_within, refused, refused_until};
 
 use crate::decided::Decided;
 use external_pool::PickRefused;
@@ -30,8 +30,8 @@ pub(crate) fn answered(answer: Answer) -> Decided
 }
 
 /// An answer with a record of this moment.
-pub(crate) fn kept_at(m: Moment, answer: Answer, change: Change) -> Decided
-    ensures { result ≡ kept_at m answer change }
+pub(crate) fn answered_with(m: Moment, answer: Answer, change: Change) -> Decided
+    ensures { result ≡ answered_with m answer change }
 {
     Decided {
         answer,
@@ -66,7 +66,7 @@ pub(crate) fn refused_until(m: Moment, expiry: u64) -> Decided
 pub(crate) fn gone(m: Moment, change: Change) -> Decided
     ensures { result ≡ gone m change }
 {
-    kept_at(m, Answer::Gone, change)
+    answered_with(m, Answer::Gone, change)
 }
 
 /// The external port that a lease gives an endpoint that it covers.

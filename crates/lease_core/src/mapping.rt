@@ -13,8 +13,8 @@ ghost use Rattle.lease_core.specs.DecideMap.{covered, decide_map, has_excess, is
 ghost use Rattle.lease_core.specs.Chosen.{chosen, chosen_by, granted_by, pick_ask};
 
 use crate::answers::{
-    answered, code_of, expiry_of, gone, granted_lifetime, is_address_met, is_port_met, kept_at,
-    port_within, refused, refused_until,
+    answered, answered_with, code_of, expiry_of, gone, granted_lifetime, is_address_met,
+    is_port_met, port_within, refused, refused_until,
 };
 use crate::decided::Decided;
 use external_pool::{PickAsk, Picked};
@@ -67,7 +67,7 @@ fn mapped(terms: &Terms, m: Moment, ask: &MapAsk, lease: MapLease) -> Decided
         address: terms.external.address,
         set: set_told(ask.set, &lease),
     };
-    kept_at(m, answer, Change::Map(lease))
+    answered_with(m, answer, Change::Map(lease))
 }
 
 /// Whether the port that would be told and the external address are the suggested ones.

@@ -7,7 +7,7 @@ ghost use Rattle.lease_core.specs.DecidePeer.{decide_peer, given_port, known, ne
 ghost use Rattle.lease_core.specs.ChosenPeer.{picked_port, port_chosen, port_granted_by};
 
 use crate::answers::{
-    answered, code_of, expiry_of, gone, granted_lifetime, kept_at, port_within, refused,
+    answered, answered_with, code_of, expiry_of, gone, granted_lifetime, port_within, refused,
     refused_until,
 };
 use crate::decided::Decided;
@@ -26,7 +26,7 @@ fn peered(terms: &Terms, m: Moment, ask: &PeerAsk, lease: PeerLease) -> Decided
         external: lease.external,
         address: terms.external.address,
     };
-    kept_at(m, answer, Change::Peer(lease))
+    answered_with(m, answer, Change::Peer(lease))
 }
 
 /// What is decided where there is this live lease of the endpoint and remote.

@@ -18,7 +18,7 @@ use Rattle.lease_journal.specs.Frames.{IsBatch, frame_text, records_of}
 use Rattle.lease_journal.specs.Journals.{GivesWay, StandsFor, StandsForWithOrWithout}
 use Rattle.lease_journal.specs.Settled.{StandsBy, with_frame}
 use Rattle.lease_journal.specs.Sides.{side_text, IsOpenSide}
-use Rattle.lease_journal.specs.Writes.{ChangesSide, of_side, other, parity_of}
+use Rattle.lease_journal.specs.Writes.{ChangesSide, of_side, other, side_parity}
 use Rattle.lease_journal.proofs.FrameLaws.{records_of-push}
 use Rattle.lease_journal.proofs.SideLaws.{behind_torn, behind_written, staged, staged_open, with_or_without, gate_torn, gate_written, side_text-push}
 use Rattle.lease_journal.proofs.StandingLaws.{apply_all-append, counted}
@@ -42,8 +42,8 @@ module _ (side : Side) (standing : Standing) (s : State) (batch : List Record) (
   abbrev batches : List (List Record)
   batches = is.counts.batches
 
-  here : IsOpenSide Second (parity_of side) (of_side side a b) g batches
-  here = subst (λ (f : Format). IsOpenSide f (parity_of side) (of_side side a b) g batches) second is.counts.side
+  here : IsOpenSide Second (side_parity side) (of_side side a b) g batches
+  here = subst (λ (f : Format). IsOpenSide f (side_parity side) (of_side side a b) g batches) second is.counts.side
 
   stands : state_of (records_of batches) ≡ s
   stands = subst (λ (f : Format). state_by f (records_of batches) ≡ s) second is.counts.stands
@@ -58,24 +58,24 @@ module _ (side : Side) (standing : Standing) (s : State) (batch : List Record) (
   more = ap state_of (records_of-push batches batch) ∙ apply_all-append empty_state (records_of batches) batch ∙ ap (λ (t : State). apply_all t batch) stands
 
   -- the other side gives way as before
-  way : (x y : List ℕ) → of_side (other side) x y ≡ of_side (other side) a b → GivesWay (parity_of (other side)) (of_side (other side) x y) g
-  way x y same = subst (λ (l : List ℕ). GivesWay (parity_of (other side)) l g) (sym same) is.gives_way
+  way : (x y : List ℕ) → of_side (other side) x y ≡ of_side (other side) a b → GivesWay (side_parity (other side)) (of_side (other side) x y) g
+  way x y same = subst (λ (l : List ℕ). GivesWay (side_parity (other side)) l g) (sym same) is.gives_way
 
   -- the frame is written behind the gate, or in part
   pub frame_torn : (n : ℕ) (x y : List ℕ) → ChangesSide side (Torn (standing.end + 1) n) a b x y → StandsFor s x y
   frame_torn n x y change =
-      counted side Second x y g batches s (behind_torn (parity_of side) g batches (of_side side a b) here standing.end place n (of_side side x y) change.changed) (way x y change.unchanged) stands
+      counted side Second x y g batches s (behind_torn (side_parity side) g batches (of_side side a b) here standing.end place n (of_side side x y) change.changed) (way x y change.unchanged) stands
 
   module _ (frame : List ℕ) (is_frame : frame ≡ frame_text batch ++ 0 ∷ []) (c d : List ℕ) (wrote : ChangesSide side (λ old new. new ≡ after_write old (standing.end + 1) frame) a b c d) where
     abbrev left : List ℕ
     left = drop (standing.end + 1 + length frame) (of_side side a b)
 
     abbrev at : ℕ → List ℕ
-    at = staged (parity_of side) g batches batch here.contents may left
+    at = staged (side_parity side) g batches batch here.contents may left
 
     is_staged : of_side side c d ≡ at here.gate
     is_staged =
-        wrote.changed ∙ behind_written (parity_of side) g batches (of_side side a b) here standing.end place frame
+        wrote.changed ∙ behind_written (side_parity side) g batches (of_side side a b) here standing.end place frame
         ∙ ap (λ (piece : List ℕ). side_text Second g batches ++ here.gate ∷ (piece ++ left)) is_frame
         ∙ ap (λ (l : List ℕ). side_text Second g batches ++ here.gate ∷ l) (append_assoc (frame_text batch) (0 ∷ []) left)
 
@@ -83,17 +83,17 @@ module _ (side : Side) (standing : Standing) (s : State) (batch : List Record) (
     pub gate_torn_stands : (x y : List ℕ) → ChangesSide side (Torn standing.end 1) c d x y → StandsForWithOrWithout s batch x y
     gate_torn_stands x y change =
         let image = of_side side x y in
-        let whole = gate_torn (parity_of side) g batches batch here.contents may left here.gate standing.end place image (subst (λ (l : List ℕ). Torn standing.end 1 l image) is_staged change.changed) in
+        let whole = gate_torn (side_parity side) g batches batch here.contents may left here.gate standing.end place image (subst (λ (l : List ℕ). Torn standing.end 1 l image) is_staged change.changed) in
         let gives = way x y (change.unchanged ∙ wrote.unchanged) in
         ⊎_elim
-        (λ (out : IsOpenSide Second (parity_of side) (at (get_or image standing.end 0)) g batches). inl (counted side Second x y g batches s (subst (λ (l : List ℕ). IsOpenSide Second (parity_of side) l g batches) (sym whole) out) gives stands))
-        (λ (in_it : IsOpenSide Second (parity_of side) (at (get_or image standing.end 0)) g (batches ++ batch ∷ [])). inr (counted side Second x y g (batches ++ batch ∷ []) (apply_all s batch) (subst (λ (l : List ℕ). IsOpenSide Second (parity_of side) l g (batches ++ batch ∷ [])) (sym whole) in_it) gives more))
-        (with_or_without (parity_of side) g batches batch here.contents may left (get_or image standing.end 0))
+        (λ (out : IsOpenSide Second (side_parity side) (at (get_or image standing.end 0)) g batches). inl (counted side Second x y g batches s (subst (λ (l : List ℕ). IsOpenSide Second (side_parity side) l g batches) (sym whole) out) gives stands))
+        (λ (in_it : IsOpenSide Second (side_parity side) (at (get_or image standing.end 0)) g (batches ++ batch ∷ [])). inr (counted side Second x y g (batches ++ batch ∷ []) (apply_all s batch) (subst (λ (l : List ℕ). IsOpenSide Second (side_parity side) l g (batches ++ batch ∷ [])) (sym whole) in_it) gives more))
+        (with_or_without (side_parity side) g batches batch here.contents may left (get_or image standing.end 0))
 
     -- and then the batch is in
     pub appended : (e f : List ℕ) → ChangesSide side (λ old new. new ≡ after_write old standing.end (1 ∷ [])) c d e f → StandsBy side (with_frame standing (length frame)) (apply_all s batch) e f
     appended e f opened =
-        let open_now : of_side side e f ≡ at 1 = opened.changed ∙ ap (λ (l : List ℕ). after_write l standing.end (1 ∷ [])) is_staged ∙ gate_written (parity_of side) g batches batch here.contents may left here.gate standing.end place in
+        let open_now : of_side side e f ≡ at 1 = opened.changed ∙ ap (λ (l : List ℕ). after_write l standing.end (1 ∷ [])) is_staged ∙ gate_written (side_parity side) g batches batch here.contents may left here.gate standing.end place in
         let longer : length (side_text Second g (batches ++ batch ∷ []) ++ 0 ∷ []) ≡ length (side_text Second g batches) + 1 + length frame =
         omega (arith, ap length (side_text-push g batches batch (0 ∷ [])), ap length is_frame, length-append (side_text Second g batches) (1 ∷ (frame_text batch ++ 0 ∷ []))) in
         let some : 0 < length frame = omega (arith, ap length is_frame, length-append (frame_text batch) (0 ∷ [])) in
@@ -102,7 +102,7 @@ module _ (side : Side) (standing : Standing) (s : State) (batch : List Record) (
         record {
           counts = record {
             batches = batches ++ batch ∷ [];
-            side = subst (λ (k : Format). IsOpenSide k (parity_of side) (of_side side e f) g (batches ++ batch ∷ [])) (sym second) (subst (λ (l : List ℕ). IsOpenSide Second (parity_of side) l g (batches ++ batch ∷ [])) (sym open_now) (staged_open (parity_of side) g batches batch here.contents may left 1 refl));
+            side = subst (λ (k : Format). IsOpenSide k (side_parity side) (of_side side e f) g (batches ++ batch ∷ [])) (sym second) (subst (λ (l : List ℕ). IsOpenSide Second (side_parity side) l g (batches ++ batch ∷ [])) (sym open_now) (staged_open (side_parity side) g batches batch here.contents may left 1 refl));
             place = subst (λ (k : Format). standing.end + length frame ≡ length (side_text k g (batches ++ batch ∷ []))) (sym second) (omega (arith, place, longer, length_push (side_text Second g (batches ++ batch ∷ [])) 0));
             long = omega (arith, is.counts.long, first, then);
             stands = subst (λ (k : Format). state_by k (records_of (batches ++ batch ∷ [])) ≡ apply_all s batch) (sym second) more;

@@ -2,6 +2,7 @@ pub mod AppendLaws
 pub mod BatchLemmas
 pub mod BeginLaws
 pub mod Begins
+pub mod BegunLaws
 pub mod CompactLaws
 pub mod DurableWrites
 pub mod FillLemmas

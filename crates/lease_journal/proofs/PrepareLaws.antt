@@ -14,11 +14,11 @@ use Rattle.lease_journal.specs.declared.sides.Side.TheVariants.{A, B}
 use Rattle.lease_journal.specs.declared.walks.Judged.{Judged}
 use Rattle.lease_journal.specs.declared.walks.Judged.TheVariants.{Closed, Bad, Good}
 use Rattle.lease_journal.specs.Beginnings.{IsPrepared, MayShut}
-use Rattle.lease_journal.specs.Judging.{IsJudged}
+use Rattle.lease_journal.specs.Judging.{IsSideJudged}
 use Rattle.lease_journal.specs.Reads.{IsRead, ArePairRead, AreSeenStill}
 use Rattle.lease_journal.specs.Shut.{IsShut}
 use Rattle.lease_journal.specs.Sides.{IsClosedSide}
-use Rattle.lease_journal.specs.Writes.{AreDurable, ChangesSide, of_side, other, parity_of}
+use Rattle.lease_journal.specs.Writes.{AreDurable, ChangesSide, of_side, other, side_parity}
 use Rattle.lease_journal.proofs.Begins.{shut_closed, short_torn, open_torn}
 
 -- no gate is read
@@ -72,7 +72,7 @@ prepared_written side size now a b c d x y same_a same_b long is wrote =
     }
 
 -- a side that was judged and isn't closed has an open gate
-pub judged_gate : (parity : ℕ) (octets : List ℕ) (judged : Judged) → IsJudged parity octets judged → (judged ≡ Closed → ⊥) → get_or octets 0 0 ≡ 1
+pub judged_gate : (parity : ℕ) (octets : List ℕ) (judged : Judged) → IsSideJudged parity octets judged → (judged ≡ Closed → ⊥) → get_or octets 0 0 ≡ 1
 judged_gate parity octets Closed is not = absurd (not refl)
 judged_gate parity octets Bad is not = elim (cases_eq (get_or octets 0 0) 1) [
   | inl one ↦ one
@@ -81,9 +81,9 @@ judged_gate parity octets Bad is not = elim (cases_eq (get_or octets 0 0) 1) [
 judged_gate parity octets (Good standing) is not = ap (λ (l : List ℕ). get_or l 0 0) is.1.side.text
 
 -- closing a judged side
-pub shut_still : (side : Side) (a b : List ℕ) (judged : Judged) → IsJudged (parity_of side) (of_side side a b) judged → judged ≡ Closed → ChangesSide side (λ old new. IsClosedSide new) a b a b
-shut_still A a b judged is closed = record { changed = subst (IsJudged 0 a) closed is; unchanged = refl }
-shut_still B a b judged is closed = record { changed = subst (IsJudged 1 b) closed is; unchanged = refl }
+pub shut_still : (side : Side) (a b : List ℕ) (judged : Judged) → IsSideJudged (side_parity side) (of_side side a b) judged → judged ≡ Closed → ChangesSide side (λ old new. IsClosedSide new) a b a b
+shut_still A a b judged is closed = record { changed = subst (IsSideJudged 0 a) closed is; unchanged = refl }
+shut_still B a b judged is closed = record { changed = subst (IsSideJudged 1 b) closed is; unchanged = refl }
 
 pub shut_written : (side : Side) (a b x y : List ℕ) → ChangesSide side (λ old new. new ≡ after_write old 0 (0 ∷ [])) a b x y → ChangesSide side (λ old new. IsClosedSide new) a b x y
 shut_written side a b x y wrote = record { changed = shut_closed (of_side side x y) (written_shut (of_side side a b) (of_side side x y) wrote.changed); unchanged = wrote.unchanged }

@@ -10,7 +10,7 @@ use Rattle.lease_journal.specs.declared.walks.Judged.TheVariants.{Closed, Bad, G
 use Rattle.lease_journal.specs.declared.walks.Standing.{Standing}
 use Rattle.lease_journal.specs.Beginnings.{MayShut}
 use Rattle.lease_journal.specs.Journals.{IsBlank, IsDamaged}
-use Rattle.lease_journal.specs.Judging.{IsJudged}
+use Rattle.lease_journal.specs.Judging.{IsSideJudged}
 use Rattle.lease_journal.specs.Sides.{IsClosedSide, IsBadSide}
 use Rattle.lease_journal.specs.Verdicts.{AreBroken}
 use Rattle.lease_journal.specs.Writes.{ChangesSide}
@@ -24,7 +24,7 @@ bad_beside a b ja jb standing broken is = bad broken.damaged
   where
     bad : IsDamaged a b → IsBadSide 0 a
     bad (inl bad_a) = bad_a
-    bad (inr bad_b) = let good = subst (IsJudged 1 b) is broken.side_b in absurd (bad_b.1 standing.format standing.generation good.1.batches good.1.side)
+    bad (inr bad_b) = let good = subst (IsSideJudged 1 b) is broken.side_b in absurd (bad_b.1 standing.format standing.generation good.1.batches good.1.side)
 
 pub first_b : (a b : List ℕ) → IsBadSide 0 a → (x y : List ℕ) → ChangesSide B MayShut a b x y → IsShutting x y
 first_b a b bad x y ch = inl (inl (subst (IsBadSide 0) (sym ch.unchanged) bad))

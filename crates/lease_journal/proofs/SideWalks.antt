@@ -1,6 +1,6 @@
 -- The walk over a whole side, piece by piece.
 use Rattle.std.proofs.Common.{◌≡◌, inl, inr, ℕ, ◌+◌, ◌-◌, ◌<◌, ◌≤◌, min, List, [], ◌∷◌, ◌++◌, length, take, drop, sym, ◌∙◌, ap, subst, arith, append_assoc, take_all, take-append-drop, drop-drop, length-take, length-drop, length-append}
-use Rattle.std.specs.Prelude.{◌⊎◌}
+use Rattle.std.specs.Prelude.{◌⊎◌, true}
 use Rattle.std.proofs.lemmas.Bool.{cases_lt}
 use Rattle.std.proofs.lemmas.List.{append-nil, drop_all, drop_at, take-append-le}
 use Rattle.pcp_base.specs.States.{State, empty_state}
@@ -16,6 +16,7 @@ pub record IsWalking {D : Type 0} (tells : Type 0) (seen : D → List ℕ) (may_
   pub within : place ≤ size
   pub roomy : 4101 ≤ length room
   pub frames : tells → size ≡ length (seen old) → HasFrames format empty_state s (drop 14 (seen old)) (place - 14)
+  pub begun : 14 < place → s.started ≡ true
   pub still : tells → seen now ≡ seen old
   pub read : IsRead moment left_since may_leave old now
   pub later : faults old ≤ faults now

@@ -12,7 +12,7 @@ use Rattle.lease_journal.specs.Settled.{StandsBy, IsSettledBy}
 use Rattle.lease_journal.specs.declared.sides.Side.{Side}
 use Rattle.lease_journal.specs.declared.sides.Side.TheVariants.{A, B}
 use Rattle.lease_journal.specs.declared.walks.Standing.{Standing}
-use Rattle.lease_journal.specs.Writes.{of_side, other, parity_of}
+use Rattle.lease_journal.specs.Writes.{of_side, other, side_parity}
 use Rattle.lease_disk.specs.declared.disks.DiskPair.{DiskPair}
 use Rattle.lease_disk.specs.Pairs.{HoldsNow, PairLeavesOnly}
 use Rattle.lease_disk.proofs.PairLemmas.{pair_started}
@@ -28,7 +28,7 @@ pub counts_b : (format : Format) (a b : List ℕ) (g : ℕ) (batches : List (Lis
 counts_b format a b g batches side way = (format, records_of batches, inr (record { generation = g; batches = batches; is = side; holds = refl; other = way }), refl)
 
 -- whichever side counts
-pub counted : (side : Side) (format : Format) (a b : List ℕ) (g : ℕ) (batches : List (List Record)) (s : State) → IsOpenSide format (parity_of side) (of_side side a b) g batches → GivesWay (parity_of (other side)) (of_side (other side) a b) g → state_by format (records_of batches) ≡ s → StandsFor s a b
+pub counted : (side : Side) (format : Format) (a b : List ℕ) (g : ℕ) (batches : List (List Record)) (s : State) → IsOpenSide format (side_parity side) (of_side side a b) g batches → GivesWay (side_parity (other side)) (of_side (other side) a b) g → state_by format (records_of batches) ≡ s → StandsFor s a b
 counted A format a b g batches s side way is = subst (λ (t : State). StandsFor t a b) is (counts_a format a b g batches side way)
 counted B format a b g batches s side way is = subst (λ (t : State). StandsFor t a b) is (counts_b format a b g batches side way)
 

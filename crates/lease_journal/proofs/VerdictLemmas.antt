@@ -3,7 +3,7 @@ use Rattle.std.proofs.Common.{◌≡◌, inl, inr, ℕ, ◌%◌, ◌<◌, ◌≤
 use Rattle.pcp_base.specs.States.{State}
 use Rattle.lease_journal.specs.declared.sides.Side.TheVariants.{A, B}
 use Rattle.lease_journal.specs.declared.walks.Standing.{Standing}
-use Rattle.lease_journal.specs.Judging.{IsJudged, IsStanding}
+use Rattle.lease_journal.specs.Judging.{IsSideJudged, IsStanding}
 use Rattle.lease_journal.specs.Settled.{StandsBy}
 use Rattle.lease_journal.specs.Sides.{IsClosedSide}
 use Rattle.lease_journal.specs.declared.walks.Judged.{Judged}
@@ -29,7 +29,7 @@ newer_a a b x again y s t now is_a is_again is_b le =
     record { counts = is_again; gives_way = inr (y.format, y.generation, is_b.batches, is_b.side, less) }
 
 -- a side in the grammar is judged so again
-pub no_other : (parity : ℕ) (octets : List ℕ) (x : Standing) (s : State) (other : Judged) → IsStanding parity octets x s → IsJudged parity octets other → ((y : Standing) → ¬ (other ≡ Good y)) → ⊥
+pub no_other : (parity : ℕ) (octets : List ℕ) (x : Standing) (s : State) (other : Judged) → IsStanding parity octets x s → IsSideJudged parity octets other → ((y : Standing) → ¬ (other ≡ Good y)) → ⊥
 no_other parity octets x s Closed is closed none = open_not_closed x.format parity octets x.generation is.batches is.side closed
 no_other parity octets x s Bad is bad none = bad.1 x.format x.generation is.batches is.side
 no_other parity octets x s (Good y) is good none = none y refl

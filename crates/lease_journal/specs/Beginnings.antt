@@ -6,7 +6,7 @@ use Rattle.lease_journal.specs.declared.formats.Format.TheVariants.{Second}
 use Rattle.lease_journal.specs.declared.sides.Side.{Side}
 use Rattle.lease_journal.specs.Shut.{IsShut}
 use Rattle.lease_journal.specs.Sides.{IsOpenSide, IsClosedSide}
-use Rattle.lease_journal.specs.Writes.{of_side, other, parity_of}
+use Rattle.lease_journal.specs.Writes.{of_side, other, side_parity}
 
 -- in the middle of it: what it was, closed, or open with these batches
 abbrev pub MayBegin : ℕ → ℕ → List (List Record) → List ℕ → List ℕ → Type 0
@@ -31,6 +31,6 @@ pub record IsPrepared (side : Side) (size : ℕ) (a b x y : List ℕ) : Type 0 w
 -- this side of what was a and b is open with these batches, and has so many octets
 pub record IsBegun (side : Side) (size generation : ℕ) (batches : List (List Record))
     (a b x y : List ℕ) : Type 0 where
-  pub opened : IsOpenSide Second (parity_of side) (of_side side x y) generation batches
+  pub opened : IsOpenSide Second (side_parity side) (of_side side x y) generation batches
   pub long : size ≡ length (of_side side x y)
   pub unchanged : of_side (other side) x y ≡ of_side (other side) a b

@@ -8,14 +8,14 @@ use Rattle.lease_journal.specs.declared.sides.Side.{Side}
 use Rattle.lease_journal.specs.Frames.{records_of}
 use Rattle.lease_journal.specs.Shut.{hidden_text}
 use Rattle.lease_journal.specs.Sides.{AreBatches}
-use Rattle.lease_journal.specs.Writes.{other, parity_of}
+use Rattle.lease_journal.specs.Writes.{other, side_parity}
 
 -- These octets, behind its gate, let the other side take over from this one: its generation is
 -- greater, and its records stand for the same.
 pub record TakesOver (side : Side) (older generation : ℕ) (s : State)
     (octets : List ℕ) : Type 0 where
   pub batches : List (List Record)
-  pub are : AreBatches Second (parity_of (other side)) generation batches
+  pub are : AreBatches Second (side_parity (other side)) generation batches
   pub greater : older < generation
   pub stands : state_of (records_of batches) ≡ s
   pub text : octets ≡ hidden_text generation batches ++ 0 ∷ []

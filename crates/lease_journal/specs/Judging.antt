@@ -19,10 +19,10 @@ pub record IsStanding (parity : ℕ) (octets : List ℕ) (standing : Standing)
   pub stands : state_by standing.format (records_of batches) ≡ s
 
 -- a side as it was judged
-abbrev pub IsJudged : ℕ → List ℕ → Judged → Type 0
-IsJudged parity octets Closed = IsClosedSide octets
-IsJudged parity octets Bad = IsBadSide parity octets
-IsJudged parity octets (Good standing) = (s : State) × IsStanding parity octets standing s
+abbrev pub IsSideJudged : ℕ → List ℕ → Judged → Type 0
+IsSideJudged parity octets Closed = IsClosedSide octets
+IsSideJudged parity octets Bad = IsBadSide parity octets
+IsSideJudged parity octets (Good standing) = (s : State) × IsStanding parity octets standing s
 
 -- what a replay holds then that held a state before
 abbrev pub Replayed : ℕ → List ℕ → Judged → (before now : State) → Type 0

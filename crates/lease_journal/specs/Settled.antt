@@ -6,12 +6,12 @@ use Rattle.lease_journal.specs.declared.sides.Side.{Side}
 use Rattle.lease_journal.specs.declared.walks.Standing.{Standing}
 use Rattle.lease_journal.specs.Journals.{GivesWay}
 use Rattle.lease_journal.specs.Judging.{IsStanding}
-use Rattle.lease_journal.specs.Writes.{AreDurable, of_side, other, parity_of}
+use Rattle.lease_journal.specs.Writes.{AreDurable, of_side, other, side_parity}
 
 -- of the sides a and b this one counts, and with it they stand for s
 pub record StandsBy (side : Side) (standing : Standing) (s : State) (a b : List ℕ) : Type 0 where
-  pub counts : IsStanding (parity_of side) (of_side side a b) standing s
-  pub gives_way : GivesWay (parity_of (other side)) (of_side (other side) a b) standing.generation
+  pub counts : IsStanding (side_parity side) (of_side side a b) standing s
+  pub gives_way : GivesWay (side_parity (other side)) (of_side (other side) a b) standing.generation
 
 -- this side counts, both are synced, and the journal stands for s
 pub record IsSettledBy {D : Type 0} (seen : D → List ℕ) (may_leave : D → List ℕ → Type 0)

@@ -1,5 +1,5 @@
 -- What reading both sides has found (our own).
-use Rattle.std.specs.Prelude.{ℕ, ⊤, List}
+use Rattle.std.specs.Prelude.{◌≡◌, ℕ, ⊤, true, List}
 use Rattle.pcp_base.specs.States.{State}
 use Rattle.lease_journal.specs.declared.judging.Verdict.{Verdict}
 use Rattle.lease_journal.specs.declared.judging.Verdict.TheVariants.{Counting, Neither, Broken}
@@ -7,15 +7,15 @@ use Rattle.lease_journal.specs.declared.walks.Judged.{Judged}
 use Rattle.lease_journal.specs.declared.walks.Judged.TheVariants.{Closed, Bad, Good}
 use Rattle.lease_journal.specs.Formats.{HasNext, IsReplaying}
 use Rattle.lease_journal.specs.Journals.{IsBlank, IsDamaged}
-use Rattle.lease_journal.specs.Judging.{IsJudged}
+use Rattle.lease_journal.specs.Judging.{IsSideJudged}
 use Rattle.lease_journal.specs.Settled.{StandsBy}
 use Rattle.lease_journal.specs.Views.{IsInReach}
 
 -- some open side isn't in the grammar, and the sides are as told
 pub record AreBroken (a b : List ℕ) (judged_a judged_b : Judged) : Type 0 where
   pub damaged : IsDamaged a b
-  pub side_a : IsJudged 0 a judged_a
-  pub side_b : IsJudged 1 b judged_b
+  pub side_a : IsSideJudged 0 a judged_a
+  pub side_b : IsSideJudged 1 b judged_b
 
 -- what the sides are, and the state that the records of the one that counts lead to
 abbrev pub AreFound : List ℕ → List ℕ → State → Verdict → Type 0
@@ -54,3 +54,15 @@ IsFoundReplaying replaying replaying_first replay (Counting side standing) =
     IsReplaying standing.format replaying replaying_first replay
 IsFoundReplaying replaying replaying_first replay Neither = ⊤
 IsFoundReplaying replaying replaying_first replay (Broken judged_a judged_b) = ⊤
+
+-- a Start came where a side was judged to be in the grammar
+abbrev pub IsJudgedBegun : Judged → State → Type 0
+IsJudgedBegun Closed now = ⊤
+IsJudgedBegun Bad now = ⊤
+IsJudgedBegun (Good standing) now = now.started ≡ true
+
+-- and where a side counts
+abbrev pub IsFoundBegun : Verdict → State → Type 0
+IsFoundBegun (Counting side standing) now = now.started ≡ true
+IsFoundBegun Neither now = ⊤
+IsFoundBegun (Broken judged_a judged_b) now = ⊤

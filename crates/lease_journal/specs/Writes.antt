@@ -10,9 +10,9 @@ other A = B
 other B = A
 
 -- side a has even generations, side b odd ones
-abbrev pub parity_of : Side → ℕ
-parity_of A = 0
-parity_of B = 1
+abbrev pub side_parity : Side → ℕ
+side_parity A = 0
+side_parity B = 1
 
 -- what belongs to this side, of what belongs to a and b
 abbrev pub of_side : {T : Type 0} → Side → T → T → T

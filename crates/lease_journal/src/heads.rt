@@ -4,7 +4,7 @@ ghost use Rattle.lease_journal.specs.declared.formats.Format.{Format};
 ghost use Rattle.lease_journal.specs.Formats.{HasNext};
 ghost use Rattle.lease_journal.specs.Heads.{IsHead};
 ghost use Rattle.lease_journal.specs.Sides.{head_text};
-ghost use Rattle.lease_journal.specs.Writes.{parity_of};
+ghost use Rattle.lease_journal.specs.Writes.{side_parity};
 
 use crate::formats::Format;
 use crate::layout::SIDE_HEAD;
@@ -51,10 +51,10 @@ fn is_same(a: &[u8; SIDE_HEAD], b: &[u8; SIDE_HEAD]) -> bool
 
 /// The format and the generation that an open side tells, if a side may have them.
 pub(crate) fn read_head(side: Side, head: &[u8; SIDE_HEAD]) -> Option<(Format, u64)>
-    ensures found { IfSome result (λ told. IsHead (parity_of side) head.now told.0 told.1) }
+    ensures found { IfSome result (λ told. IsHead (side_parity side) head.now told.0 told.1) }
     ensures none { IfNone result
         ((format : Format) (generation : ℕ)
-        → ¬ (IsHead (parity_of side) head.now format generation)) }
+        → ¬ (IsHead (side_parity side) head.now format generation)) }
 {
     let [.., f, a, b, c, d, e, x, y, z] = *head;
     let format = Format::of(f)?;

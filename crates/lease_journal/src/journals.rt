@@ -123,6 +123,7 @@ impl<D: LeaseDisk> Journal<D> {
             replay.new) }
         ensures next { IfOk result
             (λ opened. HasNext opened.0.standing.format opened.0.standing.generation) }
+        ensures begun { OnOk result ((R.state replay.new).started ≡ true) }
         ensures first_length { IfOk result
             (λ opened. opened.0.first_length ≡ opened.0.standing.length) }
         ensures later { IfOk result (λ opened. PairHasCause D.faults pair opened.0.pair ⊥) }
@@ -169,6 +170,7 @@ impl<D: LeaseDisk> Journal<D> {
         ensures replaying { OnOk result
             (IsReplaying self.new.standing.format R.replaying R.replaying_first replay.new) }
         ensures next { OnOk result (HasNext self.new.standing.format self.new.standing.generation) }
+        ensures begun { OnOk result ((R.state replay.new).started ≡ true) }
         ensures first_length { OnOk result (self.new.first_length ≡ self.new.standing.length) }
         ensures doubt { IsErr result → self.new.unread ≡ true }
         ensures cause { PairHasCause D.faults self.old.pair self.new.pair (result ≡ Err Disk) }

@@ -4,7 +4,7 @@ ghost use Rattle.pcp_io.specs.Faults.{HasRisen};
 ghost use Rattle.lease_disk.specs.Pairs.{PairHasCause};
 ghost use Rattle.lease_journal.specs.declared.errors.JournalFault.TheVariants.{Disk};
 ghost use Rattle.lease_journal.specs.Reads.{ArePairRead, AreSeenStill};
-ghost use Rattle.lease_journal.specs.Verdicts.{AreFound, IsFoundInReach, IsFoundReplaying, IsFoundWithNext};
+ghost use Rattle.lease_journal.specs.Verdicts.{AreFound, IsFoundBegun, IsFoundInReach, IsFoundReplaying, IsFoundWithNext};
 
 use crate::errors::JournalFault;
 use crate::sides::Side;
@@ -44,6 +44,7 @@ pub(crate) fn judge<D: LeaseDisk, R: Replay>(
         (AreFound (D.seen pair.old.a) (D.seen pair.old.b) (R.state replay.new)) }
     ensures reach { IfOk result IsFoundInReach }
     ensures next { IfOk result IsFoundWithNext }
+    ensures begun { IfOk result (λ verdict. IsFoundBegun verdict (R.state replay.new)) }
     ensures ready { IfOk result (IsFoundReplaying R.replaying R.replaying_first replay.new) }
     ensures read { ArePairRead D.moment D.left_since D.may_leave pair.old pair.new }
     ensures seen { D.tells → AreSeenStill D.seen pair.old pair.new }

@@ -1,6 +1,8 @@
 //! What two sides stand for. A proof that needs a law calls its function.
 ghost use Rattle.lease_journal.specs.Laws.{OneReading, OneState, RecoveredAlone, BlankIsWhole, OctetsTellFormats, FirstHasNext, FirstStandsBare, StandingIsReached, StandingHasSnapshot};
 
+use pcp_base::{first_states_are_sound, snapshots_stand, states_are_sound};
+
 /// Two sides stand for one list of records in one format at most, and then they are neither blank
 /// nor damaged. Nor are blank ones damaged.
 pub fn one_journal()
@@ -16,10 +18,16 @@ pub fn formats_differ()
     ensures octet { OctetsTellFormats }
     ensures next { FirstHasNext }
     ensures first { FirstStandsBare }
-{}
+{
+    first_states_are_sound();
+}
 
 /// What a journal of either format stands for has a snapshot, which may take over.
 pub fn snapshots_take_over()
     ensures reached { StandingIsReached }
     ensures stands { StandingHasSnapshot }
-{}
+{
+    states_are_sound();
+    first_states_are_sound();
+    snapshots_stand();
+}

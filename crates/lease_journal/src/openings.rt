@@ -1,5 +1,5 @@
 //! Opening a journal: both sides are synced and read, and where no records are found it starts.
-ghost use Rattle.std.specs.Prelude.{◌≡◌, ◌⊎◌, ◌<◌, ◌≤◌, ◌^◌, ℕ, List, [], ◌∷◌, ◌++◌, length, Err, IfOk, OnOk, IsErr};
+ghost use Rattle.std.specs.Prelude.{◌≡◌, ◌⊎◌, ◌<◌, ◌≤◌, ◌^◌, ℕ, List, [], ◌∷◌, ◌++◌, length, true, Err, IfOk, OnOk, IsErr};
 ghost use Rattle.pcp_io.specs.Faults.{HasCause};
 ghost use Rattle.pcp_base.specs.declared.records.Record.{Record};
 ghost use Rattle.lease_disk.specs.Pairs.{PairHasCause, PairLeavesOnly};
@@ -9,15 +9,15 @@ ghost use Rattle.lease_journal.specs.declared.sides.Side.TheVariants.{A};
 ghost use Rattle.lease_journal.specs.Beginnings.{GateMeans, IsBegun, IsPrepared, MayBegin, MayShut};
 ghost use Rattle.lease_journal.specs.Formats.{HasNext, IsReplaying};
 ghost use Rattle.lease_journal.specs.Journals.{IsBlank, IsDamaged, IsStarting, IsStartingAnew, fresh_state};
-ghost use Rattle.lease_journal.specs.Judging.{IsJudged};
+ghost use Rattle.lease_journal.specs.Judging.{IsSideJudged};
 ghost use Rattle.lease_journal.specs.Openings.{FoundMeans, HasStarted, IsNew, LeavesOld, MayOpen, Opens};
 ghost use Rattle.lease_journal.specs.Reads.{ArePairRead, AreSeenStill, IsRead};
 ghost use Rattle.lease_journal.specs.Settled.{IsSettledBy};
 ghost use Rattle.lease_journal.specs.Shut.{hidden_text};
 ghost use Rattle.lease_journal.specs.Sides.{AreBatches, IsClosedSide};
-ghost use Rattle.lease_journal.specs.Verdicts.{AreBroken, AreFound, IsFoundInReach, IsFoundReplaying, IsFoundWithNext};
+ghost use Rattle.lease_journal.specs.Verdicts.{AreBroken, AreFound, IsFoundBegun, IsFoundInReach, IsFoundReplaying, IsFoundWithNext};
 ghost use Rattle.lease_journal.specs.Views.{IsInReach};
-ghost use Rattle.lease_journal.specs.Writes.{AreDurable, ChangesSide, of_side, parity_of};
+ghost use Rattle.lease_journal.specs.Writes.{AreDurable, ChangesSide, of_side, side_parity};
 
 use crate::errors::{Found, JournalFault};
 use crate::formats::Format;
@@ -109,14 +109,14 @@ pub(crate) fn begin_side<D: LeaseDisk>(
 ) -> Result<u64, Failed>
     ensures moments { D.tells → (generation : ℕ) (batches : List (List Record))
         → AreDurable D.seen D.may_leave pair.old
-        → AreBatches Second (parity_of side) generation batches
+        → AreBatches Second (side_parity side) generation batches
         → text.now ≡ hidden_text generation batches ++ 0 ∷ []
         → PairLeavesOnly D.moment D.left_since D.may_leave pair.old pair.new
-        (ChangesSide side (MayBegin (parity_of side) generation batches)
+        (ChangesSide side (MayBegin (side_parity side) generation batches)
         (D.seen pair.old.a) (D.seen pair.old.b)) }
     ensures begun { D.tells → (generation : ℕ) (batches : List (List Record))
         → AreDurable D.seen D.may_leave pair.old
-        → AreBatches Second (parity_of side) generation batches
+        → AreBatches Second (side_parity side) generation batches
         → text.now ≡ hidden_text generation batches ++ 0 ∷ []
         → IfOk result
         (λ size. IsBegun side size generation batches (D.seen pair.old.a)
@@ -173,12 +173,12 @@ fn start<D: LeaseDisk, R: Replay>(
 /// Shuts a side that was judged to be open.
 fn shut_open<D: LeaseDisk>(pair: &mut DiskPair<D>, side: Side, judged: Judged) -> Result<(), Failed>
     ensures moments { D.tells → AreDurable D.seen D.may_leave pair.old
-        → IsJudged (parity_of side) (of_side side (D.seen pair.old.a) (D.seen pair.old.b))
+        → IsSideJudged (side_parity side) (of_side side (D.seen pair.old.a) (D.seen pair.old.b))
         judged
         → PairLeavesOnly D.moment D.left_since D.may_leave pair.old pair.new
         (ChangesSide side MayShut (D.seen pair.old.a) (D.seen pair.old.b)) }
     ensures closed { D.tells
-        → IsJudged (parity_of side) (of_side side (D.seen pair.old.a) (D.seen pair.old.b))
+        → IsSideJudged (side_parity side) (of_side side (D.seen pair.old.a) (D.seen pair.old.b))
         judged
         → OnOk result
         (ChangesSide side (λ _ octets. IsClosedSide octets) (D.seen pair.old.a)
@@ -294,6 +294,8 @@ fn start_by<D: LeaseDisk, R: Replay>(
     ensures reach { IsFoundInReach verdict → IfOk result (λ opened. IsInReach opened.standing) }
     ensures next { IsFoundWithNext verdict
         → IfOk result (λ opened. HasNext opened.standing.format opened.standing.generation) }
+    ensures begun { IsFoundBegun verdict (R.state replay.old)
+        → OnOk result ((R.state replay.new).started ≡ true) }
     ensures ready { IsFoundReplaying R.replaying R.replaying_first replay.old verdict
         → IfOk result
         (λ opened. IsReplaying opened.standing.format R.replaying R.replaying_first
@@ -344,6 +346,7 @@ pub(crate) fn open<D: LeaseDisk, R: Replay>(
     ensures reach { IfOk result (λ opened. IsInReach opened.standing) }
     ensures next { IfOk result
         (λ opened. HasNext opened.standing.format opened.standing.generation) }
+    ensures begun { OnOk result ((R.state replay.new).started ≡ true) }
     ensures ready { IfOk result
         (λ opened. IsReplaying opened.standing.format R.replaying R.replaying_first
         replay.new) }

@@ -11,7 +11,7 @@ pub(crate) enum Side {
 
 impl Side {
     ghost use Rattle.std.specs.Prelude.{◌≡◌};
-    ghost use Rattle.lease_journal.specs.Writes.{other, parity_of};
+    ghost use Rattle.lease_journal.specs.Writes.{other, side_parity};
 
     /// The other side.
     pub(crate) fn other(self) -> Side
@@ -25,7 +25,7 @@ impl Side {
 
     /// The remainder by 2 of the generations of this side.
     pub(crate) fn parity(self) -> u64
-        ensures { result ≡ parity_of self }
+        ensures { result ≡ side_parity self }
     {
         match self {
             Side::A => 0,

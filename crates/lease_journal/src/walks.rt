@@ -5,11 +5,11 @@ ghost use Rattle.pcp_base.specs.States.{empty_state};
 ghost use Rattle.lease_journal.specs.declared.layout.TheConstants.{LONGEST_FRAME, SIDE_HEAD};
 ghost use Rattle.lease_journal.specs.declared.errors.JournalFault.TheVariants.{Disk};
 ghost use Rattle.lease_journal.specs.Formats.{FitsBy, apply_by, IsReplaying};
-ghost use Rattle.lease_journal.specs.Judging.{IsJudged, Replayed, ReplaysOn};
+ghost use Rattle.lease_journal.specs.Judging.{IsSideJudged, Replayed, ReplaysOn};
 ghost use Rattle.lease_journal.specs.Reads.{IsRead};
-ghost use Rattle.lease_journal.specs.Verdicts.{IsJudgedInReach, IsJudgedWithNext};
+ghost use Rattle.lease_journal.specs.Verdicts.{IsJudgedBegun, IsJudgedInReach, IsJudgedWithNext};
 ghost use Rattle.lease_journal.specs.Walks.{BatchMeans, PieceMeans, TurnMeans, WalkMeans};
-ghost use Rattle.lease_journal.specs.Writes.{parity_of};
+ghost use Rattle.lease_journal.specs.Writes.{side_parity};
 
 use crate::errors::JournalFault;
 use crate::formats::Format;
@@ -239,6 +239,8 @@ fn walk<D: LeaseDisk, R: Replay>(
     ensures means { D.tells → size ≡ length (D.seen disk.old)
         → IfOk result (WalkMeans format (R.state replay.new) (D.seen disk.old)) }
     ensures most { IfOk result (λ end. IfSome end (λ place. place < size)) }
+    ensures begun { IfOk result (λ end. IfSome end
+        (λ place. SIDE_HEAD < place → (R.state replay.new).started ≡ true)) }
     ensures ready { OnOk result (IsReplaying format R.replaying R.replaying_first replay.new) }
     ensures read { IsRead D.moment D.left_since D.may_leave disk.old disk.new }
     ensures seen { D.tells → D.seen disk.new ≡ D.seen disk.old }
@@ -272,12 +274,13 @@ pub(crate) fn judge_side<D: LeaseDisk, R: Replay>(
     replay: &mut R,
 ) -> Result<Judged, JournalFault>
     requires room { LONGEST_FRAME ≤ length buffer.old }
-    ensures judged { D.tells → IfOk result (IsJudged (parity_of side) (D.seen disk.old)) }
+    ensures judged { D.tells → IfOk result (IsSideJudged (side_parity side) (D.seen disk.old)) }
     ensures replayed { D.tells → IfOk result
-        (λ judged. Replayed (parity_of side) (D.seen disk.old) judged
+        (λ judged. Replayed (side_parity side) (D.seen disk.old) judged
         (R.state replay.old) (R.state replay.new)) }
     ensures reach { IfOk result IsJudgedInReach }
     ensures next { IfOk result IsJudgedWithNext }
+    ensures begun { IfOk result (λ judged. IsJudgedBegun judged (R.state replay.new)) }
     ensures ready { IfOk result (ReplaysOn R.replaying R.replaying_first replay.old replay.new) }
     ensures room { length buffer.new ≡ length buffer.old }
     ensures read { IsRead D.moment D.left_since D.may_leave disk.old disk.new }

@@ -1,4 +1,4 @@
-use Rattle.std.proofs.Common.{ℕ, ◌≤◌, List, length, take, subst, arith, rules, Ok}
+use Rattle.std.proofs.Common.{ℕ, ◌≤◌, ◌∙◌, List, length, take, subst, arith, rules, Ok}
 use Rattle.pcp_base.specs.declared.records.Record.{Record}
 use Rattle.lease_records.specs.RecordTexts.{IsRecordText, IsReadAgain}
 use Rattle.lease_journal.proofs.BatchLemmas.{read_one, full, unreadable, unfit, read_all}
@@ -27,6 +27,7 @@ loop-at-preserved g c = (
       (subst (λ (l : List ℕ). IsRecordText (take c.in-Ok.size l) c.in-Ok.record) (from_place c.args.octets.now c.loop-at.at) c.in-Ok.ensures.found)
       (c.admit.ensures.fits (search rules)) (c.admit.ensures.applied (search rules)),
   c.in_ok-admit.ensures.ready,
+  c.admit.ensures.lasting ∙ c.loop-at.invariant.2,
 )
 
 pub returns-clause-means : goal.returns-clause-means

@@ -1,7 +1,8 @@
-use Rattle.std.proofs.Common.{◌≡◌, ℕ, ◌+◌, ◌-◌, ◌≤◌, ◌++◌, length, take, drop, sym, ◌∙◌, subst, arith, length-take, length-drop, length-append}
+use Rattle.std.proofs.Common.{◌≡◌, ℕ, ◌+◌, ◌-◌, ◌≤◌, ◌++◌, length, take, drop, sym, ◌∙◌, ap, subst, arith, length-take, length-drop, length-append}
 use Rattle.pcp_base.specs.States.{State, empty_state}
 use Rattle.lease_journal.specs.declared.walks.Stop.{Stop}
 use Rattle.lease_journal.specs.Walks.{HasFrames, StopMeans}
+use Rattle.lease_journal.proofs.BegunLaws.{walk_begun}
 use Rattle.lease_journal.proofs.FillLemmas.{read_both}
 use Rattle.lease_journal.proofs.SideWalks.{piece_reads, wants_enough, goes_on_walking, walk_ends, walk_sticks, walk_short, walk_out}
 use Rattle.lease_journal.proofs.walks.walk.Goals as goal
@@ -86,6 +87,7 @@ loop-place-preserved g c =
       past = omega (arith, so_far.past);
       within = few;
       roomy = omega (arith, so_far.roomy, long, c.min-wanted.ensures, length-append c.fill.new.piece (drop wanted c.loop-place.buffer), length-drop wanted c.loop-place.buffer);
+      begun = λ further. ap (λ (t : State). t.started) short.2 ∙ walk_begun c.args.format before means.mid piece place used so_far.past so_far.begun means.frames further;
       frames = λ told all.
           let reads = piece_reads octets (d.seen c.loop-place.disk) c.fill.new.piece (drop wanted c.loop-place.buffer) place wanted count c.in_ok-count.ensures.bound (c.in_ok-count.ensures.reads told) (so_far.still told) long in
           subst (λ (t : State). HasFrames c.args.format empty_state t (drop 14 octets) (place + used - 14)) (sym short.2)
@@ -93,10 +95,19 @@ loop-place-preserved g c =
       still = λ told. c.in_ok-count.ensures.seen told ∙ so_far.still told;
       read = read_both d.may_leave d.moment d.left_since g.met.D.LeaseDisk.counts_now g.met.D.LeaseDisk.only_now c.args.disk.now c.loop-place.disk c.fill.new.disk so_far.read c.in_ok-count.ensures.read;
       later = omega (arith, so_far.later, c.fill.ensures.cause.later);
-      is_ready = c.in_ok-used.ensures.ready;
+      is_ready = (c.in_ok-used.ensures.ready, c.walk_piece.ensures.lasting ∙ so_far.is_ready.1);
     }
 
 pub returns-clause-means : goal.returns-clause-means
 returns-clause-means g c = λ told all.
     let so_far = c.loop-place.invariant in
     walk_out c.args.format (g.R.Replay.state c.loop-place.replay) (g.D.LeaseDisk.seen c.args.disk.now) c.args.size c.loop-place.place so_far.past (omega (arith, c.loop-place-test.false)) all (so_far.frames told all)
+
+pub returns-in-Ended-clause-begun : goal.returns-in-Ended-clause-begun
+returns-in-Ended-clause-begun g c = λ further.
+    let so_far = c.loop-place.invariant in
+    let means = c.in_ok-used.ensures.means in
+    let piece = take c.in_ok-count.count (c.fill.new.piece ++ drop c.min-wanted.result c.loop-place.buffer) in
+    let now = g.R.Replay.state c.walk_piece.new.replay in
+    let ended = subst (λ (x : Stop). StopMeans c.args.format means.mid now (drop c.in_ok-used.used piece) x) c.in-Ended.is means.then_ in
+    ap (λ (t : State). t.started) ended.1 ∙ walk_begun c.args.format (g.R.Replay.state c.loop-place.replay) means.mid piece c.loop-place.place c.in_ok-used.used so_far.past so_far.begun means.frames further

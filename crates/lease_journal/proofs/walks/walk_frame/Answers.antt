@@ -1,4 +1,4 @@
-use Rattle.std.proofs.Common.{◌≡◌, ℕ, ◌+◌, ◌≤◌, Bool, List, ◌∷◌, ◌++◌, length, take, drop, get_or, sym, ◌∙◌, ap, subst, arith, length-drop, rules}
+use Rattle.std.proofs.Common.{◌≡◌, ℕ, ◌+◌, ◌≤◌, Bool, List, ◌∷◌, ◌++◌, length, take, drop, get_or, sym, refl, ◌∙◌, ap, subst, arith, length-drop, rules}
 use Rattle.std.specs.Int.{from_be_bytes, w32}
 use Rattle.std.proofs.lemmas.List.{drop_more}
 use Rattle.lease_records.proofs.FieldLaws.{IsBytes-drop, IsBytes-take}
@@ -21,6 +21,7 @@ returns-then-size-eq0 g c =
     record {
       means = λ more. subst (λ (l : List ℕ). IsStuckAt c.args.format s (l ++ more)) (sym whole) (bad_size c.args.format s rest size enough is (λ some most. omega (arith, some, c.if-size-eq0.true)) more);
       ready = c.requires;
+      lasting = refl;
     }
 
 pub returns-then-branch : goal.returns-then-branch
@@ -43,6 +44,7 @@ returns-then-branch g c =
       means = subst (λ (l : List ℕ). IsFramed c.args.format s now l (5 + size)) (sym whole)
           (framed c.args.format s rest size enough is within now (omega (arith, c.if-size-eq0.false)) (omega (arith, c.if-size-gt-MOST_FRAMED.false)) (IsBytes-take 4 rest (IsBytes-drop 1 octets (λ i. omega (arith, c.type_inv.octets i)))) read);
       ready = c.in_ok-read_batch.ensures.ready;
+      lasting = c.read_batch.ensures.lasting;
     }
 
 pub returns-else-branch : goal.returns-else-branch
@@ -64,4 +66,5 @@ returns-else-branch g c =
     record {
       means = λ more. subst (λ (l : List ℕ). IsStuckAt c.args.format s (l ++ more)) (sym whole) (no_records c.args.format s rest size enough is within none more);
       ready = c.in_ok-read_batch.ensures.ready;
+      lasting = c.read_batch.ensures.lasting;
     }

@@ -1,4 +1,4 @@
-use Rattle.std.proofs.Common.{ℕ, ◌-◌, List, length, take, drop, subst}
+use Rattle.std.proofs.Common.{ℕ, ◌-◌, List, length, take, drop, ◌∙◌, subst}
 use Rattle.lease_journal.specs.declared.walks.Turn.{Turn}
 use Rattle.lease_journal.specs.Walks.{IsFramed, TurnMeans}
 use Rattle.lease_journal.proofs.SideWalks.{from_place, piece_more}
@@ -12,4 +12,4 @@ loop-at-preserved g c =
     let means = subst (λ (t : Turn). TurnMeans c.args.format s now slice t) c.in-Framed.is c.in_ok-count.ensures.means in
     piece_more c.args.format _ s now c.args.octets.now c.loop-at.at c.in-Framed.count _ _ c.loop-at.invariant
     (subst (λ (l : List ℕ). IsFramed c.args.format s now l c.in-Framed.count) (from_place c.args.octets.now c.loop-at.at) means)
-    c.in_ok-count.ensures.ready
+    (c.in_ok-count.ensures.ready, c.walk_frame.ensures.lasting ∙ c.loop-at.invariant.is_ready.1)

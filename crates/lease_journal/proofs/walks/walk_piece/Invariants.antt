@@ -1,4 +1,4 @@
-use Rattle.std.proofs.Common.{◌-◌, length}
+use Rattle.std.proofs.Common.{◌≡◌, ◌-◌, length}
 use Rattle.lease_journal.specs.Formats.{IsReplaying}
 use Rattle.lease_journal.proofs.SideWalks.{IsPieceWalked}
 use Rattle.lease_journal.proofs.walks.walk_piece.Given as goal
@@ -6,7 +6,8 @@ use Rattle.lease_journal.proofs.walks.walk_piece.Given as goal
 abbrev pub invariant-loop-at : goal.invariant-loop-at
 invariant-loop-at g l =
     let r = g.R.Replay in
-    IsPieceWalked l.format (r.state l.fn.replay) (r.state l.replay) l.octets l.at (IsReplaying l.format r.replaying r.replaying_first l.replay)
+    IsPieceWalked l.format (r.state l.fn.replay) (r.state l.replay) l.octets l.at (IsReplaying l.format r.replaying r.replaying_first l.replay
+    × (r.lasting l.replay ≡ r.lasting l.fn.replay))
 
 abbrev pub decreases-loop-at : goal.decreases-loop-at
 decreases-loop-at g l = length l.octets - l.at
