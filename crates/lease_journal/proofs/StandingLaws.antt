@@ -1,12 +1,13 @@
 -- What a journal stands for where one side counts.
-use Rattle.std.proofs.Common.{◌≡◌, inl, inr, ℕ, List, [], ◌∷◌, ◌++◌, refl, sym, subst}
+use Rattle.std.proofs.Common.{◌≡◌, inl, inr, ℕ, ◌+◌, ◌≤◌, List, [], ◌∷◌, ◌++◌, length, refl, sym, subst, ap, arith, length-append}
 use Rattle.pcp_base.specs.declared.records.Record.{Record}
 use Rattle.pcp_base.specs.States.{State}
 use Rattle.pcp_base.specs.Apply.{apply, apply_all}
 use Rattle.lease_journal.specs.Formats.{state_by}
 use Rattle.lease_journal.specs.declared.formats.Format.{Format}
 use Rattle.lease_journal.specs.Frames.{records_of}
-use Rattle.lease_journal.specs.Sides.{IsOpenSide}
+use Rattle.lease_journal.specs.Judging.{IsStanding}
+use Rattle.lease_journal.specs.Sides.{IsOpenSide, side_text}
 use Rattle.lease_journal.specs.Journals.{GivesWay, StandsFor, StandsForWithOrWithout}
 use Rattle.lease_journal.specs.Settled.{StandsBy, IsSettledBy}
 use Rattle.lease_journal.specs.declared.sides.Side.{Side}
@@ -45,3 +46,9 @@ pub settled_still : {D : Type 0} (seen : D → List ℕ) (may_leave : D → List
     → PairLeavesOnly moment left_since may_leave pair pair (StandsForWithOrWithout s batch)
 settled_still seen may_leave moment left_since side standing pair s batch is =
     pair_started moment left_since may_leave pair (StandsForWithOrWithout s batch) (λ x y left_a left_b. inl (settled_holds seen may_leave side standing pair s is x y left_a left_b))
+
+-- the closed gate that ends the walk is one of the side's octets
+pub ends_within : (parity : ℕ) (octets : List ℕ) (standing : Standing) (s : State) → IsStanding parity octets standing s → standing.end + 1 ≤ standing.length
+ends_within parity octets standing s is =
+    let text = side_text standing.format standing.generation is.batches in
+    omega (arith, is.place, is.long, ap length is.side.text, length-append text (is.side.gate ∷ is.side.behind))

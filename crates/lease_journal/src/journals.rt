@@ -55,6 +55,7 @@ impl<D: LeaseDisk> Journal<D> {
     ghost use Rattle.lease_journal.specs.declared.formats.Format.TheVariants.{Second};
     ghost use Rattle.lease_journal.specs.declared.layout.TheConstants.{MOST_RECORDS};
     ghost use Rattle.lease_journal.specs.Formats.{HasNext, IsReplaying, format_octet};
+    ghost use Rattle.lease_journal.specs.Frames.{frame_text};
     ghost use Rattle.lease_journal.specs.Journals.{StandsFor, StandsForWithOrWithout};
     ghost use Rattle.lease_journal.specs.Openings.{FoundMeans, HasStarted, IsClearedUnless, LeavesOld, Opens, ViewMeans, ViewReplays};
     ghost use Rattle.lease_journal.specs.Reads.{ArePairRead, AreSeenStill};
@@ -83,6 +84,9 @@ impl<D: LeaseDisk> Journal<D> {
         ensures generation { OnOk result
             (self.new.standing.generation ≡ self.old.standing.generation) }
         ensures first_length { OnOk result (self.new.first_length ≡ self.old.first_length) }
+        ensures grown { D.tells → (s : State) → IsSettled D.seen D.may_leave self.old s
+            → OnOk result (self.new.standing.length
+            ≤ self.old.standing.length + (1 + length (frame_text batch.now))) }
         ensures memory { result ≡ Err Memory → self.new ≡ self.old }
         ensures doubt { result ≡ Err Disk → self.new.unread ≡ true }
         ensures cause { PairHasCause D.faults self.old.pair self.new.pair (result ≡ Err Disk) }

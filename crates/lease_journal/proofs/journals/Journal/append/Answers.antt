@@ -1,11 +1,13 @@
-use Rattle.std.proofs.Common.{◌≡◌, length, ◌∙◌, refl, sym, subst, ap, arith}
+use Rattle.std.proofs.Common.{◌≡◌, ◌+◌, [], ◌∷◌, length, length-append, ◌∙◌, refl, sym, subst, ap, arith}
 use Rattle.pcp_base.specs.Apply.{apply_all}
 use Rattle.lease_journal.specs.declared.walks.Standing.{Standing}
 use Rattle.pcp_base.specs.States.{State}
 use Rattle.lease_journal.specs.declared.formats.Format.TheVariants.{Second}
+use Rattle.lease_journal.specs.Frames.{frame_text}
 use Rattle.lease_journal.specs.Settled.{IsSettledBy, with_frame}
+use Rattle.lease_journal.specs.Writes.{of_side, side_parity}
 use Rattle.lease_journal.specs.Views.{JournalView, IsSettled}
-use Rattle.lease_journal.proofs.StandingLaws.{settled_still}
+use Rattle.lease_journal.proofs.StandingLaws.{ends_within, settled_still}
 use Rattle.lease_journal.proofs.journals.Journal.append.Goals as goal
 
 pub returns-in_err-frame-clause-moments : goal.returns-in_err-frame-clause-moments
@@ -36,3 +38,14 @@ returns-clause-settled g c =
     let same : c.with_frame-self-inside.result ≡ with_frame c.self.inside.standing (length c.deref.result.now) = c.with_frame-self-inside.ensures ∙ ap (with_frame c.self.inside.standing) count in
     rw (← c.self.view_is) (λ told s is. subst (λ (x : Standing). IsSettledBy d.seen d.may_leave c.self.inside.side x c.put_frame.new.pair (apply_all s c.args.batch.now)) (sym same)
     (c.in_ok-put_frame.ensures.settled told c.self.inside.standing s c.args.batch.now is second refl c.in_ok-frame.ensures.batch (fit told s is) (c.deref.ensures.value ∙ c.in_ok-frame.ensures.text)))
+
+pub returns-clause-grown : goal.returns-clause-grown
+returns-clause-grown g c =
+    let d = g.D.LeaseDisk in
+    let inside = c.self.inside in
+    let frame : length c.deref.result.now ≡ length (frame_text c.args.batch.now) + 1 = ap length (c.deref.ensures.value ∙ c.in_ok-frame.ensures.text) ∙ length-append (frame_text c.args.batch.now) (0 ∷ []) in
+    let count : c.len.result ≡ length (frame_text c.args.batch.now) + 1 = omega (arith, c.len.ensures, c.deref.ensures.len, ap length c.deref.ensures.value, c.in_ok-frame.frame.ok, frame) in
+    let same : c.with_frame-self-inside.result ≡ with_frame inside.standing (length (frame_text c.args.batch.now) + 1) = c.with_frame-self-inside.ensures ∙ ap (with_frame inside.standing) count in
+    rw (← c.self.view_is) (λ told s is.
+    let ends = ends_within (side_parity inside.side) (of_side inside.side (d.seen inside.pair.a) (d.seen inside.pair.b)) inside.standing s is.sides.counts in
+    omega (arith, ends, ap (λ (x : Standing). x.length) same))
