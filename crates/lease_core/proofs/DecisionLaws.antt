@@ -36,7 +36,7 @@ use Rattle.lease_store.specs.Lookups.{named_port}
 use Rattle.lease_core.specs.Decide.{decide}
 use Rattle.lease_core.specs.DecideMap.{new_lease, renewed}
 use Rattle.lease_core.specs.DecidePeer.{given_port, new_peer, renewed_peer}
-use Rattle.lease_core.specs.Laws.{MayDecide, HasNonce, nonces_of, ports_given}
+use Rattle.lease_core.specs.Laws.{MayDecide, ChangesLease, HasNonce, nonces_of, ports_given}
 use Rattle.lease_core.proofs.Deeds.{MapDeed, drop, renew, grant, map_deed, PeerDeed, drop_peer, renew_peer, grant_peer, peer_deed}
 use Rattle.lease_core.proofs.MapFits.{MayDecideMap, drop-suits, grant-suits, if_some, live-map, new-map, renew-suits}
 use Rattle.lease_core.proofs.PeerFits.{MayDecidePeer, drop_peer-suits, grant_peer-suits, live-peer, new-port, renew_peer-suits}
@@ -104,6 +104,31 @@ decisions-keep room kept one terms s m ask may =
     if_some (decide terms s m ask).kept (λ r. IsReached (apply s r) × ((n : ℕ) → OneOwner (owners (live (apply s r).table n))))
     (λ r h. let fits = (kept-fits room terms s m ask may r h).0 in
     (kept s r may.reached fits, λ n. one (apply s r) n fits.sound))
+
+-- ---- one lease changes
+
+abbrev ChangesAt : ℕ → Record → Type 0
+ChangesAt m r = ChangesLease r.change × (r.moment ≡ m)
+
+map-changes : (terms : Terms) (s : State) (m : ℕ) (ask : MapAsk) (r : Record) → MapDeed terms s m ask r → ChangesAt m r
+map-changes terms s m ask r (drop lease found nonce same) = subst (ChangesAt m) same (tt, refl)
+map-changes terms s m ask r (renew lease is same) = subst (ChangesAt m) same (tt, refl)
+map-changes terms s m ask r (grant run is same) = subst (ChangesAt m) same (tt, refl)
+
+peer-changes : (terms : Terms) (s : State) (m : ℕ) (ask : PeerAsk) (r : Record) → PeerDeed terms s m ask r → ChangesAt m r
+peer-changes terms s m ask r (drop_peer lease is same) = subst (ChangesAt m) same (tt, refl)
+peer-changes terms s m ask r (renew_peer lease is same) = subst (ChangesAt m) same (tt, refl)
+peer-changes terms s m ask r (grant_peer port is same) = subst (ChangesAt m) same (tt, refl)
+
+kept-changes : (terms : Terms) (s : State) (m : ℕ) (ask : Ask) (r : Record) → (decide terms s m ask).kept ≡ Some r → ChangesAt m r
+kept-changes terms s m (Asks.Known refusal) r h = absurd cc
+kept-changes terms s m Asks.Announce r h = absurd cc
+kept-changes terms s m (Asks.Map ask) r h = map-changes terms s m ask r (map_deed terms s m ask r h)
+kept-changes terms s m (Asks.Peer ask) r h = peer-changes terms s m ask r (peer_deed terms s m ask r h)
+
+pub decisions-change : (terms : Terms) (s : State) (m : ℕ) (ask : Ask) →
+    IfSome (decide terms s m ask).kept (λ r. ChangesLease r.change × (r.moment ≡ m))
+decisions-change terms s m ask = if_some (decide terms s m ask).kept (ChangesAt m) (kept-changes terms s m ask)
 
 -- ---- nonces
 

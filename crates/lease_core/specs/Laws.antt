@@ -1,5 +1,5 @@
 -- The laws of decisions.
-use Rattle.std.specs.Prelude.{◌≡◌, ℕ, ◌^◌, ◌<◌, ◌≤◌, true, List, [], ◌∷◌, map, filter, Contains, IfSome}
+use Rattle.std.specs.Prelude.{◌≡◌, ℕ, ◌^◌, ◌<◌, ◌≤◌, true, List, [], ◌∷◌, map, filter, Contains, IfSome, ⊤}
 use Rattle.pcp_base.specs.declared.addresses.Nonce.{Nonce}
 use Rattle.pcp_base.specs.declared.leases.Endpoint.{Endpoint}
 use Rattle.pcp_base.specs.declared.leases.Owner.{Owner}
@@ -28,6 +28,19 @@ pub record MayDecide (terms : Terms) (s : State) (m : ℕ) (ask : Ask) : Type 0 
   pub later : s.last ≤ m
   pub moment : m < 2 ^ 40
   pub formed : IsWellFormedAsk ask
+
+-- it grants, renews or deletes one lease
+abbrev pub ChangesLease : Change → Type 0
+ChangesLease (Map l) = ⊤
+ChangesLease (Peer l) = ⊤
+ChangesLease (DropMap e) = ⊤
+ChangesLease (DropPeer e remote port) = ⊤
+ChangesLease change = ⊥
+
+-- the record of a decision does so, and has its moment
+abbrev pub DecisionsChangeLeases : Type 0
+DecisionsChangeLeases = (terms : Terms) (s : State) (m : ℕ) (ask : Ask) →
+    IfSome (decide terms s m ask).kept (λ r. ChangesLease r.change × (r.moment ≡ m))
 
 -- the record of a decision fits, and has its moment
 abbrev pub DecisionsFit : Type 0

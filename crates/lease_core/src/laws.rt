@@ -1,5 +1,10 @@
 //! What holds of decisions. A proof that needs a law calls its function.
-ghost use Rattle.lease_core.specs.Laws.{DecisionsFit, DecisionsKeepReached, NoncesMatch, RestsAreKept};
+ghost use Rattle.lease_core.specs.Laws.{DecisionsChangeLeases, DecisionsFit, DecisionsKeepReached, NoncesMatch, RestsAreKept};
+
+/// The record of a decision grants, renews or deletes a lease, at its moment.
+pub fn decisions_change_leases()
+    ensures { DecisionsChangeLeases }
+{}
 
 use pcp_base::{new_leases_need_room, ports_have_one_owner, states_are_sound};
 

@@ -14,4 +14,6 @@ pub use core_of::Core;
 pub use cores::LeaseCore;
 pub use decided::Decided;
 pub use deciding::decide;
-pub use laws::{decisions_fit, decisions_keep_owners, nonces_match, rests_are_kept};
+pub use laws::{
+    decisions_change_leases, decisions_fit, decisions_keep_owners, nonces_match, rests_are_kept,
+};
