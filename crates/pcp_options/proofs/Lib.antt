@@ -1,3 +1,4 @@
+pub mod AskLaws
 pub mod OptionLaws
 pub mod ReplyLaws
 pub mod ResponseLaws

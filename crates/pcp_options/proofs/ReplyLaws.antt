@@ -46,7 +46,7 @@ none-split true r p q t later h = absurd cc
 none-split false r p q t later h = later h
 
 -- no case of two lists applies
-first-none : (xs ys : List (Case Refusal)) → first_case (xs ++ ys) ≡ None → (first_case xs ≡ None) × (first_case ys ≡ None)
+pub first-none : (xs ys : List (Case Refusal)) → first_case (xs ++ ys) ≡ None → (first_case xs ≡ None) × (first_case ys ≡ None)
 first-none [] ys h = (refl, h)
 first-none (c ∷ xs) ys h = none-split c.applies c.result (first_case (xs ++ ys)) (first_case xs) (first_case ys) (first-none xs ys) h
 
@@ -94,7 +94,7 @@ body-by true b c port remote h p r = tt
 body-by false true c port remote h p r = h
 body-by false false c port remote h p r = (h, p, r)
 
-body-fits : (request : List ℕ) → AreOctets request → FitsBody (body_of request)
+pub body-fits : (request : List ℕ) → AreOctets request → FitsBody (body_of request)
 body-fits request h =
     body-by (opcode_of request == 0) (opcode_of request == 1) (common_of request) (u16_at request 60) (record { 0 = octets_at request 64 16 })
     (common-fits request h) (u16_at-fits request h 60) refl
@@ -218,7 +218,7 @@ abbrev found-with : ℕ → ℕ → List ℕ → FoundOption
 found-with code claimed content = record { code = code; claimed = claimed; content = content }
 
 -- the data of a known option has its length
-known : (lifetime : ℕ) (body : Body) (again : Bool) (code k n : ℕ) (content : List ℕ) → code ≡ k → first_case (option_steps lifetime body again (found-with code n content)) ≡ None → first_case (option_steps lifetime body again (found-with k n content)) ≡ None
+pub known : (lifetime : ℕ) (body : Body) (again : Bool) (code k n : ℕ) (content : List ℕ) → code ≡ k → first_case (option_steps lifetime body again (found-with code n content)) ≡ None → first_case (option_steps lifetime body again (found-with k n content)) ≡ None
 known lifetime body again code k n content e h = subst (λ j. first_case (option_steps lifetime body again (found-with j n content)) ≡ None) e h
 
 length-1 : (lifetime : ℕ) (body : Body) (again : Bool) (n : ℕ) (content : List ℕ) → first_case (option_steps lifetime body again (found-with 1 n content)) ≡ None → n ≡ 16

@@ -1,5 +1,5 @@
 //! What holds of every text that is written. A proof that needs a law calls its function.
-ghost use Rattle.pcp_options.specs.Laws.{FoundAreOptions, ItemsAreRead, OptionsAreFound};
+ghost use Rattle.pcp_options.specs.Laws.{AsksAreWellFormed, FoundAreOptions, ItemsAreRead, OptionsAreFound};
 ghost use Rattle.pcp_options.specs.Responses.{RepliesAreResponses, SuccessesAreResponses};
 
 /// A success that is written, of at most [`MESSAGE_OCTETS`](pcp_codec::MESSAGE_OCTETS), is one of the
@@ -20,4 +20,9 @@ pub fn options_are_of_the_grammar()
     ensures found { OptionsAreFound }
     ensures spelled { FoundAreOptions }
     ensures again { ItemsAreRead }
+{}
+
+/// What the verdict lets through is well formed.
+pub fn asks_are_well_formed()
+    ensures { AsksAreWellFormed }
 {}

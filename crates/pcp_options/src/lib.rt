@@ -8,7 +8,10 @@ mod options;
 mod replies;
 mod verdicts;
 
-pub use laws::{options_are_of_the_grammar, replies_are_responses, successes_are_responses};
+pub use laws::{
+    asks_are_well_formed, options_are_of_the_grammar, replies_are_responses,
+    successes_are_responses,
+};
 pub use layout::{
     FILTER_CODE, FILTER_OCTETS, FILTER_PORT_PLACE, FILTER_PREFIX_PLACE, FILTER_REMOTE_PLACE,
     FIRST_OPTIONAL_CODE, LONGEST_PREFIX, OPTION_HEAD_OCTETS, PORT_SET_CODE, PORT_SET_OCTETS,
