@@ -63,6 +63,13 @@ impl MapTable {
         })
     }
 
+    /// Forgets all leases. It takes no memory.
+    pub fn clear(&mut self)
+        ensures { self.new ≡ [] }
+    {
+        self.kept.clear();
+    }
+
     /// The lease that covers the endpoint.
     pub fn find(&self, endpoint: &Endpoint) -> Option<&MapLease>
         ensures { option_copied result ≡ map_covering endpoint.now self.now }

@@ -26,6 +26,17 @@ impl<L: Copy, K: Ord + Copy, P: Ord + Copy> Numbered<L, K, P> {
         }
     }
 
+    /// Forgets all leases. It takes no memory.
+    pub fn clear(&mut self)
+        ensures { IsBlank K.cmp P.cmp self.new }
+    {
+        self.next = 0;
+        self.leases.clear();
+        self.keys.clear();
+        self.ports.clear();
+        self.expiries.clear();
+    }
+
     /// Appends a lease under a key and a port that have none. The one error is want of memory or of
     /// numbers, which changes nothing.
     pub fn append(&mut self, lease: L, key: K, port: P, expiry: u64) -> Result<(), Memory>

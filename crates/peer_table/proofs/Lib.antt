@@ -5,3 +5,4 @@ pub mod NextNamed
 pub mod Sounds
 pub mod PortUses
 pub mod SoundTables
+pub mod LastExpiries

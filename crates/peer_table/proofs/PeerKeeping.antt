@@ -28,9 +28,9 @@ key_total = then_total (then_total (then_total (then_total (then_total
     (on_total (λ (k : PeerKey). k.0) nat_list_cmp_total) (on_total (λ (k : PeerKey). k.1) nat_cmp_total)) (on_total (λ (k : PeerKey). k.2) nat_cmp_total)) (on_total (λ (k : PeerKey). k.3) nat_cmp_total))
     (on_total (λ (k : PeerKey). k.4) nat_list_cmp_total)) (on_total (λ (k : PeerKey). k.5) nat_cmp_total)
 
-opening_total : IsTotalOrder opening_cmp
-opening_total = then_total (then_total (then_total
-    (on_total (λ (o : Opening). o.0) nat_cmp_total) (on_total (λ (o : Opening). o.1) nat_cmp_total)) (on_total (λ (o : Opening). o.2) nat_list_cmp_total)) (on_total (λ (o : Opening). o.3) nat_cmp_total)
+pub opening_total : IsTotalOrder opening_cmp
+opening_total = then_total (then_total (then_total (then_total
+    (on_total (λ (o : Opening). o.0) nat_cmp_total) (on_total (λ (o : Opening). o.1) nat_cmp_total)) (on_total (λ (o : Opening). o.2) nat_cmp_total)) (on_total (λ (o : Opening). o.3) nat_list_cmp_total)) (on_total (λ (o : Opening). o.4) nat_cmp_total)
 
 key_same : (x y : PeerKey) → x.0 ≡ y.0 → x.1 ≡ y.1 → x.2 ≡ y.2 → x.3 ≡ y.3 → x.4 ≡ y.4 → x.5 ≡ y.5 → x ≡ y
 key_same x y a b c d e f =
@@ -42,14 +42,15 @@ key_exact x y h =
     let p5 = both_equal _ _ h in let p4 = both_equal _ _ p5.0 in let p3 = both_equal _ _ p4.0 in let p2 = both_equal _ _ p3.0 in let p1 = both_equal _ _ p2.0 in
     key_same x y (exact_bytes x.0 y.0 p1.0) (exact_unsigned x.1 y.1 p1.1) (exact_unsigned x.2 y.2 p2.1) (exact_unsigned x.3 y.3 p3.1) (exact_bytes x.4 y.4 p4.1) (exact_unsigned x.5 y.5 p5.1)
 
-opening_same : (x y : Opening) → x.0 ≡ y.0 → x.1 ≡ y.1 → x.2 ≡ y.2 → x.3 ≡ y.3 → x ≡ y
-opening_same x y a b c d =
-    ap (λ (z : ℕ). (z, x.1, x.2, x.3)) a ∙ ap (λ (z : ℕ). (y.0, z, x.2, x.3)) b ∙ ap (λ (z : List ℕ). (y.0, y.1, z, x.3)) c ∙ ap (λ (z : ℕ). (y.0, y.1, y.2, z)) d
+opening_same : (x y : Opening) → x.0 ≡ y.0 → x.1 ≡ y.1 → x.2 ≡ y.2 → x.3 ≡ y.3 → x.4 ≡ y.4 → x ≡ y
+opening_same x y a b c d e =
+    ap (λ (z : ℕ). (z, x.1, x.2, x.3, x.4)) a ∙ ap (λ (z : ℕ). (y.0, z, x.2, x.3, x.4)) b ∙ ap (λ (z : ℕ). (y.0, y.1, z, x.3, x.4)) c ∙ ap (λ (z : List ℕ). (y.0, y.1, y.2, z, x.4)) d
+    ∙ ap (λ (z : ℕ). (y.0, y.1, y.2, y.3, z)) e
 
-opening_exact : CmpEqualImpliesEq opening_cmp
+pub opening_exact : CmpEqualImpliesEq opening_cmp
 opening_exact x y h =
-    let p3 = both_equal _ _ h in let p2 = both_equal _ _ p3.0 in let p1 = both_equal _ _ p2.0 in
-    opening_same x y (exact_unsigned x.0 y.0 p1.0) (exact_unsigned x.1 y.1 p1.1) (exact_bytes x.2 y.2 p2.1) (exact_unsigned x.3 y.3 p3.1)
+    let p4 = both_equal _ _ h in let p3 = both_equal _ _ p4.0 in let p2 = both_equal _ _ p3.0 in let p1 = both_equal _ _ p2.0 in
+    opening_same x y (exact_unsigned x.0 y.0 p1.0) (exact_unsigned x.1 y.1 p1.1) (exact_unsigned x.2 y.2 p2.1) (exact_bytes x.3 y.3 p3.1) (exact_unsigned x.4 y.4 p4.1)
 
 pub peer_laws : AreLaws peer_keying
 peer_laws = record { key_total = key_total; key_exact = key_exact; port_total = opening_total; port_exact = opening_exact }
@@ -65,7 +66,7 @@ peer_tells e remote port = record {
       ((Decides-eqb l.remote_port port).1 (ap (λ (k : PeerKey). k.5) same)));
 }
 
-protocol_of_number : (p q : Protocol) → protocol_number p ≡ protocol_number q → p ≡ q
+pub protocol_of_number : (p q : Protocol) → protocol_number p ≡ protocol_number q → p ≡ q
 protocol_of_number p q h = protocol_one p q 0 0 (ap (λ (z : ℕ). (z, 0)) h)
 
 -- a lease opens what it is found by
@@ -78,7 +79,7 @@ peer_opens protocol port remote remote_port = record {
   from = λ l same.
       and_from _ _ (and_from _ _ (and_from _ _ ((same_protocol-Decides l.endpoint.protocol protocol).1 (protocol_of_number l.endpoint.protocol protocol (ap (λ (o : Opening). o.0) same)))
       ((Decides-eqb l.external port).1 (ap (λ (o : Opening). o.1) same)))
-      ((same_address-Decides l.remote remote).1 (address_same l.remote remote (ap (λ (o : Opening). o.2) same)))) ((Decides-eqb l.remote_port remote_port).1 (ap (λ (o : Opening). o.3) same));
+      ((same_address-Decides l.remote remote).1 (address_same l.remote remote (ap (λ (o : Opening). o.3) same)))) ((Decides-eqb l.remote_port remote_port).1 (ap (λ (o : Opening). o.4) same));
 }
 
 open_apart : (a b : PeerLease) → AreFellows a b → opening_of_lease a ≡ opening_of_lease b → ⊥
@@ -88,7 +89,7 @@ open_apart a b h same =
     ((Decides-eqb a.external b.external).1 (ap (λ (o : Opening). o.1) same)) in
     let one : same_endpoint a.endpoint b.endpoint ≡ true = sym h.shares ∙ shared in
     let key : is_peer_of b.endpoint b.remote b.remote_port a ≡ true =
-    and_from _ _ (and_from _ _ one ((same_address-Decides a.remote b.remote).1 (address_same a.remote b.remote (ap (λ (o : Opening). o.2) same)))) ((Decides-eqb a.remote_port b.remote_port).1 (ap (λ (o : Opening). o.3) same)) in
+    and_from _ _ (and_from _ _ one ((same_address-Decides a.remote b.remote).1 (address_same a.remote b.remote (ap (λ (o : Opening). o.3) same)))) ((Decides-eqb a.remote_port b.remote_port).1 (ap (λ (o : Opening). o.4) same)) in
     let both : true ≡ false = sym key ∙ h.keys in cc
 
 -- what leases open differs

@@ -43,7 +43,7 @@ past_bound a b two one h =
     past_cases o p q (ap (λ (n : ℕ). is_gt (ordering_then (ordering_then (ordering_then o (nat_cmp n 1)) p) q)) (sym two)
     ∙ ap (λ (n : ℕ). is_gt (ordering_then (ordering_then (ordering_then o (nat_cmp a.3 n)) p) q)) (sym one) ∙ ap is_gt (sym (by_place a b)) ∙ h)
 
-within_cases : (o p q r s : Ordering) → (is_le (ordering_then (ordering_then (ordering_then o (nat_cmp 0 1)) p) q) && not (is_le (ordering_then (ordering_then (ordering_then o (nat_cmp 2 1)) r) s))) ≡ is_eq o
+pub within_cases : (o p q r s : Ordering) → (is_le (ordering_then (ordering_then (ordering_then o (nat_cmp 0 1)) p) q) && not (is_le (ordering_then (ordering_then (ordering_then o (nat_cmp 2 1)) r) s))) ≡ is_eq o
 within_cases Less p q r s = refl
 within_cases Equal p q r s = refl
 within_cases Greater p q r s = refl
@@ -64,7 +64,7 @@ within_bounds e lo hi k l h one =
     ap (λ t. t && not (is_le (key_cmp hi k))) a ∙ ap (λ t. is_le (ordering_then (ordering_then (ordering_then (place_cmp (place_of e) (place_in k)) (nat_cmp 0 1)) (slice_cmp nat_cmp lo.4 k.4)) (nat_cmp lo.5 k.5)) && not t) b
     ∙ within_cases (place_cmp (place_of e) (place_in k)) _ _ _ _
 
-bound_cases : (o : Ordering) (x y : ℕ) (p q : Ordering) → o ≡ Equal → x ≡ 0 → y ≡ 2 → is_gt (ordering_then (ordering_then (ordering_then o (nat_cmp x y)) p) q) ≡ false
+pub bound_cases : (o : Ordering) (x y : ℕ) (p q : Ordering) → o ≡ Equal → x ≡ 0 → y ≡ 2 → is_gt (ordering_then (ordering_then (ordering_then o (nat_cmp x y)) p) q) ≡ false
 bound_cases o x y p q e zero two =
     ap (λ z. is_gt (ordering_then (ordering_then (ordering_then z (nat_cmp x y)) p) q)) e ∙ ap (λ (n : ℕ). is_gt (ordering_then (ordering_then (nat_cmp n y) p) q)) zero
     ∙ ap (λ (n : ℕ). is_gt (ordering_then (ordering_then (nat_cmp 0 n) p) q)) two

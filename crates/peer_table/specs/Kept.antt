@@ -1,5 +1,6 @@
 -- How a table keeps its leases (our own; for proofs alone).
-use Rattle.std.specs.Prelude.{◌≡◌, ℕ, Bool, false, List, Option, Some, None}
+use Rattle.std.specs.Prelude.{◌≡◌, ℕ, nat_lt, Bool, false, List, Option, Some, None, if◌then◌else◌}
+use Rattle.std.specs.List.{fold}
 use Rattle.std.specs.Ordering.{nat_cmp, ordering_then}
 use Rattle.std.specs.declared.cmp.Ordering.{Ordering}
 use Rattle.std.specs.Cmp.Lexicographic.{slice_cmp}
@@ -11,7 +12,7 @@ use Rattle.pcp_base.specs.declared.leases.PeerLease.{PeerLease}
 use Rattle.pcp_base.specs.Protocols.{protocol_number}
 use Rattle.ordered_index.specs.declared.numbered.Numbered.{Numbered}
 use Rattle.ordered_index.specs.Kept.{Keying, IsKept}
-use Rattle.ordered_index.specs.Orders.{Place, place_of}
+use Rattle.ordered_index.specs.Orders.{Place, place_of, port_at}
 use Rattle.peer_table.specs.PeerLists.{AreSoundPeers, is_live_peer}
 
 -- an address, a protocol number and a port; 1, or 0 before all remotes and 2 behind them; and a
@@ -19,9 +20,10 @@ use Rattle.peer_table.specs.PeerLists.{AreSoundPeers, is_live_peer}
 abbrev pub PeerKey : Type 0
 PeerKey = List ℕ × ℕ × ℕ × ℕ × List ℕ × ℕ
 
--- a protocol number and an external port, with the remote that may send there
+-- a protocol number and an external port; 1, or 0 before all remotes and 2 behind them; and the
+-- remote that may send there
 abbrev pub Opening : Type 0
-Opening = ℕ × ℕ × List ℕ × ℕ
+Opening = ℕ × ℕ × ℕ × List ℕ × ℕ
 
 abbrev pub key_at : Endpoint → Address → ℕ → PeerKey
 key_at e remote port =
@@ -38,7 +40,12 @@ pub record IsBound (e : Endpoint) (side : ℕ) (k : PeerKey) : Type 0 where
 
 abbrev pub opening_at : Protocol → ℕ → Address → ℕ → Opening
 opening_at protocol port remote remote_port =
-    (protocol_number protocol, port, remote.0, remote_port)
+    (protocol_number protocol, port, 1, remote.0, remote_port)
+
+-- an opening of the port on this side of those of its leases
+pub record IsOpeningBound (protocol : Protocol) (port side : ℕ) (o : Opening) : Type 0 where
+  pub port_is : (o.0, o.1) ≡ port_at protocol port
+  pub side_is : o.2 ≡ side
 
 -- by the parts, in their order
 abbrev pub key_cmp : PeerKey → PeerKey → Ordering
@@ -47,8 +54,9 @@ key_cmp a b = ordering_then (ordering_then (ordering_then (ordering_then (orderi
     (slice_cmp nat_cmp a.4 b.4)) (nat_cmp a.5 b.5)
 
 abbrev pub opening_cmp : Opening → Opening → Ordering
-opening_cmp a b = ordering_then (ordering_then (ordering_then
-    (nat_cmp a.0 b.0) (nat_cmp a.1 b.1)) (slice_cmp nat_cmp a.2 b.2)) (nat_cmp a.3 b.3)
+opening_cmp a b = ordering_then (ordering_then (ordering_then (ordering_then
+    (nat_cmp a.0 b.0) (nat_cmp a.1 b.1)) (nat_cmp a.2 b.2)) (slice_cmp nat_cmp a.3 b.3))
+    (nat_cmp a.4 b.4)
 
 abbrev pub key_of_lease : PeerLease → PeerKey
 key_of_lease l = key_at l.endpoint l.remote l.remote_port
@@ -75,3 +83,18 @@ pub record AreKeptPeers (it : Numbered PeerLease PeerKey Opening) : Type 0 where
 abbrev pub some_live : ℕ → Option PeerLease → Bool
 some_live m None = false
 some_live m (Some l) = is_live_peer m l
+
+-- the expiry of a lease, if there is one
+abbrev pub expiry_in : Option PeerLease → Option ℕ
+expiry_in None = None
+expiry_in (Some l) = Some l.expiry
+
+-- the later of two, of which each may be missing
+abbrev pub later : Option ℕ → Option ℕ → Option ℕ
+later None b = b
+later (Some a) None = Some a
+later (Some a) (Some b) = if nat_lt a b then Some b else Some a
+
+-- the latest of a number and of those of the items
+abbrev pub last_of : {X : Type 0} → (X → Option ℕ) → Option ℕ → List X → Option ℕ
+last_of number a xs = fold (λ b x. later b (number x)) a xs

@@ -8,6 +8,7 @@ use Rattle.pcp_base.specs.declared.leases.Protocol.{Protocol}
 use Rattle.pcp_base.specs.declared.leases.Endpoint.{Endpoint}
 use Rattle.pcp_base.specs.declared.leases.PeerLease.{PeerLease}
 use Rattle.pcp_base.specs.Tables.{EachTwo, IsPeerLease, HaveOtherKeys, is_peer_of, names, put, same_address, same_endpoint, same_protocol}
+use Rattle.pcp_base.specs.Owners.{is_port, peer_owner}
 use Rattle.peer_table.specs.declared.uses.PortUse.{PortUse}
 
 -- whether the lease is live at m
@@ -44,6 +45,15 @@ pub record IsPortUse (e : Endpoint) (m : ℕ) (ls : List PeerLease) (result : Op
       IsTrue (list_any (λ l. is_live_of e m l && l.external == found.external) ls))
   pub count : IfSome result (λ found. found.count ≡ count_by (is_live_of e m) ls)
   pub none : IfNone result (count_by (is_live_of e m) ls ≡ 0)
+
+-- the latest expiry of the leases that own the external port; None exactly where there is none
+pub record IsLastExpiry (protocol : Protocol) (port : ℕ) (ls : List PeerLease) (result : Option ℕ)
+    : Type 0 where
+  pub there : IfSome result (λ expiry.
+      IsTrue (list_any (λ l. is_port protocol port (peer_owner l) && l.expiry == expiry) ls))
+  pub latest : IfSome result (λ expiry. AllByRecursion
+      (λ l. IsTrue (is_port protocol port (peer_owner l)) → l.expiry ≤ expiry) ls)
+  pub none : IfNone result (list_any (λ l. is_port protocol port (peer_owner l)) ls ≡ false)
 
 -- whether a lease names this port of the endpoint's address and protocol
 abbrev pub is_named : Endpoint → List PeerLease → ℕ → Bool

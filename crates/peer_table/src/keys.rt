@@ -1,7 +1,7 @@
 //! What leases are looked up by.
 ghost use Rattle.std.specs.Prelude.{◌≡◌, IfSome, IfNone};
 ghost use Rattle.pcp_base.specs.Protocols.{protocol_number};
-ghost use Rattle.peer_table.specs.Kept.{key_at, opening_at, key_of_lease, opening_of_lease, IsBound};
+ghost use Rattle.peer_table.specs.Kept.{key_at, opening_at, key_of_lease, opening_of_lease, IsBound, IsOpeningBound};
 
 use pcp_base::{Address, Endpoint, PeerLease, Protocol};
 
@@ -9,9 +9,9 @@ use pcp_base::{Address, Endpoint, PeerLease, Protocol};
 /// remotes and 2 behind them; and the octets of a remote address and a remote port.
 pub(crate) type Key = ([u8; 16], u8, u16, u8, [u8; 16], u16);
 
-/// A protocol number and an external port; and the octets of the address and the port of a remote
-/// that may send there.
-pub(crate) type Opening = (u8, u16, [u8; 16], u16);
+/// A protocol number and an external port; 1, or 0 before all remotes and 2 behind them; and the
+/// octets of the address and the port of a remote that may send there.
+pub(crate) type Opening = (u8, u16, u8, [u8; 16], u16);
 
 pub(crate) fn key_at(endpoint: &Endpoint, remote: &Address, port: u16) -> Key
     ensures { result ≡ key_at endpoint.now remote.now port }
@@ -63,7 +63,15 @@ pub(crate) fn opening_at(
 ) -> Opening
     ensures { result ≡ opening_at protocol port remote.now remote_port }
 {
-    (protocol.number(), port, remote.0, remote_port)
+    (protocol.number(), port, 1, remote.0, remote_port)
+}
+
+/// An opening of the external port on this side of those of its leases: 0 before them, 2 behind
+/// them.
+pub(crate) fn opening_bound(protocol: Protocol, port: u16, side: u8) -> Opening
+    ensures { IsOpeningBound protocol port side result }
+{
+    (protocol.number(), port, side, [0; 16], 0)
 }
 
 /// The key of the lease.

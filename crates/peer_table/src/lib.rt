@@ -8,6 +8,7 @@ mod judging;
 mod keys;
 pub mod laws;
 pub mod plain;
+mod ports;
 mod table;
 #[cfg(test)]
 mod tests;

@@ -5,12 +5,15 @@ ghost use Rattle.std.specs.Option.{option_copied};
 ghost use Rattle.std.specs.BTreeMap.{get, values};
 ghost use Rattle.std.specs.Ordering.{nat_cmp};
 ghost use Rattle.pcp_base.specs.declared.leases.PeerLease.{PeerLease};
-ghost use Rattle.peer_table.specs.PeerLists.{is_live_peer, peer_with_key, peer_opening, first_dead_peer, IsPortUse, IsNextNamed, AreSoundPeers, with_peer, PutsPeer, RemovesPeer, CopiesLivePeers};
+ghost use Rattle.peer_table.specs.PeerLists.{is_live_peer, peer_with_key, peer_opening, first_dead_peer, IsPortUse, IsLastExpiry, IsNextNamed, AreSoundPeers, with_peer, PutsPeer, RemovesPeer, CopiesLivePeers};
 ghost use Rattle.peer_table.specs.Kept.{key_cmp, AreKeptPeers, some_live};
 
 use crate::changes::{append, replace};
 use crate::endpoints::{count_live, first_live};
-use crate::keys::{Key, Opening, bound_at, key_at, key_of, opening_at, opening_of, port_beside};
+use crate::keys::{
+    Key, Opening, bound_at, key_at, key_of, opening_at, opening_bound, opening_of, port_beside,
+};
+use crate::ports::last_expiry;
 use crate::uses::PortUse;
 use ordered_index::{Numbered, first_from};
 use pcp_base::{Address, Endpoint, Memory, Moment, PeerLease, Protocol};
@@ -63,6 +66,13 @@ impl PeerTable {
         })
     }
 
+    /// Forgets all leases. It takes no memory.
+    pub fn clear(&mut self)
+        ensures { self.new ≡ [] }
+    {
+        self.kept.clear();
+    }
+
     /// The lease with this endpoint, remote address and remote port.
     pub fn find(&self, endpoint: &Endpoint, remote: &Address, port: u16) -> Option<&PeerLease>
         ensures { option_copied result ≡ peer_with_key endpoint.now remote.now port self.now }
@@ -107,6 +117,19 @@ impl PeerTable {
             return None;
         };
         self.kept.leases.get(&number)
+    }
+
+    /// The latest expiry of the leases that own the external port, in seconds. It looks at these
+    /// leases alone.
+    pub fn last_expiry(&self, protocol: Protocol, port: u16) -> Option<u64>
+        ensures { IsLastExpiry protocol port self.now result }
+    {
+        last_expiry(
+            &self.kept.leases,
+            &self.kept.ports,
+            opening_bound(protocol, port, 0),
+            opening_bound(protocol, port, 2),
+        )
     }
 
     /// The least port above the endpoint's that a lease of its address and protocol names.
