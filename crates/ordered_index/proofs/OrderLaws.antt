@@ -99,7 +99,7 @@ le_step a b Less m h = omega (arith, m)
 le_step a b Equal m h = omega (arith, m)
 le_step a b Greater m h = absurd (let no : true ≡ false = h in cc)
 
-nat_not_gt : (a b : ℕ) → is_gt (nat_cmp a b) ≡ false → a ≤ b
+pub nat_not_gt : (a b : ℕ) → is_gt (nat_cmp a b) ≡ false → a ≤ b
 nat_not_gt a b h = le_step a b (nat_cmp a b) (ranked a b (nat_cmp a b) refl) h
 
 gt_step : (a b : ℕ) (o : Ordering) → MatchOrdering o (a < b) (a ≡ b) (b < a) → a ≤ b → is_gt o ≡ false

@@ -1,0 +1,2 @@
+pub mod EndMaps
+pub mod Moments

@@ -1,0 +1,6 @@
+use Rattle.std.proofs.Common.{◌≡◌, ◌≤◌}
+use Rattle.end_table.proofs.Moments.{due_lower}
+use Rattle.end_table.proofs.dues.earliest.Goals as goal
+
+pub returns-clause-least : goal.returns-clause-least
+returns-clause-least c = λ other there. due_lower c.in-Some.first.now other (c.in-Some.ensures.least other there)
