@@ -1,0 +1,8 @@
+//! Leases as JSON, as a dump has them.
+#![tactic(auto)]
+
+mod leases;
+mod texts;
+
+pub use leases::{map_of, peer_of};
+pub use texts::address_of;
