@@ -56,6 +56,9 @@ map_value l = object (members (
     ∷ named (codes "protocol") (natural (protocol_number l.protocol))
     ∷ []))
 
+abbrev pub maps_value : List MapLease → Data
+maps_value ls = array (items_of (map map_value ls))
+
 abbrev pub peer_value : PeerLease → Data
 peer_value l = object (members (
     named (codes "address") (address_value l.endpoint.address)
@@ -68,3 +71,6 @@ peer_value l = object (members (
     ∷ named (codes "remote") (address_value l.remote)
     ∷ named (codes "remote_port") (natural l.remote_port)
     ∷ []))
+
+abbrev pub peers_value : List PeerLease → Data
+peers_value ls = array (items_of (map peer_value ls))

@@ -1,7 +1,7 @@
 //! Leases as JSON.
 ghost use Rattle.std.specs.Prelude.{◌≡◌, IfOk};
 ghost use Rattle.serde_json.specs.View.{view};
-ghost use Rattle.lease_json.specs.Objects.{filter_value, filters_value, map_value, peer_value};
+ghost use Rattle.lease_json.specs.Objects.{filter_value, filters_value, map_value, maps_value, peer_value, peers_value};
 
 use crate::texts::{address_of, nonce_of};
 use pcp_base::{Filter, MapLease, Memory, PeerLease};
@@ -33,8 +33,8 @@ fn filters_of(alloc: Global, filters: &[Filter]) -> Result<Value, Memory>
     Ok(Value::Array(values))
 }
 
-/// A MAP lease as a JSON object.
-pub fn map_of(alloc: Global, lease: &MapLease) -> Result<Value, Memory>
+// A MAP lease as a JSON object.
+fn map_of(alloc: Global, lease: &MapLease) -> Result<Value, Memory>
     ensures { IfOk result (λ v. view v ≡ map_value lease.now) }
 {
     let mut object = Map::new(alloc);
@@ -70,8 +70,8 @@ pub fn map_of(alloc: Global, lease: &MapLease) -> Result<Value, Memory>
     Ok(Value::Object(object))
 }
 
-/// A PEER lease as a JSON object.
-pub fn peer_of(alloc: Global, lease: &PeerLease) -> Result<Value, Memory>
+// A PEER lease as a JSON object.
+fn peer_of(alloc: Global, lease: &PeerLease) -> Result<Value, Memory>
     ensures { IfOk result (λ v. view v ≡ peer_value lease.now) }
 {
     let mut object = Map::new(alloc);
@@ -115,4 +115,26 @@ pub fn peer_of(alloc: Global, lease: &PeerLease) -> Result<Value, Memory>
         Value::from(lease.remote_port),
     )?;
     Ok(Value::Object(object))
+}
+
+/// MAP leases as a JSON array of objects.
+pub fn maps_of(alloc: Global, leases: &[MapLease]) -> Result<Value, Memory>
+    ensures { IfOk result (λ v. view v ≡ maps_value leases.now) }
+{
+    let mut values = Vec::new(alloc);
+    for lease in leases {
+        values.push(map_of(alloc, lease)?)?;
+    }
+    Ok(Value::Array(values))
+}
+
+/// PEER leases as a JSON array of objects.
+pub fn peers_of(alloc: Global, leases: &[PeerLease]) -> Result<Value, Memory>
+    ensures { IfOk result (λ v. view v ≡ peers_value leases.now) }
+{
+    let mut values = Vec::new(alloc);
+    for lease in leases {
+        values.push(peer_of(alloc, lease)?)?;
+    }
+    Ok(Value::Array(values))
 }

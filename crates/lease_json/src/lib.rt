@@ -4,5 +4,5 @@
 mod leases;
 mod texts;
 
-pub use leases::{map_of, peer_of};
+pub use leases::{maps_of, peers_of};
 pub use texts::address_of;
