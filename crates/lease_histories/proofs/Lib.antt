@@ -1,0 +1,7 @@
+pub mod Disclosure
+pub mod EntryKinds
+pub mod Growing
+pub mod NextEntries
+pub mod Nonces
+pub mod RestSteps
+pub mod Rests

@@ -1,0 +1,5 @@
+pub mod Entries
+pub mod HouseHistories
+pub mod Laws
+pub mod Legal
+pub mod Routes

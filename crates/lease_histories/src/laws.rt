@@ -1,0 +1,67 @@
+//! What holds of legal histories. A proof that needs a law calls its function.
+ghost use Rattle.lease_histories.specs.Laws.{DecisionsComeNext, EpochsDisclose, FaultsComeNext, LastIsGreatest, NextIsLegal, NoncesDecide, NothingIsLegal, OpeningsDisclose, PortsRest, PrefixesAreLegal, ServersComeNext, StartsDisclose, StatesStand};
+
+use lease_core::{decisions_change_leases, decisions_fit, nonces_match};
+use pcp_base::{ends_at_a_moment, ends_come_in_steps, ports_have_one_owner, states_are_sound};
+use pcp_options::asks_are_well_formed;
+
+/// A history begins with nothing, grows entry by entry, and each front of a legal one is legal. Its
+/// last moment and its last base are the greatest.
+pub fn histories_grow()
+    ensures nothing { NothingIsLegal }
+    ensures prefixes { PrefixesAreLegal }
+    ensures next { NextIsLegal }
+    ensures greatest { LastIsGreatest }
+{}
+
+/// What a body adds to a legal history: what the table decides on a request, a table that begins anew
+/// and the address that it is told, and faults.
+pub fn entries_come_next()
+    ensures decisions { DecisionsComeNext }
+    ensures servers { ServersComeNext }
+    ensures faults { FaultsComeNext }
+{
+    decisions_change_leases();
+}
+
+/// After every entry, and at every moment from then on, no external port has two owners.
+pub fn states_stand()
+    ensures { StatesStand }
+{
+    asks_are_well_formed();
+    decisions_fit();
+    ports_have_one_owner();
+}
+
+/// Only a request with the nonce of a live lease renews or deletes it, unless its table begins anew.
+pub fn nonces_decide()
+    ensures { NoncesDecide }
+{
+    asks_are_well_formed();
+    decisions_fit();
+    decisions_change_leases();
+    nonces_match();
+}
+
+/// From the end of a lease until 120 seconds later no other endpoint has its ports, unless the table
+/// begins anew in between.
+pub fn ports_rest()
+    ensures { PortsRest }
+{
+    asks_are_well_formed();
+    decisions_fit();
+    decisions_change_leases();
+    ends_at_a_moment();
+    ends_come_in_steps();
+}
+
+/// The epoch told is at most the age of each lease that was given up early.
+pub fn epochs_disclose()
+    ensures entries { EpochsDisclose }
+    ensures openings { OpeningsDisclose }
+    ensures starts { StartsDisclose }
+{
+    asks_are_well_formed();
+    decisions_fit();
+    states_are_sound();
+}
