@@ -111,3 +111,10 @@ pub(crate) fn is_at(number: usize, left: &Seen) -> bool {
         .take(2)
         .any(|state| state == left)
 }
+
+/// What an opening of a damaged journal at 2000 may leave: it is damaged, blank, or started.
+pub(crate) static UNDONE: [Seen; 3] = [
+    Seen(Found::Damaged, 0, 0, 0, 0),
+    Seen(Found::Blank, 0, 0, 0, 0),
+    Seen(Found::Recovered, 2000, 2000, 0, 0),
+];

@@ -5,6 +5,8 @@
 #[cfg(test)]
 mod acts;
 #[cfg(test)]
+mod damages;
+#[cfg(test)]
 mod deeds;
 #[cfg(test)]
 mod octets;
