@@ -1,0 +1,345 @@
+//! Requests one after the other, with their answers and what remote peers find between them.
+ghost use Rattle.std.specs.Prelude.{◌≡◌, ◌≤◌, OnOk};
+ghost use Rattle.core_rows.specs.Serving.{MayServe};
+
+use crate::requests::{Request, Told, Wish, ask_of, host, remote, told_of};
+use crate::serving::{core, moment, serve};
+use Told::{Gone, Leased, LeasedSet, Refused};
+use Wish::{AllOrNothing, Filters, Nothing, Peer, Set};
+use lease_core::LeaseCore;
+use lease_store::LeaseStore;
+use pcp_base::{Endpoint, Moment, Protocol};
+use std::alloc::Global;
+use std::test::Fail;
+
+/// What is done, and what comes of it.
+#[derive(Clone, Copy, Debug)]
+pub(crate) enum Step {
+    /// A request over UDP: when, the number H of the host 10.0.0.H, its port, each octet of the nonce,
+    /// the lifetime, the suggested port, what else it wishes, and the answer.
+    Ask(u64, u8, u16, u8, u32, u16, Wish, Told),
+    /// A packet to an external UDP port: when, the port, the remote IPv4 address and port, and the
+    /// host and the port of the owner.
+    Look(u64, u16, [u8; 4], u16, Option<(u8, u16)>),
+}
+
+use Step::{Ask, Look};
+
+impl Step {
+    fn at(&self) -> u64 {
+        match *self {
+            Ask(at, ..) => at,
+            Look(at, ..) => at,
+        }
+    }
+}
+
+/// The first and the last port that are given, the quota, and the steps.
+#[derive(Clone, Copy)]
+struct Row(u16, u16, u32, &'static [Step]);
+
+// Another nonce is told how long the lease still lasts.
+static RENEWED: [Step; 4] = [
+    Ask(1010, 5, 5000, 1, 3600, 0, Nothing, Leased(3600, 1024)),
+    Ask(1015, 5, 5000, 1, 3600, 0, Nothing, Leased(3600, 1024)),
+    Ask(1020, 5, 5000, 2, 3600, 0, Nothing, Refused(2, 3595)),
+    Ask(1020, 5, 5000, 1, 3600, 0, Nothing, Leased(3600, 1024)),
+];
+
+static LIFETIMES: [Step; 2] = [
+    Ask(1010, 5, 5001, 1, 1, 0, Nothing, Leased(120, 1024)),
+    Ask(
+        1010,
+        5,
+        5002,
+        1,
+        4294967295,
+        0,
+        Nothing,
+        Leased(86400, 1025),
+    ),
+];
+
+// It deletes no lease either.
+static OTHER_NONCE: [Step; 4] = [
+    Ask(1010, 5, 5000, 1, 3600, 0, Nothing, Leased(3600, 1024)),
+    Ask(1020, 5, 5000, 255, 3600, 0, Nothing, Refused(2, 3590)),
+    Ask(1020, 5, 5000, 255, 0, 0, Nothing, Refused(2, 3590)),
+    Ask(1020, 5, 5000, 1, 0, 0, Nothing, Gone),
+];
+
+static DELETED: [Step; 1] = [Ask(1010, 5, 5000, 1, 0, 0, Nothing, Gone)];
+
+static LOOKED_UP: [Step; 3] = [
+    Ask(1010, 5, 5000, 1, 120, 0, Nothing, Leased(120, 1024)),
+    Look(1129, 1024, [198, 51, 100, 7], 9, Some((5, 5000))),
+    Look(1130, 1024, [198, 51, 100, 7], 9, None),
+];
+
+static SUGGESTED: [Step; 3] = [
+    Ask(1010, 5, 5000, 1, 3600, 0, Nothing, Leased(3600, 1024)),
+    Ask(1011, 6, 5000, 1, 3600, 1024, Nothing, Leased(3600, 1025)),
+    Ask(1011, 7, 5000, 1, 3600, 1024, AllOrNothing, Refused(11, 30)),
+];
+
+// Prefix 0 empties the list before the next filter.
+static FILTERED: [Step; 5] = [
+    Ask(
+        1010,
+        5,
+        5000,
+        1,
+        3600,
+        0,
+        Filters(&[(128, [198, 51, 100, 7], 0)]),
+        Leased(3600, 1024),
+    ),
+    Look(1010, 1024, [198, 51, 100, 7], 9, Some((5, 5000))),
+    Ask(
+        1010,
+        5,
+        5000,
+        1,
+        3600,
+        0,
+        Filters(&[(0, [0, 0, 0, 0], 0), (120, [203, 0, 113, 0], 53)]),
+        Leased(3600, 1024),
+    ),
+    Look(1010, 1024, [198, 51, 100, 7], 9, None),
+    Look(1010, 1024, [203, 0, 113, 9], 53, Some((5, 5000))),
+];
+
+static MOST_FILTERS: [Step; 5] = [
+    Ask(
+        1010,
+        5,
+        5000,
+        1,
+        3600,
+        0,
+        Filters(&[
+            (128, [198, 51, 100, 1], 1),
+            (128, [198, 51, 100, 2], 1),
+            (128, [198, 51, 100, 3], 1),
+            (128, [198, 51, 100, 4], 1),
+            (128, [198, 51, 100, 5], 1),
+            (128, [198, 51, 100, 6], 1),
+            (128, [198, 51, 100, 7], 1),
+            (128, [198, 51, 100, 8], 1),
+        ]),
+        Leased(3600, 1024),
+    ),
+    Ask(
+        1011,
+        5,
+        5000,
+        1,
+        3600,
+        0,
+        Filters(&[(128, [198, 51, 100, 9], 1)]),
+        Refused(13, 1800),
+    ),
+    // the lease still ends at 4610
+    Ask(1011, 5, 5000, 2, 3600, 0, Nothing, Refused(2, 3599)),
+    Look(1011, 1024, [198, 51, 100, 9], 1, None),
+    Ask(
+        1012,
+        5,
+        5000,
+        1,
+        3600,
+        0,
+        Filters(&[(128, [198, 51, 100, 8], 1)]),
+        Leased(3600, 1024),
+    ),
+];
+
+static SETS: [Step; 3] = [
+    Ask(
+        1010,
+        5,
+        6000,
+        1,
+        3600,
+        0,
+        Set(8),
+        LeasedSet(3600, 1024, 5, 6000),
+    ),
+    Ask(
+        1010,
+        5,
+        6002,
+        1,
+        3600,
+        0,
+        Set(1),
+        LeasedSet(3600, 1024, 5, 6000),
+    ),
+    // without PORT_SET the port of the endpoint itself is told
+    Ask(1010, 5, 6002, 1, 3600, 0, Nothing, Leased(3600, 1026)),
+];
+
+static SET_OF_ONE: [Step; 1] = [Ask(1010, 5, 6000, 1, 3600, 0, Set(1), Leased(3600, 1024))];
+
+static AT_QUOTA: [Step; 2] = [
+    Ask(
+        1010,
+        5,
+        5000,
+        1,
+        3600,
+        0,
+        Set(4),
+        LeasedSet(3600, 1024, 4, 5000),
+    ),
+    Ask(1010, 5, 7000, 1, 3600, 0, Nothing, Refused(10, 30)),
+];
+
+// No port is left, but a renewal needs none.
+static FULL: [Step; 3] = [
+    Ask(1010, 5, 5000, 1, 3600, 0, Nothing, Leased(3600, 1024)),
+    Ask(1010, 6, 5000, 1, 3600, 0, Nothing, Refused(8, 30)),
+    Ask(1010, 5, 5000, 1, 3600, 0, Nothing, Leased(3600, 1024)),
+];
+
+// A MAP and a PEER lease of one endpoint share its port.
+static SHARED: [Step; 6] = [
+    Ask(
+        1010,
+        5,
+        5000,
+        1,
+        3600,
+        0,
+        Peer([198, 51, 100, 7], 53),
+        Leased(3600, 1024),
+    ),
+    Ask(1010, 5, 5000, 1, 3600, 0, Nothing, Leased(3600, 1024)),
+    Look(1010, 1024, [198, 51, 100, 7], 54, Some((5, 5000))),
+    Ask(1010, 5, 5000, 1, 0, 0, Nothing, Gone),
+    Look(1010, 1024, [198, 51, 100, 7], 53, Some((5, 5000))),
+    Look(1010, 1024, [198, 51, 100, 7], 54, None),
+];
+
+// A port rests for its last endpoint until 120 seconds after its lease.
+static RESTING: [Step; 3] = [
+    Ask(1010, 5, 5000, 1, 120, 0, Nothing, Leased(120, 1024)),
+    Ask(1249, 6, 5000, 1, 3600, 1024, Nothing, Leased(3600, 1025)),
+    Ask(1249, 5, 5000, 1, 3600, 1024, Nothing, Leased(3600, 1024)),
+];
+
+static RESTED: [Step; 2] = [
+    Ask(1010, 5, 5000, 1, 120, 0, Nothing, Leased(120, 1024)),
+    Ask(1250, 6, 5000, 1, 3600, 0, Nothing, Leased(3600, 1024)),
+];
+
+/// Whether the request is answered so at `m`.
+fn is_answered<S: LeaseStore>(
+    alloc: Global,
+    core: &mut LeaseCore<S>,
+    m: Moment,
+    request: &Request,
+    told: Told,
+) -> Result<bool, Fail>
+    requires may { MayServe (S.state core.old) (S.terms core.old) }
+    requires later { S.reached core.old ≤ m }
+    ensures may { OnOk result (MayServe (S.state core.new) (S.terms core.new)) }
+    ensures reached { OnOk result (S.reached core.new ≤ m) }
+{
+    let ask = ask_of(alloc, request)?;
+    let answer = serve(alloc, core, &ask, m)?;
+    Ok(told_of(&answer) == told)
+}
+
+/// Whether this endpoint is found through the UDP port at `m`.
+fn is_found<S: LeaseStore>(
+    core: &LeaseCore<S>,
+    m: Moment,
+    port: u16,
+    peer: ([u8; 4], u16),
+    owner: Option<(u8, u16)>,
+) -> bool
+    requires { MayServe (S.state core.now) (S.terms core.now) }
+{
+    let wanted = owner.map(|(number, port)| Endpoint {
+        address: host(number),
+        protocol: Protocol::Udp,
+        port,
+    });
+    core.look(Protocol::Udp, port, &remote(peer.0), peer.1, m) == wanted
+}
+
+/// Whether this comes of the step at `m`.
+fn is_so<S: LeaseStore>(
+    alloc: Global,
+    core: &mut LeaseCore<S>,
+    m: Moment,
+    step: &Step,
+) -> Result<bool, Fail>
+    requires may { MayServe (S.state core.old) (S.terms core.old) }
+    requires later { S.reached core.old ≤ m }
+    ensures may { OnOk result (MayServe (S.state core.new) (S.terms core.new)) }
+    ensures reached { OnOk result (S.reached core.new ≤ m) }
+{
+    match *step {
+        Ask(_, host, port, nonce, lifetime, suggested, wish, told) => {
+            let request = Request(host, port, nonce, lifetime, suggested, wish);
+            is_answered(alloc, core, m, &request, told)
+        }
+        Look(_, port, address, remote_port, owner) => {
+            Ok(is_found(core, m, port, (address, remote_port), owner))
+        }
+    }
+}
+
+/// The place of the first step of which something else comes.
+pub(crate) fn first_other<S: LeaseStore>(
+    alloc: Global,
+    core: &mut LeaseCore<S>,
+    steps: &[Step],
+) -> Result<Option<usize>, Fail>
+    requires may { MayServe (S.state core.old) (S.terms core.old) }
+    requires reached { S.reached core.old ≡ 1000 }
+    ensures may { OnOk result (MayServe (S.state core.new) (S.terms core.new)) }
+{
+    let mut now = moment(1000)?;
+    for (i, step) in steps.iter().enumerate() {
+        let m = moment(step.at())?;
+        if m.get() < now.get() {
+            return Err("moments fall".into());
+        }
+        if !is_so(alloc, core, m, step)? {
+            return Ok(Some(i));
+        }
+        now = m;
+    }
+    Ok(None)
+}
+
+#[test]
+fn answers_one_after_the_other(rt: HostRuntime) -> Result<(), Fail> {
+    let alloc = rt.alloc();
+    let rows: [Row; 15] = [
+        Row(1024, 65535, 64, &RENEWED),
+        Row(1024, 65535, 64, &LIFETIMES),
+        Row(1024, 65535, 64, &OTHER_NONCE),
+        Row(1024, 65535, 64, &DELETED),
+        Row(1024, 65535, 64, &LOOKED_UP),
+        Row(1024, 65535, 64, &SUGGESTED),
+        Row(1024, 65535, 64, &FILTERED),
+        Row(1024, 65535, 64, &MOST_FILTERS),
+        Row(1024, 1028, 64, &SETS),
+        Row(1024, 1028, 64, &SET_OF_ONE),
+        Row(1024, 65535, 4, &AT_QUOTA),
+        Row(1024, 1024, 64, &FULL),
+        Row(1024, 65535, 64, &SHARED),
+        Row(1024, 65535, 64, &RESTING),
+        Row(1024, 65535, 64, &RESTED),
+    ];
+    for (i, Row(low, high, quota, steps)) in rows.iter().enumerate() {
+        let mut core = core(alloc, *low, *high, *quota)?;
+        let other = first_other(alloc, &mut core, steps)?;
+        assert!(rt; other == None, "row {i}, step {other:?}");
+    }
+    Ok(())
+}

@@ -1,0 +1,144 @@
+//! Requests served one after the other: what is decided is applied.
+ghost use Rattle.std.specs.Prelude.{◌≡◌, ◌≤◌, IfSome, IfOk, OnOk};
+ghost use Rattle.pcp_base.specs.Apply.{apply};
+ghost use Rattle.pcp_base.specs.Configs.{IsConfig, IsExternal};
+ghost use Rattle.pcp_base.specs.Fits.{Fits};
+ghost use Rattle.pcp_base.specs.declared.configs.TheConstants.{MOST_QUOTA};
+ghost use Rattle.lease_store.specs.LeaseTerms.{AreTerms};
+ghost use Rattle.core_rows.specs.Serving.{MayServe};
+
+use crate::requests::is_well_formed;
+use lease_core::{Core, LeaseCore, decisions_fit};
+use lease_store::{LeaseStore, Terms};
+use pcp_base::{
+    Address, Answer, Ask, Change, Config, External, Externals, MOST_QUOTA, Memory, Moment,
+    Prefixes, Record, Replay, Subscribers, states_are_sound,
+};
+use std::alloc::Global;
+use std::test::Fail;
+
+pub(crate) fn moment(seconds: u64) -> Result<Moment, Fail>
+    ensures { IfOk result (λ m. m ≡ seconds) }
+{
+    Ok(Moment::of(seconds).ok_or("no moment")?)
+}
+
+/// The external address 192.0.2.1 with these ports.
+fn external(low: u16, high: u16) -> External
+    requires some { 1 ≤ low }
+    requires ordered { low ≤ high }
+    ensures { IsExternal result }
+{
+    External {
+        address: Address::v4(192, 0, 2, 1),
+        low,
+        high,
+    }
+}
+
+/// A configuration with one external address, lifetimes from 120 to 86,400 seconds, and no
+/// subscriber, since a core pairs nothing.
+fn config(alloc: Global, external: &External, quota: u32) -> Result<Config, Fail>
+    requires external { IsExternal external.now }
+    requires some { 1 ≤ quota }
+    requires most { quota ≤ MOST_QUOTA }
+    ensures { IfOk result IsConfig }
+{
+    Ok(Config {
+        quota,
+        lifetime_min: 120,
+        lifetime_max: 86_400,
+        third_party: Prefixes::of(Vec::new(alloc)),
+        externals: Externals::of(Vec::from_array(alloc, [*external])?),
+        subscribers: Subscribers::of(Vec::new(alloc)),
+    })
+}
+
+/// A core of ports from 1 on, with a Start at 1000.
+pub(crate) fn core(alloc: Global, low: u16, high: u16, quota: u32) -> Result<Core, Fail>
+    ensures may { IfOk result (λ core. MayServe core.state core.terms) }
+    ensures reached { IfOk result (λ core. core.reached ≡ 1000) }
+{
+    if low < 1 || low > high || quota < 1 || quota > MOST_QUOTA {
+        return Err("no such profile".into());
+    }
+    let external = external(low, high);
+    let config = config(alloc, &external, quota)?;
+    let _terms = Terms::of(&external, &config);
+    let mut core = Core::new(alloc, &external, &config)?;
+    start(alloc, &mut core)?;
+    Ok(core)
+}
+
+/// Admits a record of this change at 1000, which fits.
+fn begin<S: LeaseStore>(alloc: Global, core: &mut LeaseCore<S>, change: Change) -> Result<(), Fail>
+    requires ready { S.replaying core.old }
+    requires reached { S.reached core.old ≡ (S.state core.old).last }
+    ensures applied { OnOk result
+        (S.state core.new ≡ apply (S.state core.old) (record { moment = 1000; change = change })) }
+    ensures ready { OnOk result (S.replaying core.new) }
+    ensures reached { OnOk result (S.reached core.new ≡ (S.state core.new).last) }
+    ensures terms { S.terms core.new ≡ S.terms core.old }
+{
+    let kept = Record {
+        moment: moment(1000)?,
+        change,
+    };
+    if !core.admit(alloc, &kept)? {
+        return Err("the record doesn't fit".into());
+    }
+    Ok(())
+}
+
+/// Begins anew with a Start and the external address at 1000.
+fn start<S: LeaseStore>(alloc: Global, core: &mut LeaseCore<S>) -> Result<(), Fail>
+    requires { AreTerms (S.terms core.old) }
+    ensures may { OnOk result (MayServe (S.state core.new) (S.terms core.new)) }
+    ensures reached { OnOk result (S.reached core.new ≡ 1000) }
+{
+    core.clear();
+    begin(alloc, core, Change::Start)?;
+    begin(alloc, core, Change::Renumber(Address::v4(192, 0, 2, 1)))
+}
+
+/// Applies the record of a decision at `m`, if there is one.
+fn keep<S: LeaseStore>(
+    alloc: Global,
+    core: &mut LeaseCore<S>,
+    kept: Option<Record>,
+    m: Moment,
+) -> Result<(), Memory>
+    requires may { MayServe (S.state core.old) (S.terms core.old) }
+    requires fits { IfSome kept (λ r. Fits (S.state core.old) r × (r.moment ≡ m)) }
+    requires reached { S.reached core.old ≡ m }
+    ensures may { OnOk result (MayServe (S.state core.new) (S.terms core.new)) }
+    ensures reached { OnOk result (S.reached core.new ≡ m) }
+{
+    states_are_sound();
+    match kept {
+        None => Ok(()),
+        Some(kept) => core.apply(alloc, &kept),
+    }
+}
+
+/// Answers a request at `m`, and applies what is kept of it.
+pub(crate) fn serve<S: LeaseStore>(
+    alloc: Global,
+    core: &mut LeaseCore<S>,
+    ask: &Ask,
+    m: Moment,
+) -> Result<Answer, Fail>
+    requires may { MayServe (S.state core.old) (S.terms core.old) }
+    requires later { S.reached core.old ≤ m }
+    ensures may { OnOk result (MayServe (S.state core.new) (S.terms core.new)) }
+    ensures reached { OnOk result (S.reached core.new ≡ m) }
+{
+    decisions_fit();
+    if !is_well_formed(ask) {
+        return Err("the request isn't well formed".into());
+    }
+    let _last = core.last();
+    let decided = core.decide(alloc, ask, m)?;
+    keep(alloc, core, decided.kept, m)?;
+    Ok(decided.answer)
+}
