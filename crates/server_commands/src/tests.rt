@@ -32,9 +32,7 @@ fn words_are_commands(rt: HostRuntime) -> Result<(), Fail> {
 #[test]
 fn loads_are_read(rt: HostRuntime) -> Result<(), Fail> {
     let words = words_of(rt.alloc(), "load c j 1000 7 20000")?;
-    let Some(start) = Moment::of(1_000) else {
-        return Err(Fail);
-    };
+    let start = Moment::of(1_000).ok_or("no moment")?;
     let plan = LoadPlan {
         start,
         number: 7,

@@ -1,0 +1,11 @@
+//! What journals hold, as a text in JSON.
+#![tactic(auto)]
+
+mod dumps;
+mod faults;
+mod readings;
+#[cfg(test)]
+mod tests;
+
+pub use dumps::dump;
+pub use faults::DumpFault;
