@@ -21,7 +21,8 @@ use Rattle.lease_core.specs.Laws.{DecisionsFit}
 use Rattle.lease_histories.specs.Entries.{Served}
 use Rattle.lease_histories.specs.Legal.{IsNextEntry, IsOpening, state_after}
 use Rattle.lease_histories.specs.Laws.{EpochsDisclose, GivesUp, IsWithinAge, OpeningsDisclose, StartsDisclose, WasGranted}
-use Rattle.lease_histories.proofs.Growing.{along, if-some, no-earlier, prefix-legal, state-more, with_kept}
+use Rattle.lease_histories.specs.PlainHouses.{with_kept}
+use Rattle.lease_histories.proofs.Growing.{along, if-some, no-earlier, prefix-legal, state-more}
 use Rattle.lease_histories.proofs.EntryKinds.{IsWell, well-after, well-step}
 
 within-age : (g m base : ℕ) → g ≤ m → g ≤ base → g + epoch_of m base ≤ m

@@ -28,7 +28,8 @@ use Rattle.lease_core.specs.Laws.{DecisionsFit, MayDecide}
 use Rattle.lease_histories.specs.Routes.{judged}
 use Rattle.lease_histories.specs.Entries.{Served, EntryKind, OfRequest, OfServer, OfFault, Request, entry_kind, has_just_begun, kind_without_octets, request_by, request_of, decided_on}
 use Rattle.lease_histories.specs.Legal.{IsNextEntry, IsLegal, IsOfKind, IsOfTable, IsOfServer, IsOpening, state_after}
-use Rattle.lease_histories.proofs.Growing.{along, if-some, state-more, with_kept}
+use Rattle.lease_histories.specs.PlainHouses.{with_kept}
+use Rattle.lease_histories.proofs.Growing.{along, if-some, state-more}
 
 -- ---- kinds
 

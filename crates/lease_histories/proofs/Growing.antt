@@ -13,6 +13,7 @@ use Rattle.pcp_base.specs.States.{State}
 use Rattle.pcp_base.proofs.Members.{All-push, All-weaker}
 use Rattle.lease_histories.specs.Entries.{Served}
 use Rattle.lease_histories.specs.Legal.{IsNextEntry, IsLegal, records_of, state_after, moment_after, base_after}
+use Rattle.lease_histories.specs.PlainHouses.{with_kept}
 use Rattle.lease_histories.specs.Laws.{AreGreatest}
 
 -- ---- one entry more
@@ -26,10 +27,6 @@ moment-more s xs e = ap (λ l. option_map_or (λ p. p.moment) l s.last) (last-mo
 
 pub base-more : (s : State) (xs : List Entry) (e : Entry) → base_after s (xs ++ e ∷ []) ≡ e.base
 base-more s xs e = ap (λ l. option_map_or (λ p. p.base) l s.base) (last-more None xs e)
-
-abbrev pub with_kept : State → Option Record → State
-with_kept s None = s
-with_kept s (Some r) = apply s r
 
 with_kept-one : (s : State) (kept : Option Record) → apply_all s (cons_option kept []) ≡ with_kept s kept
 with_kept-one s None = refl
@@ -51,12 +48,12 @@ pub nothing-legal : (x : Served) (opening : State) → IsLegal x opening []
 nothing-legal x opening before e more h = absurd (no-entry before e more h)
 
 -- the entry is the last one, or stands before it
-record IsLast {X : Type 0} (xs : List X) (y : X) (before : List X) (e : X) (more : List X) : Type 0 where
-  none : more ≡ []
-  front : before ≡ xs
-  same : e ≡ y
+pub record IsLast {X : Type 0} (xs : List X) (y : X) (before : List X) (e : X) (more : List X) : Type 0 where
+  pub none : more ≡ []
+  pub front : before ≡ xs
+  pub same : e ≡ y
 
-abbrev IsWithin : {X : Type 0} → List X → List X → X → Type 0
+abbrev pub IsWithin : {X : Type 0} → List X → List X → X → Type 0
 IsWithin {X = X} xs before e = (rest : List X) × (xs ≡ before ++ e ∷ rest)
 
 deeper : {X : Type 0} (x b : X) (xs bs : List X) (y e : X) (more : List X) → x ≡ b →
@@ -64,7 +61,7 @@ deeper : {X : Type 0} (x b : X) (xs bs : List X) (y e : X) (more : List X) → x
 deeper x b xs bs y e more same (inl l) = inl (record { none = l.none; front = cc; same = l.same })
 deeper x b xs bs y e more same (inr (rest, is)) = inr (rest, cc)
 
-where-stands : {X : Type 0} (xs : List X) (y : X) (before : List X) (e : X) (more : List X) → xs ++ y ∷ [] ≡ before ++ e ∷ more →
+pub where-stands : {X : Type 0} (xs : List X) (y : X) (before : List X) (e : X) (more : List X) → xs ++ y ∷ [] ≡ before ++ e ∷ more →
     IsLast xs y before e more ⊎ IsWithin xs before e
 where-stands [] y [] e more h = inl (record { none = cc; front = refl; same = cc })
 where-stands (x ∷ xs) y [] e more h = inr (xs, cc)

@@ -5,3 +5,4 @@ pub mod NextEntries
 pub mod Nonces
 pub mod RestSteps
 pub mod Rests
+pub mod SoloCalls

@@ -21,7 +21,8 @@ use Rattle.lease_core.specs.Laws.{ChangesLease, DecisionsChangeLeases}
 use Rattle.lease_histories.specs.Entries.{Served, OfRequest, OfServer, OfFault, Request, entry_kind, kind_without_octets, request_by, request_of, request_entry, decided_on}
 use Rattle.lease_histories.specs.Legal.{IsLegal, IsOfKind, IsOpening, state_after, moment_after, base_after}
 use Rattle.lease_histories.specs.Laws.{AreGreatest, DecisionsComeNext, FaultsComeNext, ServersComeNext}
-use Rattle.lease_histories.proofs.Growing.{along, last-greatest, moment-more, state-more, with_kept}
+use Rattle.lease_histories.specs.PlainHouses.{with_kept}
+use Rattle.lease_histories.proofs.Growing.{along, last-greatest, moment-more, state-more}
 use Rattle.lease_histories.proofs.EntryKinds.{KindOf, is_request, is_server, is_fault, kind_of_entry}
 
 -- ---- requests
@@ -31,7 +32,7 @@ unfolding verdict_of
 empty-silent config source [] h = refl
 empty-silent config source (x ∷ message) h = let k = eqb-true (length (x ∷ message)) 0 h in absurd (omega (arith, k))
 
-heard : (config : Config) (from : Datagram) (q : Request) → request_of config from ≡ Some q → (length from.octets == 0) ≡ false
+pub heard : (config : Config) (from : Datagram) (q : Request) → request_of config from ≡ Some q → (length from.octets == 0) ≡ false
 heard config from q asks = go (length from.octets == 0) refl
   where
     go : (b : Bool) → (length from.octets == 0) ≡ b → b ≡ false
@@ -50,7 +51,7 @@ no-rebase Mark h s = absurd h
 no-rebase (Rest e p t) h s = absurd h
 no-rebase (Renumber a) h s = absurd h
 
-kept-base : (s : State) (kept : Option Record) (m : ℕ) → IfSome kept (λ r. ChangesLease r.change × (r.moment ≡ m)) → (with_kept s kept).base ≡ s.base
+pub kept-base : (s : State) (kept : Option Record) (m : ℕ) → IfSome kept (λ r. ChangesLease r.change × (r.moment ≡ m)) → (with_kept s kept).base ≡ s.base
 kept-base s None m h = refl
 kept-base s (Some r) m h = ap (λ b. cond b r.moment s.base) (no-rebase r.change h.0 s)
 
@@ -138,7 +139,7 @@ servers-next x opening entries e r legal least kind moment of anew =
       bases = all-told opening entries e.base greatest told;
     }
 
-moment-in-range : (x : Served) (opening : State) (entries : List Entry) → IsOpening x opening → IsLegal x opening entries → moment_after opening entries < 2 ^ 40
+pub moment-in-range : (x : Served) (opening : State) (entries : List Entry) → IsOpening x opening → IsLegal x opening entries → moment_after opening entries < 2 ^ 40
 moment-in-range x opening entries opens legal =
     along (λ es. moment_after opening es < 2 ^ 40) x opening
     (λ before e h next. let m = moment-more opening before e in let range = next.value.moment in omega (arith, m, range))

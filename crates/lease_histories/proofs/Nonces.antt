@@ -19,7 +19,8 @@ use Rattle.lease_core.specs.Laws.{ChangesLease, DecisionsChangeLeases, Decisions
 use Rattle.lease_histories.specs.Entries.{Served, OfRequest, OfServer, begins_anew, entry_kind, decided_on}
 use Rattle.lease_histories.specs.Legal.{IsNextEntry, IsOfTable, state_after}
 use Rattle.lease_histories.specs.Laws.{ChangesByNonce, MayChange, NoncesDecide}
-use Rattle.lease_histories.proofs.Growing.{if-some, prefix-legal, state-more, with_kept}
+use Rattle.lease_histories.specs.PlainHouses.{with_kept}
+use Rattle.lease_histories.proofs.Growing.{if-some, prefix-legal, state-more}
 use Rattle.lease_histories.proofs.Rests.{filter-stays, put-stays}
 use Rattle.lease_histories.proofs.EntryKinds.{IsWell, KindOf, ServerDeed, begins, is_fault, is_request, is_server, kind_of_entry, of-kind, renumbers, server_deed, well-after}
 

@@ -38,7 +38,8 @@ use Rattle.pcp_options.specs.Laws.{AsksAreWellFormed}
 use Rattle.lease_histories.specs.Entries.{Served, OfRequest, OfServer, begins_anew, decided_on, entry_kind}
 use Rattle.lease_histories.specs.Legal.{IsLegal, IsNextEntry, IsOfServer, IsOfTable, IsOpening, state_after}
 use Rattle.lease_histories.specs.Laws.{PortsRest, lasting_to}
-use Rattle.lease_histories.proofs.Growing.{if-some, prefix-legal, state-more, with_kept}
+use Rattle.lease_histories.specs.PlainHouses.{with_kept}
+use Rattle.lease_histories.proofs.Growing.{if-some, prefix-legal, state-more}
 use Rattle.lease_histories.proofs.EntryKinds.{IsWell, KindOf, ServerDeed, begins, is_fault, is_request, is_server, kind_of_entry, may-decide, of-kind, renumber-fits, renumbers, server_deed, well-after, well-step}
 use Rattle.lease_histories.proofs.Rests.{Held, HeldAt, by-map, by-peer, deleting, end-owner, ended, ended_then, held-at, lasting-fewer, over, owned-is, owned_now, owned_to, owner-after, owner-same, put-new, stays-or-deleted}
 

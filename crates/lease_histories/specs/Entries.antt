@@ -44,7 +44,8 @@ kind_without_octets None = OfFault
 -- A request has octets, and so has its reply.
 abbrev pub entry_kind : Entry → EntryKind
 entry_kind e =
-    if length e.from.octets == 0 && length e.reply == 0 then kind_without_octets e.kept else OfRequest
+    if length e.from.octets == 0 && length e.reply == 0 then kind_without_octets e.kept
+    else OfRequest
 
 -- whether the server itself began the table anew: by a Start or a Lose
 abbrev pub begins_anew : EntryKind → Bool
@@ -54,7 +55,8 @@ begins_anew OfFault = false
 
 -- whether the last of these entries began the table anew
 abbrev pub has_just_begun : List Entry → Bool
-has_just_begun entries = option_map_or (λ e. begins_anew (entry_kind e)) (last_or None entries) false
+has_just_begun entries =
+    option_map_or (λ e. begins_anew (entry_kind e)) (last_or None entries) false
 
 -- ---- what a request asks of the lease table
 

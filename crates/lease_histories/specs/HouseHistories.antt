@@ -21,8 +21,8 @@ entries_at place history = map (λ h. h.entry) (filter (λ h. h.place == place) 
 abbrev pub begun_at : Entry → Option ℕ
 begun_at e = if begins_anew (entry_kind e) then Some e.moment else None
 
--- the bases that may be told: those of the opening states, and the moments at which the table of some
--- external address began anew
+-- the bases that may be told: those of the opening states, and the moments at which the table of
+-- some external address began anew
 abbrev pub bases_of : List State → List HouseEntry → List ℕ
 bases_of openings history =
     map (λ s. s.base) openings ++ filter_map (λ h. begun_at h.entry) history

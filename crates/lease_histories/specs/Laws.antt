@@ -1,5 +1,5 @@
 -- The laws of legal histories (our own).
-use Rattle.std.specs.Prelude.{◌≡◌, ℕ, ◌+◌, ◌<◌, ◌≤◌, ◌^◌, ◌⊎◌, nat_le, true, false, List, [], ◌∷◌, ◌++◌, map, filter, Contains, Some, IfSome}
+use Rattle.std.specs.Prelude.{◌≡◌, ℕ, ◌+◌, ◌<◌, ◌≤◌, ◌^◌, ◌⊎◌, nat_le, true, false, List, [], ◌∷◌, ◌++◌, length, map, filter, Contains, Some, IfSome}
 use Rattle.std.specs.List.{AllByRecursion}
 use Rattle.pcp_base.specs.declared.addresses.Nonce.{Nonce}
 use Rattle.pcp_base.specs.declared.leases.TheConstants.{REST_SECONDS}
@@ -10,6 +10,7 @@ use Rattle.pcp_base.specs.declared.configs.Config.{Config}
 use Rattle.pcp_base.specs.declared.datagrams.Datagram.{Datagram}
 use Rattle.pcp_base.specs.declared.datagrams.Entry.{Entry}
 use Rattle.pcp_base.specs.declared.records.Record.{Record}
+use Rattle.pcp_base.specs.Configs.{IsConfig}
 use Rattle.pcp_base.specs.Tables.{Table, live}
 use Rattle.pcp_base.specs.Owners.{owners, OneOwner}
 use Rattle.pcp_base.specs.Epoch.{epoch_of}
@@ -22,6 +23,8 @@ use Rattle.lease_core.specs.Laws.{HasNonce}
 use Rattle.lease_histories.specs.Routes.{route_of}
 use Rattle.lease_histories.specs.Entries.{Served, Request, OfServer, OfFault, entry_kind, begins_anew, request_of, request_entry}
 use Rattle.lease_histories.specs.Legal.{IsNextEntry, IsLegal, IsOpening, IsOfServer, state_after, moment_after, base_after}
+use Rattle.lease_histories.specs.HouseHistories.{IsSoloHistory}
+use Rattle.lease_histories.specs.PlainHouses.{HouseCall, Packet, Loss, entries_along, house_begun}
 
 -- ---- how histories grow
 
@@ -114,7 +117,8 @@ pub record ChangesByNonce (config : Config) (e : Entry) (old new : Table) : Type
       Contains new.peers l ⊎ MayChange config e l.nonce
 
 abbrev pub NoncesDecide : Type 0
-NoncesDecide = (x : Served) (opening : State) (before : List Entry) (e : Entry) (more : List Entry) →
+NoncesDecide =
+    (x : Served) (opening : State) (before : List Entry) (e : Entry) (more : List Entry) →
     IsOpening x opening → IsLegal x opening (before ++ e ∷ more) →
     ChangesByNonce x.config e (state_after opening before).table
     (state_after opening (before ++ e ∷ [])).table
@@ -143,7 +147,8 @@ HasNoOther os o = (p : Owner) → Contains os p → p.protocol ≡ o.protocol �
 
 -- until 120 seconds later the port is no other endpoint's
 abbrev pub PortsRest : Type 0
-PortsRest = (x : Served) (opening : State) (before behind : List Entry) (t : ℕ) (o : Owner) (n : ℕ) →
+PortsRest =
+    (x : Served) (opening : State) (before behind : List Entry) (t : ℕ) (o : Owner) (n : ℕ) →
     IsOpening x opening → IsLegal x opening (before ++ behind) →
     OwnsUpTo opening before behind t o →
     (state_after opening (before ++ behind)).last ≤ n → n < t + REST_SECONDS →
@@ -167,7 +172,8 @@ IsWithinAge g e = g + epoch_of e.moment e.base ≤ e.moment
 
 -- so it is from the entry on that gives the lease up
 abbrev pub EpochsDisclose : Type 0
-EpochsDisclose = (x : Served) (opening : State) (before : List Entry) (e : Entry) (more : List Entry) →
+EpochsDisclose =
+    (x : Served) (opening : State) (before : List Entry) (e : Entry) (more : List Entry) →
     IsOpening x opening → IsLegal x opening (before ++ e ∷ more) →
     IfSome e.kept (λ r. (g : ℕ) → GivesUp (state_after opening before) r g →
     AllByRecursion (IsWithinAge g) (e ∷ more))
@@ -181,8 +187,28 @@ OpeningsDisclose = (x : Served) (before : List Record) (r : Record) (more : List
     AllByRecursion (IsWithinAge g) entries
 
 -- or where it was granted by the base of the opening state, as was every lease that a start on a
--- blank or damaged journal forgot, if no moment that was handed in before was later than the start's
+-- blank or damaged journal forgot, if no moment that was handed in before was later than it
 abbrev pub StartsDisclose : Type 0
 StartsDisclose = (x : Served) (opening : State) (entries : List Entry) (g : ℕ) →
     IsOpening x opening → IsLegal x opening entries → g ≤ opening.base →
     AllByRecursion (IsWithinAge g) entries
+
+-- ---- the calls of a house on one thread
+
+-- moments, octets and places are such
+abbrev pub IsCallValue : Config → HouseCall → Type 0
+IsCallValue config (Packet now from) = (now < 2 ^ 40) × AreOctets from.octets
+IsCallValue config (Loss now place) = (now < 2 ^ 40) × (place < length config.externals)
+
+-- one opening state for each external address, each made by fitting records, the first a Start
+pub record AreOpenings (config : Config) (openings : List State) : Type 0 where
+  pub config_is : IsConfig config
+  pub count : length openings ≡ length config.externals
+  pub reached : AllByRecursion IsReached openings
+  pub started : AllByRecursion (λ s. s.started ≡ true) openings
+
+-- their entries are a history of the house
+abbrev pub CallsMakeHistories : Type 0
+CallsMakeHistories = (config : Config) (openings : List State) (calls : List HouseCall) →
+    AreOpenings config openings → AllByRecursion (IsCallValue config) calls →
+    IsSoloHistory config openings (entries_along (house_begun config openings) calls)

@@ -41,7 +41,8 @@ pub record IsOfTable (x : Served) (s : State) (e : Entry) : Type 0 where
   pub request : Request
   pub asks : request_of x.config e.from ≡ Some request
   pub kept : e.kept ≡ (decided_on x s e.moment request).kept
-  pub reply : e.reply ≡ reply_to e.from.octets request (decided_on x s e.moment request) e.moment e.base
+  pub reply : e.reply
+      ≡ reply_to e.from.octets request (decided_on x s e.moment request) e.moment e.base
 
 -- The server itself begins the table anew, or tells the address of a table that it just began.
 abbrev pub IsOfServer : List Entry → Change → Type 0
@@ -65,7 +66,8 @@ pub record IsEntryValue (e : Entry) : Type 0 where
   pub moment : e.moment < 2 ^ 40
   pub octets : AreOctets e.from.octets
 
-pub record IsNextEntry (x : Served) (opening : State) (before : List Entry) (e : Entry) : Type 0 where
+pub record IsNextEntry (x : Served) (opening : State) (before : List Entry) (e : Entry)
+    : Type 0 where
   pub value : IsEntryValue e
   pub later : moment_after opening before ≤ e.moment
   pub after_records : (state_after opening before).last ≤ e.moment

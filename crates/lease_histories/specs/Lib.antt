@@ -2,4 +2,5 @@ pub mod Entries
 pub mod HouseHistories
 pub mod Laws
 pub mod Legal
+pub mod PlainHouses
 pub mod Routes

@@ -1,5 +1,5 @@
 //! What holds of legal histories. A proof that needs a law calls its function.
-ghost use Rattle.lease_histories.specs.Laws.{DecisionsComeNext, EpochsDisclose, FaultsComeNext, LastIsGreatest, NextIsLegal, NoncesDecide, NothingIsLegal, OpeningsDisclose, PortsRest, PrefixesAreLegal, ServersComeNext, StartsDisclose, StatesStand};
+ghost use Rattle.lease_histories.specs.Laws.{CallsMakeHistories, DecisionsComeNext, EpochsDisclose, FaultsComeNext, LastIsGreatest, NextIsLegal, NoncesDecide, NothingIsLegal, OpeningsDisclose, PortsRest, PrefixesAreLegal, ServersComeNext, StartsDisclose, StatesStand};
 
 use lease_core::{decisions_change_leases, decisions_fit, nonces_match};
 use pcp_base::{ends_at_a_moment, ends_come_in_steps, ports_have_one_owner, states_are_sound};
@@ -14,8 +14,8 @@ pub fn histories_grow()
     ensures greatest { LastIsGreatest }
 {}
 
-/// What a body adds to a legal history: what the table decides on a request, a table that begins anew
-/// and the address that it is told, and faults.
+/// What a body adds to a legal history: what the table decides on a request, a table that begins
+/// anew and the address that it is told, and faults.
 pub fn entries_come_next()
     ensures decisions { DecisionsComeNext }
     ensures servers { ServersComeNext }
@@ -33,7 +33,8 @@ pub fn states_stand()
     ports_have_one_owner();
 }
 
-/// Only a request with the nonce of a live lease renews or deletes it, unless its table begins anew.
+/// Only a request with the nonce of a live lease renews or deletes it, unless its table begins
+/// anew.
 pub fn nonces_decide()
     ensures { NoncesDecide }
 {
@@ -43,8 +44,8 @@ pub fn nonces_decide()
     nonces_match();
 }
 
-/// From the end of a lease until 120 seconds later no other endpoint has its ports, unless the table
-/// begins anew in between.
+/// From the end of a lease until 120 seconds later no other endpoint has its ports, unless the
+/// table begins anew in between.
 pub fn ports_rest()
     ensures { PortsRest }
 {
@@ -64,4 +65,14 @@ pub fn epochs_disclose()
     asks_are_well_formed();
     decisions_fit();
     states_are_sound();
+}
+
+/// The calls of a house on one thread make a history of it: of each external address the entries are
+/// legal, and the base told is the greatest so far.
+pub fn calls_make_histories()
+    ensures { CallsMakeHistories }
+{
+    decisions_change_leases();
+    asks_are_well_formed();
+    decisions_fit();
 }
