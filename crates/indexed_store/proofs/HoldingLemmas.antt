@@ -1,0 +1,203 @@
+-- Until when the leases of a table hold a port.
+use Rattle.std.proofs.Common.{◌≡◌, ℕ, ◌<◌, ◌≤◌, ◌-◌, ◌^◌, ◌⊎◌, ◌&&◌, ◌==◌, nat_lt, max, Bool, true, false, cond, List, [], ◌∷◌, map, flat_map, filter, find, Option, Some, None, IfSome, refl, sym, ap, ◌∙◌, subst, inl, inr, arith}
+use Rattle.std.specs.List.{AllByRecursion, list_any}
+use Rattle.std.specs.Option.{option_map, option_or}
+use Rattle.std.proofs.lemmas.Bool.{and_parts, and_from, eqb-true, eq-eqb, ltb-true, ltb-false}
+use Rattle.pcp_base.specs.declared.leases.Protocol.{Protocol}
+use Rattle.pcp_base.specs.declared.leases.Protocol.TheVariants.{Tcp, Udp}
+use Rattle.pcp_base.specs.declared.leases.Endpoint.{Endpoint}
+use Rattle.pcp_base.specs.declared.leases.MapLease.{MapLease}
+use Rattle.pcp_base.specs.declared.leases.PeerLease.{PeerLease}
+use Rattle.pcp_base.specs.declared.leases.Owner.{Owner}
+use Rattle.pcp_base.specs.declared.leases.End.{End}
+use Rattle.pcp_base.specs.Protocols.{protocol_number}
+use Rattle.pcp_base.specs.Tables.{Table, same_protocol}
+use Rattle.pcp_base.specs.Owners.{map_owners, peer_owner, owners, is_port}
+use Rattle.pcp_base.specs.Ends.{end_at, ends_at_expiry, is_end_of}
+use Rattle.pcp_base.proofs.Members.{IsIn, All-IsIn, IsIn-filter, filter-IsIn, IsIn-map, map-IsIn, any-some, some-any, find-some, find-none}
+use Rattle.pcp_base.proofs.Same.{same_protocol-Decides}
+use Rattle.pcp_base.proofs.TableLemmas.{map_owners-IsIn}
+use Rattle.pcp_base.proofs.StageLaws.{unlike}
+use Rattle.plain_store.proofs.PortLemmas.{owned_by}
+use Rattle.mapping_table.specs.MapLists.{owns, map_owning}
+use Rattle.peer_table.specs.PeerLists.{IsLastExpiry}
+use Rattle.leased_ports.specs.Recorded.{latest, held_until}
+use Rattle.leased_ports.proofs.ExpiryLemmas.{map_ends, peer_end, parts, from_map, from_peer}
+use Rattle.indexed_store.specs.Holding.{AreNear, IsOwner, later_by}
+use Rattle.indexed_store.proofs.Uniques.{AtMostOne, one-owns}
+
+pub same_number : (a b : Protocol) → same_protocol a b ≡ (protocol_number a == protocol_number b)
+same_number Tcp Tcp = refl
+same_number Tcp Udp = refl
+same_number Udp Tcp = refl
+same_number Udp Udp = refl
+
+-- ---- the latest end
+
+latest-least : (m : ℕ) (es : List End) (f : End) → IsIn f es → f.end ≤ latest m es
+latest-least m [] f h = absurd h
+latest-least m (e ∷ es) f (inl same) = let one : e.end ≡ f.end = ap (λ (x : End). x.end) same in omega (arith, one)
+latest-least m (e ∷ es) f (inr h) = let rest = latest-least m es f h in omega (arith, rest)
+
+latest-from : (m : ℕ) (es : List End) → m ≤ latest m es
+latest-from m [] = omega arith
+latest-from m (e ∷ es) = let rest = latest-from m es in omega (arith, rest)
+
+-- what bounds all bounds the latest
+latest-most : (m : ℕ) (es : List End) (r : ℕ) → m ≤ r → ((e : End) → IsIn e es → e.end ≤ r) → latest m es ≤ r
+latest-most m [] r h k = h
+latest-most m (e ∷ es) r h k = let rest = latest-most m es r h (λ x i. k x (inr i)) in let here = k e (inl refl) in omega (arith, rest, here)
+
+later-least : (m : ℕ) (o : Option ℕ) → m ≤ later_by m o
+later-least m None = omega arith
+later-least m (Some n) = step (nat_lt m n) refl
+  where
+    step : (b : Bool) → nat_lt m n ≡ b → m ≤ cond b n m
+    step true e = let lt = ltb-true m n e in omega (arith, lt)
+    step false e = omega arith
+
+later-some : (m n : ℕ) (o : Option ℕ) → o ≡ Some n → n ≤ later_by m o
+later-some m n None h = absurd (let never : None ≡ Some n = h in cc)
+later-some m n (Some k) h = let same : k ≡ n = (let both : Some k ≡ Some n = h in cc) in step (nat_lt m k) refl same
+  where
+    step : (b : Bool) → nat_lt m k ≡ b → k ≡ n → n ≤ cond b k m
+    step true e same = omega (arith, same)
+    step false e same = let le = ltb-false m k e in omega (arith, same, le)
+
+later-most : (m r : ℕ) (o : Option ℕ) → m ≤ r → IfSome o (λ n. n ≤ r) → later_by m o ≤ r
+later-most m r None h k = h
+later-most m r (Some n) h k = step (nat_lt m n)
+  where
+    step : (b : Bool) → cond b n m ≤ r
+    step true = k
+    step false = h
+
+module _ (t : Table) (protocol : Protocol) (port : ℕ) where
+  -- an end of this port is that of a lease that owns it
+  map-owns : (l : MapLease) (e : End) → IsIn e (map_ends l) → is_end_of protocol port e ≡ true → (owns protocol port l ≡ true) × (e.end ≡ l.expiry)
+  map-owns l e i h =
+      let r = IsIn-map (end_at l.expiry) (map_owners l) e i in
+      let k = map_owners-IsIn l r.0 r.1 in
+      let parts' = and_parts _ _ h in
+      let number : protocol_number r.0.endpoint.protocol ≡ protocol_number protocol = ap (λ (x : End). protocol_number x.endpoint.protocol) r.2 ∙ eqb-true _ _ parts'.0 in
+      let mine : r.0.protocol ≡ r.0.endpoint.protocol = subst (λ (x : Owner). x.protocol ≡ x.endpoint.protocol) k.2 refl in
+      let same : same_protocol r.0.protocol protocol ≡ true = same_number r.0.protocol protocol ∙ eq-eqb _ _ (ap protocol_number mine ∙ number) in
+      let external : (r.0.external == port) ≡ true = eq-eqb r.0.external port (ap (λ (x : End). x.external) r.2 ∙ eqb-true e.external port parts'.1) in
+      (sym (owned_by protocol port l) ∙ some-any (is_port protocol port) (map_owners l) r.0 r.1 (and_from _ _ same external), sym (ap (λ (x : End). x.end) r.2))
+
+  owns-map : (l : MapLease) → owns protocol port l ≡ true → (e : End) × IsIn e (map_ends l) × (is_end_of protocol port e ≡ true) × (e.end ≡ l.expiry)
+  owns-map l h =
+      let o = any-some (is_port protocol port) (map_owners l) (owned_by protocol port l ∙ h) in
+      let k = map_owners-IsIn l o.0 o.1 in
+      let p = and_parts _ _ o.2 in
+      let mine : o.0.protocol ≡ o.0.endpoint.protocol = subst (λ (x : Owner). x.protocol ≡ x.endpoint.protocol) k.2 refl in
+      let number : (protocol_number o.0.endpoint.protocol == protocol_number protocol) ≡ true = ap (λ (q : Protocol). protocol_number q == protocol_number protocol) (sym mine) ∙ sym (same_number o.0.protocol protocol) ∙ p.0 in
+      (end_at l.expiry o.0, map-IsIn (end_at l.expiry) (map_owners l) o.0 o.1, and_from _ _ number p.1, refl)
+
+  peer-owns : (l : PeerLease) → is_port protocol port (peer_owner l) ≡ is_end_of protocol port (peer_end l)
+  peer-owns l = ap (λ (b : Bool). b && l.external == port) (same_number l.endpoint.protocol protocol)
+
+  module _ (m : ℕ) (near : AreNear t) (b : Option ℕ) (last : IsLastExpiry protocol port t.peers b) where
+    abbrev a : Option ℕ
+    a = option_map (λ (l : MapLease). l.expiry) (map_owning protocol port t.maps)
+
+    abbrev r : ℕ
+    r = later_by (later_by m a) b
+
+    abbrev ends : List End
+    ends = filter (is_end_of protocol port) (ends_at_expiry t)
+
+    r-from : m ≤ r
+    r-from = let x = later-least m a in let y = later-least (later_by m a) b in omega (arith, x, y)
+
+    map-expiry : (o : Option MapLease) → find (owns protocol port) t.maps ≡ o → IfSome (option_map (λ (l : MapLease). l.expiry) o) (λ n. n ≤ held_until m t protocol port)
+    map-expiry None h = tt
+    map-expiry (Some l) h =
+        let f = find-some (owns protocol port) t.maps l h in
+        let e = owns-map l f.1 in
+        let up = latest-least m ends e.0 (filter-IsIn (is_end_of protocol port) (ends_at_expiry t) e.0 (from_map t e.0 (l, f.0, e.1)) e.2) in
+        omega (arith, up, e.3)
+
+    peer-expiry : (o : Option ℕ) → IsLastExpiry protocol port t.peers o → IfSome o (λ n. n ≤ held_until m t protocol port)
+    peer-expiry None h = tt
+    peer-expiry (Some n) h =
+        let l = any-some (λ x. is_port protocol port (peer_owner x) && x.expiry == n) t.peers h.there in
+        let p = and_parts _ _ l.2 in
+        let up = latest-least m ends (peer_end l.0) (filter-IsIn (is_end_of protocol port) (ends_at_expiry t) (peer_end l.0) (from_peer t (peer_end l.0) (l.0, l.1, refl)) (sym (peer-owns l.0) ∙ p.0)) in
+        let same : l.0.expiry ≡ n = eqb-true l.0.expiry n p.1 in
+        omega (arith, up, same)
+
+    up : r ≤ held_until m t protocol port
+    up = later-most (later_by m a) (held_until m t protocol port) b
+        (later-most m (held_until m t protocol port) a (latest-from m ends) (map-expiry (map_owning protocol port t.maps) refl)) (peer-expiry b last)
+
+    one_owns : (l : MapLease) → IsIn l t.maps → owns protocol port l ≡ true → (o : Option MapLease) → find (owns protocol port) t.maps ≡ o → o ≡ Some l
+    one_owns l i h None is = absurd (unlike (owns protocol port l) h (All-IsIn (λ x. owns protocol port x ≡ false) t.maps l (find-none (owns protocol port) t.maps is) i))
+    one_owns l i h (Some x) is = let f = find-some (owns protocol port) t.maps x is in ap Some (one-owns t protocol port near.sound x l f.0 i f.1 h)
+
+    peer-late : (l : PeerLease) → IsIn l t.peers → is_port protocol port (peer_owner l) ≡ true → (o : Option ℕ) → IsLastExpiry protocol port t.peers o → (k : ℕ) → l.expiry ≤ later_by k o
+    peer-late l i h None last k = absurd (unlike (list_any (λ x. is_port protocol port (peer_owner x)) t.peers) (some-any (λ x. is_port protocol port (peer_owner x)) t.peers l i h) last.none)
+    peer-late l i h (Some n) last k = let le = All-IsIn (λ x. is_port protocol port (peer_owner x) ≡ true → x.expiry ≤ n) t.peers l last.latest i h in let up = later-some k n (Some n) refl in omega (arith, le, up)
+
+    each : (e : End) → IsIn e ends → e.end ≤ r
+    each e i =
+        let k = IsIn-filter (is_end_of protocol port) (ends_at_expiry t) e i in
+        elim (parts t e k.0) [
+          | inl x ↦ (let o = map-owns x.0 e x.2 k.1 in
+              let found = one_owns x.0 x.1 o.0 (map_owning protocol port t.maps) refl in
+              let here = later-some m x.0.expiry a (ap (option_map (λ (l : MapLease). l.expiry)) found) in
+              let on = later-least (later_by m a) b in
+              omega (arith, o.1, here, on))
+          | inr y ↦ (let same : y.0.expiry ≡ e.end = ap (λ (x : End). x.end) y.2 in
+              let is : is_port protocol port (peer_owner y.0) ≡ true = peer-owns y.0 ∙ ap (is_end_of protocol port) y.2 ∙ k.1 in
+              let late = peer-late y.0 y.1 is b last (later_by m a) in
+              omega (arith, late, same))
+        ]
+
+    pub held : r ≡ held_until m t protocol port
+    held = let x = up in let y = latest-most m ends r r-from each in omega (arith, x, y)
+
+    near-map : (o : Option MapLease) → find (owns protocol port) t.maps ≡ o → IfSome (option_map (λ (l : MapLease). l.expiry) o) (λ n. n ≤ 2 ^ 41 - 1)
+    near-map None h = tt
+    near-map (Some l) h = let f = find-some (owns protocol port) t.maps l h in let lt = All-IsIn (λ (x : MapLease). x.expiry < 2 ^ 41) t.maps l near.maps f.0 in omega (arith, lt)
+
+    near-peer : (o : Option ℕ) → IsLastExpiry protocol port t.peers o → IfSome o (λ n. n ≤ 2 ^ 41 - 1)
+    near-peer None h = tt
+    near-peer (Some n) h =
+        let l = any-some (λ x. is_port protocol port (peer_owner x) && x.expiry == n) t.peers h.there in
+        let p = and_parts _ _ l.2 in
+        let same : l.0.expiry ≡ n = eqb-true l.0.expiry n p.1 in
+        let lt = All-IsIn (λ (x : PeerLease). x.expiry < 2 ^ 41) t.peers l.0 near.peers l.1 in omega (arith, lt, same)
+
+    pub bounded : m < 2 ^ 41 → (m ≤ r) × (r < 2 ^ 41)
+    bounded small =
+        let x = later-most m (2 ^ 41 - 1) a (omega (arith, small)) (near-map (map_owning protocol port t.maps) refl) in
+        let y = later-most (later_by m a) (2 ^ 41 - 1) b x (near-peer b last) in
+        (r-from, omega (arith, y))
+
+-- ---- a port that is held
+
+module _ (owner : Owner) (is : IsOwner owner) (protocol : Protocol) (port : ℕ) where
+  own_test : (n : ℕ) → is_end_of protocol port (end_at n owner) ≡ is_port protocol port owner
+  own_test n = ap (λ (q : Protocol). protocol_number q == protocol_number protocol && owner.external == port) (sym is.protocol) ∙ ap (λ (b : Bool). b && owner.external == port) (sym (same_number owner.protocol protocol))
+
+  pub held_port : (m : ℕ) (t : Table) (before after : Option End) →
+      after ≡ cond (is_end_of protocol port (end_at (held_until m t owner.protocol owner.external) owner)) (Some (end_at (held_until m t owner.protocol owner.external) owner)) before →
+      after ≡ cond (is_port protocol port owner) (Some (end_at (held_until m t protocol port) owner)) before
+  held_port m t before after h = h ∙ ap (λ (b : Bool). cond b (Some (end_at (held_until m t owner.protocol owner.external) owner)) before) (own_test (held_until m t owner.protocol owner.external)) ∙ step (is_port protocol port owner) refl
+    where
+      step : (b : Bool) → is_port protocol port owner ≡ b → cond b (Some (end_at (held_until m t owner.protocol owner.external) owner)) before ≡ cond b (Some (end_at (held_until m t protocol port) owner)) before
+      step true e =
+          let p = and_parts _ _ e in
+          ap (λ (q : Protocol). Some (end_at (held_until m t q owner.external) owner)) ((same_protocol-Decides owner.protocol protocol).0 p.0)
+          ∙ ap (λ (k : ℕ). Some (end_at (held_until m t protocol k) owner)) (eqb-true owner.external port p.1)
+      step false e = refl
+
+-- of several ports the first one counts
+pub held_first : (f : Owner → End) (test : Owner → Bool) (first : Owner) (rest : List Owner) (start before after : Option End) →
+    before ≡ option_or (option_map f (find test rest)) start → after ≡ cond (test first) (Some (f first)) before → after ≡ option_or (option_map f (find test (first ∷ rest))) start
+held_first f test first rest start before after h k = k ∙ step (test first)
+  where
+    step : (b : Bool) → cond b (Some (f first)) before ≡ option_or (option_map f (cond b (Some first) (find test rest))) start
+    step true = refl
+    step false = h

@@ -1,0 +1,156 @@
+-- What is found in a part of a list, where at most one of the whole passes.
+use Rattle.std.proofs.Common.{◌≡◌, ℕ, ◌<◌, ◌≤◌, ◌+◌, ◌-◌, ◌==◌, ◌⊎◌, zero, suc, Bool, true, false, cond, ◌&&◌, List, [], ◌∷◌, map, flat_map, filter, find, count_by, length, Contains, Option, Some, None, refl, sym, ap, ◌∙◌, subst, inl, inr, arith, IsTrue}
+use Rattle.std.specs.List.{AllByRecursion, list_any, range_with_len}
+use Rattle.std.proofs.lemmas.Bool.{cond-true, cond-false, and_parts, and_from, eqb-true, eqb-false, eq-eqb, lt-ltb, false_from_ne_true}
+use Rattle.pcp_base.specs.declared.addresses.Address.{Address}
+use Rattle.pcp_base.specs.declared.leases.Protocol.{Protocol}
+use Rattle.pcp_base.specs.declared.leases.Endpoint.{Endpoint}
+use Rattle.pcp_base.specs.declared.leases.MapLease.{MapLease}
+use Rattle.pcp_base.specs.declared.leases.PeerLease.{PeerLease}
+use Rattle.pcp_base.specs.Tables.{Table, EachTwo, AreApart, HaveOtherKeys, covers, first_endpoint, is_map_of, is_peer_of, same_address, same_endpoint, same_protocol}
+use Rattle.pcp_base.specs.Owners.{owners, map_owners, peer_owner, is_port}
+use Rattle.pcp_base.specs.Sound.{Sound}
+use Rattle.lease_store.specs.Lookups.{is_with}
+use Rattle.peer_table.specs.PeerLists.{opens}
+use Rattle.pcp_base.proofs.Members.{IsIn, IsIn-filter, IsIn-right, map-IsIn, Contains-from_IsIn, find-some, find-none, All-IsIn, All-from_IsIn}
+use Rattle.pcp_base.proofs.Same.{same_address-Decides, same_endpoint-Decides, same_protocol-Decides}
+use Rattle.pcp_base.proofs.TableLemmas.{same_key}
+use Rattle.mapping_table.specs.MapLists.{owns, AreSeparate}
+use Rattle.mapping_table.proofs.Separates.{own_apart}
+use Rattle.mapping_table.proofs.SoundTables.{sound_maps}
+
+-- at most one of the list passes
+abbrev pub AtMostOne : {X : Type 0} → (X → Bool) → List X → Type 0
+AtMostOne {X} p xs = (a b : X) → IsIn a xs → IsIn b xs → p a ≡ true → p b ≡ true → a ≡ b
+
+pub all-none : {X : Type 0} (p : X → Bool) (xs : List X) → AllByRecursion (λ x. p x ≡ false) xs → find p xs ≡ None
+all-none p [] h = refl
+all-none p (x ∷ xs) h = cond-false (p x) (Some x) (find p xs) h.0 ∙ all-none p xs h.1
+
+pub none-within : {X : Type 0} (p q : X → Bool) (xs : List X) → find p xs ≡ None → find p (filter q xs) ≡ None
+none-within p q xs h = all-none p (filter q xs) (All-from_IsIn (λ x. p x ≡ false) (filter q xs) (λ x i. All-IsIn (λ x. p x ≡ false) xs x (find-none p xs h) (IsIn-filter q xs x i).0))
+
+pub one-within : {X : Type 0} (p q : X → Bool) (xs : List X) (x : X) → find p xs ≡ Some x → q x ≡ true → find p (filter q xs) ≡ Some x
+one-within p q [] x h k = absurd (let never : None ≡ Some x = h in cc)
+one-within p q (y ∷ ys) x h k = step (p y) (q y) refl refl h (λ rest. one-within p q ys x rest k)
+  where
+    step : (b c : Bool) → p y ≡ b → q y ≡ c → cond b (Some y) (find p ys) ≡ Some x → (find p ys ≡ Some x → find p (filter q ys) ≡ Some x) → find p (cond c (y ∷ filter q ys) (filter q ys)) ≡ Some x
+    step true true e f is rest = cond-true (p y) (Some y) (find p (filter q ys)) e ∙ is
+    step true false e f is rest = absurd (let same : y ≡ x = (let both : Some y ≡ Some x = is in cc) in let yes : q y ≡ true = ap q same ∙ k in let both : true ≡ false = sym yes ∙ f in cc)
+    step false true e f is rest = cond-false (p y) (Some y) (find p (filter q ys)) e ∙ rest is
+    step false false e f is rest = rest is
+
+pub gone-within : {X : Type 0} (p q : X → Bool) (xs : List X) (x : X) → AtMostOne p xs → find p xs ≡ Some x → q x ≡ false → find p (filter q xs) ≡ None
+gone-within p q xs x one h k = all-none p (filter q xs) (All-from_IsIn (λ y. p y ≡ false) (filter q xs) (λ y i.
+    let there = IsIn-filter q xs y i in let found = find-some p xs x h in
+    false_from_ne_true (p y) (λ t. let same : y ≡ x = one y x there.0 found.0 t found.1 in let both : true ≡ false = sym there.1 ∙ ap q same ∙ k in absurd (cc))))
+
+-- where no two pass, at most one does
+pub one-of : {X : Type 0} (p : X → Bool) (xs : List X) → EachTwo (λ a b. p a ≡ true → p b ≡ true → ⊥) xs → AtMostOne p xs
+one-of p [] h = λ a b i j s t. absurd i
+one-of {X} p (x ∷ xs) h = step (one-of p xs h.1)
+  where
+    step : AtMostOne p xs → (a b : X) → IsIn a (x ∷ xs) → IsIn b (x ∷ xs) → p a ≡ true → p b ≡ true → a ≡ b
+    step rest a b (inl e) (inl f) s t = sym e ∙ f
+    step rest a b (inl e) (inr j) s t = absurd (All-IsIn (λ z. p x ≡ true → p z ≡ true → ⊥) xs b h.0 j (ap p e ∙ s) t)
+    step rest a b (inr i) (inl f) s t = absurd (All-IsIn (λ z. p x ≡ true → p z ≡ true → ⊥) xs a h.0 i (ap p f ∙ t) s)
+    step rest a b (inr i) (inr j) s t = rest a b i j s t
+
+pub two-weaker : {X : Type 0} (R S : X → X → Type 0) → ((x y : X) → R x y → S x y) → (xs : List X) → EachTwo R xs → EachTwo S xs
+two-weaker R S f [] h = tt
+two-weaker R S f (x ∷ xs) h = (All-from_IsIn (S x) xs (λ y i. f x y (All-IsIn (R x) xs y h.0 i)), two-weaker R S f xs h.1)
+
+pub one-covers : (t : Table) (e : Endpoint) → Sound t → AtMostOne (λ l. covers l e) t.maps
+one-covers t e sound = one-of (λ l. covers l e) t.maps (two-weaker AreApart (λ a b. covers a e ≡ true → covers b e ≡ true → ⊥) (λ a b apart s u. apart e s u) t.maps sound.apart)
+
+pub one-key : (t : Table) (e : Endpoint) → Sound t → AtMostOne (is_map_of e) t.maps
+one-key t e sound = λ a b i j s u. same_key t.maps a b sound.apart sound.maps i j ((same_endpoint-Decides (first_endpoint a) e).0 s ∙ sym ((same_endpoint-Decides (first_endpoint b) e).0 u))
+
+pub one-owns : (t : Table) (protocol : Protocol) (port : ℕ) → Sound t → AtMostOne (owns protocol port) t.maps
+one-owns t protocol port sound = one-of (owns protocol port) t.maps (two-weaker AreSeparate (λ a b. owns protocol port a ≡ true → owns protocol port b ≡ true → ⊥) (own_apart protocol port) t.maps (sound_maps t sound).separate)
+
+module _ (e : Endpoint) (remote : Address) (port : ℕ) where
+  key-parts : (l : PeerLease) → is_peer_of e remote port l ≡ true → (l.endpoint ≡ e) × (l.remote ≡ remote) × (l.remote_port ≡ port)
+  key-parts l h = let a = and_parts _ _ h in let b = and_parts _ _ a.0 in ((same_endpoint-Decides l.endpoint e).0 b.0, (same_address-Decides l.remote remote).0 b.1, eqb-true l.remote_port port a.1)
+
+  pub keys-apart : (a b : PeerLease) → HaveOtherKeys a b → is_peer_of e remote port a ≡ true → is_peer_of e remote port b ≡ true → ⊥
+  keys-apart a b other s t =
+      let k = key-parts a s in let l = key-parts b t in
+      let same : is_peer_of b.endpoint b.remote b.remote_port a ≡ true =
+      and_from _ _ (and_from _ _ ((same_endpoint-Decides a.endpoint b.endpoint).1 (k.0 ∙ sym l.0)) ((same_address-Decides a.remote b.remote).1 (k.1 ∙ sym l.1))) (eq-eqb a.remote_port b.remote_port (k.2 ∙ sym l.2)) in
+      let both : true ≡ false = sym same ∙ other in cc
+
+  pub one-peer : (t : Table) → Sound t → AtMostOne (is_peer_of e remote port) t.peers
+  one-peer t sound = one-of (is_peer_of e remote port) t.peers (two-weaker HaveOtherKeys (λ a b. is_peer_of e remote port a ≡ true → is_peer_of e remote port b ≡ true → ⊥) keys-apart t.peers sound.different)
+
+-- ---- ports of remotes
+
+opens-parts : (protocol : Protocol) (n : ℕ) (remote : Address) (remote_port : ℕ) (l : PeerLease) → opens protocol n remote remote_port l ≡ (is_port protocol n (peer_owner l) && is_with remote remote_port l)
+opens-parts protocol n remote remote_port l = group (same_protocol l.endpoint.protocol protocol) (l.external == n) (same_address l.remote remote) (l.remote_port == remote_port)
+  where
+    group : (a b c d : Bool) → (a && b && c && d) ≡ ((a && b) && (c && d))
+    group true true c d = refl
+    group true false c d = refl
+    group false b c d = refl
+
+find-both : {X : Type 0} (p q r : X → Bool) (xs : List X) → ((x : X) → r x ≡ (p x && q x)) → find p (filter q xs) ≡ find r xs
+find-both p q r [] h = refl
+find-both p q r (x ∷ xs) h = step (p x) (q x) refl refl (find-both p q r xs h)
+  where
+    step : (b c : Bool) → p x ≡ b → q x ≡ c → find p (filter q xs) ≡ find r xs → find p (cond c (x ∷ filter q xs) (filter q xs)) ≡ cond (r x) (Some x) (find r xs)
+    step true true e f rest = cond-true (p x) (Some x) (find p (filter q xs)) e ∙ sym (cond-true (r x) (Some x) (find r xs) (h x ∙ and_from (p x) (q x) e f))
+    step false true e f rest = cond-false (p x) (Some x) (find p (filter q xs)) e ∙ rest ∙ sym (cond-false (r x) (Some x) (find r xs) (h x ∙ ap (λ b. b && q x) e))
+    step true false e f rest = rest ∙ sym (cond-false (r x) (Some x) (find r xs) (h x ∙ ap (λ b. b && q x) e ∙ f))
+    step false false e f rest = rest ∙ sym (cond-false (r x) (Some x) (find r xs) (h x ∙ ap (λ b. b && q x) e))
+
+module _ (protocol : Protocol) (n : ℕ) (remote : Address) (remote_port : ℕ) where
+  -- the leases of a port with one remote, among some
+  pub opening-find : (ls : List PeerLease) → find (opens protocol n remote remote_port) ls ≡ find (λ l. is_port protocol n (peer_owner l)) (filter (is_with remote remote_port) ls)
+  opening-find ls = sym (find-both (λ l. is_port protocol n (peer_owner l)) (is_with remote remote_port) (opens protocol n remote remote_port) ls (opens-parts protocol n remote remote_port))
+
+  pub one-opens : (t : Table) → Sound t → AtMostOne (opens protocol n remote remote_port) t.peers
+  one-opens t sound = λ a b i j s u.
+      let p = and_parts _ _ (sym (opens-parts protocol n remote remote_port a) ∙ s) in let q = and_parts _ _ (sym (opens-parts protocol n remote remote_port b) ∙ u) in
+      let pp = and_parts _ _ p.0 in let pw = and_parts _ _ p.1 in let qp = and_parts _ _ q.0 in let qw = and_parts _ _ q.1 in
+      let protocols : a.endpoint.protocol ≡ b.endpoint.protocol = (same_protocol-Decides a.endpoint.protocol protocol).0 pp.0 ∙ sym ((same_protocol-Decides b.endpoint.protocol protocol).0 qp.0) in
+      let externals : a.external ≡ b.external = eqb-true a.external n pp.1 ∙ sym (eqb-true b.external n qp.1) in
+      let same : a.endpoint ≡ b.endpoint = sound.one_owner (peer_owner a) (peer_owner b) (peer-there t a i) (peer-there t b j) protocols externals in
+      one-peer b.endpoint remote remote_port t sound a b i j
+      (and_from _ _ (and_from _ _ ((same_endpoint-Decides a.endpoint b.endpoint).1 same) pw.0) pw.1)
+      (and_from _ _ (and_from _ _ ((same_endpoint-Decides b.endpoint b.endpoint).1 refl) qw.0) qw.1)
+    where
+      peer-there : (t : Table) (l : PeerLease) → IsIn l t.peers → Contains (owners t) (peer_owner l)
+      peer-there t l i = Contains-from_IsIn (owners t) (peer_owner l) (IsIn-right (flat_map map_owners t.maps) (map peer_owner t.peers) (peer_owner l) (map-IsIn peer_owner t.peers l i))
+
+-- a test that only one of the whole passes is passed by one of a part
+pub one-of_part : {X : Type 0} (p q : X → Bool) (xs : List X) → AtMostOne p xs → AtMostOne p (filter q xs)
+one-of_part p q xs one = λ a b i j s t. one a b (IsIn-filter q xs a i).0 (IsIn-filter q xs b j).0 s t
+
+-- within two filters, of which one fails
+pub gone-within_both : {X : Type 0} (r p q : X → Bool) (xs : List X) (x : X) → AtMostOne r xs → find r xs ≡ Some x → (q x && p x) ≡ false → find r (filter p (filter q xs)) ≡ None
+gone-within_both r p q xs x one h k = step (q x) refl k
+  where
+    step : (b : Bool) → q x ≡ b → (b && p x) ≡ false → find r (filter p (filter q xs)) ≡ None
+    step true e fails = gone-within r p (filter q xs) x (one-of_part r q xs one) (one-within r q xs x h e) fails
+    step false e fails = none-within r p (filter q xs) (gone-within r q xs x one h e)
+
+-- ---- the first of a range
+
+later_or_same : (a p : ℕ) → a ≤ p → (a ≡ p) ⊎ (a + 1 ≤ p)
+later_or_same a p h = step (a == p) refl
+  where
+    step : (b : Bool) → (a == p) ≡ b → (a ≡ p) ⊎ (a + 1 ≤ p)
+    step true e = inl (eqb-true a p e)
+    step false e = inr (let other = eqb-false a p e in omega (arith, h, other))
+
+pub first-in_range : (test : ℕ → Bool) (a n p : ℕ) → a ≤ p → p < a + n → test p ≡ true → ((o : ℕ) → a ≤ o → o < p → test o ≡ false) → Some p ≡ find test (range_with_len a n)
+first-in_range test a zero p from below passes others = absurd (omega (arith, from, below))
+first-in_range test a (suc n) p from below passes others =
+    elim (later_or_same a p from) [
+      | inl same ↦ (let here : test a ≡ true = ap test same ∙ passes in ap Some (sym same) ∙ sym (cond-true (test a) (Some a) (find test (range_with_len (a + 1) n)) here))
+      | inr later ↦ first-in_range test (a + 1) n p later (omega (arith, below)) passes (λ o lo hi. others o (omega (arith, lo)) hi) ∙ sym (cond-false (test a) (Some a) (find test (range_with_len (a + 1) n)) (others a (omega arith) (omega (arith, later))))
+    ]
+
+pub none-in_range : (test : ℕ → Bool) (a n : ℕ) → ((o : ℕ) → a ≤ o → test o ≡ false) → None ≡ find test (range_with_len a n)
+none-in_range test a zero h = refl
+none-in_range test a (suc n) h = none-in_range test (a + 1) n (λ o lo. h o (omega (arith, lo))) ∙ sym (cond-false (test a) (Some a) (find test (range_with_len (a + 1) n)) (h a (omega arith)))

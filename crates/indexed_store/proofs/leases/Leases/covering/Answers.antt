@@ -1,0 +1,22 @@
+use Rattle.std.proofs.Common.{◌≡◌, nat_lt, None, Some, Bool, sym, ap, ◌∙◌}
+use Rattle.pcp_base.specs.declared.leases.MapLease.{MapLease}
+use Rattle.pcp_base.specs.Tables.{Table, covers}
+use Rattle.mapping_table.specs.MapLists.{map_covering}
+use Rattle.indexed_store.proofs.Uniques.{none-within, one-within, gone-within, one-covers}
+use Rattle.indexed_store.proofs.leases.Leases.covering.Goals as goal
+
+pub returns-in_default : goal.returns-in_default
+returns-in_default c =
+    let found = c.in_default.ensures ∙ ap (λ (t : Table). map_covering c.args.endpoint.now t.maps) c.self.view_is in
+    sym (none-within (λ l. covers l c.args.endpoint.now) (λ l. nat_lt c.args.m l.expiry) c.args.self.now.maps (sym found))
+
+pub returns-then-is_live : goal.returns-then-is_live
+returns-then-is_live c =
+    let found = c.in-Some.ensures ∙ ap (λ (t : Table). map_covering c.args.endpoint.now t.maps) c.self.view_is in
+    sym (one-within (λ l. covers l c.args.endpoint.now) (λ l. nat_lt c.args.m l.expiry) c.args.self.now.maps c.in-Some.lease.now (sym found) (sym c.is_live.ensures ∙ c.if-is_live.true))
+
+pub returns-else-is_live : goal.returns-else-is_live
+returns-else-is_live c =
+    let found = c.in-Some.ensures ∙ ap (λ (t : Table). map_covering c.args.endpoint.now t.maps) c.self.view_is in
+    sym (gone-within (λ l. covers l c.args.endpoint.now) (λ l. nat_lt c.args.m l.expiry) c.args.self.now.maps c.in-Some.lease.now
+    (one-covers c.args.self.now c.args.endpoint.now c.requires) (sym found) (sym c.is_live.ensures ∙ c.if-is_live.false))

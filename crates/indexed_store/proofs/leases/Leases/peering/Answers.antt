@@ -1,0 +1,22 @@
+use Rattle.std.proofs.Common.{◌≡◌, nat_lt, None, Some, Bool, sym, ap, ◌∙◌}
+use Rattle.pcp_base.specs.declared.leases.PeerLease.{PeerLease}
+use Rattle.pcp_base.specs.Tables.{Table, is_peer_of}
+use Rattle.peer_table.specs.PeerLists.{peer_with_key}
+use Rattle.indexed_store.proofs.Uniques.{none-within, one-within, gone-within, one-peer}
+use Rattle.indexed_store.proofs.leases.Leases.peering.Goals as goal
+
+pub returns-in_default : goal.returns-in_default
+returns-in_default c =
+    let found = c.in_default.ensures ∙ ap (λ (t : Table). peer_with_key c.args.endpoint.now c.args.remote.now c.args.remote_port t.peers) c.self.view_is in
+    sym (none-within (is_peer_of c.args.endpoint.now c.args.remote.now c.args.remote_port) (λ l. nat_lt c.args.m l.expiry) c.args.self.now.peers (sym found))
+
+pub returns-then-is_live : goal.returns-then-is_live
+returns-then-is_live c =
+    let found = c.in-Some.ensures ∙ ap (λ (t : Table). peer_with_key c.args.endpoint.now c.args.remote.now c.args.remote_port t.peers) c.self.view_is in
+    sym (one-within (is_peer_of c.args.endpoint.now c.args.remote.now c.args.remote_port) (λ l. nat_lt c.args.m l.expiry) c.args.self.now.peers c.in-Some.lease.now (sym found) (sym c.is_live.ensures ∙ c.if-is_live.true))
+
+pub returns-else-is_live : goal.returns-else-is_live
+returns-else-is_live c =
+    let found = c.in-Some.ensures ∙ ap (λ (t : Table). peer_with_key c.args.endpoint.now c.args.remote.now c.args.remote_port t.peers) c.self.view_is in
+    sym (gone-within (is_peer_of c.args.endpoint.now c.args.remote.now c.args.remote_port) (λ l. nat_lt c.args.m l.expiry) c.args.self.now.peers c.in-Some.lease.now
+    (one-peer c.args.endpoint.now c.args.remote.now c.args.remote_port c.args.self.now c.requires) (sym found) (sym c.is_live.ensures ∙ c.if-is_live.false))

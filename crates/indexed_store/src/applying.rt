@@ -1,0 +1,213 @@
+//! A record that fits, applied to the state and to its ports.
+ghost use Rattle.std.specs.Prelude.{◌≡◌, ◌≤◌, ◌++◌, ℕ, true, false, OnOk, Contains, if◌then◌else◌};
+ghost use Rattle.std.specs.List.{AllByRecursion};
+ghost use Rattle.pcp_base.specs.declared.leases.Protocol.{Protocol};
+ghost use Rattle.pcp_base.specs.declared.leases.Owner.{Owner};
+ghost use Rattle.pcp_base.specs.States.{State};
+ghost use Rattle.pcp_base.specs.Tables.{live, dead};
+ghost use Rattle.pcp_base.specs.Owners.{owners, is_owned};
+ghost use Rattle.pcp_base.specs.Sound.{Sound};
+ghost use Rattle.pcp_base.specs.Records.{IsWellFormedChange};
+ghost use Rattle.pcp_base.specs.Reached.{IsReached};
+ghost use Rattle.pcp_base.specs.Fits.{Fits};
+ghost use Rattle.pcp_base.specs.Apply.{table_changed, table_1, table_2};
+ghost use Rattle.pcp_base.specs.Apply as by_apply;
+ghost use Rattle.lease_store.specs.declared.terms.Terms.{Terms};
+ghost use Rattle.leased_ports.specs.Leased.{IsPortsOf, IsOnTerms, end_of, while_recent};
+ghost use Rattle.leased_ports.specs.Recorded.{end_by_rest};
+ghost use Rattle.leased_ports.specs.Recorded as the;
+ghost use Rattle.indexed_store.specs.Holding.{AreNear, IsOwner};
+ghost use Rattle.indexed_store.specs.Settling.{AreOrdered, AreOwn, come_by, end_among, rest_owners};
+
+use crate::facts::empties;
+use crate::holding::hold_all;
+use crate::leases::Leases;
+use crate::settling::settle_all;
+use crate::state::IndexedState;
+use end_table::EndTable;
+use leased_ports::LeasedPorts;
+use leased_ports::laws::{ports_follow_states, records_tell_last_ends};
+use pcp_base::{Change, End, Memory, Moment, Owner, Record, states_are_sound};
+use std::alloc::{AllocError, Global};
+
+/// Adds the port of a Rest.
+fn add_rest(left: &mut Vec<Owner>, change: &Change) -> Result<(), AllocError>
+    ensures { OnOk result (left.new.items ≡ left.old.items ++ rest_owners change.now) }
+{
+    let Change::Rest(endpoint, external, _) = change else {
+        return Ok(());
+    };
+    left.push(Owner {
+        protocol: endpoint.protocol,
+        external: *external,
+        endpoint: *endpoint,
+    })?;
+    Ok(())
+}
+
+/// Takes out the leases that have ended, and makes the change. What they owned is left, and what
+/// the change is about is touched.
+fn move_leases(
+    leases: &mut Leases,
+    kept: &Record,
+    alloc: Global,
+    left: &mut Vec<Owner>,
+    touched: &mut Vec<Owner>,
+) -> Result<(), Memory>
+    requires formed { IsWellFormedChange kept.now.moment kept.now.change }
+    requires before { Sound leases.old }
+    requires after { Sound (table_changed kept.now.change (live leases.old kept.now.moment)) }
+    ensures table { OnOk result (leases.new
+        ≡ table_changed kept.now.change (live leases.old kept.now.moment)) }
+    ensures left { OnOk result ((o : Owner)
+        → Contains (owners (dead leases.old kept.now.moment)) o → Contains left.new.items o) }
+    ensures rest { OnOk result ((o : Owner)
+        → Contains (rest_owners kept.now.change) o → Contains left.new.items o) }
+    ensures touched { OnOk result (touched.new.items ≡ touched.old.items
+        ++ the.touched kept.now.change (live leases.old kept.now.moment)) }
+{
+    leases.drop_dead(kept.moment, left)?;
+    add_rest(left, &kept.change)?;
+    leases.change(alloc, kept.moment, &kept.change, touched)
+}
+
+/// Lets a port rest, where the change is a Rest.
+fn hold_rest(
+    ports: &mut LeasedPorts,
+    alloc: Global,
+    m: Moment,
+    change: &Change,
+) -> Result<(), Memory>
+    requires formed { IsWellFormedChange m change.now }
+    requires reached { ports.old.reached ≡ m }
+    ensures terms { (terms : Terms) → IsOnTerms ports.old terms → IsOnTerms ports.new terms }
+    ensures reached { OnOk result (ports.new.reached ≡ m) }
+    ensures ports { OnOk result ((protocol : Protocol) (port : ℕ) →
+        end_of ports.new protocol port
+        ≡ end_by_rest change.now protocol port (end_of ports.old protocol port)) }
+{
+    let Change::Rest(endpoint, external, end) = change else {
+        return Ok(());
+    };
+    let rest = End {
+        endpoint: *endpoint,
+        external: *external,
+        end: *end,
+    };
+    ports.put(alloc, &rest)
+}
+
+/// Brings the ports of a state to those after the record.
+fn move_ports(
+    ports: &mut LeasedPorts,
+    alloc: Global,
+    leases: &Leases,
+    kept: &Record,
+    touched: &[Owner],
+) -> Result<(), Memory>
+    requires formed { IsWellFormedChange kept.now.moment kept.now.change }
+    requires leases { AreNear leases.now }
+    requires touched { AllByRecursion IsOwner touched.now }
+    requires later { ports.old.reached ≤ kept.now.moment }
+    ensures terms { (terms : Terms) → IsOnTerms ports.old terms → IsOnTerms ports.new terms }
+    ensures reached { OnOk result (ports.new.reached ≡ kept.now.moment) }
+    ensures ports { OnOk result ((s : State) → IsReached s → Fits s kept.now
+        → by_apply.empties kept.now.change ≡ false → IsPortsOf ports.old s
+        → leases.now ≡ table_2 s kept.now
+        → touched.now ≡ the.touched kept.now.change (table_1 s kept.now)
+        → IsPortsOf ports.new (by_apply.apply s kept.now)) }
+{
+    ports_follow_states();
+    records_tell_last_ends();
+    ports.reach(kept.moment);
+    hold_rest(ports, alloc, kept.moment, &kept.change)?;
+    hold_all(ports, alloc, leases, kept.moment, touched)
+}
+
+/// Brings the ends of these ports to what the ports have, and takes out those that are over.
+fn move_ends(
+    ends: &mut EndTable,
+    ports: &LeasedPorts,
+    m: Moment,
+    left: &[Owner],
+    touched: &[Owner],
+) -> Result<(), Memory>
+    requires { AreOwn ports.now }
+    ensures ordered { OnOk result (AreOrdered ends.old → AreOrdered ends.new) }
+    ensures ends { OnOk result (AreOrdered ends.old → (protocol : Protocol) (port : ℕ) →
+        end_among protocol port ends.new ≡ while_recent m
+        (if is_owned protocol port touched.now then come_by m (end_of ports.now protocol port)
+        else if is_owned protocol port left.now then come_by m (end_of ports.now protocol port)
+        else end_among protocol port ends.old)) }
+{
+    settle_all(ends, ports, m, left)?;
+    settle_all(ends, ports, m, touched)?;
+    ends.drop_over(m);
+    Ok(())
+}
+
+/// Applies a record that doesn't forget all. After an error nothing is said of either.
+fn change(
+    state: &mut IndexedState,
+    ports: &mut LeasedPorts,
+    alloc: Global,
+    kept: &Record,
+) -> Result<(), Memory>
+    requires sound { IsReached state.old }
+    requires fits { Fits state.old kept.now }
+    requires keeps { by_apply.empties kept.now.change ≡ false }
+    requires later { ports.old.reached ≤ kept.now.moment }
+    requires ports { IsPortsOf ports.old state.old }
+    ensures terms { (terms : Terms) → IsOnTerms ports.old terms → IsOnTerms ports.new terms }
+    ensures applied { OnOk result (state.new ≡ by_apply.apply state.old kept.now) }
+    ensures ports { OnOk result (IsPortsOf ports.new (by_apply.apply state.old kept.now)) }
+    ensures reached { OnOk result (ports.new.reached ≡ kept.now.moment) }
+{
+    states_are_sound();
+    let mut left = Vec::new(alloc);
+    let mut touched = Vec::new(alloc);
+    move_leases(&mut state.leases, kept, alloc, &mut left, &mut touched)?;
+    move_ports(ports, alloc, &state.leases, kept, &touched)?;
+    move_ends(&mut state.ends, ports, kept.moment, &left, &touched)?;
+    state.note(kept);
+    Ok(())
+}
+
+/// Applies a record that forgets all.
+fn begin(state: &mut IndexedState, ports: &mut LeasedPorts, kept: &Record)
+    requires { by_apply.empties kept.now.change ≡ true }
+    ensures terms { (terms : Terms) → IsOnTerms ports.old terms → IsOnTerms ports.new terms }
+    ensures applied { state.new ≡ by_apply.apply state.old kept.now }
+    ensures ports { IsPortsOf ports.new (by_apply.apply state.old kept.now) }
+    ensures reached { ports.new.reached ≡ kept.now.moment }
+{
+    records_tell_last_ends();
+    state.leases.clear();
+    state.ends.clear();
+    state.note(kept);
+    ports.clear();
+    ports.reach(kept.moment);
+}
+
+/// Applies a record that fits. After an error nothing is said of either.
+pub(crate) fn apply(
+    state: &mut IndexedState,
+    ports: &mut LeasedPorts,
+    alloc: Global,
+    kept: &Record,
+) -> Result<(), Memory>
+    requires sound { IsReached state.old }
+    requires fits { Fits state.old kept.now }
+    requires later { ports.old.reached ≤ kept.now.moment }
+    requires ports { IsPortsOf ports.old state.old }
+    ensures terms { (terms : Terms) → IsOnTerms ports.old terms → IsOnTerms ports.new terms }
+    ensures applied { OnOk result (state.new ≡ by_apply.apply state.old kept.now) }
+    ensures ports { OnOk result (IsPortsOf ports.new (by_apply.apply state.old kept.now)) }
+    ensures reached { OnOk result (ports.new.reached ≡ kept.now.moment) }
+{
+    if empties(&kept.change) {
+        begin(state, ports, kept);
+        return Ok(());
+    }
+    change(state, ports, alloc, kept)
+}

@@ -1,0 +1,98 @@
+//! Leases that have ended go out of the tables.
+ghost use Rattle.std.specs.Prelude.{◌≡◌, ◌+◌, ◌<◌, length, find, not, nat_lt, Contains, Ok, true, false, OnOk};
+ghost use Rattle.pcp_base.specs.declared.leases.Owner.{Owner};
+ghost use Rattle.pcp_base.specs.Tables.{Table, live, dead};
+ghost use Rattle.pcp_base.specs.Owners.{owners};
+ghost use Rattle.pcp_base.specs.Sound.{Sound};
+ghost use Rattle.indexed_store.specs.Leaving.{AreLeaving};
+
+use crate::leases::Leases;
+use crate::owning::{add_owners, owner_of_peer};
+use pcp_base::{MapLease, Memory, Moment, Owner, PeerLease};
+
+impl Leases {
+    /// The first MAP lease that isn't live at `m`.
+    fn ended_map(&self, m: Moment) -> Option<MapLease>
+        ensures { result ≡ find (λ l. not (nat_lt m l.expiry)) self.now.maps }
+    {
+        self.maps.ended(m).copied()
+    }
+
+    /// The first PEER lease that isn't live at `m`.
+    fn ended_peer(&self, m: Moment) -> Option<PeerLease>
+        ensures { result ≡ find (λ l. not (nat_lt m l.expiry)) self.now.peers }
+    {
+        self.peers.ended(m).copied()
+    }
+
+    /// Takes out a MAP lease that isn't live at `m`, and adds its ports; false where there is none.
+    fn drop_map(&mut self, m: Moment, left: &mut Vec<Owner>) -> Result<bool, Memory>
+        requires { Sound self.old }
+        ensures leaving { OnOk result ((start : Table) → AreLeaving m start self.old left.old.items
+            → AreLeaving m start self.new left.new.items) }
+        ensures peers { self.new.peers ≡ self.old.peers }
+        ensures fewer { result ≡ Ok true → length self.new.maps < length self.old.maps }
+        ensures all { result ≡ Ok false → self.new.maps ≡ (live self.new m).maps }
+    {
+        let Some(lease) = self.ended_map(m) else {
+            return Ok(false);
+        };
+        add_owners(left, &lease)?;
+        self.maps.remove(&lease.first_endpoint());
+        Ok(true)
+    }
+
+    /// The same of a PEER lease.
+    fn drop_peer(&mut self, m: Moment, left: &mut Vec<Owner>) -> Result<bool, Memory>
+        requires { Sound self.old }
+        ensures leaving { OnOk result ((start : Table) → AreLeaving m start self.old left.old.items
+            → AreLeaving m start self.new left.new.items) }
+        ensures maps { self.new.maps ≡ self.old.maps }
+        ensures fewer { result ≡ Ok true → length self.new.peers < length self.old.peers }
+        ensures all { result ≡ Ok false → self.new.peers ≡ (live self.new m).peers }
+    {
+        let Some(lease) = self.ended_peer(m) else {
+            return Ok(false);
+        };
+        left.push(owner_of_peer(&lease))?;
+        self.peers
+            .remove(&lease.endpoint, &lease.remote, lease.remote_port);
+        Ok(true)
+    }
+
+    /// Takes out the MAP leases that aren't live at `m`, and adds their ports.
+    fn drop_maps(&mut self, m: Moment, left: &mut Vec<Owner>) -> Result<(), Memory>
+        requires { Sound self.old }
+        ensures leaving { OnOk result ((start : Table) → AreLeaving m start self.old left.old.items
+            → AreLeaving m start self.new left.new.items) }
+        ensures sound { OnOk result (Sound self.new) }
+        ensures peers { self.new.peers ≡ self.old.peers }
+        ensures all { OnOk result (self.new.maps ≡ (live self.new m).maps) }
+    {
+        while self.drop_map(m, left)? {}
+        Ok(())
+    }
+
+    /// The same of PEER leases.
+    fn drop_peers(&mut self, m: Moment, left: &mut Vec<Owner>) -> Result<(), Memory>
+        requires { Sound self.old }
+        ensures leaving { OnOk result ((start : Table) → AreLeaving m start self.old left.old.items
+            → AreLeaving m start self.new left.new.items) }
+        ensures maps { self.new.maps ≡ self.old.maps }
+        ensures all { OnOk result (self.new.peers ≡ (live self.new m).peers) }
+    {
+        while self.drop_peer(m, left)? {}
+        Ok(())
+    }
+
+    /// Takes out the leases that aren't live at `m`, and adds their ports.
+    pub(crate) fn drop_dead(&mut self, m: Moment, left: &mut Vec<Owner>) -> Result<(), Memory>
+        requires { Sound self.old }
+        ensures table { OnOk result (self.new ≡ live self.old m) }
+        ensures left { OnOk result ((o : Owner)
+            → Contains (owners (dead self.old m)) o → Contains left.new.items o) }
+    {
+        self.drop_maps(m, left)?;
+        self.drop_peers(m, left)
+    }
+}

@@ -1,0 +1,15 @@
+//! A fast store of the state that records made: leases and ends in ordered maps, and ports in the
+//! pool of their external address.
+#![tactic(auto)]
+
+mod applying;
+mod changes;
+mod dropping;
+mod facts;
+mod holding;
+mod leases;
+mod lookups;
+mod outside;
+mod owning;
+mod settling;
+mod state;

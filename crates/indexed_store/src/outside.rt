@@ -1,0 +1,137 @@
+//! What is looked up in the leases that are live at a moment, by external port.
+ghost use Rattle.std.specs.Prelude.{◌≡◌, ◌&&◌, nat_lt, filter, find, max, IsTrue};
+ghost use Rattle.std.specs.Option.{option_map};
+ghost use Rattle.pcp_base.specs.Tables.{HasPorts, live};
+ghost use Rattle.pcp_base.specs.Sound.{Sound};
+ghost use Rattle.pcp_base.specs.Owners.{is_port, peer_owner};
+ghost use Rattle.filter_rules.specs.Filters.{allows as lets};
+ghost use Rattle.lease_store.specs.Lookups.{is_with, owners_for};
+ghost use Rattle.plain_store.specs.OwnedPorts.{owns, endpoint_behind};
+
+use crate::leases::Leases;
+use filter_rules::allows;
+use pcp_base::{Address, Endpoint, MapLease, Moment, PeerLease, Protocol};
+
+/// Whether the remote peer may send through the lease, where it is live at `m`.
+fn lets_in(lease: &MapLease, m: Moment, remote: &Address, remote_port: u16) -> bool
+    ensures { result ≡
+        (nat_lt m lease.now.expiry && lets lease.now.filters remote.now remote_port) }
+{
+    lease.is_live(m) && allows(&lease.filters, remote, remote_port)
+}
+
+/// The endpoint to which an external port of the lease belongs.
+fn endpoint_behind(lease: &MapLease, protocol: Protocol, port: u16) -> Endpoint
+    requires ports { HasPorts lease.now }
+    requires owned { IsTrue (owns protocol port lease.now) }
+    ensures { result ≡ endpoint_behind port lease.now }
+{
+    Endpoint {
+        address: lease.address,
+        protocol: lease.protocol,
+        port: lease.internal + (port - lease.external),
+    }
+}
+
+impl Leases {
+    /// The MAP lease that owns the port, where its filters allow the remote peer.
+    fn map_through(
+        &self,
+        m: Moment,
+        protocol: Protocol,
+        port: u16,
+        remote: &Address,
+        remote_port: u16,
+    ) -> Option<MapLease>
+        requires { Sound self.now }
+        ensures { result ≡ find (owns protocol port)
+            (filter (λ l. lets l.filters remote.now remote_port)
+            (filter (λ l. nat_lt m l.expiry) self.now.maps)) }
+    {
+        let Some(lease) = self.maps.by_external(protocol, port) else {
+            return None;
+        };
+        if lets_in(lease, m, remote, remote_port) {
+            Some(*lease)
+        } else {
+            None
+        }
+    }
+
+    /// The PEER lease that owns the port, where it has exactly this remote.
+    fn peer_through(
+        &self,
+        m: Moment,
+        protocol: Protocol,
+        port: u16,
+        remote: &Address,
+        remote_port: u16,
+    ) -> Option<PeerLease>
+        requires { Sound self.now }
+        ensures { result ≡ find (λ l. is_port protocol port (peer_owner l))
+            (filter (is_with remote.now remote_port)
+            (filter (λ l. nat_lt m l.expiry) self.now.peers)) }
+    {
+        let Some(lease) = self.peers.by_external(protocol, port, remote, remote_port) else {
+            return None;
+        };
+        if lease.is_live(m) { Some(*lease) } else { None }
+    }
+
+    /// The endpoint of the MAP lease through which the remote peer may send.
+    fn behind_map(
+        &self,
+        m: Moment,
+        protocol: Protocol,
+        port: u16,
+        remote: &Address,
+        remote_port: u16,
+    ) -> Option<Endpoint>
+        requires { Sound self.now }
+        ensures { result ≡ option_map (endpoint_behind port) (find (owns protocol port)
+            (filter (λ l. lets l.filters remote.now remote_port)
+            (filter (λ l. nat_lt m l.expiry) self.now.maps))) }
+    {
+        let Some(lease) = self.map_through(m, protocol, port, remote, remote_port) else {
+            return None;
+        };
+        Some(endpoint_behind(&lease, protocol, port))
+    }
+
+    /// The endpoint of the PEER lease through which the remote peer may send.
+    fn behind_peer(
+        &self,
+        m: Moment,
+        protocol: Protocol,
+        port: u16,
+        remote: &Address,
+        remote_port: u16,
+    ) -> Option<Endpoint>
+        requires { Sound self.now }
+        ensures { result ≡ option_map (λ l. l.endpoint)
+            (find (λ l. is_port protocol port (peer_owner l)) (filter (is_with remote.now remote_port)
+            (filter (λ l. nat_lt m l.expiry) self.now.peers))) }
+    {
+        self.peer_through(m, protocol, port, remote, remote_port)
+            .map(|lease| lease.endpoint)
+    }
+
+    /// The endpoint to which a remote peer may send through this port.
+    pub(crate) fn look(
+        &self,
+        m: Moment,
+        protocol: Protocol,
+        port: u16,
+        remote: &Address,
+        remote_port: u16,
+    ) -> Option<Endpoint>
+        requires { Sound self.now }
+        ensures { result ≡ option_map (λ o. o.endpoint) (find (is_port protocol port)
+            (owners_for (live self.now m) remote.now remote_port)) }
+    {
+        let Some(endpoint) = self.behind_map(m, protocol, port, remote, remote_port) else {
+            return self.behind_peer(m, protocol, port, remote, remote_port);
+        };
+        Some(endpoint)
+    }
+}
