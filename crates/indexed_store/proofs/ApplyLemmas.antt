@@ -114,7 +114,7 @@ recent-come m (Some e) h = step (nat_lt m e.end)
 
 module _ (s : State) (reached : IsReached s) where
   -- what its leases leave is to come
-  late : (e : End) → IsIn e (ends_at_expiry s.table) → s.last < e.end
+  pub late : (e : End) → IsIn e (ends_at_expiry s.table) → s.last < e.end
   late e h = elim (parts s.table e h) [
     | inl a ↦ (let term = All-IsIn (λ (l : MapLease). IsTermAt s.last l.granted l.expiry) s.table.maps a.0 reached.maps a.1 in let same = map_ends-end a.0 e a.2 in omega (arith, term.live, same))
     | inr b ↦ (let term = All-IsIn (λ (l : PeerLease). IsTermAt s.last l.granted l.expiry) s.table.peers b.0 reached.peers b.1 in let same : b.0.expiry ≡ e.end = ap (λ (x : End). x.end) b.2 in omega (arith, term.live, same))

@@ -34,7 +34,7 @@ same_number Udp Udp = refl
 
 -- ---- the latest end
 
-latest-least : (m : ℕ) (es : List End) (f : End) → IsIn f es → f.end ≤ latest m es
+pub latest-least : (m : ℕ) (es : List End) (f : End) → IsIn f es → f.end ≤ latest m es
 latest-least m [] f h = absurd h
 latest-least m (e ∷ es) f (inl same) = let one : e.end ≡ f.end = ap (λ (x : End). x.end) same in omega (arith, one)
 latest-least m (e ∷ es) f (inr h) = let rest = latest-least m es f h in omega (arith, rest)

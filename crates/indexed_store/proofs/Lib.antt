@@ -5,3 +5,5 @@ pub mod HoldingLemmas
 pub mod SettlingLemmas
 pub mod ApplyLemmas
 pub mod MoveLemmas
+pub mod JudgeLemmas
+pub mod FirstLemmas

@@ -64,7 +64,7 @@ module _ (t : Table) (e : Endpoint) (m : ℕ) where
   none_named h = ap (option_map (λ (l : PeerLease). l.external)) (sym (all-none (λ l. names l e) living (uncounted (λ l. names l e) living (sym (none_count h)))))
 
   -- the leases that name an endpoint have one port
-  one_port : Sound t → (a b : PeerLease) → IsIn a t.peers → IsIn b t.peers → names a e ≡ true → names b e ≡ true → a.external ≡ b.external
+  pub one_port : Sound t → (a b : PeerLease) → IsIn a t.peers → IsIn b t.peers → names a e ≡ true → names b e ≡ true → a.external ≡ b.external
   one_port sound a b i j x y =
       sound.one_port (peer_owner a) (peer_owner b) (there a i) (there b j) ((same_endpoint-Decides a.endpoint e).0 x ∙ sym ((same_endpoint-Decides b.endpoint e).0 y))
     where

@@ -16,11 +16,14 @@ use Rattle.pcp_base.proofs.Members.{IsIn, All-IsIn, All-from_IsIn, find-some, fi
 use Rattle.pcp_base.proofs.Same.{same_endpoint-Decides}
 use Rattle.pcp_base.proofs.TableLemmas.{covers-first}
 use Rattle.lease_store.specs.declared.terms.Terms.{Terms}
-use Rattle.leased_ports.specs.Leased.{Leased, IsOnTerms, at_moment}
+use Rattle.leased_ports.specs.Leased.{Leased, IsOnTerms, at_moment, vacated}
 use Rattle.indexed_store.proofs.Uniques.{keys-apart, two-weaker}
 
 pub on_later : (v : Leased) (m : ℕ) (terms : Terms) → IsOnTerms v terms → IsOnTerms (at_moment m v) terms
 on_later v m terms h = record { low = h.low; high = h.high; quota = h.quota }
+
+pub on_anew : (v : Leased) (terms : Terms) → IsOnTerms v terms → IsOnTerms (vacated v) terms
+on_anew v terms h = record { low = h.low; high = h.high; quota = h.quota }
 
 pub both_ok : {T E : Type 0} (r : Result T E) (P Q R : Type 0) → (P → Q → R) → OnOk r P → OnOk r Q → OnOk r R
 both_ok (Ok x) P Q R f p q = f p q

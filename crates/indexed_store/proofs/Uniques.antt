@@ -1,5 +1,5 @@
 -- What is found in a part of a list, where at most one of the whole passes.
-use Rattle.std.proofs.Common.{◌≡◌, ℕ, ◌<◌, ◌≤◌, ◌+◌, ◌-◌, ◌==◌, ◌⊎◌, zero, suc, Bool, true, false, cond, ◌&&◌, List, [], ◌∷◌, map, flat_map, filter, find, count_by, length, Contains, Option, Some, None, refl, sym, ap, ◌∙◌, subst, inl, inr, arith, IsTrue}
+use Rattle.std.proofs.Common.{◌≡◌, ℕ, ◌<◌, ◌≤◌, ◌+◌, ◌-◌, ◌==◌, ◌⊎◌, zero, suc, Bool, true, false, cond, ◌&&◌, nat_lt, List, [], ◌∷◌, map, flat_map, filter, find, count_by, length, Contains, Option, Some, None, refl, sym, ap, ◌∙◌, subst, inl, inr, arith, IsTrue}
 use Rattle.std.specs.List.{AllByRecursion, list_any, range_with_len}
 use Rattle.std.proofs.lemmas.Bool.{cond-true, cond-false, and_parts, and_from, eqb-true, eqb-false, eq-eqb, lt-ltb, false_from_ne_true}
 use Rattle.pcp_base.specs.declared.addresses.Address.{Address}
@@ -7,14 +7,15 @@ use Rattle.pcp_base.specs.declared.leases.Protocol.{Protocol}
 use Rattle.pcp_base.specs.declared.leases.Endpoint.{Endpoint}
 use Rattle.pcp_base.specs.declared.leases.MapLease.{MapLease}
 use Rattle.pcp_base.specs.declared.leases.PeerLease.{PeerLease}
-use Rattle.pcp_base.specs.Tables.{Table, EachTwo, AreApart, HaveOtherKeys, covers, first_endpoint, is_map_of, is_peer_of, same_address, same_endpoint, same_protocol}
+use Rattle.pcp_base.specs.Tables.{Table, EachTwo, AreApart, HaveOtherKeys, covers, first_endpoint, is_map_of, is_peer_of, live, IsMapLease, same_address, same_endpoint, same_protocol}
 use Rattle.pcp_base.specs.Owners.{owners, map_owners, peer_owner, is_port}
 use Rattle.pcp_base.specs.Sound.{Sound}
 use Rattle.lease_store.specs.Lookups.{is_with}
 use Rattle.peer_table.specs.PeerLists.{opens}
 use Rattle.pcp_base.proofs.Members.{IsIn, IsIn-filter, IsIn-right, map-IsIn, Contains-from_IsIn, find-some, find-none, All-IsIn, All-from_IsIn}
 use Rattle.pcp_base.proofs.Same.{same_address-Decides, same_endpoint-Decides, same_protocol-Decides}
-use Rattle.pcp_base.proofs.TableLemmas.{same_key}
+use Rattle.pcp_base.proofs.TableLemmas.{same_key, other_key, covers-first, Sound-live}
+use Rattle.pcp_base.proofs.StageLaws.{unlike}
 use Rattle.mapping_table.specs.MapLists.{owns, AreSeparate}
 use Rattle.mapping_table.proofs.Separates.{own_apart}
 use Rattle.mapping_table.proofs.SoundTables.{sound_maps}
@@ -82,6 +83,33 @@ module _ (e : Endpoint) (remote : Address) (port : ℕ) where
 
   pub one-peer : (t : Table) → Sound t → AtMostOne (is_peer_of e remote port) t.peers
   one-peer t sound = one-of (is_peer_of e remote port) t.peers (two-weaker HaveOtherKeys (λ a b. is_peer_of e remote port a ≡ true → is_peer_of e remote port b ≡ true → ⊥) keys-apart t.peers sound.different)
+
+-- ---- a MAP lease by its key
+
+module _ (t : Table) (m : ℕ) (e : Endpoint) (sound : Sound t) where
+  abbrev living : List MapLease
+  living = filter (λ l. nat_lt m l.expiry) t.maps
+
+  pub key-none : None ≡ find (λ l. covers l e) living → None ≡ find (is_map_of e) living
+  key-none h = sym (all-none (is_map_of e) living (All-from_IsIn (λ l. is_map_of e l ≡ false) living (λ l i.
+      other_key l e (All-IsIn IsMapLease t.maps l sound.maps (IsIn-filter (λ (x : MapLease). nat_lt m x.expiry) t.maps l i).0).ports.some
+      (All-IsIn (λ x. covers x e ≡ false) living l (find-none (λ x. covers x e) living (sym h)) i))))
+
+  key-found : (l : MapLease) → IsIn l living → is_map_of e l ≡ true → (o : Option MapLease) → find (is_map_of e) living ≡ o → Some l ≡ o
+  key-found l i k None is = absurd (unlike (is_map_of e l) k (All-IsIn (λ x. is_map_of e x ≡ false) living l (find-none (is_map_of e) living is) i))
+  key-found l i k (Some x) is = let f = find-some (is_map_of e) living x is in ap Some (one-key (live t m) e (Sound-live t m sound) l x i f.0 k f.1)
+
+  pub key-some : (l : MapLease) → Some l ≡ find (λ x. covers x e) living → is_map_of e l ≡ true → Some l ≡ find (is_map_of e) living
+  key-some l h k = key-found l (find-some (λ x. covers x e) living l (sym h)).0 k (find (is_map_of e) living) refl
+
+  pub key-other : (l : MapLease) → Some l ≡ find (λ x. covers x e) living → is_map_of e l ≡ false → None ≡ find (is_map_of e) living
+  key-other l h k =
+      let f = find-some (λ x. covers x e) living l (sym h) in
+      sym (all-none (is_map_of e) living (All-from_IsIn (λ x. is_map_of e x ≡ false) living (λ x i. false_from_ne_true (is_map_of e x) (λ mine.
+      let some = (All-IsIn IsMapLease t.maps x sound.maps (IsIn-filter (λ (y : MapLease). nat_lt m y.expiry) t.maps x i).0).ports.some in
+      let c : covers x e ≡ true = subst (λ (z : Endpoint). covers x z ≡ true) ((same_endpoint-Decides (first_endpoint x) e).0 mine) (covers-first x some) in
+      let same : x ≡ l = one-covers (live t m) e (Sound-live t m sound) x l i f.0 c f.1 in
+      unlike (is_map_of e l) (ap (is_map_of e) (sym same) ∙ mine) k))))
 
 -- ---- ports of remotes
 

@@ -1,3 +1,5 @@
 pub mod Leaving
 pub mod Holding
 pub mod Settling
+pub mod Judging
+pub mod Indexed

@@ -47,7 +47,7 @@ fn add_rest(left: &mut Vec<Owner>, change: &Change) -> Result<(), AllocError>
 
 /// Takes out the leases that have ended, and makes the change. What they owned is left, and what
 /// the change is about is touched.
-fn move_leases(
+pub(crate) fn move_leases(
     leases: &mut Leases,
     kept: &Record,
     alloc: Global,

@@ -50,7 +50,7 @@ impl Leases {
 
 /// Gives a port the end until which these leases hold it. Where memory is wanting, all ports are
 /// forgotten.
-fn hold(
+pub(crate) fn hold(
     ports: &mut LeasedPorts,
     alloc: Global,
     leases: &Leases,

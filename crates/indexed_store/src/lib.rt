@@ -6,10 +6,16 @@ mod applying;
 mod changes;
 mod dropping;
 mod facts;
+mod first;
 mod holding;
+mod judging;
 mod leases;
+mod lists;
 mod lookups;
 mod outside;
 mod owning;
 mod settling;
 mod state;
+mod store;
+
+pub use store::IndexedStore;

@@ -1,0 +1,26 @@
+-- What an indexed store is seen as, and what it keeps (our own).
+use Rattle.std.specs.Prelude.{◌≡◌, ℕ}
+use Rattle.pcp_base.specs.States.{State}
+use Rattle.pcp_base.specs.Reached.{IsReached, IsReachedFirst}
+use Rattle.lease_store.specs.declared.terms.Terms.{Terms}
+use Rattle.lease_store.specs.LeaseTerms.{AreTerms}
+use Rattle.plain_store.specs.Stores.{Stored}
+use Rattle.leased_ports.specs.Leased.{Leased, IsPortsOf, IsOnTerms}
+
+-- records that fit have made the state, and no later moment is reached
+pub record IsReplaying (s : Stored) : Type 0 where
+  pub reached : IsReached s.state
+  pub at_last : s.reached ≡ s.state.last
+
+-- the same in the first format
+pub record IsReplayingFirst (s : Stored) : Type 0 where
+  pub reached : IsReachedFirst s.state
+  pub at_last : s.reached ≡ s.state.last
+
+-- the ports are those of the state at the moment reached, on these terms
+pub record IsIndexed (s : State) (v : Leased) (reached : ℕ) (terms : Terms) : Type 0 where
+  pub allowed : AreTerms terms
+  pub sound : IsReached s
+  pub ports : IsPortsOf v s
+  pub now : v.reached ≡ reached
+  pub on : IsOnTerms v terms
