@@ -1,10 +1,9 @@
 -- The ends and the ports of a state after a record.
-use Rattle.std.proofs.Common.{◌≡◌, ℕ, ◌+◌, ◌<◌, ◌≤◌, ◌^◌, ◌⊎◌, ◌&&◌, ◌==◌, nat_lt, not, Bool, true, false, cond, List, [], ◌∷◌, ◌++◌, map, flat_map, filter, find, Contains, Option, Some, None, refl, sym, ap, ◌∙◌, subst, inl, inr, arith}
-use Rattle.std.specs.List.{AllByRecursion, list_any}
+use Rattle.std.proofs.Common.{◌≡◌, ℕ, ◌+◌, ◌<◌, ◌≤◌, ◌^◌, ◌&&◌, ◌==◌, nat_lt, Bool, true, false, cond, List, filter, find, Contains, Option, Some, None, refl, sym, ap, ◌∙◌, subst, inl, inr, arith}
+use Rattle.std.specs.List.{AllByRecursion}
 use Rattle.std.specs.Option.{option_map, option_or}
 use Rattle.std.proofs.lemmas.Bool.{lt-ltb, le-ltb, ltb-false, cond-true, cond-false}
 use Rattle.pcp_base.specs.declared.leases.Protocol.{Protocol}
-use Rattle.pcp_base.specs.declared.leases.Endpoint.{Endpoint}
 use Rattle.pcp_base.specs.declared.leases.MapLease.{MapLease}
 use Rattle.pcp_base.specs.declared.leases.PeerLease.{PeerLease}
 use Rattle.pcp_base.specs.declared.leases.Owner.{Owner}
@@ -13,8 +12,8 @@ use Rattle.pcp_base.specs.declared.records.Change.{Change}
 use Rattle.pcp_base.specs.declared.records.Change.TheVariants.{Start, Map, Peer, DropMap, DropPeer, Lose, Mark, Rest, Renumber}
 use Rattle.pcp_base.specs.declared.records.Record.{Record}
 use Rattle.pcp_base.specs.Protocols.{protocol_number}
-use Rattle.pcp_base.specs.Tables.{Table, live, dead}
-use Rattle.pcp_base.specs.Owners.{owners, is_port, is_owned, map_owners, peer_owner}
+use Rattle.pcp_base.specs.Tables.{Table, dead}
+use Rattle.pcp_base.specs.Owners.{owners, is_port, is_owned, map_owners}
 use Rattle.pcp_base.specs.States.{State}
 use Rattle.pcp_base.specs.Ends.{ends_at_expiry, is_recent, is_end_of, end_at}
 use Rattle.pcp_base.specs.Records.{IsTermAt, IsEndAt, IsWellFormedChange}
@@ -23,14 +22,14 @@ use Rattle.pcp_base.specs.Reached.{IsReached}
 use Rattle.pcp_base.specs.Fits.{Fits}
 use Rattle.pcp_base.specs.Apply.{empties, table_1, table_2, deleted, apply}
 use Rattle.pcp_base.proofs.Members.{IsIn, All-IsIn, All-weaker, All-from_IsIn, IsIn-from_Contains, Contains-from_IsIn, IsIn-filter, filter-IsIn, EachTwo-filter, find-some, any-none, find-none}
-use Rattle.pcp_base.proofs.EndOrder.{InOrder, InOrder-one, SamePort}
+use Rattle.pcp_base.proofs.EndOrder.{InOrder, InOrder-one}
 use Rattle.pcp_base.proofs.EndLemmas.{left-by_expiry, left-owned, unowned-fewer, owners-deleted, owner-ports, owner-protocol}
 use Rattle.pcp_base.proofs.TableLemmas.{map_owners-IsIn}
 use Rattle.pcp_base.proofs.RestLaws.{InOrder-same}
-use Rattle.pcp_base.proofs.StageLaws.{two_ways, unlike}
+use Rattle.pcp_base.proofs.StageLaws.{unlike}
 use Rattle.leased_ports.specs.LastEnds.{last_end}
 use Rattle.leased_ports.specs.Leased.{Leased, IsPortsOf, end_of, while_recent}
-use Rattle.leased_ports.specs.Recorded.{touched, held_until, end_by_rest, end_after}
+use Rattle.leased_ports.specs.Recorded.{touched, held_until, end_by_rest}
 use Rattle.leased_ports.proofs.ExpiryLemmas.{parts, map_ends-end, sooner-dead}
 use Rattle.leased_ports.proofs.LastEndLemmas.{last-some, last-from, old-last, old-ended}
 use Rattle.leased_ports.proofs.RecordLemmas.{recorded-last}

@@ -1,5 +1,5 @@
 -- The last ends of a state without ends.
-use Rattle.std.proofs.Common.{◌≡◌, ℕ, zero, suc, ◌+◌, ◌<◌, ◌≤◌, ◌⊎◌, nat_lt, Bool, true, false, cond, List, [], ◌∷◌, map, filter, find, take, length, get_or, Option, Some, None, refl, sym, ap, ◌∙◌, subst, inl, inr, arith}
+use Rattle.std.proofs.Common.{◌≡◌, ℕ, zero, suc, ◌+◌, ◌<◌, ◌⊎◌, nat_lt, Bool, true, false, cond, List, [], ◌∷◌, filter, take, length, get_or, Option, Some, None, refl, sym, ap, ◌∙◌, subst, inl, inr, arith}
 use Rattle.std.specs.List.{AllByRecursion}
 use Rattle.std.proofs.lemmas.Bool.{and_parts, lt-ltb, eqb-true, ltb-true, ltb-false}
 use Rattle.pcp_base.specs.declared.leases.Protocol.{Protocol}
@@ -8,8 +8,7 @@ use Rattle.pcp_base.specs.declared.leases.End.{End}
 use Rattle.pcp_base.specs.Tables.{Table, live}
 use Rattle.pcp_base.specs.Owners.{owners, is_owned, is_port}
 use Rattle.pcp_base.specs.States.{State}
-use Rattle.pcp_base.specs.Ends.{end_at, ends_at_expiry, is_end_of, is_recent}
-use Rattle.pcp_base.specs.Reached.{IsReached}
+use Rattle.pcp_base.specs.Ends.{end_at, ends_at_expiry, is_end_of}
 use Rattle.pcp_base.specs.Sound.{Sound}
 use Rattle.pcp_base.proofs.Members.{IsIn, All-IsIn, IsIn-filter, filter-IsIn, All-from_IsIn}
 use Rattle.pcp_base.proofs.Same.{same_protocol-Decides}

@@ -1,18 +1,17 @@
 -- Until when the leases of a table hold a port.
-use Rattle.std.proofs.Common.{◌≡◌, ℕ, ◌<◌, ◌≤◌, ◌-◌, ◌^◌, ◌⊎◌, ◌&&◌, ◌==◌, nat_lt, max, Bool, true, false, cond, List, [], ◌∷◌, map, flat_map, filter, find, Option, Some, None, IfSome, refl, sym, ap, ◌∙◌, subst, inl, inr, arith}
-use Rattle.std.specs.List.{AllByRecursion, list_any}
+use Rattle.std.proofs.Common.{◌≡◌, ℕ, ◌<◌, ◌≤◌, ◌-◌, ◌^◌, ◌&&◌, ◌==◌, nat_lt, Bool, true, false, cond, List, [], ◌∷◌, filter, find, Option, Some, None, IfSome, refl, sym, ap, ◌∙◌, subst, inl, inr, arith}
+use Rattle.std.specs.List.{list_any}
 use Rattle.std.specs.Option.{option_map, option_or}
 use Rattle.std.proofs.lemmas.Bool.{and_parts, and_from, eqb-true, eq-eqb, ltb-true, ltb-false}
 use Rattle.pcp_base.specs.declared.leases.Protocol.{Protocol}
 use Rattle.pcp_base.specs.declared.leases.Protocol.TheVariants.{Tcp, Udp}
-use Rattle.pcp_base.specs.declared.leases.Endpoint.{Endpoint}
 use Rattle.pcp_base.specs.declared.leases.MapLease.{MapLease}
 use Rattle.pcp_base.specs.declared.leases.PeerLease.{PeerLease}
 use Rattle.pcp_base.specs.declared.leases.Owner.{Owner}
 use Rattle.pcp_base.specs.declared.leases.End.{End}
 use Rattle.pcp_base.specs.Protocols.{protocol_number}
 use Rattle.pcp_base.specs.Tables.{Table, same_protocol}
-use Rattle.pcp_base.specs.Owners.{map_owners, peer_owner, owners, is_port}
+use Rattle.pcp_base.specs.Owners.{map_owners, peer_owner, is_port}
 use Rattle.pcp_base.specs.Ends.{end_at, ends_at_expiry, is_end_of}
 use Rattle.pcp_base.proofs.Members.{IsIn, All-IsIn, IsIn-filter, filter-IsIn, IsIn-map, map-IsIn, any-some, some-any, find-some, find-none}
 use Rattle.pcp_base.proofs.Same.{same_protocol-Decides}
@@ -24,7 +23,7 @@ use Rattle.peer_table.specs.PeerLists.{IsLastExpiry}
 use Rattle.leased_ports.specs.Recorded.{latest, held_until}
 use Rattle.leased_ports.proofs.ExpiryLemmas.{map_ends, peer_end, parts, from_map, from_peer}
 use Rattle.indexed_store.specs.Holding.{AreNear, IsOwner, later_by}
-use Rattle.indexed_store.proofs.Uniques.{AtMostOne, one-owns}
+use Rattle.indexed_store.proofs.Uniques.{one-owns}
 
 pub same_number : (a b : Protocol) → same_protocol a b ≡ (protocol_number a == protocol_number b)
 same_number Tcp Tcp = refl

@@ -1,5 +1,5 @@
 -- Whether records fit, by what look-ups tell.
-use Rattle.std.proofs.Common.{◌≡◌, ℕ, zero, suc, ◌+◌, ◌-◌, ◌<◌, ◌≤◌, ◌⊎◌, ◌&&◌, ◌||◌, ◌==◌, nat_lt, not, Bool, true, false, cond, List, [], ◌∷◌, ◌++◌, map, flat_map, filter, find, length, drop, get_or, count_by, Contains, Option, Some, None, IfSome, IfNone, is_some, IsTrue, ◌↔◌, refl, sym, ap, ◌∙◌, subst, inl, inr, arith}
+use Rattle.std.proofs.Common.{◌≡◌, ℕ, zero, suc, ◌+◌, ◌-◌, ◌<◌, ◌≤◌, ◌⊎◌, ◌&&◌, ◌||◌, ◌==◌, nat_lt, not, Bool, true, false, List, [], ◌∷◌, map, flat_map, filter, find, length, drop, get_or, Contains, Option, Some, None, IfSome, IfNone, is_some, ◌↔◌, refl, sym, ap, ◌∙◌, subst, inl, inr, arith}
 use Rattle.std.specs.List.{AllByRecursion, list_any, list_all, range_with_len}
 use Rattle.std.specs.Option.{option_map}
 use Rattle.std.proofs.lemmas.Bool.{and_parts, and_from, or_left, or_right, eqb-true, eq-eqb, lt-ltb, ltb-true, ltb-false, le-ltb, cond-true, cond-false, false_from_ne_true}
@@ -10,26 +10,26 @@ use Rattle.pcp_base.specs.declared.leases.MapLease.{MapLease}
 use Rattle.pcp_base.specs.declared.leases.PeerLease.{PeerLease}
 use Rattle.pcp_base.specs.declared.leases.Owner.{Owner}
 use Rattle.pcp_base.specs.declared.leases.End.{End}
-use Rattle.pcp_base.specs.Tables.{Table, live, covers, names, same_endpoint, first_endpoint, is_map_of, AreApart}
+use Rattle.pcp_base.specs.Tables.{Table, live, covers, names, same_endpoint, AreApart}
 use Rattle.pcp_base.specs.Owners.{owners, map_owner, map_owners, peer_owner, is_owned}
 use Rattle.pcp_base.specs.States.{State}
 use Rattle.pcp_base.specs.Ends.{is_recent, resting, rests_for, is_end_of}
 use Rattle.pcp_base.specs.Sound.{Sound}
 use Rattle.pcp_base.specs.Records.{IsTermAt, IsEndAt}
 use Rattle.pcp_base.specs.Fits.{RestForNoOther, IsUnused}
-use Rattle.pcp_base.specs.Rooms.{Agree, HasRoomForMap, HasRoomForPeer}
-use Rattle.pcp_base.proofs.Members.{IsIn, All-IsIn, All-from_IsIn, All-weaker, filter-all, any-some, IsIn-append, IsIn-left, IsIn-right, IsIn-flat_map, flat_map-IsIn, IsIn-map, map-IsIn, IsIn-from_Contains, Contains-from_IsIn, find-some, find-none, any-none, none-any, some-any, filter-IsIn, IsIn-filter}
+use Rattle.pcp_base.specs.Rooms.{HasRoomForMap, HasRoomForPeer}
+use Rattle.pcp_base.proofs.Members.{IsIn, All-IsIn, All-from_IsIn, All-weaker, filter-all, any-some, IsIn-append, IsIn-left, IsIn-right, IsIn-flat_map, flat_map-IsIn, IsIn-map, map-IsIn, IsIn-from_Contains, Contains-from_IsIn, find-some, find-none, any-none, none-any, some-any}
 use Rattle.pcp_base.proofs.Same.{same_endpoint-Decides}
 use Rattle.pcp_base.proofs.TableLemmas.{IsCovered-from_covers, map_owners-IsIn, owner-covered, Sound-live}
 use Rattle.pcp_base.proofs.RestLaws.{rests_for-some}
 use Rattle.pcp_base.proofs.StageLaws.{two_ways, unlike}
 use Rattle.lease_store.specs.Lookups.{covering, named_port, peer_count, lease_count}
 use Rattle.leased_ports.specs.LastEnds.{last_end}
-use Rattle.leased_ports.specs.Leased.{Leased, IsPortsOf, end_of, while_recent}
+use Rattle.leased_ports.specs.Leased.{Leased, end_of, while_recent}
 use Rattle.leased_ports.proofs.LastEndLemmas.{last-some, last-from, old-last, owned-last, last-owned, last-rests, rests-last}
 use Rattle.leased_ports.proofs.MomentLemmas.{last_end-later}
 use Rattle.indexed_store.specs.Judging.{IsCurrent, is_unheld, is_unrested, unheld_by, unrested_by, is_at_most, covered_port, has_room_at, peer_has_room}
-use Rattle.indexed_store.proofs.Uniques.{all-none, one-covers}
+use Rattle.indexed_store.proofs.Uniques.{one-covers}
 use Rattle.indexed_store.proofs.LookLemmas.{one_port, some_any}
 use Rattle.indexed_store.proofs.ApplyLemmas.{while-is}
 use Rattle.indexed_store.proofs.LeavingLemmas.{not_back}

@@ -1,20 +1,19 @@
 -- What the tables tell of leases that are live at a moment.
-use Rattle.std.proofs.Common.{◌≡◌, ℕ, ◌<◌, ◌≤◌, ◌+◌, ◌-◌, ◌&&◌, ◌||◌, ◌==◌, nat_lt, Bool, true, false, not, cond, List, [], ◌∷◌, ◌++◌, map, flat_map, filter, find, count_by, length, Option, Some, None, IfSome, IfNone, refl, sym, ap, ◌∙◌, subst, inl, inr, arith, ◌⊎◌}
+use Rattle.std.proofs.Common.{◌≡◌, ℕ, ◌<◌, ◌≤◌, ◌+◌, ◌-◌, ◌&&◌, ◌||◌, ◌==◌, nat_lt, Bool, true, false, cond, List, [], ◌∷◌, ◌++◌, map, flat_map, filter, find, count_by, Option, Some, None, IfSome, IfNone, refl, sym, ap, ◌∙◌, subst, arith}
 use Rattle.std.specs.List.{AllByRecursion, list_any, range_with_len}
 use Rattle.std.specs.Option.{option_map, option_or}
 use Rattle.std.proofs.lemmas.Bool.{and_parts, and_from, or_from, eqb-true, eq-eqb, lt-ltb, ltb-true, ltb-false, cond-true, cond-false, false_from_ne_true}
-use Rattle.pcp_base.specs.declared.addresses.Address.{Address}
 use Rattle.pcp_base.specs.declared.leases.Protocol.{Protocol}
 use Rattle.pcp_base.specs.declared.leases.Endpoint.{Endpoint}
 use Rattle.pcp_base.specs.declared.leases.MapLease.{MapLease}
 use Rattle.pcp_base.specs.declared.leases.PeerLease.{PeerLease}
-use Rattle.pcp_base.specs.Tables.{Table, live, covers, names, same_endpoint}
+use Rattle.pcp_base.specs.Tables.{Table, covers, names}
 use Rattle.pcp_base.specs.declared.leases.Owner.{Owner}
-use Rattle.pcp_base.specs.Owners.{map_owners, peer_owner, owners, OnePort, is_port}
+use Rattle.pcp_base.specs.Owners.{map_owners, peer_owner, owners, is_port}
 use Rattle.plain_store.specs.OwnedPorts.{endpoint_behind}
 use Rattle.plain_store.proofs.LookLemmas.{found_in}
 use Rattle.pcp_base.specs.Sound.{Sound}
-use Rattle.pcp_base.proofs.Members.{IsIn, IsIn-filter, filter-IsIn, IsIn-right, map-IsIn, Contains-from_IsIn, find-some, find-none, find-IsIn, All-IsIn, All-from_IsIn, any-some, some-any, none-any, any-none}
+use Rattle.pcp_base.proofs.Members.{IsIn, IsIn-filter, filter-IsIn, IsIn-right, map-IsIn, Contains-from_IsIn, find-some, find-IsIn, All-IsIn, All-from_IsIn, any-some, some-any, none-any, any-none}
 use Rattle.pcp_base.proofs.Same.{same_endpoint-Decides}
 use Rattle.ordered_index.specs.Lesser.{lesser}
 use Rattle.ordered_index.proofs.EntryLaws.{tally, count-cons, count-some}

@@ -1,18 +1,17 @@
 -- Small steps of ports and tables.
-use Rattle.std.proofs.Common.{◌≡◌, ℕ, ◌<◌, true, false, cond, Bool, List, [], ◌∷◌, ◌++◌, map, flat_map, filter, find, Option, Some, None, Result, Ok, Err, OnOk, refl, sym, ap, ◌∙◌, subst, inl, inr, append-nil, append_assoc}
+use Rattle.std.proofs.Common.{◌≡◌, ℕ, true, false, cond, Bool, List, [], ◌∷◌, ◌++◌, map, flat_map, filter, find, Some, None, Result, Ok, Err, OnOk, refl, sym, ap, ◌∙◌, subst, append-nil}
 use Rattle.std.specs.List.{AllByRecursion}
-use Rattle.std.proofs.lemmas.Bool.{cond-true, cond-false}
+use Rattle.std.proofs.lemmas.Bool.{cond-false}
 use Rattle.pcp_base.specs.declared.addresses.Address.{Address}
 use Rattle.pcp_base.specs.declared.leases.Endpoint.{Endpoint}
 use Rattle.pcp_base.specs.declared.leases.MapLease.{MapLease}
 use Rattle.pcp_base.specs.declared.leases.PeerLease.{PeerLease}
-use Rattle.pcp_base.specs.declared.leases.Owner.{Owner}
 use Rattle.pcp_base.specs.declared.records.Change.TheVariants.{DropMap, DropPeer}
 use Rattle.pcp_base.specs.Tables.{Table, EachTwo, AreApart, HaveOtherKeys, IsMapLease, is_map_of, is_peer_of, first_endpoint, covers}
 use Rattle.pcp_base.specs.Owners.{owners, map_owners, peer_owner}
 use Rattle.pcp_base.specs.Apply.{deleted}
 use Rattle.pcp_base.specs.Sound.{Sound}
-use Rattle.pcp_base.proofs.Members.{IsIn, All-IsIn, All-from_IsIn, find-some, find-none}
+use Rattle.pcp_base.proofs.Members.{All-IsIn, All-from_IsIn, find-none}
 use Rattle.pcp_base.proofs.Same.{same_endpoint-Decides}
 use Rattle.pcp_base.proofs.TableLemmas.{covers-first}
 use Rattle.lease_store.specs.declared.terms.Terms.{Terms}

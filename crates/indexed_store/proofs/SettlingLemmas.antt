@@ -1,23 +1,21 @@
 -- The ends of ports after one changed.
-use Rattle.std.proofs.Common.{◌≡◌, ℕ, suc, zero, ◌+◌, ◌<◌, ◌≤◌, ◌&&◌, ◌||◌, ◌==◌, nat_lt, not, Bool, true, false, cond, List, [], ◌∷◌, filter, find, take, length, get_or, Option, Some, None, refl, sym, ap, ◌∙◌, subst, inl, inr, arith}
+use Rattle.std.proofs.Common.{◌≡◌, ℕ, suc, zero, ◌+◌, ◌<◌, ◌||◌, nat_lt, not, Bool, true, false, cond, List, [], ◌∷◌, filter, find, take, length, get_or, Option, Some, None, refl, sym, ap, ◌∙◌, arith}
 use Rattle.std.specs.List.{AllByRecursion, list_any}
 use Rattle.std.proofs.lemmas.Bool.{and_parts, and_from, eqb-true, eq-eqb, false_from_ne_true, cond-true, cond-false}
 use Rattle.pcp_base.specs.declared.leases.Protocol.{Protocol}
 use Rattle.pcp_base.specs.declared.leases.Owner.{Owner}
 use Rattle.pcp_base.specs.declared.leases.End.{End}
 use Rattle.pcp_base.specs.Protocols.{protocol_number}
-use Rattle.pcp_base.specs.Tables.{EachTwo, same_protocol}
 use Rattle.pcp_base.specs.Owners.{is_port}
 use Rattle.pcp_base.specs.Ends.{is_before, with_end, is_end_of}
-use Rattle.pcp_base.proofs.Members.{IsIn, All-kept, All-weaker, EachTwo-filter, find-some}
+use Rattle.pcp_base.proofs.Members.{All-kept, All-weaker, EachTwo-filter}
 use Rattle.pcp_base.proofs.Same.{same_protocol-Decides}
-use Rattle.pcp_base.proofs.EndOrder.{SamePort, before-neither, with_end-ordered}
+use Rattle.pcp_base.proofs.EndOrder.{before-neither, with_end-ordered}
 use Rattle.pcp_base.proofs.RestLaws.{protocol_number-same}
 use Rattle.pcp_base.proofs.StageLaws.{unlike}
 use Rattle.end_table.specs.EndLists.{without, with_last}
 use Rattle.indexed_store.specs.Settling.{end_among, AreOrdered}
 use Rattle.indexed_store.proofs.Uniques.{all-none}
-use Rattle.indexed_store.proofs.HoldingLemmas.{same_number}
 use Rattle.indexed_store.proofs.LeavingLemmas.{not_back}
 
 -- an end of a port has its protocol and number

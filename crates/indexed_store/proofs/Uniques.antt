@@ -1,13 +1,13 @@
 -- What is found in a part of a list, where at most one of the whole passes.
-use Rattle.std.proofs.Common.{◌≡◌, ℕ, ◌<◌, ◌≤◌, ◌+◌, ◌-◌, ◌==◌, ◌⊎◌, zero, suc, Bool, true, false, cond, ◌&&◌, nat_lt, List, [], ◌∷◌, map, flat_map, filter, find, count_by, length, Contains, Option, Some, None, refl, sym, ap, ◌∙◌, subst, inl, inr, arith, IsTrue}
-use Rattle.std.specs.List.{AllByRecursion, list_any, range_with_len}
-use Rattle.std.proofs.lemmas.Bool.{cond-true, cond-false, and_parts, and_from, eqb-true, eqb-false, eq-eqb, lt-ltb, false_from_ne_true}
+use Rattle.std.proofs.Common.{◌≡◌, ℕ, ◌<◌, ◌≤◌, ◌+◌, ◌==◌, ◌⊎◌, zero, suc, Bool, true, false, cond, ◌&&◌, nat_lt, List, [], ◌∷◌, map, flat_map, filter, find, Contains, Option, Some, None, refl, sym, ap, ◌∙◌, subst, inl, inr, arith}
+use Rattle.std.specs.List.{AllByRecursion, range_with_len}
+use Rattle.std.proofs.lemmas.Bool.{cond-true, cond-false, and_parts, and_from, eqb-true, eqb-false, eq-eqb, false_from_ne_true}
 use Rattle.pcp_base.specs.declared.addresses.Address.{Address}
 use Rattle.pcp_base.specs.declared.leases.Protocol.{Protocol}
 use Rattle.pcp_base.specs.declared.leases.Endpoint.{Endpoint}
 use Rattle.pcp_base.specs.declared.leases.MapLease.{MapLease}
 use Rattle.pcp_base.specs.declared.leases.PeerLease.{PeerLease}
-use Rattle.pcp_base.specs.Tables.{Table, EachTwo, AreApart, HaveOtherKeys, covers, first_endpoint, is_map_of, is_peer_of, live, IsMapLease, same_address, same_endpoint, same_protocol}
+use Rattle.pcp_base.specs.Tables.{Table, EachTwo, AreApart, HaveOtherKeys, covers, first_endpoint, is_map_of, is_peer_of, live, IsMapLease, same_address, same_protocol}
 use Rattle.pcp_base.specs.Owners.{owners, map_owners, peer_owner, is_port}
 use Rattle.pcp_base.specs.Sound.{Sound}
 use Rattle.lease_store.specs.Lookups.{is_with}

@@ -1,4 +1,4 @@
-use Rattle.std.proofs.Common.{◌≡◌, sym, ap, ◌∙◌, subst}
+use Rattle.std.proofs.Common.{sym, ap, ◌∙◌, subst}
 use Rattle.pcp_base.specs.Apply.{apply}
 use Rattle.leased_ports.specs.Leased.{Leased, IsPortsOf, at_moment}
 use Rattle.indexed_store.proofs.applying.begin.Goals as goal

@@ -1,4 +1,4 @@
-use Rattle.std.proofs.Common.{◌≡◌, ◌++◌, List, Contains, sym, subst}
+use Rattle.std.proofs.Common.{◌++◌, List, Contains, sym, subst}
 use Rattle.pcp_base.specs.declared.leases.Owner.{Owner}
 use Rattle.pcp_base.specs.Sound.{Sound}
 use Rattle.pcp_base.proofs.Members.{IsIn-left, IsIn-from_Contains, Contains-from_IsIn}

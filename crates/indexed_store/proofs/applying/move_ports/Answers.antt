@@ -1,12 +1,11 @@
-use Rattle.std.proofs.Common.{◌≡◌, ℕ, List, Option, sym, ap, ◌∙◌, subst, find}
+use Rattle.std.proofs.Common.{List, Option, sym, ap, ◌∙◌, subst, find}
 use Rattle.std.specs.Option.{option_map, option_or}
 use Rattle.pcp_base.specs.declared.leases.Owner.{Owner}
 use Rattle.pcp_base.specs.declared.leases.End.{End}
 use Rattle.pcp_base.specs.Tables.{Table}
 use Rattle.pcp_base.specs.Owners.{is_port}
 use Rattle.pcp_base.specs.Ends.{end_at}
-use Rattle.leased_ports.specs.Leased.{Leased, IsOnTerms, IsPortsOf, at_moment, end_of}
-use Rattle.leased_ports.specs.LastEnds.{last_end}
+use Rattle.leased_ports.specs.Leased.{Leased, IsOnTerms, end_of}
 use Rattle.leased_ports.specs.Recorded.{held_until, end_by_rest}
 use Rattle.indexed_store.proofs.MoveLemmas.{on_later, both_ok}
 use Rattle.indexed_store.proofs.applying.move_ports.Goals as goal

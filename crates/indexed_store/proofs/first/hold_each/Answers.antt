@@ -1,5 +1,3 @@
-use Rattle.std.proofs.Common.{◌≡◌, Option}
-use Rattle.pcp_base.specs.declared.leases.End.{End}
 use Rattle.leased_ports.specs.Leased.{end_of}
 use Rattle.indexed_store.proofs.FirstLemmas.{owner-here, held-step}
 use Rattle.indexed_store.proofs.first.hold_each.Goals as goal

@@ -1,5 +1,5 @@
-use Rattle.std.proofs.Common.{◌≡◌, sym, ap, ◌∙◌, subst}
-use Rattle.leased_ports.specs.Leased.{Leased, IsOnTerms, at_moment, vacated}
+use Rattle.std.proofs.Common.{sym, ap, ◌∙◌, subst}
+use Rattle.leased_ports.specs.Leased.{Leased, IsOnTerms, at_moment}
 use Rattle.indexed_store.proofs.MoveLemmas.{on_later, on_anew, both_ok}
 use Rattle.indexed_store.proofs.FirstLemmas.{rebuilt}
 use Rattle.indexed_store.proofs.first.rebuild.Goals as goal

@@ -1,4 +1,4 @@
-use Rattle.std.proofs.Common.{rules, ◌≡◌, true, sym, IsTrue, ◌↔◌}
+use Rattle.std.proofs.Common.{rules, ◌≡◌, true, IsTrue, ◌↔◌}
 use Rattle.std.proofs.lemmas.Result.{IfOk-weaker}
 use Rattle.pcp_base.specs.Tables.{live}
 use Rattle.pcp_base.specs.Fits.{IsAllowed}

@@ -1,4 +1,4 @@
-use Rattle.std.proofs.Common.{◌≡◌, sym, ap, ◌∙◌, subst, IsTrue}
+use Rattle.std.proofs.Common.{sym, subst, IsTrue}
 use Rattle.pcp_base.specs.declared.records.Change.{Change}
 use Rattle.pcp_base.specs.Fits.{IsRested}
 use Rattle.indexed_store.proofs.JudgeLemmas.{unused}

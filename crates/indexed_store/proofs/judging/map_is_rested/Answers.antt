@@ -1,8 +1,7 @@
-use Rattle.std.proofs.Common.{◌≡◌, List, nat_lt, filter, find, ap, sym, ◌∙◌}
+use Rattle.std.proofs.Common.{◌≡◌, find, ap, ◌∙◌}
 use Rattle.std.specs.List.{list_all}
 use Rattle.pcp_base.specs.declared.leases.MapLease.{MapLease}
 use Rattle.pcp_base.specs.declared.leases.Endpoint.{Endpoint}
-use Rattle.pcp_base.specs.declared.leases.Owner.{Owner}
 use Rattle.pcp_base.specs.States.{State}
 use Rattle.pcp_base.specs.Tables.{live, first_endpoint, is_map_of}
 use Rattle.pcp_base.specs.Owners.{map_owners}

@@ -1,4 +1,4 @@
-use Rattle.std.proofs.Common.{◌≡◌, ◌&&◌, Bool, List, nat_lt, filter, find, ap, sym, ◌∙◌}
+use Rattle.std.proofs.Common.{◌≡◌, ◌&&◌, Bool, List, nat_lt, find, ap, ◌∙◌}
 use Rattle.std.specs.List.{list_all}
 use Rattle.pcp_base.specs.declared.leases.TheConstants.{MOST_LEASES}
 use Rattle.pcp_base.specs.declared.leases.MapLease.{MapLease}

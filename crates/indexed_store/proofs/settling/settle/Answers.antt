@@ -1,11 +1,11 @@
-use Rattle.std.proofs.Common.{◌≡◌, ℕ, true, List, Option, Some, None, sym, ap, ◌∙◌, subst, cond}
+use Rattle.std.proofs.Common.{◌≡◌, ℕ, List, Some, None, sym, ap, ◌∙◌, subst, cond}
 use Rattle.std.proofs.lemmas.Bool.{and_parts, eqb-true}
 use Rattle.std.proofs.lemmas.Result.{IfOk-weaker}
 use Rattle.pcp_base.specs.declared.leases.Protocol.{Protocol}
 use Rattle.pcp_base.specs.declared.leases.End.{End}
 use Rattle.pcp_base.specs.Owners.{is_port}
 use Rattle.pcp_base.proofs.Same.{same_protocol-Decides}
-use Rattle.end_table.specs.EndLists.{with_last, without}
+use Rattle.end_table.specs.EndLists.{with_last}
 use Rattle.leased_ports.specs.Leased.{end_of}
 use Rattle.indexed_store.specs.Settling.{AreOrdered, come_by, end_among}
 use Rattle.indexed_store.proofs.SettlingLemmas.{found_put, found_removed, ordered_put, ordered_removed}

@@ -1,4 +1,4 @@
-use Rattle.std.proofs.Common.{◌≡◌, Bool, Option, sym, ap, ◌∙◌, take, cond}
+use Rattle.std.proofs.Common.{Bool, Option, sym, ap, ◌∙◌, take, cond}
 use Rattle.pcp_base.specs.declared.leases.End.{End}
 use Rattle.pcp_base.specs.Owners.{is_owned, is_port}
 use Rattle.leased_ports.specs.Leased.{end_of}

@@ -1,4 +1,4 @@
-use Rattle.std.proofs.Common.{◌≡◌, nat_lt, filter, Bool, sym}
+use Rattle.std.proofs.Common.{nat_lt, filter, Bool, sym}
 use Rattle.pcp_base.specs.declared.leases.MapLease.{MapLease}
 use Rattle.pcp_base.specs.Tables.{IsMapLease}
 use Rattle.pcp_base.proofs.Members.{find-some, IsIn-filter, All-IsIn}

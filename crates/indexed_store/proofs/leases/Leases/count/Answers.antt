@@ -1,4 +1,4 @@
-use Rattle.std.proofs.Common.{◌≡◌, ◌+◌, ◌∙◌, Bool, nat_lt, filter, length, count_by, ap, arith}
+use Rattle.std.proofs.Common.{◌≡◌, ◌∙◌, Bool, nat_lt, count_by, ap, arith}
 use Rattle.std.proofs.lemmas.List.Sums.{length-filter}
 use Rattle.pcp_base.specs.declared.leases.MapLease.{MapLease}
 use Rattle.pcp_base.specs.declared.leases.PeerLease.{PeerLease}

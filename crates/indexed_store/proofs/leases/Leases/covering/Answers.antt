@@ -1,5 +1,4 @@
-use Rattle.std.proofs.Common.{◌≡◌, nat_lt, None, Some, Bool, sym, ap, ◌∙◌}
-use Rattle.pcp_base.specs.declared.leases.MapLease.{MapLease}
+use Rattle.std.proofs.Common.{nat_lt, sym, ap, ◌∙◌}
 use Rattle.pcp_base.specs.Tables.{Table, covers}
 use Rattle.mapping_table.specs.MapLists.{map_covering}
 use Rattle.indexed_store.proofs.Uniques.{none-within, one-within, gone-within, one-covers}

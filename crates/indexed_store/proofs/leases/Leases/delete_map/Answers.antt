@@ -1,4 +1,4 @@
-use Rattle.std.proofs.Common.{◌≡◌, ◌++◌, List, sym, ap, ◌∙◌}
+use Rattle.std.proofs.Common.{◌++◌, List, sym, ap, ◌∙◌}
 use Rattle.pcp_base.specs.declared.leases.Owner.{Owner}
 use Rattle.pcp_base.specs.declared.records.Change.TheVariants.{DropMap}
 use Rattle.pcp_base.specs.Tables.{Table, IsMapLease, is_map_of}

@@ -1,4 +1,4 @@
-use Rattle.std.proofs.Common.{◌∙◌, subst, is_some}
+use Rattle.std.proofs.Common.{◌∙◌, subst}
 use Rattle.pcp_base.specs.Tables.{Table}
 use Rattle.peer_table.specs.PeerLists.{IsPortUse}
 use Rattle.indexed_store.proofs.LookLemmas.{used_any}

@@ -1,12 +1,8 @@
-use Rattle.std.proofs.Common.{◌≡◌, nat_lt, filter, Bool, Option, sym, ap, ◌∙◌}
-use Rattle.std.specs.Option.{option_map, option_or}
-use Rattle.pcp_base.specs.declared.leases.Endpoint.{Endpoint}
+use Rattle.std.proofs.Common.{filter, Bool, ◌∙◌}
 use Rattle.pcp_base.specs.declared.leases.MapLease.{MapLease}
-use Rattle.pcp_base.specs.declared.leases.PeerLease.{PeerLease}
 use Rattle.pcp_base.specs.Tables.{live}
 use Rattle.filter_rules.specs.Filters.{allows}
 use Rattle.lease_store.specs.Lookups.{is_with}
-use Rattle.plain_store.proofs.LookLemmas.{found_in}
 use Rattle.indexed_store.proofs.LookLemmas.{looked}
 use Rattle.indexed_store.proofs.leases.Leases.look.Goals as goal
 

@@ -1,4 +1,4 @@
-use Rattle.std.proofs.Common.{◌≡◌, ℕ, ◌+◌, ◌-◌, ◌<◌, ◌≤◌, ◌^◌, false, sym, ap, ◌∙◌, arith}
+use Rattle.std.proofs.Common.{◌≡◌, ◌+◌, ◌-◌, ◌<◌, ◌≤◌, false, sym, ◌∙◌, arith}
 use Rattle.lease_store.specs.Lookups.{is_taken_inside}
 use Rattle.indexed_store.proofs.Uniques.{first-in_range, none-in_range}
 use Rattle.indexed_store.proofs.LookLemmas.{next_inside-is, low_or_high}

@@ -1,4 +1,4 @@
-use Rattle.std.proofs.Common.{◌≡◌, nat_lt, filter, Bool, None, Some, sym, ap, ◌∙◌}
+use Rattle.std.proofs.Common.{nat_lt, filter, Bool, sym, ap, ◌∙◌}
 use Rattle.pcp_base.specs.declared.leases.PeerLease.{PeerLease}
 use Rattle.pcp_base.specs.Tables.{Table}
 use Rattle.peer_table.specs.PeerLists.{opens, peer_opening}

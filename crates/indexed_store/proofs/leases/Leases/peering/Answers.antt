@@ -1,5 +1,4 @@
-use Rattle.std.proofs.Common.{◌≡◌, nat_lt, None, Some, Bool, sym, ap, ◌∙◌}
-use Rattle.pcp_base.specs.declared.leases.PeerLease.{PeerLease}
+use Rattle.std.proofs.Common.{nat_lt, sym, ap, ◌∙◌}
 use Rattle.pcp_base.specs.Tables.{Table, is_peer_of}
 use Rattle.peer_table.specs.PeerLists.{peer_with_key}
 use Rattle.indexed_store.proofs.Uniques.{none-within, one-within, gone-within, one-peer}

@@ -1,6 +1,5 @@
 use Rattle.std.proofs.Common.{[], sym, ◌∙◌, subst}
 use Rattle.pcp_base.specs.States.{State}
-use Rattle.pcp_base.specs.Fits.{Fits}
 use Rattle.pcp_base.specs.Reached.{IsReached, IsReachedFirst}
 use Rattle.leased_ports.specs.Leased.{IsPortsOf}
 use Rattle.plain_store.specs.Stores.{Stored}

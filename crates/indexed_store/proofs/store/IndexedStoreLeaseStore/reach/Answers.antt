@@ -1,4 +1,4 @@
-use Rattle.std.proofs.Common.{◌≡◌, ◌≤◌, ℕ, sym, ap, ◌∙◌, subst, arith}
+use Rattle.std.proofs.Common.{◌≡◌, ◌≤◌, sym, ap, subst, arith}
 use Rattle.leased_ports.specs.Leased.{Leased, IsPortsOf, IsOnTerms}
 use Rattle.plain_store.specs.Stores.{Stored}
 use Rattle.indexed_store.proofs.MoveLemmas.{on_later}
