@@ -6,15 +6,15 @@ ghost use Rattle.pcp_base.specs.Reached.{IsReached, IsReachedFirst};
 ghost use Rattle.lease_store.specs.LeaseTerms.{terms_of};
 
 use crate::cores::LeaseCore;
+use indexed_store::IndexedStore;
 use lease_store::Terms;
 use pcp_base::{Config, External, Memory};
-use plain_store::PlainStore;
 use std::alloc::Global;
 
 /// The core of an external address.
-pub type Core = LeaseCore<PlainStore>;
+pub type Core = LeaseCore<IndexedStore>;
 
-impl LeaseCore<PlainStore> {
+impl LeaseCore<IndexedStore> {
     /// The core of this external address under the configuration, without a record.
     pub fn new(alloc: Global, external: &External, config: &Config) -> Result<Core, Memory>
         requires external { IsExternal external.now }
@@ -25,7 +25,7 @@ impl LeaseCore<PlainStore> {
         ensures ready { IfOk result (λ core. IsReached core.state) }
         ensures ready_first { IfOk result (λ core. IsReachedFirst core.state) }
     {
-        let store = PlainStore::new(alloc, Terms::of(external, config))?;
+        let store = IndexedStore::new(alloc, Terms::of(external, config))?;
         Ok(LeaseCore::over(store))
     }
 }
