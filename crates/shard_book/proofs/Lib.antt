@@ -1,0 +1,16 @@
+pub mod BookLemmas
+pub mod CallLemmas
+pub mod DecisionLemmas
+pub mod DoubtLemmas
+pub mod JournalLemmas
+pub mod JudgeLemmas
+pub mod KeptLemmas
+pub mod OpenLemmas
+pub mod PairRuns
+pub mod ReadingRuns
+pub mod ReplayLemmas
+pub mod ResultLemmas
+pub mod SettleLemmas
+pub mod StandLemmas
+pub mod StateLemmas
+pub mod TextLemmas

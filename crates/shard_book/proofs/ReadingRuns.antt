@@ -1,0 +1,68 @@
+-- What a crash may leave while a journal is read again that stands for one of two states.
+use Rattle.std.proofs.Common.{◌≡◌, inl, ⊎_elim, ℕ, List}
+use Rattle.std.specs.Prelude.{◌⊎◌}
+use Rattle.pcp_base.specs.declared.records.Record.{Record}
+use Rattle.pcp_base.specs.Apply.{apply_all}
+use Rattle.pcp_base.specs.States.{State}
+use Rattle.lease_disk.specs.declared.disks.DiskPair.{DiskPair}
+use Rattle.lease_disk.specs.Pairs.{HoldsNow, PairLeavesOnly}
+use Rattle.lease_disk.proofs.PairLemmas.{pair_goes_on, pair_weaker}
+use Rattle.lease_journal.specs.declared.errors.Found.{Found}
+use Rattle.lease_journal.specs.declared.errors.Found.TheVariants.{Recovered, Blank, Damaged}
+use Rattle.lease_journal.specs.declared.sides.Side.{Side}
+use Rattle.lease_journal.specs.declared.walks.Standing.{Standing}
+use Rattle.lease_journal.specs.Journals.{StandsFor, StandsForWithOrWithout}
+use Rattle.lease_journal.specs.Laws.{OneState, RecoveredAlone}
+use Rattle.lease_journal.specs.Openings.{HasStarted, LeavesOld, MayOpen, Opens}
+use Rattle.shard_book.specs.Addresses.{renumbering}
+use Rattle.shard_book.specs.Openings.{IsStartUnless, MayOpenBook, OpensBook}
+use Rattle.pcp_base.specs.declared.addresses.Address.{Address}
+use Rattle.lease_journal.specs.Openings.{FoundMeans}
+use Rattle.shard_book.proofs.OpenLemmas.{may_known, one_of, opens_may}
+
+pub started_start : (m : ℕ) (side : Side) (standing : Standing) (s : State) (found : Found) → HasStarted m side standing s found → IsStartUnless m s found
+started_start m side standing s Recovered is = tt
+started_start m side standing s Blank is = is.state
+started_start m side standing s Damaged is = is.state
+
+module _ {D : Type 0} (seen : D → List ℕ) (moment : D → ℕ) (left_since : D → ℕ → List ℕ → Type 0) (may_leave : D → List ℕ → Type 0) where
+  pub reading_runs : OneState → RecoveredAlone → (m : ℕ) (old new : DiskPair D) (s : State) (rs : List Record) → HoldsNow may_leave (StandsForWithOrWithout s rs) old → StandsForWithOrWithout s rs (seen old.a) (seen old.b)
+      → Opens seen moment left_since may_leave m old new ⊎ LeavesOld moment left_since may_leave old new → PairLeavesOnly moment left_since may_leave old new (StandsForWithOrWithout s rs)
+  reading_runs one alone m old new s rs holds known =
+      let P : List ℕ → List ℕ → Type 0 = StandsForWithOrWithout s rs in
+      ⊎_elim
+      (λ (opens : Opens seen moment left_since may_leave m old new).
+      pair_goes_on moment left_since may_leave old opens.synced new P
+      (pair_weaker moment left_since may_leave old opens.synced _ P opens.until (λ x y left. holds x y left.0 left.1))
+      (pair_weaker moment left_since may_leave opens.synced new (MayOpen m (seen old.a) (seen old.b)) P opens.from (λ x y may. may_known one alone m (seen old.a) (seen old.b) s rs x y known may)))
+      (λ (still : LeavesOld moment left_since may_leave old new). pair_weaker moment left_since may_leave old new _ P still (λ x y left. holds x y left.0 left.1))
+
+  -- a run that stands for what was found stands for one of the two
+  pub found_runs : (old new : DiskPair D) (s t : State) (rs : List Record) → (t ≡ s) ⊎ (t ≡ apply_all s rs) → PairLeavesOnly moment left_since may_leave old new (StandsFor t) → PairLeavesOnly moment left_since may_leave old new (StandsForWithOrWithout s rs)
+  found_runs old new s t rs which run = pair_weaker moment left_since may_leave old new (StandsFor t) (StandsForWithOrWithout s rs) run (λ x y stands. one_of s t rs x y which stands)
+
+  -- an opening, and then the Renumber
+  pub opening_runs : (m : ℕ) (address : Address) (old mid new : DiskPair D) (s : State) (found : Found) → FoundMeans m (seen old.a) (seen old.b) s found → Opens seen moment left_since may_leave m old mid
+      → PairLeavesOnly moment left_since may_leave mid new (StandsForWithOrWithout s (renumbering m address s)) → OpensBook seen moment left_since may_leave m address old new
+  opening_runs m address old mid new s found is opens run =
+      let Q : List ℕ → List ℕ → Type 0 = MayOpenBook m address (seen old.a) (seen old.b) in
+      record {
+        synced = opens.synced;
+        until = opens.until;
+        durable = opens.durable;
+        still = opens.still;
+        «from» = pair_goes_on moment left_since may_leave opens.synced mid new Q
+            (pair_weaker moment left_since may_leave opens.synced mid (MayOpen m (seen old.a) (seen old.b)) Q opens.from (λ x y may. inl may))
+            (pair_weaker moment left_since may_leave mid new (StandsForWithOrWithout s (renumbering m address s)) Q run (λ x y stands. opens_may m address (seen old.a) (seen old.b) s found x y is stands));
+      }
+
+  pub opens_book : (m : ℕ) (address : Address) (old mid : DiskPair D) → Opens seen moment left_since may_leave m old mid → OpensBook seen moment left_since may_leave m address old mid
+  opens_book m address old mid opens =
+      let Q : List ℕ → List ℕ → Type 0 = MayOpenBook m address (seen old.a) (seen old.b) in
+      record {
+        synced = opens.synced;
+        until = opens.until;
+        durable = opens.durable;
+        still = opens.still;
+        «from» = pair_weaker moment left_since may_leave opens.synced mid (MayOpen m (seen old.a) (seen old.b)) Q opens.from (λ x y may. inl may);
+      }

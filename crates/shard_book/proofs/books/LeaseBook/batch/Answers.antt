@@ -1,0 +1,17 @@
+use Rattle.std.proofs.Common.{inr}
+use Rattle.shard_book.proofs.CallLemmas.{if_ok_with, map_if_err}
+use Rattle.shard_book.proofs.books.LeaseBook.batch.Goals as goal
+
+pub returns-clause-served : goal.returns-clause-served
+returns-clause-served g c =
+    if_ok_with c.serve.result _ _ _ _ c.serve.ensures.answers c.serve.ensures.keeps c.serve.ensures.journal (λ answers told keeps journal. record {
+      mid = c.settle.new.self;
+      settled = c.in_ok-settle.field-0;
+      settles = c.in_ok-settle.ensures.settled;
+      answered = told;
+      keeps = keeps;
+      journal = journal;
+    })
+
+pub returns-clause-refused : goal.returns-clause-refused
+returns-clause-refused g c = map_if_err c.serve.result _ _ c.serve.ensures.refused (λ fault doubts. inr (c.settle.new.self, c.in_ok-settle.field-0, c.in_ok-settle.ensures.settled, doubts))

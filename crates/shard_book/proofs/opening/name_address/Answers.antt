@@ -1,0 +1,27 @@
+use Rattle.std.proofs.Common.{sym, subst, arith}
+use Rattle.pcp_base.specs.Fits.{Fits}
+use Rattle.pcp_base.specs.Reached.{IsReached}
+use Rattle.shard_book.specs.Addresses.{renumber_at, renumbering}
+use Rattle.shard_book.proofs.JournalLemmas.{still_settled, without}
+use Rattle.shard_book.proofs.OpenLemmas.{renumber_fits}
+use Rattle.shard_book.proofs.ResultLemmas.{map_ok}
+use Rattle.shard_book.proofs.opening.name_address.Goals as goal
+
+pub keep-requires-clause-fits : goal.keep-requires-clause-fits
+keep-requires-clause-fits g c =
+    let s = g.S.LeaseStore.state c.args.core.now in
+    renumber_fits c.new_leases_need_room.ensures.fits s c.later.result c.args.address.now c.requires.reached c.requires.started (omega (arith, c.later.ensures.value, c.last.ensures.value)) c.later.ensures.bound
+
+pub returns-then-is_named-clause-moments : goal.returns-then-is_named-clause-moments
+returns-then-is_named-clause-moments g c = λ told.
+    let d = g.D.LeaseDisk in
+    let s = g.S.LeaseStore.state c.args.core.now in
+    let j = c.args.journal.now in
+    without d.moment d.left_since d.may_leave j.pair j.pair s (renumbering c.args.m c.args.address.now s) (still_settled d.seen d.may_leave d.moment d.left_since j s (c.requires.writable.settled told))
+
+pub returns-clause-kept : goal.returns-clause-kept
+returns-clause-kept g c =
+    let s = g.S.LeaseStore.state c.args.core.now in
+    let r = renumber_at c.later.result c.args.address.now in
+    let fits : Fits s r = renumber_fits c.new_leases_need_room.ensures.fits s c.later.result c.args.address.now c.requires.reached c.requires.started (omega (arith, c.later.ensures.value, c.last.ensures.value)) c.later.ensures.bound in
+    map_ok c.keep.result _ _ c.keep.ensures.state (λ e. subst IsReached (sym e) (c.states_are_sound.ensures.kept s r c.requires.reached fits))

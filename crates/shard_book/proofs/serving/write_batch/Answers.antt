@@ -1,0 +1,58 @@
+use Rattle.std.proofs.Common.{◌≡◌, ◌++◌, List, subst, sym, ◌∙◌, ap}
+use Rattle.std.specs.List.{AllByRecursion}
+use Rattle.pcp_base.specs.declared.records.Record.{Record}
+use Rattle.pcp_base.specs.Apply.{state_of}
+use Rattle.pcp_base.specs.Records.{IsWellFormedRecord}
+use Rattle.pcp_base.specs.States.{State}
+use Rattle.lease_disk.specs.Pairs.{PairLeavesOnly}
+use Rattle.lease_journal.specs.Journals.{StandsForWithOrWithout}
+use Rattle.shard_book.specs.Batches.{decide_all, records_kept}
+use Rattle.shard_book.specs.Insides.{StandAlone}
+use Rattle.shard_book.specs.Keepings.{unsure_after}
+use Rattle.shard_book.specs.KeptTexts.{KeptRecords}
+use Rattle.shard_book.proofs.BookLemmas.{stand_more}
+use Rattle.shard_book.proofs.JournalLemmas.{still_settled, without}
+use Rattle.shard_book.proofs.ResultLemmas.{any_err}
+use Rattle.shard_book.proofs.StateLemmas.{formed_all}
+use Rattle.shard_book.proofs.serving.write_batch.Goals as goal
+
+pub returns-in_err-snapshot-clause-refused_moments : goal.returns-in_err-snapshot-clause-refused_moments
+returns-in_err-snapshot-clause-refused_moments g c = λ told.
+    let d = g.D.LeaseDisk in
+    let j = c.args.journal.now in
+    let s = g.S.LeaseStore.state c.args.core.now in
+    any_err c.from_residual.result _ (λ fault. without d.moment d.left_since d.may_leave j.pair j.pair s (unsure_after fault (records_kept (decide_all (g.S.LeaseStore.terms c.args.core.now) s c.args.m c.args.asks.now))) (still_settled d.seen d.may_leave d.moment d.left_since j s (c.requires.writable.settled told)))
+
+pub returns-in_err-batch-clause-refused_moments : goal.returns-in_err-batch-clause-refused_moments
+returns-in_err-batch-clause-refused_moments g c = λ told.
+    let d = g.D.LeaseDisk in
+    let j = c.args.journal.now in
+    let s = g.S.LeaseStore.state c.args.core.now in
+    any_err c.from_residual-in_err-batch.result _ (λ fault. without d.moment d.left_since d.may_leave j.pair j.pair s (unsure_after fault (records_kept (decide_all (g.S.LeaseStore.terms c.args.core.now) s c.args.m c.args.asks.now))) (still_settled d.seen d.may_leave d.moment d.left_since j s (c.requires.writable.settled told)))
+
+pub returns-in_err-add-clause-refused_moments : goal.returns-in_err-add-clause-refused_moments
+returns-in_err-add-clause-refused_moments g c = λ told.
+    let d = g.D.LeaseDisk in
+    let j = c.args.journal.now in
+    let s = g.S.LeaseStore.state c.args.core.now in
+    any_err c.from_residual-in_err-add.result _ (λ fault. without d.moment d.left_since d.may_leave j.pair j.pair s (unsure_after fault (records_kept (decide_all (g.S.LeaseStore.terms c.args.core.now) s c.args.m c.args.asks.now))) (still_settled d.seen d.may_leave d.moment d.left_since j s (c.requires.writable.settled told)))
+
+pub add-requires : goal.add-requires
+add-requires g c = subst (AllByRecursion IsWellFormedRecord) (sym c.deref.ensures.value) (formed_all (g.S.LeaseStore.state c.args.core.now) c.in_ok-batch.batch.records.items c.in_ok-batch.ensures.fit)
+
+pub returns-clause-texts : goal.returns-clause-texts
+returns-clause-texts g c =
+    let s = g.S.LeaseStore.state c.args.core.now in
+    let rs = c.in_ok-batch.batch.records.items in
+    let first = c.snapshot_if_overlong.new.texts.sure in
+    let stand : StandAlone first s = record { fit = c.snapshot_if_overlong.ensures.fit; state = c.snapshot_if_overlong.ensures.state } in
+    let sure : c.add.new.self.sure ≡ first = ap (λ (k : KeptRecords). k.sure) c.in_ok-add.ensures.ok in
+    let whole : c.commit.new.texts.sure ≡ first ++ rs = ap (λ (k : KeptRecords). k.sure) c.in_ok-commit.ensures.kept ∙ ap (λ (l : List Record). l ++ c.deref-3.result.now) sure ∙ ap (λ (l : List Record). first ++ l) c.deref-3.ensures.value in
+    subst (λ (l : List Record). StandAlone l (g.S.LeaseStore.state c.decide_batch.new.core)) (sym whole) (subst (StandAlone (first ++ rs)) (sym c.in_ok-batch.ensures.state) (stand_more first s rs stand c.in_ok-batch.ensures.fit))
+
+pub returns-clause-moments : goal.returns-clause-moments
+returns-clause-moments g c = λ told.
+    let d = g.D.LeaseDisk in
+    let first : state_of c.add.new.self.sure ≡ g.S.LeaseStore.state c.args.core.now = ap (λ (k : KeptRecords). state_of k.sure) c.in_ok-add.ensures.ok ∙ c.snapshot_if_overlong.ensures.state in
+    subst (λ (l : List Record). PairLeavesOnly d.moment d.left_since d.may_leave c.args.journal.now.pair c.commit.new.journal.pair (StandsForWithOrWithout (g.S.LeaseStore.state c.args.core.now) l)) (c.deref-3.ensures.value ∙ c.in_ok-batch.ensures.records)
+    (subst (λ (s : State). PairLeavesOnly d.moment d.left_since d.may_leave c.args.journal.now.pair c.commit.new.journal.pair (StandsForWithOrWithout s c.deref-3.result.now)) first (c.commit.ensures.moments told))

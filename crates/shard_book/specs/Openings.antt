@@ -1,0 +1,59 @@
+-- What opening a book leaves (our own).
+use Rattle.std.specs.Prelude.{◌≡◌, ◌⊎◌, ℕ, List, [], ⊤, None}
+use Rattle.pcp_base.specs.declared.addresses.Address.{Address}
+use Rattle.pcp_base.specs.Apply.{apply_all, is_another}
+use Rattle.pcp_base.specs.States.{State}
+use Rattle.lease_store.specs.declared.terms.Terms.{Terms}
+use Rattle.lease_disk.specs.declared.disks.DiskPair.{DiskPair}
+use Rattle.lease_disk.specs.Pairs.{PairLeavesOnly}
+use Rattle.lease_journal.specs.declared.errors.Found.{Found}
+use Rattle.lease_journal.specs.declared.errors.Found.TheVariants.{Recovered, Blank, Damaged}
+use Rattle.lease_journal.specs.Journals.{IsBlank, IsDamaged, StandsFor, fresh_state}
+use Rattle.lease_journal.specs.Openings.{FoundMeans, LeavesOld, MayOpen}
+use Rattle.lease_journal.specs.Reads.{AreSeenStill}
+use Rattle.lease_journal.specs.Writes.{AreDurable}
+use Rattle.shard_book.specs.Addresses.{renumbering}
+use Rattle.shard_book.specs.Books.{BookView}
+
+-- where no records were found the journal was started at m
+abbrev pub IsStartUnless : ℕ → State → Found → Type 0
+IsStartUnless m s Recovered = ⊤
+IsStartUnless m s Blank = s ≡ fresh_state m
+IsStartUnless m s Damaged = s ≡ fresh_state m
+
+-- a book opened at m over a pair whose sides held a and b
+pub record IsOpened {D : Type 0} (tells : Type 0) (a b : List ℕ) (terms : Terms) (m : ℕ)
+    (book : BookView D) (found : Found) : Type 0 where
+  -- the state of the records that were found, or of the start that was made
+  pub opened : State
+  pub «from» : tells → FoundMeans m a b opened found
+  pub start : IsStartUnless m opened found
+  pub state : book.state ≡ apply_all opened (renumbering m terms.external.address opened)
+  pub last : book.last ≡ book.state.last
+  pub on_terms : book.terms ≡ terms
+  pub renumbered : book.renumbered ≡ is_another terms.external.address opened.address
+  pub settled : book.fault ≡ None
+  pub sure : book.unsure ≡ []
+
+-- sides that held a and b stand for s, or, where they stand for nothing, a start at m does
+abbrev pub OpensAs : ℕ → State → List ℕ → List ℕ → Type 0
+OpensAs m s a b = StandsFor s a b ⊎ ((IsBlank a b ⊎ IsDamaged a b) × (s ≡ fresh_state m))
+
+-- After sides that held a and b are opened at m for a book with this address, in the middle too, a
+-- crash may leave x and y: what the opening of the journal may leave, or the Renumber is in.
+abbrev pub MayOpenBook : ℕ → Address → List ℕ → List ℕ → List ℕ → List ℕ → Type 0
+MayOpenBook m address a b x y =
+    MayOpen m a b x y
+    ⊎ ((s : State) × OpensAs m s a b × StandsFor (apply_all s (renumbering m address s)) x y)
+
+-- At some moment both sides are synced and hold what they held. From then on a crash leaves what
+-- the opening may leave.
+pub record OpensBook {D : Type 0} (seen : D → List ℕ) (moment : D → ℕ)
+    (left_since : D → ℕ → List ℕ → Type 0) (may_leave : D → List ℕ → Type 0) (m : ℕ)
+    (address : Address) (old new : DiskPair D) : Type 0 where
+  pub synced : DiskPair D
+  pub until : LeavesOld moment left_since may_leave old synced
+  pub durable : AreDurable seen may_leave synced
+  pub still : AreSeenStill seen old synced
+  pub «from» : PairLeavesOnly moment left_since may_leave synced new
+      (MayOpenBook m address (seen old.a) (seen old.b))

@@ -1,0 +1,304 @@
+//! Writing records to a journal, together with what stands for them.
+ghost use Rattle.std.specs.Prelude.{◌≡◌, ◌≢◌, ◌≤◌, ◌<◌, ◌+◌, ◌-◌, ◌*◌, ◌^◌, max, [], ◌∷◌, ◌++◌, length, true, false, if◌then◌else◌, Ok, Err, IfOk, IfErr, OnOk};
+ghost use Rattle.std.specs.List.{AllByRecursion};
+ghost use Rattle.pcp_base.specs.Apply.{apply, apply_all, state_of};
+ghost use Rattle.pcp_base.specs.Fits.{AllFit, Fits};
+ghost use Rattle.pcp_base.specs.Reached.{IsReached};
+ghost use Rattle.pcp_base.specs.Records.{IsWellFormedRecord};
+ghost use Rattle.pcp_base.specs.Snapshots.{snapshot};
+ghost use Rattle.pcp_base.specs.States.{State, empty_state};
+ghost use Rattle.lease_disk.specs.Pairs.{PairHasCause, PairLeavesOnly};
+ghost use Rattle.lease_journal.specs.declared.errors.JournalFault.TheVariants.{Disk};
+ghost use Rattle.lease_journal.specs.declared.formats.Format.TheVariants.{Second};
+ghost use Rattle.lease_journal.specs.declared.layout.TheConstants.{MOST_RECORDS};
+ghost use Rattle.lease_journal.specs.Formats.{HasNext};
+ghost use Rattle.lease_journal.specs.Journals.{StandsFor, StandsForWithOrWithout};
+ghost use Rattle.lease_journal.specs.Views.{IsSettled};
+ghost use Rattle.shard_book.specs.Books.{IsWritable};
+ghost use Rattle.shard_book.specs.Insides.{IsKnownAs};
+ghost use Rattle.shard_book.specs.Keepings.{Journals, frame_octets, is_overlong, unsure_after};
+
+use crate::lengths::LONGEST_SIDE;
+use crate::snapshots::{snapshot_of, texts_of_state};
+use crate::texts::KeptTexts;
+use lease_core::LeaseCore;
+use lease_disk::LeaseDisk;
+use lease_journal::{Journal, JournalFault, one_journal};
+use lease_store::LeaseStore;
+use pcp_base::{Memory, Record, snapshots_stand};
+use std::alloc::Global;
+use std::slice;
+
+/// Whether a journal is to be compacted before a batch.
+fn is_overlong<D: LeaseDisk>(journal: &Journal<D>) -> bool
+    requires { journal.now.unread ≡ false }
+    ensures { result ≡ is_overlong journal.now }
+{
+    let length = journal.length();
+    length > LONGEST_SIDE
+        && length > journal.first_length().saturating_mul(2)
+        && journal.generation() < u64::MAX
+}
+
+/// The snapshot with which a journal is compacted before a batch, and where that is to be done, its
+/// texts in place of those that stood for the same; else no record.
+pub(crate) fn snapshot_if_overlong<D: LeaseDisk, S: LeaseStore>(
+    alloc: Global,
+    core: &LeaseCore<S>,
+    journal: &Journal<D>,
+    texts: &mut KeptTexts,
+) -> Result<Vec<Record>, Memory>
+    requires read { journal.now.unread ≡ false }
+    requires reached { IsReached (S.state core.now) }
+    requires started { (S.state core.now).started ≡ true }
+    requires fit { AllFit empty_state texts.old.sure }
+    requires state { state_of texts.old.sure ≡ S.state core.now }
+    requires none { texts.old.added ≡ [] }
+    ensures snapshot { IfOk result (λ records. records.items
+        ≡ (if is_overlong journal.now then snapshot (S.state core.now) else [])) }
+    ensures fit { AllFit empty_state texts.new.sure }
+    ensures state { state_of texts.new.sure ≡ S.state core.now }
+    ensures none { texts.new.added ≡ [] }
+{
+    snapshots_stand();
+    if !is_overlong(journal) {
+        return Ok(Vec::new(alloc));
+    }
+    let snapshot = snapshot_of(alloc, core)?;
+    *texts = texts_of_state(alloc, core)?;
+    Ok(snapshot)
+}
+
+/// Compacts a journal with a snapshot, if it has a record.
+fn compact_by<D: LeaseDisk>(
+    alloc: Global,
+    journal: &mut Journal<D>,
+    snapshot: &[Record],
+) -> Result<(), JournalFault>
+    requires read { journal.old.unread ≡ false }
+    requires second { journal.old.standing.format ≡ Second }
+    requires formed { AllByRecursion IsWellFormedRecord snapshot.now }
+    requires fit { snapshot.now ≢ [] → AllFit empty_state snapshot.now }
+    requires same { D.tells → snapshot.now ≢ [] → (s : State)
+        → IsSettled D.seen D.may_leave journal.old s → state_of snapshot.now ≡ s }
+    requires next { snapshot.now ≢ [] → journal.old.standing.generation < 2 ^ 64 - 1 }
+    ensures moments { D.tells → (s : State) → IsSettled D.seen D.may_leave journal.old s
+        → PairLeavesOnly D.moment D.left_since D.may_leave journal.old.pair journal.new.pair
+        (StandsFor s) }
+    ensures settled { D.tells → (s : State) → IsSettled D.seen D.may_leave journal.old s
+        → OnOk result (IsSettled D.seen D.may_leave journal.new s) }
+    ensures idle { snapshot.now ≡ [] → journal.new ≡ journal.old }
+    ensures read { OnOk result (journal.new.unread ≡ false) }
+    ensures second { OnOk result (journal.new.standing.format ≡ Second) }
+    ensures generation { snapshot.now ≢ [] → OnOk result
+        (journal.new.standing.generation ≡ journal.old.standing.generation + 1) }
+    ensures short { snapshot.now ≢ [] → OnOk result
+        (journal.new.first_length ≡ journal.new.standing.length) }
+    ensures memory { result ≡ Err JournalFault.Memory → journal.new ≡ journal.old }
+    ensures cause { PairHasCause D.faults journal.old.pair journal.new.pair
+        (result ≡ Err Disk) }
+{
+    if snapshot.is_empty() {
+        return Ok(());
+    }
+    journal.compact(alloc, snapshot)
+}
+
+/// Appends records in one frame, if there are any.
+fn append_all<D: LeaseDisk>(
+    alloc: Global,
+    journal: &mut Journal<D>,
+    records: &[Record],
+) -> Result<(), JournalFault>
+    requires few { length records.now ≤ MOST_RECORDS }
+    requires formed { AllByRecursion IsWellFormedRecord records.now }
+    requires read { journal.old.unread ≡ false }
+    requires second { journal.old.standing.format ≡ Second }
+    requires fit { D.tells → (s : State) → IsSettled D.seen D.may_leave journal.old s
+        → AllFit s records.now }
+    ensures moments { D.tells → (s : State) → IsSettled D.seen D.may_leave journal.old s
+        → PairLeavesOnly D.moment D.left_since D.may_leave journal.old.pair journal.new.pair
+        (StandsForWithOrWithout s records.now) }
+    ensures settled { D.tells → (s : State) → IsSettled D.seen D.may_leave journal.old s
+        → OnOk result (IsSettled D.seen D.may_leave journal.new (apply_all s records.now)) }
+    ensures idle { records.now ≡ [] → journal.new ≡ journal.old }
+    ensures read { OnOk result (journal.new.unread ≡ false) }
+    ensures second { OnOk result (journal.new.standing.format ≡ Second) }
+    ensures generation { OnOk result
+        (journal.new.standing.generation ≡ journal.old.standing.generation) }
+    ensures first_length { OnOk result (journal.new.first_length ≡ journal.old.first_length) }
+    ensures grown { D.tells → (s : State) → IsSettled D.seen D.may_leave journal.old s
+        → OnOk result (journal.new.standing.length
+        ≤ journal.old.standing.length + frame_octets records.now) }
+    ensures memory { result ≡ Err JournalFault.Memory → journal.new ≡ journal.old }
+    ensures cause { PairHasCause D.faults journal.old.pair journal.new.pair
+        (result ≡ Err Disk) }
+{
+    if records.is_empty() {
+        return Ok(());
+    }
+    journal.append(alloc, records)
+}
+
+/// Compacts a journal with a snapshot, if it has a record, and then appends records in one frame, if
+/// there are any.
+fn write<D: LeaseDisk>(
+    alloc: Global,
+    journal: &mut Journal<D>,
+    snapshot: &[Record],
+    records: &[Record],
+) -> Result<(), JournalFault>
+    requires few { length records.now ≤ MOST_RECORDS }
+    requires formed { AllByRecursion IsWellFormedRecord records.now }
+    requires read { journal.old.unread ≡ false }
+    requires second { journal.old.standing.format ≡ Second }
+    requires snapshot_formed { AllByRecursion IsWellFormedRecord snapshot.now }
+    requires snapshot_fit { snapshot.now ≢ [] → AllFit empty_state snapshot.now }
+    requires next { snapshot.now ≢ [] → journal.old.standing.generation < 2 ^ 64 - 1 }
+    requires known { D.tells → IsKnownAs D.seen D.may_leave journal.old snapshot.now records.now }
+    ensures moments { D.tells → (s : State) → IsSettled D.seen D.may_leave journal.old s
+        → PairLeavesOnly D.moment D.left_since D.may_leave journal.old.pair journal.new.pair
+        (StandsForWithOrWithout s records.now) }
+    ensures before { D.tells → (s : State) → IsSettled D.seen D.may_leave journal.old s
+        → result ≡ Err JournalFault.Memory
+        → PairLeavesOnly D.moment D.left_since D.may_leave journal.old.pair journal.new.pair
+        (StandsFor s) }
+    ensures settled { D.tells → (s : State) → IsSettled D.seen D.may_leave journal.old s
+        → OnOk result (IsSettled D.seen D.may_leave journal.new (apply_all s records.now)) }
+    ensures idle { snapshot.now ≡ [] → records.now ≡ [] → journal.new ≡ journal.old }
+    ensures read { OnOk result (journal.new.unread ≡ false) }
+    ensures second { OnOk result (journal.new.standing.format ≡ Second) }
+    ensures plain { snapshot.now ≡ [] → OnOk result
+        (journal.new.standing.generation ≡ journal.old.standing.generation) }
+    ensures plain_first { snapshot.now ≡ [] → OnOk result
+        (journal.new.first_length ≡ journal.old.first_length) }
+    ensures grown { D.tells → (s : State) → IsSettled D.seen D.may_leave journal.old s
+        → snapshot.now ≡ [] → OnOk result (journal.new.standing.length
+        ≤ journal.old.standing.length + frame_octets records.now) }
+    ensures compacted { snapshot.now ≢ [] → OnOk result
+        (journal.new.standing.generation ≡ journal.old.standing.generation + 1) }
+    ensures short { D.tells → (s : State) → IsSettled D.seen D.may_leave journal.old s
+        → snapshot.now ≢ [] → OnOk result
+        (journal.new.standing.length ≤ journal.new.first_length + frame_octets records.now) }
+    ensures cause { PairHasCause D.faults journal.old.pair journal.new.pair
+        (result ≡ Err Disk) }
+{
+    one_journal();
+    compact_by(alloc, journal, snapshot)?;
+    append_all(alloc, journal, records)
+}
+
+/// Compacts a journal with a snapshot that was taken, if it has a record, and then appends records in
+/// one frame, if there are any. Keeps the texts of the records for good. After `Memory` they are
+/// forgotten, since the journal has none of them.
+pub(crate) fn commit<D: LeaseDisk>(
+    alloc: Global,
+    journal: &mut Journal<D>,
+    texts: &mut KeptTexts,
+    taken: &[Record],
+    records: &[Record],
+) -> Result<(), JournalFault>
+    requires few { length records.now ≤ MOST_RECORDS }
+    requires writable { IsWritable D.tells D.seen D.may_leave journal.old (state_of texts.old.sure) }
+    requires fit { AllFit (state_of texts.old.sure) records.now }
+    requires added { texts.old.added ≡ records.now }
+    requires reached { IsReached (state_of texts.old.sure) }
+    requires started { (state_of texts.old.sure).started ≡ true }
+    requires snapshot { taken.now ≢ [] → taken.now ≡ snapshot (state_of texts.old.sure) }
+    requires next { taken.now ≢ [] → journal.old.standing.generation < 2 ^ 64 - 1 }
+    ensures writable { OnOk result (IsWritable D.tells D.seen D.may_leave journal.new
+        (apply_all (state_of texts.old.sure) records.now)) }
+    ensures moments { D.tells
+        → PairLeavesOnly D.moment D.left_since D.may_leave journal.old.pair journal.new.pair
+        (StandsForWithOrWithout (state_of texts.old.sure) records.now) }
+    ensures refused_moments { D.tells → IfErr result (λ fault.
+        PairLeavesOnly D.moment D.left_since D.may_leave journal.old.pair journal.new.pair
+        (StandsForWithOrWithout (state_of texts.old.sure) (unsure_after fault records.now))) }
+    ensures kept { OnOk result (texts.new
+        ≡ record { sure = texts.old.sure ++ records.now; added = [] }) }
+    ensures refused { IfErr result (λ fault. texts.new
+        ≡ record { sure = texts.old.sure; added = unsure_after fault records.now }) }
+    ensures idle { taken.now ≡ [] → records.now ≡ [] → journal.new ≡ journal.old }
+    ensures plain { taken.now ≡ [] → OnOk result
+        (journal.new.standing.generation ≡ journal.old.standing.generation) }
+    ensures plain_first { taken.now ≡ [] → OnOk result
+        (journal.new.first_length ≡ journal.old.first_length) }
+    ensures grown { D.tells → taken.now ≡ [] → OnOk result (journal.new.standing.length
+        ≤ journal.old.standing.length + frame_octets records.now) }
+    ensures compacted { taken.now ≢ [] → OnOk result
+        (journal.new.standing.generation ≡ journal.old.standing.generation + 1) }
+    ensures short { D.tells → taken.now ≢ [] → OnOk result
+        (journal.new.standing.length ≤ journal.new.first_length + frame_octets records.now) }
+    ensures cause { PairHasCause D.faults journal.old.pair journal.new.pair
+        (result ≡ Err Disk) }
+{
+    one_journal();
+    snapshots_stand();
+    match write(alloc, journal, taken, records) {
+        Ok(()) => {
+            texts.confirm();
+            Ok(())
+        }
+        Err(JournalFault::Memory) => {
+            texts.forget();
+            Err(JournalFault::Memory)
+        }
+        Err(JournalFault::Disk) => Err(JournalFault::Disk),
+    }
+}
+
+/// Compacts a journal of the first format in the second one.
+pub(crate) fn use_second<D: LeaseDisk, S: LeaseStore>(
+    alloc: Global,
+    journal: &mut Journal<D>,
+    core: &LeaseCore<S>,
+) -> Result<(), JournalFault>
+    requires read { journal.old.unread ≡ false }
+    requires next { HasNext journal.old.standing.format journal.old.standing.generation }
+    requires reached { IsReached (S.state core.now) }
+    requires started { (S.state core.now).started ≡ true }
+    requires settled { D.tells
+        → IsSettled D.seen D.may_leave journal.old (S.state core.now) }
+    ensures writable { OnOk result
+        (IsWritable D.tells D.seen D.may_leave journal.new (S.state core.now)) }
+    ensures moments { D.tells
+        → PairLeavesOnly D.moment D.left_since D.may_leave journal.old.pair journal.new.pair
+        (StandsFor (S.state core.now)) }
+    ensures cause { PairHasCause D.faults journal.old.pair journal.new.pair
+        (result ≡ Err Disk) }
+{
+    if journal.format() == 2 {
+        return Ok(());
+    }
+    one_journal();
+    snapshots_stand();
+    let snapshot = snapshot_of(alloc, core)?;
+    journal.compact(alloc, &snapshot)
+}
+
+/// Applies a record that fits to a core, and appends it.
+pub(crate) fn keep<D: LeaseDisk, S: LeaseStore>(
+    alloc: Global,
+    journal: &mut Journal<D>,
+    core: &mut LeaseCore<S>,
+    kept: &Record,
+) -> Result<(), JournalFault>
+    requires writable { IsWritable D.tells D.seen D.may_leave journal.old (S.state core.old) }
+    requires reached { IsReached (S.state core.old) }
+    requires fits { Fits (S.state core.old) kept.now }
+    requires later { S.reached core.old ≤ kept.now.moment }
+    ensures state { OnOk result (S.state core.new ≡ apply (S.state core.old) kept.now) }
+    ensures past { OnOk result (S.reached core.new ≡ kept.now.moment) }
+    ensures terms { S.terms core.new ≡ S.terms core.old }
+    ensures writable { OnOk result (IsWritable D.tells D.seen D.may_leave journal.new
+        (apply (S.state core.old) kept.now)) }
+    ensures moments { D.tells
+        → PairLeavesOnly D.moment D.left_since D.may_leave journal.old.pair journal.new.pair
+        (StandsForWithOrWithout (S.state core.old) (kept.now ∷ [])) }
+    ensures cause { PairHasCause D.faults journal.old.pair journal.new.pair
+        (result ≡ Err Disk) }
+{
+    one_journal();
+    core.apply(alloc, kept)?;
+    append_all(alloc, journal, slice::from_ref(kept))
+}
