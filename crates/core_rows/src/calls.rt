@@ -9,11 +9,12 @@ use Protocol::Udp;
 use Step::Ask as Asked;
 use Told::{Gone, Leased};
 use Wish::{Nothing, Peer};
-use lease_core::Core;
+use lease_core::LeaseCore;
 use pcp_base::{
     Address, Ask, Change, End, Endpoint, Filters, MapLease, Moment, Nonce, Owner, PeerLease,
     Protocol, Record, Replay,
 };
+use plain_store::PlainStore;
 use std::alloc::Global;
 use std::test::Fail;
 
@@ -68,7 +69,7 @@ fn peer_lease(granted: Moment) -> PeerLease {
 }
 
 /// A core after the steps.
-fn served(alloc: Global) -> Result<Core, Fail>
+fn served(alloc: Global) -> Result<LeaseCore<PlainStore>, Fail>
     ensures { IfOk result (λ core. MayServe core.state core.terms) }
 {
     let mut core = core(alloc, 1024, 65535, 64)?;

@@ -8,12 +8,13 @@ ghost use Rattle.lease_store.specs.LeaseTerms.{AreTerms};
 ghost use Rattle.core_rows.specs.Serving.{MayServe};
 
 use crate::requests::is_well_formed;
-use lease_core::{Core, LeaseCore, decisions_fit};
+use lease_core::{LeaseCore, decisions_fit};
 use lease_store::{LeaseStore, Terms};
 use pcp_base::{
     Address, Answer, Ask, Change, Config, External, Externals, MOST_QUOTA, Memory, Moment,
     Prefixes, Record, Replay, Subscribers, states_are_sound,
 };
+use plain_store::PlainStore;
 use std::alloc::Global;
 use std::test::Fail;
 
@@ -54,8 +55,13 @@ fn config(alloc: Global, external: &External, quota: u32) -> Result<Config, Fail
     })
 }
 
-/// A core of ports from 1 on, with a Start at 1000.
-pub(crate) fn core(alloc: Global, low: u16, high: u16, quota: u32) -> Result<Core, Fail>
+/// A core of ports from 1 on over a plain store, with a Start at 1000.
+pub(crate) fn core(
+    alloc: Global,
+    low: u16,
+    high: u16,
+    quota: u32,
+) -> Result<LeaseCore<PlainStore>, Fail>
     ensures may { IfOk result (λ core. MayServe core.state core.terms) }
     ensures reached { IfOk result (λ core. core.reached ≡ 1000) }
 {
@@ -64,8 +70,7 @@ pub(crate) fn core(alloc: Global, low: u16, high: u16, quota: u32) -> Result<Cor
     }
     let external = external(low, high);
     let config = config(alloc, &external, quota)?;
-    let _terms = Terms::of(&external, &config);
-    let mut core = Core::new(alloc, &external, &config)?;
+    let mut core = LeaseCore::over(PlainStore::new(alloc, Terms::of(&external, &config))?);
     start(alloc, &mut core)?;
     Ok(core)
 }
