@@ -49,7 +49,8 @@ pub(crate) fn drop_one(
 ) -> bool
     requires { AreKeptEnds ends.old dues.old }
     ensures kept { AreKeptEnds ends.new dues.new }
-    ensures recent { filter (is_recent m) (values ends.new) ≡ filter (is_recent m) (values ends.old) }
+    ensures recent { filter (is_recent m) (values ends.new)
+        ≡ filter (is_recent m) (values ends.old) }
     ensures fewer { OnTrue result (length (values ends.new) < length (values ends.old)) }
     ensures all { OnFalse result (filter (is_recent m) (values ends.new) ≡ values ends.new) }
 {

@@ -1,6 +1,6 @@
 //! The ports of one protocol: what each is used for, and which of the range are vacant.
 
-ghost use Rattle.std.specs.Prelude.{◌≡◌, ◌+◌, ◌-◌, ◌≤◌, ◌<◌, ◌↔◌, ℕ, not, IsTrue, IfOk, IfSome, IfNone, if◌then◌else◌};
+ghost use Rattle.std.specs.Prelude.{◌≡◌, ◌+◌, ◌-◌, ◌≤◌, ◌<◌, ◌↔◌, ℕ, true, not, IsTrue, IfOk, IfSome, IfNone, if◌then◌else◌};
 ghost use Rattle.port_runs.specs.Ports.{is_taken, is_in_run, HasParity, IsFittingRun, HasFittingRun, IsLeast, IsGreatest};
 ghost use Rattle.external_pool.specs.PortUses as the;
 ghost use Rattle.external_pool.specs.Choosing.{IsVacantRun, HasVacantRun, GoesBack, IsLongest, IsPick};
@@ -34,7 +34,19 @@ impl Model for Side {
     ghost invariant = { λ a. IsKept a.low a.high a.runs a.each.items };
 }
 
-/// Marks ports of the range as vacant or not.
+/// Takes a port of the range, unless it is taken already.
+fn take_one(runs: &mut Runs, port: u16)
+    requires low { runs.old.low ≤ port }
+    requires high { port ≤ runs.old.high }
+    ensures low { runs.new.low ≡ runs.old.low }
+    ensures high { runs.new.high ≡ runs.old.high }
+    ensures taken { (other : ℕ) → is_taken runs.new other
+        ≡ (if is_in_run port 1 other then true else is_taken runs.old other) }
+{
+    runs.take(port, 1);
+}
+
+/// Marks ports of the range as vacant or not. A port that isn't vacant and stays so costs one look.
 fn settle(runs: &mut Runs, start: u16, n: u32, vacant: bool)
     requires some { 1 ≤ n }
     requires low { runs.old.low ≤ start }
@@ -44,10 +56,16 @@ fn settle(runs: &mut Runs, start: u16, n: u32, vacant: bool)
     ensures taken { (port : ℕ) → is_taken runs.new port
         ≡ (if is_in_run start n port then not vacant else is_taken runs.old port) }
 {
-    runs.give(start, n);
-    if !vacant {
-        runs.take(start, n);
+    if vacant {
+        runs.give(start, n);
+        return;
     }
+    if n == 1 {
+        take_one(runs, start);
+        return;
+    }
+    runs.give(start, n);
+    runs.take(start, n);
 }
 
 /// The least start of a free run, for a caller that counts no steps.

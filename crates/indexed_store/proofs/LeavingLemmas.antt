@@ -6,7 +6,7 @@ use Rattle.pcp_base.specs.declared.leases.Owner.{Owner}
 use Rattle.pcp_base.specs.Tables.{Table, live, dead, first_endpoint, is_map_of, is_peer_of}
 use Rattle.pcp_base.specs.Owners.{map_owners, peer_owner, owners}
 use Rattle.pcp_base.specs.Sound.{Sound}
-use Rattle.pcp_base.proofs.Members.{IsIn, IsIn-filter, filter-IsIn, IsIn-append, IsIn-left, IsIn-right, IsIn-flat_map, flat_map-IsIn, IsIn-map, map-IsIn, IsIn-from_Contains, Contains-from_IsIn, find-some, find-none, filter-all, All-weaker}
+use Rattle.pcp_base.proofs.Members.{IsIn, IsIn-filter, filter-IsIn, IsIn-append, IsIn-left, IsIn-right, IsIn-flat_map, flat_map-IsIn, IsIn-map, map-IsIn, IsIn-from_Contains, Contains-from_IsIn, find-none, filter-all, All-weaker}
 use Rattle.pcp_base.proofs.TableLemmas.{Sound-filter, Sound-filter_maps, key-own}
 use Rattle.pcp_base.proofs.StageLaws.{two_ways, unlike}
 use Rattle.pcp_base.proofs.Same.{same_endpoint-Decides, same_address-Decides}
@@ -36,12 +36,12 @@ pub begins : (m : ℕ) (t : Table) (left : List Owner) → Sound t → AreLeavin
 begins m t left sound = record { sound = sound; live_same = refl; left_all = λ o h. inr h }
 
 module _ (m : ℕ) (start t : Table) (left : List Owner) (h : AreLeaving m start t left) where
-  module _ (l : MapLease) (found : find (λ x. not (live_map m x)) t.maps ≡ Some l) where
+  module _ (l : MapLease) (among : Contains t.maps l) (ended : live_map m l ≡ false) where
     abbrev other_map : MapLease → Bool
     other_map x = not (is_map_of (first_endpoint l) x)
 
     there : IsIn l t.maps × (not (live_map m l) ≡ true)
-    there = find-some (λ x. not (live_map m x)) t.maps l found
+    there = (IsIn-from_Contains t.maps l among, ap not ended)
 
     only : (x : MapLease) → IsIn x t.maps → is_map_of (first_endpoint l) x ≡ true → x ≡ l
     only x i k = one-key t (first_endpoint l) h.sound x l i there.0 k (key-own l)
@@ -75,12 +75,12 @@ module _ (m : ℕ) (start t : Table) (left : List Owner) (h : AreLeaving m start
     pub fewer_maps : length (filter other_map t.maps) < length t.maps
     fewer_maps = shorter other_map t.maps l there.0 (ap not (key-own l))
 
-  module _ (l : PeerLease) (found : find (λ x. not (live_peer m x)) t.peers ≡ Some l) where
+  module _ (l : PeerLease) (among : Contains t.peers l) (ended : live_peer m l ≡ false) where
     abbrev other_peer : PeerLease → Bool
     other_peer x = not (is_peer_of l.endpoint l.remote l.remote_port x)
 
     peer_there : IsIn l t.peers × (not (live_peer m l) ≡ true)
-    peer_there = find-some (λ x. not (live_peer m x)) t.peers l found
+    peer_there = (IsIn-from_Contains t.peers l among, ap not ended)
 
     only_peer : (x : PeerLease) → IsIn x t.peers → is_peer_of l.endpoint l.remote l.remote_port x ≡ true → x ≡ l
     only_peer x i k = one-peer l.endpoint l.remote l.remote_port t h.sound x l i peer_there.0 k (peer_own l)

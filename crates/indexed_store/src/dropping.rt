@@ -1,9 +1,11 @@
 //! Leases that have ended go out of the tables.
-ghost use Rattle.std.specs.Prelude.{◌≡◌, ◌+◌, ◌<◌, length, find, not, nat_lt, Contains, Ok, true, false, OnOk};
+ghost use Rattle.std.specs.Prelude.{◌≡◌, ◌+◌, ◌<◌, length, Contains, Ok, true, false, OnOk};
 ghost use Rattle.pcp_base.specs.declared.leases.Owner.{Owner};
 ghost use Rattle.pcp_base.specs.Tables.{Table, live, dead};
 ghost use Rattle.pcp_base.specs.Owners.{owners};
 ghost use Rattle.pcp_base.specs.Sound.{Sound};
+ghost use Rattle.mapping_table.specs.MapLists.{IsDeadMap};
+ghost use Rattle.peer_table.specs.PeerLists.{IsDeadPeer};
 ghost use Rattle.indexed_store.specs.Leaving.{AreLeaving};
 
 use crate::leases::Leases;
@@ -11,18 +13,18 @@ use crate::owning::{add_owners, owner_of_peer};
 use pcp_base::{MapLease, Memory, Moment, Owner, PeerLease};
 
 impl Leases {
-    /// The first MAP lease that isn't live at `m`.
+    /// One of the MAP leases that aren't live at `m`.
     fn ended_map(&self, m: Moment) -> Option<MapLease>
-        ensures { result ≡ find (λ l. not (nat_lt m l.expiry)) self.now.maps }
+        ensures { IsDeadMap m self.now.maps result }
     {
-        self.maps.ended(m).copied()
+        self.maps.one_ended(m).copied()
     }
 
-    /// The first PEER lease that isn't live at `m`.
+    /// One of the PEER leases that aren't live at `m`.
     fn ended_peer(&self, m: Moment) -> Option<PeerLease>
-        ensures { result ≡ find (λ l. not (nat_lt m l.expiry)) self.now.peers }
+        ensures { IsDeadPeer m self.now.peers result }
     {
-        self.peers.ended(m).copied()
+        self.peers.one_ended(m).copied()
     }
 
     /// Takes out a MAP lease that isn't live at `m`, and adds its ports; false where there is none.

@@ -312,13 +312,24 @@ given-use old new protocol port value whole h =
     (and_from (nat_le port port) (nat_lt port (port + 1)) (le-leb port port (omega arith)) (lt-ltb port (port + 1) (omega arith))) in
     h.uses whole protocol port ∙ ap (λ (b : Bool). cond b value (use_of old protocol port)) here
 
--- ---- a port gets another last end
-
 twice : {X : Type 0} (b : Bool) (x y z : X) → cond b x (cond b y z) ≡ cond b x z
 twice true x y z = refl
 twice false x y z = refl
 
-module _ (old : List (Option End)) (first second third : Holdings) (waits next : FinMap nat_cmp ℕ) (reached : ℕ) (last : End)
+-- one use, and then another
+pub gives-again : (first second third : Holdings) (protocol : Protocol) (port : ℕ) (value next : Use) → GivesUse first protocol port value second → GivesUse second protocol port next third → GivesUse first protocol port next third
+gives-again first second third protocol port value next one two = record {
+  on = λ low high most h. two.on low high most (one.on low high most h);
+  whole = λ h. two.whole (one.whole h);
+  uses = λ h other n.
+      two.uses (one.whole h) other n
+      ∙ ap (cond (same_protocol protocol other && is_in_run port 1 n) next) (one.uses h other n)
+      ∙ twice (same_protocol protocol other && is_in_run port 1 n) next value (use_of first other n);
+}
+
+-- ---- a port gets another last end
+
+module _ (old : List (Option End)) (first third : Holdings) (waits next : FinMap nat_cmp ℕ) (reached : ℕ) (last : End)
     (is : AreInStep old first waits) (settled : AreSettled reached old waits) (fits : IsLastEnd reached last) where
   abbrev at : ℕ
   at = place last.endpoint.protocol last.external
@@ -329,8 +340,7 @@ module _ (old : List (Option End)) (first second third : Holdings) (waits next :
   abbrev value : Use
   value = use_by (is_held_at reached (Some last)) (Some last)
 
-  module _ (within : at < length old) (freed : GivesUse first last.endpoint.protocol last.external Free second)
-      (used : GivesUse second last.endpoint.protocol last.external value third) (scheduled : IsScheduled waits at reached last next) where
+  module _ (within : at < length old) (used : GivesUse first last.endpoint.protocol last.external value third) (scheduled : IsScheduled waits at reached last next) where
     held-here : get next (held_id at) ≡ cond (nat_lt reached last.end) (Some last.end) None
     held-here = scheduled (held_id at) ∙ cond_other (held_id at) (rest_id at) _ _ (λ e. omega arith) ∙ cond_same (held_id at) (held_id at) _ _ refl
 
@@ -357,15 +367,13 @@ module _ (old : List (Option End)) (first second third : Holdings) (waits next :
     assigned-in_step : AreInStep now third next
     assigned-in_step = record {
       all = length-set old at (Some last) ∙ is.all;
-      whole = used.whole (freed.whole is.whole);
+      whole = used.whole is.whole;
       placed = λ x. elim (same_or_not x at) [
         | inl same ↦ subst (λ (o : Option End). IfSome o (λ (y : End). (1 ≤ y.external) × (place y.endpoint.protocol y.external ≡ x))) (sym (set-same old at (Some last) x within same)) (fits.external, sym same)
         | inr other ↦ subst (λ (o : Option End). IfSome o (λ (y : End). (1 ≤ y.external) × (place y.endpoint.protocol y.external ≡ x))) (sym (set-other old at (Some last) x other)) (is.placed x)
       ];
       used = λ q n.
-          used.uses (freed.whole is.whole) q n
-          ∙ ap (cond (same_protocol last.endpoint.protocol q && is_in_run last.external 1 n) value) (freed.uses is.whole q n)
-          ∙ twice (same_protocol last.endpoint.protocol q && is_in_run last.external 1 n) value Free (use_of first q n)
+          used.uses is.whole q n
           ∙ by-test q n (same_protocol last.endpoint.protocol q && is_in_run last.external 1 n) refl;
       held = λ x expiry h. elim (same_or_not x at) [
         | inl same ↦ (let here : cond (nat_lt reached last.end) (Some last.end) None ≡ Some expiry = sym held-here ∙ ap (λ (y : ℕ). get next (held_id y)) (sym same) ∙ h in

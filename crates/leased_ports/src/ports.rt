@@ -18,7 +18,7 @@ ghost use Rattle.leased_ports.specs.Steps.{IsAssigned};
 use crate::ends::{Ends, PLACES, forget, no_ends, place, write};
 use crate::falls::settle;
 use crate::schedule::schedule;
-use crate::uses::{free, occupy};
+use crate::uses::change_use;
 use expiry_wheel::Wheel;
 use external_pool::{PickAsk, PickRefused, Picked, Pool};
 use pcp_base::{End, Endpoint, Memory, Moment, Protocol};
@@ -72,14 +72,7 @@ fn assign(
         (IsAssigned ends.old.items reached last.now ends.new.items pool.new wheel.new) }
 {
     let at = place(last.endpoint.protocol, last.external);
-    free(
-        pool,
-        last.endpoint.protocol,
-        last.external,
-        ends[at],
-        reached,
-    );
-    occupy(pool, alloc, last, reached)?;
+    change_use(pool, alloc, ends[at], last, reached)?;
     schedule(wheel, alloc, at as u32, last, reached)?;
     write(ends, at, Some(*last));
     Ok(())

@@ -1,6 +1,6 @@
 -- What is asked of a list of MAP leases, in the order granted, and what it must keep to (our own; a
 -- MAP lease is a mapping of RFC 6887, section 11).
-use Rattle.std.specs.Prelude.{◌≡◌, ℕ, ◌+◌, ◌<◌, ◌≤◌, ◌&&◌, nat_le, nat_lt, not, Bool, false, List, ◌++◌, length, filter, find, IsTrue, Option, IfSome, IfNone, Result, OnOk, OnErr}
+use Rattle.std.specs.Prelude.{◌≡◌, ℕ, ◌+◌, ◌<◌, ◌≤◌, ◌&&◌, nat_le, nat_lt, not, Bool, false, List, ◌++◌, length, filter, find, Contains, IsTrue, Option, None, IfSome, IfNone, Result, OnOk, OnErr}
 use Rattle.std.specs.List.{AllByRecursion, list_any}
 use Rattle.pcp_base.specs.declared.leases.TheConstants.{MOST_LEASES}
 use Rattle.pcp_base.specs.declared.leases.Protocol.{Protocol}
@@ -33,6 +33,12 @@ map_with_key key ls = find (is_map_of key) ls
 -- the first lease that isn't live at m
 abbrev pub first_dead_map : ℕ → List MapLease → Option MapLease
 first_dead_map m ls = find (λ l. not (is_live_map m l)) ls
+
+-- one of the leases that aren't live at m, None exactly where all are
+pub record IsDeadMap (m : ℕ) (ls : List MapLease) (result : Option MapLease) : Type 0 where
+  pub among : IfSome result (λ l. Contains ls l)
+  pub dead : IfSome result (λ l. is_live_map m l ≡ false)
+  pub none : IfNone result (first_dead_map m ls ≡ None)
 
 -- whether a lease covers this port of the endpoint's address and protocol
 abbrev pub is_covered : Endpoint → List MapLease → ℕ → Bool

@@ -4,7 +4,7 @@ ghost use Rattle.std.specs.Prelude.{◌≡◌, ◌+◌, [], find, filter, count_
 ghost use Rattle.std.specs.Option.{option_copied};
 ghost use Rattle.std.specs.BTreeMap.{values};
 ghost use Rattle.pcp_base.specs.declared.leases.MapLease.{MapLease};
-ghost use Rattle.mapping_table.specs.MapLists.{is_live_map, map_covering, map_owning, first_dead_map, IsNextCovered, AreSoundMaps, with_map, PutsMap, RemovesMap, CopiesLiveMaps};
+ghost use Rattle.mapping_table.specs.MapLists.{is_live_map, map_covering, map_owning, first_dead_map, IsDeadMap, IsNextCovered, AreSoundMaps, with_map, PutsMap, RemovesMap, CopiesLiveMaps};
 ghost use Rattle.ordered_index.specs.Orders.{Place, port_cmp, place_cmp};
 ghost use Rattle.mapping_table.specs.Kept.{place_of_lease, port_of_lease, AreKeptMaps};
 
@@ -174,6 +174,16 @@ impl MapTable {
         self.kept
             .forget(number, place, port_of(&lease), lease.expiry);
         Some(lease)
+    }
+
+    /// One of the leases that aren't live at `m` and expired first. It looks at that one alone.
+    pub fn one_ended(&self, m: Moment) -> Option<&MapLease>
+        ensures { IsDeadMap m self.now (option_copied result) }
+    {
+        let Some(number) = self.kept.one_ended(m) else {
+            return None;
+        };
+        self.kept.leases.get(&number)
     }
 
     /// Appends the leases that are live at `m`, in the order granted. The one error is want of

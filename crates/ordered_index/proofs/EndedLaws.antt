@@ -1,8 +1,8 @@
 -- The expiries up to a moment are a range, and its least number.
-use Rattle.std.proofs.Common.{◌≡◌, ℕ, ◌+◌, ◌<◌, ◌≤◌, ◌&&◌, ◌==◌, nat_lt, Bool, true, not, cond, List, [], ◌∷◌, length, filter, count_by, Option, Some, None, IfSome, IfNone, refl, sym, ap, ◌∙◌, arith}
+use Rattle.std.proofs.Common.{◌≡◌, ℕ, ◌+◌, ◌<◌, ◌≤◌, ◌&&◌, ◌==◌, nat_lt, Bool, true, false, not, cond, List, [], ◌∷◌, length, filter, count_by, Option, Some, None, IfSome, IfNone, refl, sym, ap, ◌∙◌, arith}
 use Rattle.std.specs.Prelude.{⊤}
 use Rattle.std.specs.List.{AllByRecursion, list_any}
-use Rattle.std.specs.Ordering.{nat_cmp, ordering_then, is_le, MatchOrdering}
+use Rattle.std.specs.Ordering.{nat_cmp, ordering_then, is_le, is_gt, MatchOrdering}
 use Rattle.std.specs.declared.cmp.Ordering.{Ordering}
 use Rattle.std.specs.declared.cmp.Ordering.TheVariants.{Less, Equal, Greater}
 use Rattle.std.specs.declared.ops.Bound.TheVariants.{Excluded, Unbounded}
@@ -48,6 +48,15 @@ first-ended m es (Some n) found least none = record {
       All-IsIn (λ x. n ≤ x.0.1) (filter (has_ended m) es) e least (filter-IsIn (has_ended m) es e i t));
   none = tt;
 }
+
+-- a key that isn't behind another has no later expiry
+pub expiry-lower : (a b : ℕ × ℕ) → is_gt (expiry_cmp a b) ≡ false → a.0 ≤ b.0
+expiry-lower a b h = by (nat_cmp a.0 b.0) (ranked a.0 b.0 (nat_cmp a.0 b.0) refl) h
+  where
+    by : (o : Ordering) → MatchOrdering o (a.0 < b.0) (a.0 ≡ b.0) (b.0 < a.0) → is_gt (ordering_then o (nat_cmp a.1 b.1)) ≡ false → a.0 ≤ b.0
+    by Less r h = let less : a.0 < b.0 = r in omega (arith, less)
+    by Equal r h = let same : a.0 ≡ b.0 = r in omega (arith, same)
+    by Greater r h = absurd (let no : true ≡ false = h in cc)
 
 same_filter : {X : Type 0} (p q : X → Bool) → ((x : X) → p x ≡ q x) → (xs : List X) → filter p xs ≡ filter q xs
 same_filter p q h [] = refl

@@ -1,5 +1,5 @@
 -- The leases that have ended, in the list.
-use Rattle.std.proofs.Common.{◌≡◌, ℕ, suc, ◌+◌, ◌-◌, ◌<◌, ◌≤◌, ◌&&◌, ◌==◌, nat_lt, Bool, true, false, not, cond, List, [], ◌∷◌, find, length, count_by, Some, None, refl, sym, ap, ◌∙◌, subst, arith}
+use Rattle.std.proofs.Common.{◌≡◌, ℕ, suc, ◌+◌, ◌-◌, ◌<◌, ◌≤◌, ◌&&◌, ◌==◌, nat_lt, Bool, true, false, not, cond, List, [], ◌∷◌, find, length, count_by, Contains, Option, Some, None, IsSome, refl, sym, ap, ◌∙◌, subst, inl, inr, arith}
 use Rattle.std.specs.Prelude.{⊤}
 use Rattle.std.specs.List.{AllByRecursion}
 use Rattle.std.specs.List.Sorted.{IsStrictlySortedBy}
@@ -8,14 +8,14 @@ use Rattle.std.specs.Ordering.{nat_cmp, MatchOrdering}
 use Rattle.std.specs.declared.cmp.Ordering.{Ordering}
 use Rattle.std.specs.declared.cmp.Ordering.TheVariants.{Less}
 use Rattle.std.specs.BTreeMap.{get, is_at, values}
-use Rattle.std.proofs.lemmas.Bool.{and_parts, eqb-true}
+use Rattle.std.proofs.lemmas.Bool.{and_parts, eqb-true, le-ltb, lt-ltb}
 use Rattle.std.proofs.lemmas.Cmp.{ranked}
 use Rattle.std.proofs.lemmas.List.Filters.{length-filter_both}
 use Rattle.std.proofs.lemmas.List.Sums.{length-filter}
 use Rattle.std.proofs.lemmas.Map.Keys.{sorted_head, sorted_tail}
-use Rattle.pcp_base.proofs.Members.{IsIn, All-IsIn, All-from_IsIn, any-some}
+use Rattle.pcp_base.proofs.Members.{IsIn, All-IsIn, All-from_IsIn, any-some, Contains-from_IsIn}
 use Rattle.ordered_index.specs.declared.numbered.Numbered.{Numbered}
-use Rattle.ordered_index.specs.Ended.{has_ended, IsFirstEnded}
+use Rattle.ordered_index.specs.Ended.{has_ended, IsFirstEnded, IsOneEnded}
 use Rattle.ordered_index.specs.Kept.{Keying, IsKept}
 use Rattle.ordered_index.specs.Steps.{expiry_cmp}
 use Rattle.ordered_index.proofs.Entries.{at, number_same, entry_at, find_none}
@@ -72,6 +72,15 @@ module _ {X : Type 0} where
       first_step p e es n l (p e.1) (is_at (nat_cmp n) e.0) refl refl (sorted_head nat_cmp e.0 (keys_of es) sorted) least.0 h
       (λ b. find_first p es (sorted_tail nat_cmp e.0 (keys_of es) sorted) n l b h least.1) a
 
+  value_step : (e : ℕ × X) (es : List (ℕ × X)) (l : X) (c : Bool) (rest : Option X) → (rest ≡ Some l → IsIn l (values_of es)) → cond c (Some e.1) rest ≡ Some l → IsIn l (e.1 ∷ values_of es)
+  value_step e es l true rest f h = inl (let same : e.1 ≡ l = cc in same)
+  value_step e es l false rest f h = inr (f h)
+
+  -- what stands at a number is one of the values
+  value-in : (es : List (ℕ × X)) (n : ℕ) (l : X) → at es n ≡ Some l → IsIn l (values_of es)
+  value-in [] n l a = absurd (let no : None ≡ Some l = a in cc)
+  value-in (e ∷ es) n l a = value_step e es l (is_at (nat_cmp n) e.0) (at es n) (value-in es n l) a
+
 module _ {L K P : Type 0} (by : Keying L K P) (laws : AreLaws by) (it : Numbered L K P) (kept : IsKept by it) (m : ℕ) where
   abbrev is_live : L → Bool
   is_live l = nat_lt m (by.expiry l)
@@ -121,3 +130,19 @@ module _ {L K P : Type 0} (by : Keying L K P) (laws : AreLaws by) (it : Numbered
       let some = count-some (has_ended m) it.expiries.entries ((by.expiry x, n), tt) (at-entry expiry_total expiry_exact it.expiries kept.expiries_ordered (by.expiry x, n) tt due) t in
       let none : count_by (has_ended m) it.expiries.entries ≡ 0 = h.none in
       omega (arith, some, none)))
+
+  -- the lease at the number of one that has ended
+  pub one-stands : (n : ℕ) → IsOneEnded m it.expiries (Some n) → (l : L) × (get nat_cmp it.leases n ≡ Some l) × (is_live l ≡ false)
+  one-stands n h =
+      let y = due-from by laws it kept (h.ended.0, n) h.ended.2 in
+      let low : h.ended.0 ≤ m = h.ended.1 in
+      (y.0, y.1, ap (nat_lt m) y.2 ∙ le-ltb m h.ended.0 low)
+
+  pub one-none : IsOneEnded m it.expiries None → find (λ x. not (is_live x)) (values it.leases) ≡ None
+  one-none h = find_none (λ x. not (is_live x)) it.leases kept.ordered (λ n x a t.
+      let there : IsSome (get expiry_cmp it.expiries (by.expiry x, n)) = subst IsSome (sym (due-to by laws it kept n x a)) refl in
+      let live : not (nat_lt m (by.expiry x)) ≡ false = ap not (lt-ltb m (by.expiry x) (h.none (by.expiry x) n there)) in
+      absurd (let no : true ≡ false = sym t ∙ live in cc))
+
+  pub one-among : (n : ℕ) (l : L) → get nat_cmp it.leases n ≡ Some l → Contains (values it.leases) l
+  one-among n l a = Contains-from_IsIn (values it.leases) l (value-in it.leases.entries n l a)

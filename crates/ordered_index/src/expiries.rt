@@ -1,6 +1,6 @@
 //! Which leases have ended.
 ghost use Rattle.std.specs.Prelude.{◌≡◌, count_by, Some};
-ghost use Rattle.ordered_index.specs.Ended.{has_ended, IsFirstEnded};
+ghost use Rattle.ordered_index.specs.Ended.{has_ended, IsFirstEnded, IsOneEnded};
 ghost use Rattle.ordered_index.specs.Lesser.{lesser};
 
 use pcp_base::Moment;
@@ -32,4 +32,18 @@ pub(crate) fn first_ended(expiries: &BTreeMap<(u64, u64), ()>, m: Moment) -> Opt
         first = lesser_of(first, expiry.1);
     }
     first
+}
+
+/// The number of the earliest expiry, where that is at most `m`.
+pub(crate) fn one_ended(expiries: &BTreeMap<(u64, u64), ()>, m: Moment) -> Option<u64>
+    ensures { IsOneEnded m expiries.now result }
+{
+    let Some((first, _)) = expiries.first_key_value() else {
+        return None;
+    };
+    let (expiry, number) = *first;
+    if m.get() < expiry {
+        return None;
+    }
+    Some(number)
 }

@@ -1,6 +1,6 @@
 -- What is asked of a list of PEER leases, in the order granted, and what it must keep to (our own; a
 -- PEER lease is a mapping of RFC 6887, section 12).
-use Rattle.std.specs.Prelude.{◌≡◌, ℕ, ◌<◌, ◌≤◌, ◌&&◌, ◌==◌, nat_lt, not, Bool, false, List, ◌++◌, length, filter, find, count_by, IsTrue, Option, IfSome, IfNone, Result, OnOk, OnErr}
+use Rattle.std.specs.Prelude.{◌≡◌, ℕ, ◌<◌, ◌≤◌, ◌&&◌, ◌==◌, nat_lt, not, Bool, false, List, ◌++◌, length, filter, find, Contains, count_by, IsTrue, Option, None, IfSome, IfNone, Result, OnOk, OnErr}
 use Rattle.std.specs.List.{AllByRecursion, list_any}
 use Rattle.pcp_base.specs.declared.addresses.Address.{Address}
 use Rattle.pcp_base.specs.declared.leases.TheConstants.{MOST_LEASES, MOST_PEERS}
@@ -32,6 +32,12 @@ peer_opening protocol port remote remote_port ls = find (opens protocol port rem
 -- the first lease that isn't live at m
 abbrev pub first_dead_peer : ℕ → List PeerLease → Option PeerLease
 first_dead_peer m ls = find (λ l. not (is_live_peer m l)) ls
+
+-- one of the leases that aren't live at m, None exactly where all are
+pub record IsDeadPeer (m : ℕ) (ls : List PeerLease) (result : Option PeerLease) : Type 0 where
+  pub among : IfSome result (λ l. Contains ls l)
+  pub dead : IfSome result (λ l. is_live_peer m l ≡ false)
+  pub none : IfNone result (first_dead_peer m ls ≡ None)
 
 -- whether the lease names the endpoint and is live at m
 abbrev pub is_live_of : Endpoint → ℕ → PeerLease → Bool

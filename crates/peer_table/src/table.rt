@@ -5,7 +5,7 @@ ghost use Rattle.std.specs.Option.{option_copied};
 ghost use Rattle.std.specs.BTreeMap.{get, values};
 ghost use Rattle.std.specs.Ordering.{nat_cmp};
 ghost use Rattle.pcp_base.specs.declared.leases.PeerLease.{PeerLease};
-ghost use Rattle.peer_table.specs.PeerLists.{is_live_peer, peer_with_key, peer_opening, first_dead_peer, IsPortUse, IsLastExpiry, IsNextNamed, AreSoundPeers, with_peer, PutsPeer, RemovesPeer, CopiesLivePeers};
+ghost use Rattle.peer_table.specs.PeerLists.{is_live_peer, peer_with_key, peer_opening, first_dead_peer, IsDeadPeer, IsPortUse, IsLastExpiry, IsNextNamed, AreSoundPeers, with_peer, PutsPeer, RemovesPeer, CopiesLivePeers};
 ghost use Rattle.peer_table.specs.Kept.{key_cmp, AreKeptPeers, some_live};
 
 use crate::changes::{append, replace};
@@ -183,6 +183,16 @@ impl PeerTable {
         ensures { option_copied result ≡ first_dead_peer m self.now }
     {
         let Some(number) = self.kept.first_ended(m) else {
+            return None;
+        };
+        self.kept.leases.get(&number)
+    }
+
+    /// One of the leases that aren't live at `m` and expired first. It looks at that one alone.
+    pub fn one_ended(&self, m: Moment) -> Option<&PeerLease>
+        ensures { IsDeadPeer m self.now (option_copied result) }
+    {
+        let Some(number) = self.kept.one_ended(m) else {
             return None;
         };
         self.kept.leases.get(&number)

@@ -13,7 +13,7 @@ returns-clause-ok c =
     let last = c.args.last.now in
     let at = c.place-at.ensures.value in
     let within : place last.endpoint.protocol last.external < length old = subst (λ (n : ℕ). n < length old) at (omega (arith, c.place-at.ensures.bound, c.requires.in_step.all)) in
-    assigned old c.args.pool.now c.free.new.pool c.occupy.new.pool c.args.wheel.now c.schedule.new.wheel c.args.reached last
-    c.requires.in_step c.requires.settled c.requires.last within c.free.ensures c.in_ok-occupy.ensures.ok
+    assigned old c.args.pool.now c.change_use.new.pool c.args.wheel.now c.schedule.new.wheel c.args.reached last
+    c.requires.in_step c.requires.settled c.requires.last within c.in_ok-change_use.ensures.ok
     (subst (λ (n : ℕ). IsScheduled c.args.wheel.now n c.args.reached last c.schedule.new.wheel) at c.in_ok-schedule.ensures)
     c.write.new.ends.items (c.write.ensures ∙ ap (λ (n : ℕ). slice_set old n (Some last)) at)

@@ -8,7 +8,7 @@ use Rattle.indexed_store.proofs.LeavingLemmas.{all_live, begins, leave_peer, few
 use Rattle.indexed_store.proofs.leases.Leases.drop_peer.Goals as goal
 
 pub returns-in_default-clause-all : goal.returns-in_default-clause-all
-returns-in_default-clause-all c = λ _. all_live (λ (l : PeerLease). nat_lt c.args.m l.expiry) c.args.self.now.peers (sym c.in_default.ensures)
+returns-in_default-clause-all c = λ _. all_live (λ (l : PeerLease). nat_lt c.args.m l.expiry) c.args.self.now.peers c.in_default.ensures.none
 
 pub returns-clause-leaving : goal.returns-clause-leaving
 returns-clause-leaving c = λ start h.
@@ -21,11 +21,11 @@ returns-clause-leaving c = λ start h.
     let table : before ≡ after = ap (λ (ps : List PeerLease). record { maps = c.self.inside.maps; peers = ps }) peers ∙ ap (λ (x : Table). record { maps = x.maps; peers = others }) c.self.view_is in
     let more = c.in_ok-push.ensures.items ∙ ap (λ (o : Owner). left ++ o ∷ []) c.owner_of_peer.ensures in
     subst (λ (os : List Owner). AreLeaving c.args.m start before os) (sym more)
-    (subst (λ (x : Table). AreLeaving c.args.m start x (left ++ peer_owner l ∷ [])) (sym table) (leave_peer c.args.m start t left h l (sym c.in-Some.ensures)))
+    (subst (λ (x : Table). AreLeaving c.args.m start x (left ++ peer_owner l ∷ [])) (sym table) (leave_peer c.args.m start t left h l c.in-Some.ensures.among c.in-Some.ensures.dead))
 
 pub returns-clause-fewer : goal.returns-clause-fewer
 returns-clause-fewer c = λ _.
     let t = c.args.self.now in let l = c.in-Some.lease in let left = c.args.left.now.items in
     let peers : c.remove.new.self ≡ filter (λ (x : PeerLease). not (is_peer_of l.endpoint l.remote l.remote_port x)) t.peers = c.remove.ensures.removed
     ∙ ap (λ (x : Table). filter (λ (y : PeerLease). not (is_peer_of l.endpoint l.remote l.remote_port y)) x.peers) c.self.view_is in
-    subst (λ (ps : List PeerLease). length ps < length t.peers) (sym peers) (fewer_peers c.args.m t t left (begins c.args.m t left c.requires) l (sym c.in-Some.ensures))
+    subst (λ (ps : List PeerLease). length ps < length t.peers) (sym peers) (fewer_peers c.args.m t t left (begins c.args.m t left c.requires) l c.in-Some.ensures.among c.in-Some.ensures.dead)
