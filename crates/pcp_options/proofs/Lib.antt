@@ -1,7 +1,9 @@
 pub mod AskLaws
+pub mod CheckLemmas
 pub mod OptionLaws
 pub mod ReplyLaws
 pub mod ResponseLaws
+pub mod RoomLemmas
 pub mod TextLemmas
 pub mod VerdictLemmas
 pub mod WalkLemmas

@@ -1,5 +1,6 @@
 -- The verdict by its parts.
-use Rattle.std.proofs.Common.{◌≡◌, ℕ, ◌≤◌, ◌==◌, Bool, true, false, cond, List, [], ◌++◌, length, Option, Some, None, Ok, Err, unwrap_or, refl, ap, sym, ◌∙◌, subst}
+use Rattle.std.proofs.Common.{◌≡◌, ℕ, ◌≤◌, ◌==◌, Bool, true, false, cond, List, [], ◌++◌, length, drop, Option, Some, None, Ok, Err, unwrap_or, refl, ap, sym, ◌∙◌, subst, arith}
+use Rattle.std.proofs.lemmas.List.{length-drop}
 use Rattle.pcp_base.specs.declared.addresses.Address.{Address}
 use Rattle.pcp_base.specs.declared.leases.Endpoint.{Endpoint}
 use Rattle.pcp_base.specs.declared.leases.Filter as Filters
@@ -36,6 +37,20 @@ frame-room frame octets (source, h) =
     let p = passed octets source frame h in
     subst (λ f. f.options ≤ length octets) p.1 p.0.room
 
+frame-head : (frame : Frame) (octets : List ℕ) → IsFrameOf frame octets → 24 ≤ frame.options
+frame-head frame octets (source, h) =
+    let p = passed octets source frame h in
+    let all : 24 ≤ (frame_of octets).options = omega arith in
+    subst (λ f. 24 ≤ f.options) p.1 all
+
+-- so few octets stand behind it
+pub frame-few : (frame : Frame) (octets : List ℕ) → IsFrameOf frame octets → length (drop frame.options octets) ≤ 1076
+frame-few frame octets (source, h) =
+    let most = (passed octets source frame h).0.most in
+    let head = frame-head frame octets (source, h) in
+    let rest = length-drop frame.options octets in
+    omega (arith, most, head, rest)
+
 -- the verdict by the octets behind the data
 abbrev pub text_verdict : Config → Address → Frame → List ℕ → Verdict
 text_verdict config source frame text =
@@ -71,26 +86,33 @@ options-refused config source frame text code h =
     sym (ap (verdict_by config source frame (items_of (found_in text)))
     (first_case-Some (options_steps frame.lifetime frame.body (found_in text)) (third_steps config source (third_of (items_of (found_in text)))) (unparsed code) h))
 
-options-pass : (config : Config) (source : Address) (frame : Frame) (text : List ℕ) (seen : Seen) → first_case (options_steps frame.lifetime frame.body (found_in text)) ≡ None → seen ≡ seen_of (items_of (found_in text)) → text_verdict config source frame text ≡ verdict_by config source frame (items_of (found_in text)) (first_case (third_steps config source seen.third))
-options-pass config source frame text seen h s =
-    ap (verdict_by config source frame (items_of (found_in text)))
+-- the options pass
+pub options-pass : (config : Config) (source : Address) (frame : Frame) (text : List ℕ) (items : List Item) (seen : Seen) → first_case (options_steps frame.lifetime frame.body (found_in text)) ≡ None → seen ≡ seen_of (items_of (found_in text)) → items ≡ items_of (found_in text) → verdict_by config source frame items (first_case (third_steps config source seen.third)) ≡ text_verdict config source frame text
+options-pass config source frame text items seen h s i =
+    ap (λ xs. verdict_by config source frame xs (first_case (third_steps config source seen.third))) i
+    ∙ sym (ap (verdict_by config source frame (items_of (found_in text)))
     (first_case-None (options_steps frame.lifetime frame.body (found_in text)) (third_steps config source (third_of (items_of (found_in text)))) h
-    ∙ ap (λ x. first_case (third_steps config source x.third)) (sym s))
+    ∙ ap (λ x. first_case (third_steps config source x.third)) (sym s)))
+
+-- there is no option
+pub no-options : (config : Config) (source : Address) (frame : Frame) (text : List ℕ) (seen : Seen) → text ≡ [] → seen ≡ seen_of [] → verdict_by config source frame [] (first_case (third_steps config source seen.third)) ≡ text_verdict config source frame text
+no-options config source frame text seen h s =
+    subst (λ t. verdict_by config source frame [] (first_case (third_steps config source seen.third)) ≡ text_verdict config source frame t) (sym h)
+    (options-pass config source frame [] [] seen refl s refl)
 
 -- THIRD_PARTY is refused
-pub third-refused : (config : Config) (source : Address) (frame : Frame) (text : List ℕ) (seen : Seen) (code : Code) → first_case (options_steps frame.lifetime frame.body (found_in text)) ≡ None → seen ≡ seen_of (items_of (found_in text)) → first_case (third_steps config source seen.third) ≡ Some (parsed code) → Refuse (parsed code) ≡ text_verdict config source frame text
-third-refused config source frame text seen code h s t =
-    sym (options-pass config source frame text seen h s ∙ ap (verdict_by config source frame (items_of (found_in text))) t)
+pub third-refused : (config : Config) (source : Address) (frame : Frame) (items : List Item) (seen : Seen) (code : Code) → first_case (third_steps config source seen.third) ≡ Some (parsed code) → Refuse (parsed code) ≡ verdict_by config source frame items (first_case (third_steps config source seen.third))
+third-refused config source frame items seen code t = sym (ap (verdict_by config source frame items) t)
 
 subject-by : (source : Address) (third : Option Address) → subject_of source third ≡ unwrap_or third source
 subject-by source None = refl
 subject-by source (Some third) = refl
 
 -- the steps before the ask pass
-pub steps-pass : (config : Config) (source : Address) (frame : Frame) (text : List ℕ) (seen : Seen) (subject : Address) → first_case (options_steps frame.lifetime frame.body (found_in text)) ≡ None → seen ≡ seen_of (items_of (found_in text)) → first_case (third_steps config source seen.third) ≡ None → subject ≡ unwrap_or seen.third source → asked_for config frame (items_of (found_in text)) subject ≡ text_verdict config source frame text
-steps-pass config source frame text seen subject h s t u =
-    sym (options-pass config source frame text seen h s ∙ ap (verdict_by config source frame (items_of (found_in text))) t
-    ∙ ap (asked_for config frame (items_of (found_in text))) (ap (λ x. subject_of source x.third) (sym s) ∙ subject-by source seen.third ∙ sym u))
+pub steps-pass : (config : Config) (source : Address) (frame : Frame) (items : List Item) (seen : Seen) (subject : Address) → seen ≡ seen_of items → first_case (third_steps config source seen.third) ≡ None → subject ≡ unwrap_or seen.third source → asked_for config frame items subject ≡ verdict_by config source frame items (first_case (third_steps config source seen.third))
+steps-pass config source frame items seen subject s t u =
+    sym (ap (verdict_by config source frame items) t
+    ∙ ap (asked_for config frame items) (ap (λ x. subject_of source x.third) (sym s) ∙ subject-by source seen.third ∙ sym u))
 
 map-err : (lifetime : ℕ) (c : Common) (seen : Seen) (fs : List Filters.Filter) (code : Code) (e : Option Endpoint) → map_ask lifetime c seen [] e ≡ Err code → map_ask lifetime c seen fs e ≡ Err code
 map-err lifetime c seen fs code None h = h

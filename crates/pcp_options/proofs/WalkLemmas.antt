@@ -1,23 +1,17 @@
 -- The walk through the options of a request.
 use Rattle.std.specs.Int.{from_be_bytes, w16}
 use Rattle.std.specs.List.{list_any, cons_option}
-use Rattle.std.proofs.Common.{◌≡◌, ℕ, zero, suc, ◌+◌, ◌%◌, ◌≤◌, ◌==◌, ◌&&◌, ◌||◌, Bool, true, false, cond, List, [], ◌∷◌, ◌++◌, length, take, drop, min, Option, Some, None, is_some, get_or, refl, ap, sym, ◌∙◌, arith}
-use Rattle.std.proofs.lemmas.List.{append_assoc}
+use Rattle.std.proofs.Common.{◌≡◌, ℕ, zero, suc, ◌+◌, ◌%◌, ◌≤◌, ◌==◌, ◌&&◌, ◌||◌, Bool, true, false, cond, List, [], ◌∷◌, ◌++◌, length, take, drop, min, Option, Some, None, is_some, get_or, refl, ap, ◌∙◌, arith}
 use Rattle.std.proofs.lemmas.Bool.Decides.{nat_tests}
-use Rattle.std.specs.Option.{option_or, option_to_list}
+use Rattle.std.specs.Option.{option_or}
 use Rattle.pcp_base.specs.declared.addresses.Address.{Address}
 use Rattle.pcp_base.specs.declared.leases.Filter as Filters
 use Rattle.pcp_base.specs.declared.asks.PortSet as Sets
-use Rattle.pcp_base.specs.declared.asks.Refusal.{Refusal}
-use Rattle.pcp_base.specs.Cases.{first_case}
-use Rattle.pcp_codec.specs.declared.requests.Frame.{Frame}
 use Rattle.pcp_codec.specs.Fields.{octet, octets_at, u16_at}
-use Rattle.pcp_codec.proofs.FramingLemmas.{first_case-Some, first_case-None}
 use Rattle.pcp_options.specs.declared.options.Item.{Item}
 use Rattle.pcp_options.specs.declared.options.Item.TheVariants.{ThirdParty, PreferFailure, Filter, PortSet}
 use Rattle.pcp_options.specs.declared.options.Seen.{Seen}
-use Rattle.pcp_options.specs.Options.{FoundOption, fill, found_after, found_in, item_of, items_of}
-use Rattle.pcp_options.specs.Steps.{is_again, option_steps, steps_after, options_steps}
+use Rattle.pcp_options.specs.Options.{FoundOption, fill, found_after, found_in, items_of}
 use Rattle.pcp_options.specs.Asking.{third_of, prefers, set_of, seen_of}
 
 -- what is passed over is dropped
@@ -139,22 +133,22 @@ set-append (PreferFailure ∷ items) x = set-append items x
 set-append (Filter f ∷ items) x = set-append items x
 set-append (PortSet s ∷ items) x = refl
 
-or-none : {X : Type 0} → (o : Option X) → option_or o None ≡ o
+pub or-none : {X : Type 0} → (o : Option X) → option_or o None ≡ o
 or-none None = refl
 or-none (Some x) = refl
 
-or-false : (b : Bool) → (b || false) ≡ b
+pub or-false : (b : Bool) → (b || false) ≡ b
 or-false true = refl
 or-false false = refl
 
-or-true : (b : Bool) → (b || true) ≡ true
+pub or-true : (b : Bool) → (b || true) ≡ true
 or-true true = refl
 or-true false = refl
 
-abbrev seen_with : Option Address → Bool → Option Sets.PortSet → Seen
+abbrev pub seen_with : Option Address → Bool → Option Sets.PortSet → Seen
 seen_with third prefers set = record { third = third; prefers = prefers; set = set }
 
-seen-more : (items : List Item) (x : Item) → seen_of (items ++ x ∷ []) ≡ seen_with (option_or (third_of items) (third_of (x ∷ []))) (prefers items || prefers (x ∷ [])) (option_or (set_of items) (set_of (x ∷ [])))
+pub seen-more : (items : List Item) (x : Item) → seen_of (items ++ x ∷ []) ≡ seen_with (option_or (third_of items) (third_of (x ∷ []))) (prefers items || prefers (x ∷ [])) (option_or (set_of items) (set_of (x ∷ [])))
 seen-more items x = rw (third-append items x, prefers-append items x, set-append items x) refl
 
 pub with-third : (items : List Item) (self : Seen) (item : Item) (a : Address) (t : Option Address) → self ≡ seen_of items → item ≡ ThirdParty a → t ≡ option_or self.third (Some a) → seen_with t self.prefers self.set ≡ seen_of (items ++ item ∷ [])
@@ -169,56 +163,6 @@ with-set items self item s t h i e = rw (i, e, h, seen-more items (PortSet s), o
 pub with-filter : (items : List Item) (self : Seen) (item : Item) (f : Filters.Filter) → self ≡ seen_of items → item ≡ Filter f → self ≡ seen_of (items ++ item ∷ [])
 with-filter items self item f h i = rw (i, h, seen-more items (Filter f), or-none (third_of items), or-false (prefers items), or-none (set_of items)) refl
 
--- what the walk has found so far
-pub record IsChecked (frame : Frame) (text rest : List ℕ) (seen : Seen) : Type 0 where
-  pub before : List FoundOption
-  pub split : found_in text ≡ before ++ found_in rest
-  pub passed : first_case (options_steps frame.lifetime frame.body (found_in text)) ≡ first_case (steps_after frame.lifetime frame.body before (found_in rest))
-  pub seen_is : seen ≡ seen_of (items_of before)
-
-pub checked-none : (frame : Frame) (text : List ℕ) (seen : Seen) → seen ≡ seen_of [] → IsChecked frame text text seen
-checked-none frame text seen h = record { before = []; split = refl; passed = refl; seen_is = h }
-
-cons-to-list : {X : Type 0} → (o : Option X) → cons_option o [] ≡ option_to_list o
-cons-to-list None = refl
-cons-to-list (Some x) = refl
-
-cons-append : {X : Type 0} → (o : Option X) (xs ys : List X) → cons_option o (xs ++ ys) ≡ cons_option o xs ++ ys
-cons-append None xs ys = refl
-cons-append (Some x) xs ys = refl
-
-items-more : (os : List FoundOption) (o : FoundOption) → items_of (os ++ o ∷ []) ≡ items_of os ++ option_to_list (item_of o)
-items-more [] o = cons-to-list (item_of o)
-items-more (p ∷ os) o = ap (cons_option (item_of p)) (items-more os o) ∙ cons-append (item_of p) (items_of os) (option_to_list (item_of o))
-
--- an option passes
-pub checked-more : (frame : Frame) (text rest behind : List ℕ) (seen more : Seen) (o : FoundOption) → (h : IsChecked frame text rest seen) → found_in rest ≡ o ∷ found_in behind → first_case (option_steps frame.lifetime frame.body (is_again h.before o.code) o) ≡ None → more ≡ seen_of (items_of h.before ++ option_to_list (item_of o)) → IsChecked frame text behind more
-checked-more frame text rest behind seen more o h found pass m = record {
-  before = h.before ++ o ∷ [];
-  split = h.split ∙ ap (λ os. h.before ++ os) found ∙ sym (append_assoc h.before (o ∷ []) (found_in behind));
-  passed = h.passed ∙ ap (λ os. first_case (steps_after frame.lifetime frame.body h.before os)) found
-      ∙ first_case-None (option_steps frame.lifetime frame.body (is_again h.before o.code) o) (steps_after frame.lifetime frame.body (h.before ++ o ∷ []) (found_in behind)) pass;
-  seen_is = m ∙ ap seen_of (sym (items-more h.before o));
-}
-
--- an option is refused
-pub checked-refused : (frame : Frame) (text rest behind : List ℕ) (seen : Seen) (o : FoundOption) (r : Refusal) → (h : IsChecked frame text rest seen) → found_in rest ≡ o ∷ found_in behind → first_case (option_steps frame.lifetime frame.body (is_again h.before o.code) o) ≡ Some r → first_case (options_steps frame.lifetime frame.body (found_in text)) ≡ Some r
-checked-refused frame text rest behind seen o r h found e =
-    h.passed ∙ ap (λ os. first_case (steps_after frame.lifetime frame.body h.before os)) found
-    ∙ first_case-Some (option_steps frame.lifetime frame.body (is_again h.before o.code) o) (steps_after frame.lifetime frame.body (h.before ++ o ∷ []) (found_in behind)) r e
-
-append-none : {X : Type 0} → (xs : List X) → xs ++ [] ≡ xs
+pub append-none : {X : Type 0} → (xs : List X) → xs ++ [] ≡ xs
 append-none [] = refl
 append-none (x ∷ xs) = ap (λ ys. x ∷ ys) (append-none xs)
-
--- no option is left
-pub checked-passed : (frame : Frame) (text rest : List ℕ) (seen : Seen) → IsChecked frame text rest seen → found_in rest ≡ [] → first_case (options_steps frame.lifetime frame.body (found_in text)) ≡ None
-checked-passed frame text rest seen h none = h.passed ∙ ap (λ os. first_case (steps_after frame.lifetime frame.body h.before os)) none
-
-pub checked-seen : (frame : Frame) (text rest : List ℕ) (seen : Seen) → IsChecked frame text rest seen → found_in rest ≡ [] → seen ≡ seen_of (items_of (found_in text))
-checked-seen frame text rest seen h none =
-    h.seen_is ∙ ap (λ os. seen_of (items_of os)) (sym (h.split ∙ ap (λ os. h.before ++ os) none ∙ append-none h.before))
-
--- one item more of those that are collected
-pub collected-more : (text rest behind : List ℕ) (items : List Item) (o : FoundOption) → items_of (found_in text) ≡ items ++ items_of (found_in rest) → found_in rest ≡ o ∷ found_in behind → items_of (found_in text) ≡ items ++ cons_option (item_of o) (items_of (found_in behind))
-collected-more text rest behind items o h found = h ∙ ap (λ os. items ++ items_of os) found

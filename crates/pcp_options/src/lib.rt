@@ -6,6 +6,7 @@ mod laws;
 mod layout;
 mod options;
 mod replies;
+mod slots;
 mod verdicts;
 
 pub use laws::{

@@ -1,5 +1,5 @@
 //! The options of a request (RFC 6887, sections 7.3 and 13; PORT_SET: RFC 7753, section 4.1).
-ghost use Rattle.std.specs.Prelude.{◌≡◌, ◌+◌, ◌≤◌, true, Option, Some, None, List, [], ◌∷◌, ◌++◌, length, drop, is_some, option_map, option_to_list, IfOk, IfErr, IfSome, MatchOption};
+ghost use Rattle.std.specs.Prelude.{◌≡◌, ◌+◌, ◌≤◌, true, Option, Some, None, List, [], ◌∷◌, ◌++◌, length, drop, is_some, option_map, option_to_list, IfOk, IfErr, IfSome, OnOk, MatchOption};
 ghost use Rattle.pcp_base.specs.Cases.{first_case};
 ghost use Rattle.pcp_base.specs.Refusals.{unparsed};
 ghost use Rattle.pcp_options.specs.Asking.{filter_of, filters_of, seen_of};
@@ -7,8 +7,10 @@ ghost use Rattle.pcp_options.specs.Options.{FoundOption, found_in, item_of, item
 ghost use Rattle.pcp_options.specs.Raw.{found_of};
 ghost use Rattle.pcp_options.specs.Steps.{has_another_length, is_again, is_ignored, is_of_another_opcode, is_unknown, is_wrong, option_steps, options_steps};
 ghost use Rattle.pcp_options.specs.Verdicts.{IsFrameOf, behind_data, options_in};
+ghost use Rattle.pcp_options.specs.declared.slots.TheConstants.{MOST_OPTION_OCTETS};
 
 use crate::layout::*;
+use crate::slots::ItemSlots;
 use pcp_base::{Address, Code, Filter, Listed, PortSet};
 use pcp_codec::{Body, Frame, octet_of, octets_of, u16_of};
 use std::alloc::{AllocError, Global};
@@ -131,7 +133,8 @@ pub(crate) struct RawOption<'a> {
 fn split_option(text: &[u8]) -> Option<(RawOption<'_>, &[u8])>
     ensures found { MatchOption result (found_in text.now ≡ [])
         (λ parts. found_in text.now ≡ found_of parts.0 ∷ found_in parts.1.now) }
-    ensures shorter { IfSome result (λ parts. length parts.1.now + 4 ≤ length text.now) }
+    ensures shorter { IfSome result (λ parts.
+        length parts.1.now + (4 + length parts.0.content.now) ≤ length text.now) }
 {
     let [code, _, high, low, behind @ ..] = text else {
         return None;
@@ -254,11 +257,14 @@ fn fault_of(frame: &Frame, again: bool, option: &RawOption) -> Option<Code>
 }
 
 /// The options that stand at most once, or the code with which the first failing option is refused. The
-/// text is that behind the data of the opcode.
-pub(crate) fn check_options(frame: &Frame, text: &[u8]) -> Result<Seen, Code>
+/// text is that behind the data of the opcode. Its processed options come into the slots, in order.
+pub(crate) fn check_options(frame: &Frame, text: &[u8], items: &mut ItemSlots) -> Result<Seen, Code>
+    requires few { length text.now ≤ MOST_OPTION_OCTETS }
+    requires none { items.old ≡ [] }
     ensures passed { IfOk result (λ seen.
         first_case (options_steps frame.now.lifetime frame.now.body (found_in text.now)) ≡ None) }
     ensures seen { IfOk result (λ seen. seen ≡ seen_of (items_of (found_in text.now))) }
+    ensures items { OnOk result (items.new ≡ items_of (found_in text.now)) }
     ensures refused { IfErr result (λ code.
         first_case (options_steps frame.now.lifetime frame.now.body (found_in text.now))
         ≡ Some (unparsed code)) }
@@ -269,25 +275,12 @@ pub(crate) fn check_options(frame: &Frame, text: &[u8]) -> Result<Seen, Code>
         if let Some(code) = fault_of(frame, seen.has(option.code), &option) {
             return Err(code);
         }
-        seen = seen.with(read_item(&option));
+        let item = read_item(&option);
+        items.note(item);
+        seen = seen.with(item);
         rest = behind;
     }
     Ok(seen)
-}
-
-/// The processed options, in order.
-pub(crate) fn collect_items(alloc: Global, text: &[u8]) -> Result<Vec<Item>, AllocError>
-    ensures { IfOk result (λ items. items.items ≡ items_of (found_in text.now)) }
-{
-    let mut items = Vec::new(alloc);
-    let mut rest = text;
-    while let Some((option, behind)) = split_option(rest) {
-        if let Some(item) = read_item(&option) {
-            items.push(item)?;
-        }
-        rest = behind;
-    }
-    Ok(items)
 }
 
 /// The filters among the items, in order.
@@ -316,7 +309,8 @@ fn filter_in(item: &Item) -> Option<Filter>
 /// What stands behind the data of a request's opcode: its options.
 pub(crate) fn options_text<'a>(frame: &Frame, octets: &'a [u8]) -> &'a [u8]
     requires { IsFrameOf frame.now octets.now }
-    ensures { result.now ≡ behind_data frame.now octets.now }
+    ensures value { result.now ≡ behind_data frame.now octets.now }
+    ensures few { length result.now ≤ MOST_OPTION_OCTETS }
 {
     octets_from(octets, frame.options)
 }
@@ -344,8 +338,9 @@ pub fn read_options(alloc: Global, frame: &Frame, octets: &[u8]) -> Result<Items
         (options_in frame.now octets.now)) ≡ None }
 {
     let text = options_text(frame, octets);
-    let Err(code) = check_options(frame, text) else {
-        return Ok(Items::of(collect_items(alloc, text)?));
+    let mut items = ItemSlots::none();
+    let Err(code) = check_options(frame, text, &mut items) else {
+        return Ok(Items::of(items.items().to_vec(alloc)?));
     };
     Err(OptionsRefused::Code(code))
 }

@@ -1,5 +1,5 @@
 //! The verdict on a datagram (RFC 6887, section 8.2).
-ghost use Rattle.std.specs.Prelude.{◌≡◌, Option, Some, None, [], Result, Ok, Err, length, option_map, if◌then◌else◌, IfOk, OnErr};
+ghost use Rattle.std.specs.Prelude.{◌≡◌, ◌≤◌, Option, Some, None, [], Result, Ok, Err, length, option_map, if◌then◌else◌, IfOk, OnErr};
 ghost use Rattle.std.specs.List.{list_any};
 ghost use Rattle.pcp_base.specs.Cases.{first_case};
 ghost use Rattle.pcp_base.specs.Pairing.{holds};
@@ -7,9 +7,11 @@ ghost use Rattle.pcp_base.specs.Refusals.{unparsed};
 ghost use Rattle.pcp_options.specs.Asking.{ask_by, endpoint_of, seen_of, with_filters};
 ghost use Rattle.pcp_options.specs.Options.{found_in, items_of};
 ghost use Rattle.pcp_base.specs.Refusals.{parsed};
+ghost use Rattle.pcp_options.specs.declared.slots.TheConstants.{MOST_OPTION_OCTETS};
 ghost use Rattle.pcp_options.specs.Verdicts.{IsAsked, asked_for, later_steps, third_steps, verdict_by, verdict_of};
 
-use crate::options::{Items, Seen, check_options, collect_filters, collect_items, options_text};
+use crate::options::{Item, Items, Seen, check_options, collect_filters, options_text};
+use crate::slots::ItemSlots;
 use pcp_base::{
     Address, Ask, Code, Config, Endpoint, Filter, FilterList, MapAsk, Memory, PeerAsk, Protocol,
     Refusal, pair,
@@ -65,6 +67,7 @@ fn judge_frame(
     frame: &Frame,
     text: &[u8],
 ) -> Result<Verdict, Memory>
+    requires few { length text.now ≤ MOST_OPTION_OCTETS }
     ensures ok { IfOk result (λ verdict. verdict ≡ verdict_by config.now source.now frame.now
         (items_of (found_in text.now))
         (first_case (later_steps config.now source.now frame.now (found_in text.now)))) }
@@ -72,10 +75,50 @@ fn judge_frame(
         (items_of (found_in text.now))
         (first_case (later_steps config.now source.now frame.now (found_in text.now))))) }
 {
-    let seen = match check_options(frame, text) {
-        Ok(seen) => seen,
-        Err(code) => return Ok(Verdict::Refuse(refusal(code, false))),
-    };
+    if text.is_empty() {
+        return judge_options(alloc, config, source, frame, &Seen::none(), &[]);
+    }
+    judge_text(alloc, config, source, frame, text)
+}
+
+// The same for a request with options, whose slots others needn't fill.
+fn judge_text(
+    alloc: Global,
+    config: &Config,
+    source: &Address,
+    frame: &Frame,
+    text: &[u8],
+) -> Result<Verdict, Memory>
+    requires few { length text.now ≤ MOST_OPTION_OCTETS }
+    ensures ok { IfOk result (λ verdict. verdict ≡ verdict_by config.now source.now frame.now
+        (items_of (found_in text.now))
+        (first_case (later_steps config.now source.now frame.now (found_in text.now)))) }
+    ensures memory { OnErr result (IsAsked (verdict_by config.now source.now frame.now
+        (items_of (found_in text.now))
+        (first_case (later_steps config.now source.now frame.now (found_in text.now))))) }
+{
+    let mut items = ItemSlots::none();
+    match check_options(frame, text, &mut items) {
+        Ok(seen) => judge_options(alloc, config, source, frame, &seen, items.items()),
+        Err(code) => Ok(Verdict::Refuse(refusal(code, false))),
+    }
+}
+
+/// The verdict on a request with these options, which passed.
+fn judge_options(
+    alloc: Global,
+    config: &Config,
+    source: &Address,
+    frame: &Frame,
+    seen: &Seen,
+    items: &[Item],
+) -> Result<Verdict, Memory>
+    requires { seen.now ≡ seen_of items.now }
+    ensures ok { IfOk result (λ verdict. verdict ≡ verdict_by config.now source.now frame.now
+        items.now (first_case (third_steps config.now source.now seen.now.third))) }
+    ensures memory { OnErr result (IsAsked (verdict_by config.now source.now frame.now
+        items.now (first_case (third_steps config.now source.now seen.now.third)))) }
+{
     if let Some(code) = third_fault(config, source, seen.third) {
         return Ok(Verdict::Refuse(refusal(code, true)));
     }
@@ -83,8 +126,8 @@ fn judge_frame(
         alloc,
         config,
         frame,
-        text,
-        &seen,
+        seen,
+        items,
         seen.third.unwrap_or(*source),
     )
 }
@@ -94,15 +137,14 @@ fn judge_asking(
     alloc: Global,
     config: &Config,
     frame: &Frame,
-    text: &[u8],
     seen: &Seen,
+    items: &[Item],
     subject: Address,
 ) -> Result<Verdict, Memory>
-    requires { seen.now ≡ seen_of (items_of (found_in text.now)) }
+    requires { seen.now ≡ seen_of items.now }
     ensures ok { IfOk result (λ verdict. verdict
-        ≡ asked_for config.now frame.now (items_of (found_in text.now)) subject) }
-    ensures memory { OnErr result (IsAsked (asked_for config.now frame.now
-        (items_of (found_in text.now)) subject)) }
+        ≡ asked_for config.now frame.now items.now subject) }
+    ensures memory { OnErr result (IsAsked (asked_for config.now frame.now items.now subject)) }
 {
     let ask = match ask_without_filters(alloc, subject, frame, seen) {
         Ok(ask) => ask,
@@ -111,12 +153,11 @@ fn judge_asking(
     let Some(shard) = pair(config, &subject) else {
         return Ok(Verdict::Refuse(refusal(Code::NotAuthorized, true)));
     };
-    let items = collect_items(alloc, text)?;
-    let filters = collect_filters(alloc, &items)?;
+    let filters = collect_filters(alloc, items)?;
     Ok(Verdict::Asked {
         shard,
         ask: ask_with(ask, filters),
-        items: Items::of(items),
+        items: Items::of(items.to_vec(alloc)?),
     })
 }
 

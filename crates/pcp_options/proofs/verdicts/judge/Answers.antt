@@ -14,10 +14,10 @@ options_text-text-requires c = (c.args.source.now, sym c.in-Whole.ensures.exact)
 
 pub returns-in-Whole-clause-ok : goal.returns-in-Whole-clause-ok
 returns-in-Whole-clause-ok c =
-    let e = ap (text_verdict c.args.config.now c.args.source.now c.in-Whole.frame) c.options_text-text.ensures ∙ sym (judged-whole c.args.config.now c.args.source.now c.args.octets.now c.in-Whole.frame c.in-Whole.ensures.exact) in
+    let e = ap (text_verdict c.args.config.now c.args.source.now c.in-Whole.frame) c.options_text-text.ensures.value ∙ sym (judged-whole c.args.config.now c.args.source.now c.args.octets.now c.in-Whole.frame c.in-Whole.ensures.exact) in
     subst (λ v. IfOk c.judge_frame.result (λ x. x ≡ v)) e c.judge_frame.ensures.ok
 
 pub returns-in-Whole-clause-memory : goal.returns-in-Whole-clause-memory
 returns-in-Whole-clause-memory c =
-    let e = ap (text_verdict c.args.config.now c.args.source.now c.in-Whole.frame) c.options_text-text.ensures ∙ sym (judged-whole c.args.config.now c.args.source.now c.args.octets.now c.in-Whole.frame c.in-Whole.ensures.exact) in
+    let e = ap (text_verdict c.args.config.now c.args.source.now c.in-Whole.frame) c.options_text-text.ensures.value ∙ sym (judged-whole c.args.config.now c.args.source.now c.args.octets.now c.in-Whole.frame c.in-Whole.ensures.exact) in
     subst (λ v. OnErr c.judge_frame.result (IsAsked v)) e c.judge_frame.ensures.memory
