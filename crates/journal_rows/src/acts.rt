@@ -4,7 +4,7 @@ ghost use Rattle.lease_journal.specs.Views.{IsSettled};
 
 use crate::deeds::{Deed, Seen, moment, record_of, standing};
 use crate::snapshots::snapshot_of;
-use lease_disk::LeaseDisk;
+use lease_disk::{DiskPair, LeaseDisk, MemoryDisk};
 use lease_journal::{Journal, one_journal, snapshots_take_over};
 use pcp_base::{Record, Replay};
 use plain_replay::PlainReplay;
@@ -117,6 +117,50 @@ pub(crate) fn act_all<D: LeaseDisk>(
         }
     }
     Ok(deeds.len())
+}
+
+/// A pair without an octet.
+pub(crate) fn blank(alloc: Global) -> Result<DiskPair<MemoryDisk>, Fail> {
+    Ok(DiskPair {
+        a: MemoryDisk::new(alloc, 10_000)?,
+        b: MemoryDisk::new(alloc, 10_000)?,
+    })
+}
+
+/// Opens a journal at `m`, and does these deeds until a device call fails. The pair, and how many of
+/// the opening and the deeds went well.
+pub(crate) fn run(
+    alloc: Global,
+    pair: DiskPair<MemoryDisk>,
+    m: u64,
+    deeds: &[(u64, Deed)],
+) -> Result<(DiskPair<MemoryDisk>, usize), Fail> {
+    let mut replay = PlainReplay::new(alloc);
+    match Journal::recover(alloc, pair, moment(m)?, &mut replay) {
+        Ok((mut journal, _found)) => {
+            let done = act_all(alloc, &mut journal, &mut replay, deeds)?;
+            Ok((journal.close(), done.saturating_add(1)))
+        }
+        Err(unopened) => Ok((unopened.pair, 0)),
+    }
+}
+
+/// What an opening at `m` finds in the image of this choice.
+pub(crate) fn found(
+    alloc: Global,
+    pair: &DiskPair<MemoryDisk>,
+    choice: u8,
+    m: u64,
+) -> Result<Option<Seen>, Fail> {
+    let stopped = DiskPair {
+        a: pair.a.stopped(alloc, choice)?,
+        b: pair.b.stopped(alloc, choice)?,
+    };
+    let mut replay = PlainReplay::new(alloc);
+    match Journal::recover(alloc, stopped, moment(m)?, &mut replay) {
+        Ok((_journal, found)) => Ok(Some(standing(found, &replay))),
+        Err(_) => Ok(None),
+    }
 }
 
 /// Reads a journal again at 2000, and once more where that failed.

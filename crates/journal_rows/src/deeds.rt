@@ -86,9 +86,9 @@ pub(crate) static RUN: [(u64, Deed); 11] = [
     (1080, Deed::Leased(5001, 1025, 1080, 4680)),
 ];
 
-/// What an opening at 2000 finds before the run, after its opening, and after each deed.
+/// What an opening at 3000 finds before the run, after its opening, and after each deed.
 pub(crate) static STATES: [Seen; 13] = [
-    Seen(Found::Blank, 2000, 2000, 0, 0),
+    Seen(Found::Blank, 3000, 3000, 0, 0),
     Seen(Found::Recovered, 1000, 1000, 0, 0),
     Seen(Found::Recovered, 1000, 1001, 0, 0),
     Seen(Found::Recovered, 1000, 1010, 1, 0),
@@ -112,9 +112,15 @@ pub(crate) fn is_at(number: usize, left: &Seen) -> bool {
         .any(|state| state == left)
 }
 
-/// What an opening of a damaged journal at 2000 may leave: it is damaged, blank, or started.
-pub(crate) static UNDONE: [Seen; 3] = [
-    Seen(Found::Damaged, 0, 0, 0, 0),
-    Seen(Found::Blank, 0, 0, 0, 0),
+/// What an opening at 3000 finds before an opening of a damaged journal at 2000, within it, and after it.
+pub(crate) static ANEW: [Seen; 3] = [
+    Seen(Found::Damaged, 3000, 3000, 0, 0),
+    Seen(Found::Blank, 3000, 3000, 0, 0),
     Seen(Found::Recovered, 2000, 2000, 0, 0),
+];
+
+/// What an opening finds before a lease at 1010, and after it.
+pub(crate) static LEASES: [Seen; 2] = [
+    Seen(Found::Recovered, 1000, 1000, 0, 0),
+    Seen(Found::Recovered, 1000, 1010, 1, 0),
 ];

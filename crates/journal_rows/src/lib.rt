@@ -5,9 +5,9 @@
 #[cfg(test)]
 mod acts;
 #[cfg(test)]
-mod damages;
-#[cfg(test)]
 mod deeds;
+#[cfg(test)]
+mod gates;
 #[cfg(test)]
 mod octets;
 #[cfg(test)]

@@ -1,10 +1,8 @@
 //! A lease and its compaction, octet by octet.
 
-use crate::acts::act_all;
-use crate::deeds::{Deed, moment};
+use crate::acts::{blank, run};
+use crate::deeds::Deed;
 use lease_disk::{DiskPair, LeaseDisk, MemoryDisk};
-use lease_journal::Journal;
-use plain_replay::PlainReplay;
 use std::alloc::Global;
 use std::test::Fail;
 
@@ -32,8 +30,14 @@ pub(crate) static COMPACTED: [u8; 124] = [
     0x03, 0xf2, 0x00, 0x00, 0x00, 0x00, 0x00, 0x00, 0x12, 0x02, 0x00, 0x00,
 ];
 
+/// The deeds that make this journal of one that starts at 1000.
+pub(crate) static LEASING: [(u64, Deed); 2] = [
+    (1000, Deed::Told),
+    (1010, Deed::Leased(5000, 1024, 1010, 4610)),
+];
+
 /// The octets of a disk, at most 200.
-fn octets(alloc: Global, disk: &mut MemoryDisk) -> Result<Vec<u8>, Fail> {
+pub(crate) fn octets(alloc: Global, disk: &mut MemoryDisk) -> Result<Vec<u8>, Fail> {
     let mut piece = [0; 200];
     let count = disk.read_at(0, &mut piece)?;
     Ok(piece[..count].to_vec(alloc)?)
@@ -46,28 +50,17 @@ fn after(
     m: u64,
     deeds: &[(u64, Deed)],
 ) -> Result<Option<DiskPair<MemoryDisk>>, Fail> {
-    let mut replay = PlainReplay::new(alloc);
-    let Ok((mut journal, _found)) = Journal::recover(alloc, pair, moment(m)?, &mut replay) else {
-        return Ok(None);
-    };
-    if act_all(alloc, &mut journal, &mut replay, deeds)? < deeds.len() {
+    let (pair, done) = run(alloc, pair, m, deeds)?;
+    if done <= deeds.len() {
         return Ok(None);
     }
-    Ok(Some(journal.close()))
+    Ok(Some(pair))
 }
 
 #[test]
 fn written(rt: HostRuntime) -> Result<(), Fail> {
     let alloc = rt.alloc();
-    let blank = DiskPair {
-        a: MemoryDisk::new(alloc, 10_000)?,
-        b: MemoryDisk::new(alloc, 10_000)?,
-    };
-    let leases = [
-        (1000, Deed::Told),
-        (1010, Deed::Leased(5000, 1024, 1010, 4610)),
-    ];
-    let mut leased = after(alloc, blank, 1000, &leases)?.ok_or("not leased")?;
+    let mut leased = after(alloc, blank(alloc)?, 1000, &LEASING)?.ok_or("not leased")?;
     assert!(rt; octets(alloc, &mut leased.a)?.as_slice() == LEASED.as_slice());
     assert!(rt; octets(alloc, &mut leased.b)?.is_empty());
     let mut compacted = after(alloc, leased, 1500, &[(1010, Deed::Compacted)])?.ok_or(

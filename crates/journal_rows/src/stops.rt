@@ -1,87 +1,139 @@
-//! Runs of which each device call in turn is the last one, or fails.
+//! Openings and runs of which each device call in turn is the last one, or fails.
 
-use crate::acts::{act_all, read_again};
-use crate::deeds::{Deed, RUN, Seen, is_at, moment, standing};
-use lease_disk::{DiskPair, MemoryDisk};
+use crate::acts::{act_all, blank, found, read_again, run};
+use crate::deeds::{ANEW, Deed, RUN, STATES, Seen, is_at, moment};
+use crate::octets::{COMPACTED, LEASED};
+use lease_disk::{DiskPair, LeaseDisk, MemoryDisk};
 use lease_journal::Journal;
 use plain_replay::PlainReplay;
 use std::alloc::Global;
 use std::test::Fail;
 
-/// A pair without an octet.
-fn blank(alloc: Global) -> Result<DiskPair<MemoryDisk>, Fail> {
-    Ok(DiskPair {
-        a: MemoryDisk::new(alloc, 10_000)?,
-        b: MemoryDisk::new(alloc, 10_000)?,
-    })
+/// A side: its octets, and the place of the one that is changed by a mask.
+#[derive(Clone, Copy)]
+struct Side(&'static [u8], usize, u8);
+
+/// An opening of two sides, deeds after it, and what may stand then.
+#[derive(Clone, Copy)]
+struct Row {
+    a: Side,
+    b: Side,
+    /// When they are opened.
+    opened: u64,
+    deeds: &'static [(u64, Deed)],
+    /// The states that are passed through, of which this many stand before the opening.
+    states: &'static [Seen],
+    before: usize,
 }
 
-/// Opens a journal at 1000, and does the run until a device call fails. The pair, and the number of
-/// the state that is sure.
-fn run(alloc: Global, pair: DiskPair<MemoryDisk>) -> Result<(DiskPair<MemoryDisk>, usize), Fail> {
-    let mut replay = PlainReplay::new(alloc);
-    match Journal::recover(alloc, pair, moment(1000)?, &mut replay) {
-        Ok((mut journal, _found)) => {
-            let done = act_all(alloc, &mut journal, &mut replay, &RUN)?;
-            Ok((journal.close(), done.saturating_add(1)))
-        }
-        Err(unopened) => Ok((unopened.pair, 0)),
+/// The disk of a side, synced.
+fn disk_of(alloc: Global, side: &Side) -> Result<MemoryDisk, Fail> {
+    let Side(octets, place, mask) = *side;
+    let mut disk = MemoryDisk::new(alloc, 10_000)?;
+    disk.write_at(0, octets)?;
+    if let Some(octet) = octets.get(place) {
+        disk.write_at(place as u64, &[*octet ^ mask])?;
     }
+    disk.sync()?;
+    Ok(disk)
 }
 
-/// What an opening at 2000 finds.
-fn found(alloc: Global, pair: DiskPair<MemoryDisk>) -> Result<Option<Seen>, Fail> {
-    let mut replay = PlainReplay::new(alloc);
-    match Journal::recover(alloc, pair, moment(2000)?, &mut replay) {
-        Ok((_journal, found)) => Ok(Some(standing(found, &replay))),
-        Err(_) => Ok(None),
-    }
+/// Whether this may be left where so many of the opening and the deeds went well: the state that they
+/// made, or the next one; and before the opening all up to that.
+fn may_be(row: &Row, done: usize, left: &Seen) -> bool {
+    let (skipped, taken) = match done.checked_sub(1) {
+        Some(deeds) => (row.before.saturating_add(deeds), 2),
+        None => (0, row.before.saturating_add(1)),
+    };
+    row.states
+        .iter()
+        .skip(skipped)
+        .take(taken)
+        .any(|state| state == left)
 }
 
-/// Whether each image of the sides is the state of this number, or the one after it.
-fn are_left(alloc: Global, pair: &DiskPair<MemoryDisk>, sure: usize) -> Result<bool, Fail> {
+/// Whether each image may be left.
+fn are_kept(
+    alloc: Global,
+    row: &Row,
+    pair: &DiskPair<MemoryDisk>,
+    done: usize,
+) -> Result<bool, Fail> {
     for choice in 0..3 {
-        let stopped = DiskPair {
-            a: pair.a.stopped(alloc, choice)?,
-            b: pair.b.stopped(alloc, choice)?,
-        };
-        let Some(left) = found(alloc, stopped)? else {
+        let Some(left) = found(alloc, pair, choice, 3000)? else {
             return Ok(false);
         };
-        if !is_at(sure, &left) {
+        if !may_be(row, done, &left) {
             return Ok(false);
         }
     }
     Ok(true)
 }
 
-/// Runs where this device call of a side is the last one. Whether that leaves what it may, and
-/// whether the run went to its end.
-fn stop_at(alloc: Global, stops_b: bool, call: u64) -> Result<(bool, bool), Fail> {
-    let mut pair = blank(alloc)?;
+/// Goes through a row where this device call of a side is the last one. Whether that leaves what it
+/// may, and whether all went well.
+fn stop_at(alloc: Global, row: &Row, stops_b: bool, call: u64) -> Result<(bool, bool), Fail> {
+    let mut pair = DiskPair {
+        a: disk_of(alloc, &row.a)?,
+        b: disk_of(alloc, &row.b)?,
+    };
     if stops_b {
         pair.b.stop_at(call);
     } else {
         pair.a.stop_at(call);
     }
-    let (pair, sure) = run(alloc, pair)?;
-    Ok((are_left(alloc, &pair, sure)?, sure > RUN.len()))
+    let (pair, done) = run(alloc, pair, row.opened, row.deeds)?;
+    Ok((are_kept(alloc, row, &pair, done)?, done > row.deeds.len()))
+}
+
+/// Whether that is so at each call.
+fn is_kept(alloc: Global, row: &Row, stops_b: bool) -> Result<bool, Fail> {
+    for call in 0..200 {
+        let (kept, all) = stop_at(alloc, row, stops_b, call)?;
+        if !kept || all {
+            return Ok(kept);
+        }
+    }
+    Ok(false)
 }
 
 #[test]
 fn stops(rt: HostRuntime) -> Result<(), Fail> {
     let alloc = rt.alloc();
-    for stops_b in [false, true] {
-        let mut ended = false;
-        for call in 0..200 {
-            let (kept, all) = stop_at(alloc, stops_b, call)?;
-            assert!(rt; kept, "side b {stops_b}, call {call}");
-            ended = all;
-            if ended {
-                break;
-            }
-        }
-        assert!(rt; ended, "side b {stops_b}");
+    let blank = Side(&[], 0, 0);
+    let damaged = Row {
+        a: Side(&LEASED, 88, 0x03),
+        b: blank,
+        opened: 2000,
+        deeds: &[],
+        states: &ANEW,
+        before: 2,
+    };
+    let rows = [
+        // a blank start, appends and compactions
+        Row {
+            a: blank,
+            b: blank,
+            opened: 1000,
+            deeds: &RUN,
+            states: &STATES,
+            before: 1,
+        },
+        // a damaged start: a lease's protocol is changed on one side, on the newer one, and on both
+        damaged,
+        Row {
+            a: Side(&LEASED, 88, 0),
+            b: Side(&COMPACTED, 87, 0x03),
+            ..damaged
+        },
+        Row {
+            b: Side(&COMPACTED, 87, 0x03),
+            ..damaged
+        },
+    ];
+    for (number, row) in rows.iter().enumerate() {
+        assert!(rt; is_kept(alloc, row, false)?, "{number}");
+        assert!(rt; is_kept(alloc, row, true)?, "{number}");
     }
     Ok(())
 }
@@ -113,8 +165,8 @@ fn is_mended(alloc: Global, pair: DiskPair<MemoryDisk>) -> Result<bool, Fail> {
             Ok(act_all(alloc, &mut journal, &mut replay, rest)? == rest.len())
         }
         Err(unopened) => {
-            let (_pair, sure) = run(alloc, unopened.pair)?;
-            Ok(sure > RUN.len())
+            let (_pair, done) = run(alloc, unopened.pair, 1000, &RUN)?;
+            Ok(done > RUN.len())
         }
     }
 }

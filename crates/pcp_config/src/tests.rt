@@ -39,7 +39,7 @@ high = 65535
 ";
 
 // What stands before the table of an external address.
-static NUMBERS: [(&[u8], Shown); 34] = [
+static KEYS: [(&[u8], Shown); 39] = [
     (b"", Shown::Config(64, 120, 86_400)),
     (b"# quota = 0", Shown::Config(64, 120, 86_400)),
     (b"\"quota\" = 7", Shown::Config(7, 120, 86_400)),
@@ -74,14 +74,19 @@ static NUMBERS: [(&[u8], Shown); 34] = [
         Shown::Config(64, 1, 1),
     ),
     (b"lifetime_max = 1\nlifetime_min = 2", Shown::NotConfig),
+    (b"lifetime_max = 120\nlifetime_max = 120", Shown::NotToml),
+    (b"third_party = []\nthird_party = []", Shown::NotToml),
+    (b"subscriber = []\nsubscriber = []", Shown::NotToml),
+    (b"external = []", Shown::NotToml),
+    (b"[external]", Shown::NotToml),
     (b"quotas = 64", Shown::NotConfig),
     (b"Quota = 64", Shown::NotConfig),
     (b"quota.most = 64", Shown::NotConfig),
 ];
 
 #[test]
-fn numbers_of_a_configuration(rt: HostRuntime) -> Result<(), Fail> {
-    for (text, want) in &NUMBERS {
+fn keys_of_a_configuration(rt: HostRuntime) -> Result<(), Fail> {
+    for (text, want) in &KEYS {
         let found = read_behind(rt.alloc(), text, EXTERNAL)?;
         assert!(rt; found == Some(*want), "{}", text.escape_ascii());
     }
@@ -89,11 +94,16 @@ fn numbers_of_a_configuration(rt: HostRuntime) -> Result<(), Fail> {
 }
 
 // Which texts of lists are accepted before the table of an external address.
-static LISTS: [(&[u8], bool); 12] = [
+static LISTS: [(&[u8], bool); 14] = [
     (b"third_party = []", true),
     (b"third_party = [\"10.0.0.0/8\", \"10.0.0.0/8\"]", true),
     (
         b"third_party = [\"20010db8000000000000000000000000/128\"]",
+        true,
+    ),
+    (b"third_party = [\"10.0.0.0/0\", \"10.0.0.0/32\"]", true),
+    (
+        b"third_party = [\"20010db8000000000000000000000000/0\"]",
         true,
     ),
     (b"third_party = [\"10.0.0.0\"]", false),
@@ -178,8 +188,9 @@ fn external_addresses(rt: HostRuntime) -> Result<(), Fail> {
     Ok(())
 }
 
-// Whole texts without one external address at least, and one that has it in another form.
-static WHOLE: [(&[u8], Shown); 7] = [
+// Whole texts without one external address at least, one that has it in another form, and those with
+// a key of a table twice.
+static WHOLE: [(&[u8], Shown); 11] = [
     (b"", Shown::NotConfig),
     (b"external = []", Shown::NotConfig),
     (b"external = \"192.0.2.1\"", Shown::NotConfig),
@@ -193,7 +204,23 @@ static WHOLE: [(&[u8], Shown); 7] = [
         Shown::Config(64, 120, 86_400),
     ),
     (
+        b"[[external]]\naddress = \"192.0.2.1\"\naddress = \"192.0.2.1\"\nlow = 1\nhigh = 1",
+        Shown::NotToml,
+    ),
+    (
         b"[[external]]\nlow = 1\nlow = 1\nhigh = 1\naddress = \"192.0.2.1\"",
+        Shown::NotToml,
+    ),
+    (
+        b"[[external]]\nlow = 1\nhigh = 1\nhigh = 1\naddress = \"192.0.2.1\"",
+        Shown::NotToml,
+    ),
+    (
+        b"[[subscriber]]\nprefix = \"10.0.0.0/8\"\nprefix = \"10.0.0.0/8\"\nexternal = \"192.0.2.1\"",
+        Shown::NotToml,
+    ),
+    (
+        b"[[subscriber]]\nprefix = \"10.0.0.0/8\"\nexternal = \"192.0.2.1\"\nexternal = \"192.0.2.1\"",
         Shown::NotToml,
     ),
 ];
@@ -208,10 +235,19 @@ fn whole_texts(rt: HostRuntime) -> Result<(), Fail> {
 }
 
 // Which texts of a subscriber are accepted, behind the table of an external address.
-static SUBSCRIBERS: [(&[u8], bool); 12] = [
+static SUBSCRIBERS: [(&[u8], bool); 15] = [
     (b"prefix = \"10.0.0.0/8\"\nexternal = \"192.0.2.1\"", true),
     (
         b"external = \"00000000000000000000FFFFC0000201\"\nprefix = \"10.0.0.0/0\"",
+        true,
+    ),
+    (
+        b"prefix = \"10.0.0.0/8\"\nexternal = \"192.0.2.1\"\n[[subscriber]]\nprefix = \"10.0.0.0/8\"\nexternal = \"192.0.2.1\"",
+        true,
+    ),
+    (b"prefix = \"10.0.0.0/32\"\nexternal = \"192.0.2.1\"", true),
+    (
+        b"prefix = \"20010db8000000000000000000000000/128\"\nexternal = \"192.0.2.1\"",
         true,
     ),
     (b"external = \"192.0.2.1\"", false),

@@ -57,7 +57,8 @@ pub fn command_of(words: &[String]) -> Option<Command>
 // The START of a `play`.
 fn play_of(words: &[String]) -> Option<Moment>
     ensures value { IfSome result (IsPlayWords (map string_bytes words.now)) }
-    ensures none { IfNone result ((start : ℕ) → ¬ (IsPlayWords (map string_bytes words.now) start)) }
+    ensures none { IfNone result
+        ((start : ℕ) → ¬ (IsPlayWords (map string_bytes words.now) start)) }
 {
     let [play, config, script, journals, start] = words else {
         return None;

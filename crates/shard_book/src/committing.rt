@@ -199,7 +199,8 @@ pub(crate) fn commit<D: LeaseDisk>(
     records: &[Record],
 ) -> Result<(), JournalFault>
     requires few { length records.now ≤ MOST_RECORDS }
-    requires writable { IsWritable D.tells D.seen D.may_leave journal.old (state_of texts.old.sure) }
+    requires writable { IsWritable D.tells D.seen D.may_leave journal.old
+        (state_of texts.old.sure) }
     requires fit { AllFit (state_of texts.old.sure) records.now }
     requires added { texts.old.added ≡ records.now }
     requires reached { IsReached (state_of texts.old.sure) }

@@ -1,0 +1,138 @@
+//! The append of a lease, of which each device call in turn is the last one, octet by octet.
+
+use crate::acts::{blank, found, run};
+use crate::deeds::{LEASES, Seen};
+use crate::octets::{LEASED, LEASING, octets};
+use lease_disk::{DiskPair, LeaseDisk, MemoryDisk};
+use std::alloc::Global;
+use std::test::Fail;
+
+/// Where the gate of the lease's frame stands.
+const GATE: usize = 58;
+
+/// A journal that is left: how many of the octets are there, what the gate is, whether those behind it
+/// are torn, and how many leases that makes.
+#[derive(Clone, Copy)]
+struct Left(usize, u8, bool, usize);
+
+// The three images after a stop before the frame's write, after it, after its sync, after the gate's
+// write, and after the gate's sync.
+static IMAGES: [[Left; 3]; 5] = [
+    [
+        Left(59, 0x00, false, 0),
+        Left(59, 0x00, false, 0),
+        Left(59, 0x00, false, 0),
+    ],
+    [
+        Left(59, 0x00, false, 0),
+        Left(125, 0x00, false, 0),
+        Left(125, 0x00, true, 0),
+    ],
+    [
+        Left(125, 0x00, false, 0),
+        Left(125, 0x00, false, 0),
+        Left(125, 0x00, false, 0),
+    ],
+    [
+        Left(125, 0x00, false, 0),
+        Left(125, 0x01, false, 1),
+        Left(125, 0xff, false, 0),
+    ],
+    [
+        Left(125, 0x01, false, 1),
+        Left(125, 0x01, false, 1),
+        Left(125, 0x01, false, 1),
+    ],
+];
+
+/// The octets of a journal that is left.
+fn octets_of(alloc: Global, left: &Left) -> Result<Vec<u8>, Fail> {
+    let Left(size, gate, torn, _leases) = *left;
+    let mut octets = LEASED.to_vec(alloc)?;
+    if torn {
+        octets.truncate(GATE + 1);
+    }
+    octets.resize(size, 0xff)?;
+    if let Some(octet) = octets.get_mut(GATE) {
+        *octet = gate;
+    }
+    Ok(octets)
+}
+
+/// Leases a port where this device call of side a is the last one. The pair, and how many of the
+/// opening, its Renumber and the lease went well.
+fn leased(alloc: Global, call: u64) -> Result<(DiskPair<MemoryDisk>, usize), Fail> {
+    let mut pair = blank(alloc)?;
+    pair.a.stop_at(call);
+    run(alloc, pair, 1000, &LEASING)
+}
+
+/// The first device call of the lease.
+fn first_call(alloc: Global) -> Result<u64, Fail> {
+    for call in 0..200 {
+        let (_pair, done) = leased(alloc, call)?;
+        if done == 2 {
+            return Ok(call);
+        }
+    }
+    Ok(Err("no call")?)
+}
+
+/// Whether this found these leases.
+fn has(found: Option<Seen>, leases: usize) -> bool {
+    match found {
+        Some(seen) => LEASES.get(leases) == Some(&seen),
+        None => false,
+    }
+}
+
+/// Whether this journal is left on side a at this choice, and alone.
+fn is_left(
+    alloc: Global,
+    pair: &DiskPair<MemoryDisk>,
+    choice: u8,
+    left: &Left,
+) -> Result<bool, Fail> {
+    let (mut a, mut b) = (
+        pair.a.stopped(alloc, choice)?,
+        pair.b.stopped(alloc, choice)?,
+    );
+    if octets(alloc, &mut a)?.as_slice() != octets_of(alloc, left)?.as_slice() {
+        return Ok(false);
+    }
+    Ok(octets(alloc, &mut b)?.is_empty() && has(found(alloc, pair, choice, 1500)?, left.3))
+}
+
+/// The same at each choice.
+fn are_left(alloc: Global, call: u64, images: &[Left; 3]) -> Result<bool, Fail> {
+    let (pair, _done) = leased(alloc, call)?;
+    for (choice, left) in images.iter().enumerate() {
+        if !is_left(alloc, &pair, choice as u8, left)? {
+            return Ok(false);
+        }
+    }
+    Ok(true)
+}
+
+/// What an opening at 1500 finds behind this gate.
+fn found_behind(alloc: Global, gate: u8) -> Result<Option<Seen>, Fail> {
+    let mut pair = blank(alloc)?;
+    pair.a
+        .write_at(0, &octets_of(alloc, &Left(125, gate, false, 0))?)?;
+    found(alloc, &pair, 1, 1500)
+}
+
+#[test]
+fn a_lease_stands_behind_its_gate(rt: HostRuntime) -> Result<(), Fail> {
+    let alloc = rt.alloc();
+    let first = first_call(alloc)?;
+    for (number, images) in IMAGES.iter().enumerate() {
+        let left = are_left(alloc, first.saturating_add(number as u64), images)?;
+        assert!(rt; left, "{number}");
+    }
+    for gate in 0..=0xff {
+        let leases = usize::from(gate == 0x01);
+        assert!(rt; has(found_behind(alloc, gate)?, leases), "{gate}");
+    }
+    Ok(())
+}
