@@ -1,7 +1,7 @@
 -- A house that keeps which lines were answered, for tests (our own): the external addresses, and of
 -- each line the first letter of its word.
 use Rattle.std.specs.Prelude.{ℕ, ◌-◌, ◌^◌, min, List, [], ◌∷◌, ◌++◌, length, codes, Option, Some, None, if◌then◌else◌, ◌==◌}
-use Rattle.std.proofs.Common.{inl, inr}
+use Rattle.std.proofs.Common.{inl, inr, refl}
 use Rattle.pcp_base.proofs.Members.{Contains-from_IsIn, IsIn, IsIn-from_Contains}
 use Rattle.pcp_base.specs.declared.configs.External.{External}
 use Rattle.pcp_script.specs.declared.lines.Line.{Line}
@@ -60,3 +60,6 @@ both_ways house = record {
   );
   ends = λ a b houses w. (w.1, w.1);
 }
+
+pub still_there : {A House : Type 0} (house : A → House) (a : A) → leaves_both house a a (house a ∷ [])
+still_there house a = (inl refl, inl refl)

@@ -45,6 +45,9 @@ pub trait LineAnswerer {
     // Whether at each moment from the one to the other each image stands for one of these houses.
     ghost way: { Self → Self → List Self.House → Type 0 };
 
+    // Whether it may answer: no line is in doubt, and each image stands for its house.
+    ghost rests: { Self → Type 0 };
+
     // How many faults each disk of each shard has counted.
     ghost faults: { Self → (shard disk : ℕ) → ℕ };
 
@@ -57,11 +60,11 @@ pub trait LineAnswerer {
     /// after it. After a fault either may be; after `Disk` a fault of that shard was counted.
     fn answer(&mut self, alloc: Global, line: &Line) -> Result<Option<LineResult>, AnswerFault>
         requires line { IsRead (effects.externals (house self.old)) line.now }
-        requires rests { way self.old self.old (house self.old ∷ []) }
+        requires rests { rests self.old }
         ensures result { IfOk result
             (λ told. told ≡ effects.result_of (house self.old) line.now) }
         ensures house { OnOk result (house self.new ≡ effects.after (house self.old) line.now) }
-        ensures rests { OnOk result (way self.new self.new (house self.new ∷ [])) }
+        ensures rests { OnOk result (rests self.new) }
         ensures way { way self.old self.new
             (house self.old ∷ effects.after (house self.old) line.now ∷ []) }
         ensures cause { (shard : ℕ) → result ≡ Err (Disk shard) →
@@ -71,6 +74,10 @@ pub trait LineAnswerer {
 
     // What holds of ways.
     ghost ways: { WayLaws way };
+
+    // Where it may answer, each image stands for its house.
+    ghost stays: { (answerer : Self) → rests answerer →
+        way answerer answerer (house answerer ∷ []) };
 
     // Lines don't change which external addresses there are.
     ghost same_externals: { (house : Self.House) (line : Line) →

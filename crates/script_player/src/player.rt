@@ -4,7 +4,7 @@ ghost use Rattle.pcp_io.specs.Faults.{HasRisen};
 ghost use Rattle.script_player.specs.Houses.{line_out};
 ghost use Rattle.script_player.specs.Played.{IsKept, IsOver, Outset};
 ghost use Rattle.script_player.specs.Playing.{Answers, Fails, IsTurned, IsUnderway, status_at};
-ghost use Rattle.script_player.specs.Ways.{HasFault, course_of};
+ghost use Rattle.script_player.specs.Ways.{GoesSomeWay, HasFault, course_of};
 ghost use Rattle.script_player.specs.declared.faults.LineFault.TheVariants.{Disk, Read, Write};
 ghost use Rattle.script_player.specs.declared.player.PlayStatus.TheVariants.{DiskFault, ReadFault, WriteFault};
 ghost use Rattle.script_player.specs.declared.readers.Ending.TheVariants.{Feed};
@@ -56,13 +56,15 @@ fn answer_text<W: Sink, A: LineAnswerer>(
     answerer: &mut A,
     out: &mut W,
 ) -> Result<(), LineFault>
-    requires rests { A.way answerer.old answerer.old (A.house answerer.old ∷ []) }
+    requires rests { A.rests answerer.old }
     ensures ok { OnOk result
         (Answers (course_of A.effects A.house A.way answerer.old answerer.new) text.now
         (W.held out.old) (W.held out.new)) }
     ensures err { IfErr result
         (Fails (course_of A.effects A.house A.way answerer.old answerer.new) text.now
         (W.held out.old) (W.held out.new)) }
+    ensures rests { OnOk result (A.rests answerer.new) }
+    ensures over { GoesSomeWay (A.way answerer.old answerer.new) }
     ensures write_fault { result ≡ Err Write → HasRisen (W.faults out.old) (W.faults out.new) }
     ensures disk_fault { (shard : ℕ) → result ≡ Err (Disk shard) →
         HasFault (A.faults answerer.old shard) (A.faults answerer.new shard) }
@@ -87,16 +89,17 @@ fn turn<S: Source, W: Sink, A: LineAnswerer>(
     answerer: &mut A,
     out: &mut W,
 ) -> Result<Ending, LineFault>
-    requires rests { A.way answerer.old answerer.old (A.house answerer.old ∷ []) }
+    requires rests { A.rests answerer.old }
     ensures turned { (first : A) (outset : Outset) (number : ℕ) →
         IsUnderway (course_of A.effects A.house A.way first answerer.old) outset number reader.old
         (record { left = S.left input.old; held = W.held out.old }) →
         IsTurned (course_of A.effects A.house A.way first answerer.new) outset number reader.new
         (record { left = S.left input.new; held = W.held out.new }) result }
-    ensures rests { result ≡ Ok Feed → A.way answerer.new answerer.new (A.house answerer.new ∷ []) }
+    ensures rests { result ≡ Ok Feed → A.rests answerer.new }
     ensures used { result ≡ Ok Feed → (reader.old.used < reader.new.used)
         × (reader.new.used ≤ reader.old.limits.most) }
     ensures limits { reader.new.limits ≡ reader.old.limits }
+    ensures over { GoesSomeWay (A.way answerer.old answerer.new) }
     ensures read_fault { result ≡ Err Read → HasRisen (S.faults input.old) (S.faults input.new) }
     ensures write_fault { result ≡ Err Write → HasRisen (W.faults out.old) (W.faults out.new) }
     ensures disk_fault { (shard : ℕ) → result ≡ Err (Disk shard) →
@@ -132,14 +135,15 @@ fn status_of(fault: LineFault, number: u64) -> PlayStatus
 /// result to `out` before it looks at the next line. The script has at most 2^30 octets, and a line
 /// 8,192. Octets are read 4,096 at a time, none before all that were read are used.
 ///
-/// When it is called, each image that a crash may leave of the answerer stands for its house.
+/// When it is called, no line is in doubt, and each image that a crash may leave of the answerer
+/// stands for its house.
 pub fn play<S: Source, W: Sink, A: LineAnswerer>(
     alloc: Global,
     input: &mut S,
     answerer: &mut A,
     out: &mut W,
 ) -> PlayStatus
-    requires rests { A.way answerer.old answerer.old (A.house answerer.old ∷ []) }
+    requires rests { A.rests answerer.old }
 
     // What was read, answered and written, by the status, for a source and a sink that tell it.
     ensures played { (outset : Outset) →
@@ -152,6 +156,9 @@ pub fn play<S: Source, W: Sink, A: LineAnswerer>(
         S.left input.old ≡ Some outset.script → W.held out.old ≡ Some outset.held →
         IsKept (course_of A.effects A.house A.way answerer.old answerer.new) outset
         (record { left = S.left input.new; held = W.held out.new }) }
+
+    // So it is, of some houses, also where the source and the sink tell nothing.
+    ensures over { GoesSomeWay (A.way answerer.old answerer.new) }
 
     // A fault is told only where a count of faults rose.
     ensures read_fault { result ≡ ReadFault → HasRisen (S.faults input.old) (S.faults input.new) }

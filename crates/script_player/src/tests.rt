@@ -33,8 +33,8 @@ struct Logger {
 }
 
 impl LineAnswerer for Logger {
-    ghost use Rattle.script_player.specs.Logs.{both_ways, faults_at, leaves_both, log_effects};
-    ghost use Rattle.std.specs.Prelude.{refl};
+    ghost use Rattle.script_player.specs.Logs.{both_ways, faults_at, leaves_both, log_effects, still_there};
+    ghost use Rattle.std.specs.Prelude.{refl, ⊤};
 
     type House = (Externals, Octets);
 
@@ -44,9 +44,13 @@ impl LineAnswerer for Logger {
 
     ghost way = { leaves_both (λ l. (l.config.externals, l.letters.items)) };
 
+    ghost rests = { λ _. ⊤ };
+
     ghost faults = { λ l. faults_at 3 l.disk.faults };
 
     ghost ways = { both_ways (λ l. (l.config.externals, l.letters.items)) };
+
+    ghost stays = { λ l _. still_there (λ l. (l.config.externals, l.letters.items)) l };
 
     ghost same_externals = { λ _ _. refl };
 

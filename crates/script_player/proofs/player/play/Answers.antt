@@ -1,4 +1,4 @@
-use Rattle.std.proofs.Common.{rules, ◌≡◌, ◌∙◌, refl, ap, Some, Ok, lit≤, arith}
+use Rattle.std.proofs.Common.{rules, ◌≡◌, ◌∙◌, [], ◌∷◌, refl, ap, Some, Ok, lit≤, arith}
 use Rattle.script_player.specs.Reading.{Reading}
 use Rattle.script_player.specs.Ways.{course_of}
 use Rattle.script_player.specs.declared.readers.Ending.TheVariants.{Feed}
@@ -6,6 +6,7 @@ use Rattle.script_player.specs.declared.readers.Limits.{Limits}
 use Rattle.script_player.specs.declared.player.PlayStatus.TheVariants.{Done}
 use Rattle.script_player.specs.Playing.{status_at}
 use Rattle.script_player.specs.Played.{IsOver, Outset, Streams}
+use Rattle.script_player.proofs.AnswerLemmas.{goes_on}
 use Rattle.script_player.proofs.KeptLemmas.{IsKept-over}
 use Rattle.script_player.proofs.PlayLemmas.{begins, goes_on_at, is_over_at}
 use Rattle.script_player.proofs.player.play.Goals as goal
@@ -14,8 +15,9 @@ pub loop-number-init : goal.loop-number-init
 loop-number-init g c = record {
   underway = λ outset l h. begins
       (course_of g.A.LineAnswerer.effects g.A.LineAnswerer.house g.A.LineAnswerer.way c.args.answerer.now c.args.answerer.now) outset c.new-reader.result
-      (g.S.Source.left c.args.input.now) (g.W.Sink.held c.args.out.now) refl c.requires.rests c.new-reader.ensures l h;
+      (g.S.Source.left c.args.input.now) (g.W.Sink.held c.args.out.now) refl (g.met.A.LineAnswerer.stays c.args.answerer.now c.requires.rests) c.new-reader.ensures l h;
   rests = c.requires.rests;
+  over = (g.A.LineAnswerer.house c.args.answerer.now ∷ [], g.met.A.LineAnswerer.stays c.args.answerer.now c.requires.rests);
   limits = ap (λ (r : Reading). r.limits) c.new-reader.ensures;
   number = omega arith;
   used = rw c.new-reader.ensures (lit≤ tt);
@@ -36,6 +38,7 @@ loop-number-preserved g c =
           (record { left = g.S.Source.left c.turn.new.input; held = g.W.Sink.held c.turn.new.out }) c.in-Ok-Feed.field-0 c.in-Ok-Feed.field-0-is
           (went.turned c.args.answerer.now outset c.loop-number.number (inv.underway outset l h));
       rests = went.rests feed;
+      over = goes_on g.A.LineAnswerer.way g.met.A.LineAnswerer.ways c.args.answerer.now c.loop-number.answerer c.turn.new.answerer inv.over went.over;
       limits = went.limits ∙ inv.limits;
       number = omega (arith, inv.number, grew.0);
       used = omega (arith, grew.1, ap (λ (l : Limits). l.most) inv.limits);
@@ -57,6 +60,7 @@ returns-in-Ok g c =
     record {
       played = over;
       crash = λ outset l h. IsKept-over course outset streams Done (over outset l h);
+      over = goes_on g.A.LineAnswerer.way g.met.A.LineAnswerer.ways c.args.answerer.now c.loop-number.answerer c.turn.new.answerer inv.over went.over;
       read_fault = λ bad. absurd cc;
       write_fault = λ bad. absurd cc;
       disk_fault = λ shard bad. absurd cc;
@@ -70,3 +74,7 @@ returns-in-Err-clause-crash g c outset l h =
     IsKept-over (course_of g.A.LineAnswerer.effects g.A.LineAnswerer.house g.A.LineAnswerer.way c.args.answerer.now c.turn.new.answerer) outset
     (record { left = g.S.Source.left c.turn.new.input; held = g.W.Sink.held c.turn.new.out }) (status_at c.loop-number.number c.in-Err.fault)
     (c.in-Err.ensures.turned c.args.answerer.now outset c.loop-number.number (c.loop-number.invariant.underway outset l h))
+
+pub returns-in-Err-clause-over : goal.returns-in-Err-clause-over
+returns-in-Err-clause-over g c =
+    goes_on g.A.LineAnswerer.way g.met.A.LineAnswerer.ways c.args.answerer.now c.loop-number.answerer c.turn.new.answerer c.loop-number.invariant.over c.in-Err.ensures.over

@@ -1,7 +1,7 @@
-use Rattle.std.proofs.Common.{◌≡◌, ℕ, ◌+◌, ◌-◌, ◌≤◌, ◌^◌, [], ◌∷◌, Some}
+use Rattle.std.proofs.Common.{◌≡◌, ℕ, ◌+◌, ◌-◌, ◌≤◌, ◌^◌, Some}
 use Rattle.script_player.specs.Played.{Outset}
 use Rattle.script_player.specs.Playing.{IsUnderway, script_limits}
-use Rattle.script_player.specs.Ways.{course_of}
+use Rattle.script_player.specs.Ways.{GoesSomeWay, course_of}
 use Rattle.script_player.proofs.player.play.Given as goal
 
 -- the lines before this one were read and answered
@@ -10,7 +10,8 @@ invariant-loop-number g l = record {
   underway : (outset : Outset) → g.S.Source.left l.fn.input ≡ Some outset.script → g.W.Sink.held l.fn.out ≡ Some outset.held →
       IsUnderway (course_of g.A.LineAnswerer.effects g.A.LineAnswerer.house g.A.LineAnswerer.way l.fn.answerer l.answerer) outset l.number l.reader
       (record { left = g.S.Source.left l.input; held = g.W.Sink.held l.out });
-  rests : g.A.LineAnswerer.way l.answerer l.answerer (g.A.LineAnswerer.house l.answerer ∷ []);
+  rests : g.A.LineAnswerer.rests l.answerer;
+  over : GoesSomeWay (g.A.LineAnswerer.way l.fn.answerer l.answerer);
   limits : l.reader.limits ≡ script_limits;
   number : l.number ≤ l.reader.used + 1;
   used : l.reader.used ≤ 2 ^ 30;

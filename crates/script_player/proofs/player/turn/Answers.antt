@@ -9,7 +9,7 @@ returns-in_err-ending-clause-turned g c first outset number u =
     stops_at g.A.LineAnswerer.effects g.A.LineAnswerer.house g.A.LineAnswerer.way g.met.A.LineAnswerer.ways g.met.A.LineAnswerer.same_externals
     first c.args.answerer.now outset number c.args.reader.now _ u
     c.next_line.new.text.items c.next_line.new.self (g.S.Source.left c.next_line.new.input) c.in_err-ending.field-0.0 c.from_residual.result
-    c.requires.rests same c.in_err-ending.ensures.stops
+    (g.met.A.LineAnswerer.stays c.args.answerer.now c.requires.rests) same c.in_err-ending.ensures.stops
 
 pub returns-in_err-answer_text-clause-turned : goal.returns-in_err-answer_text-clause-turned
 returns-in_err-answer_text-clause-turned g c first outset number u =
@@ -26,7 +26,7 @@ returns-then-eq-clause-turned g c first outset number u =
     ends_at g.A.LineAnswerer.effects g.A.LineAnswerer.house g.A.LineAnswerer.way g.met.A.LineAnswerer.ways g.met.A.LineAnswerer.same_externals
     first c.args.answerer.now outset number c.args.reader.now _ u
     c.next_line.new.text.items c.next_line.new.self (g.S.Source.left c.next_line.new.input) c.in_ok-ending.ending
-    c.requires.rests same c.in_ok-ending.ensures.ends
+    (g.met.A.LineAnswerer.stays c.args.answerer.now c.requires.rests) same c.in_ok-ending.ensures.ends
 
 pub returns-clause-turned : goal.returns-clause-turned
 returns-clause-turned g c first outset number u =

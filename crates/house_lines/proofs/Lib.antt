@@ -1,0 +1,7 @@
+pub mod CallLemmas
+pub mod FaultLemmas
+pub mod LawLemmas
+pub mod StateLemmas
+pub mod SumLemmas
+pub mod KindLemmas
+pub mod LoadLemmas

@@ -1,0 +1,177 @@
+//! What no clause says: that lines over journals succeed with ample memory, and that the premises of
+//! a player of lines are met.
+ghost use Rattle.std.specs.Prelude.{◌≡◌, length, IfOk, IfSome};
+ghost use Rattle.pcp_base.specs.Configs.{IsConfig};
+ghost use Rattle.house_lines.specs.Rests.{IsAtRest};
+
+use super::HouseLines;
+use lease_disk::{DiskPair, LeaseDisk, MemoryDisk};
+use lease_house::{SoloHouse, opened_houses_begin};
+use load_player::{LoadStatus, play_load};
+use pcp_base::{
+    Address, Config, External, Externals, Memory, Moment, Prefix, Prefixes, Subscriber, Subscribers,
+};
+use pcp_io::{MemorySink, MemorySource};
+use script_player::{PlayStatus, play};
+use server_commands::LoadPlan;
+use std::alloc::Global;
+use std::test::Fail;
+
+// 192.0.2.1 is external, and 10.0.0.0/8 its subscribers.
+fn config_of(alloc: Global) -> Result<Config, Memory>
+    ensures config { IfOk result IsConfig }
+    ensures one { IfOk result (λ config. length config.externals ≡ 1) }
+{
+    let externals = vec![in alloc;
+        External {
+            address: Address::v4(192, 0, 2, 1),
+            low: 1024,
+            high: 65535,
+        },
+    ]?;
+    let subscribers = vec![in alloc;
+        Subscriber {
+            prefix: Prefix {
+                address: Address::v4(10, 0, 0, 0),
+                bits: 104,
+            },
+            external: 0,
+        },
+    ]?;
+    Ok(Config {
+        quota: 64,
+        lifetime_min: 120,
+        lifetime_max: 86_400,
+        third_party: Prefixes::of(Vec::new(alloc)),
+        externals: Externals::of(externals),
+        subscribers: Subscribers::of(subscribers),
+    })
+}
+
+// A script over one journal that begins at 1000: a grant, look-ups, a loss and an announcement.
+static SCRIPT: &str = "packet 1010 10.0.0.5 40000 \
+    0201000000000e1000000000000000000000ffff0a000005\
+    000102030405060708090a0b110000001388000000000000000000000000ffff00000000\n\
+    # a comment\n\
+    owners 10 192.0.2.1\n\
+    look 4609 192.0.2.1 17 1024 198.51.100.7 9\n\
+    look 4610 192.0.2.1 17 1024 198.51.100.7 9\n\
+    packet 1500 10.0.0.5 40000 02\n\
+    lose 2000 192.0.2.1\n\
+    owners 2000 192.0.2.1\n\
+    packet 2003 10.0.0.5 40000 020000000000000000000000000000000000ffff0a000005\n";
+
+static OUTPUT: &str = "reply 10.0.0.5 40000 \
+    0281000000000e100000000a000000000000000000000000\
+    000102030405060708090a0b110000001388040000000000000000000000ffffc0000201\n\
+    own 17 1024 10.0.0.5 5000\n\
+    owners 1\n\
+    owner 10.0.0.5 17 5000\n\
+    none\n\
+    silent\n\
+    lost 1\n\
+    owners 0\n\
+    reply 10.0.0.5 40000 028000000000000000000003000000000000000000000000\n";
+
+// A house over one journal that begins at 1000, of which side a may hold so many octets; none where a
+// disk failed.
+fn opened(alloc: Global, room: u64) -> Result<Option<HouseLines<MemoryDisk>>, Memory>
+    ensures { IfOk result (λ lines. IfSome lines (IsAtRest ⟦<MemoryDisk as LeaseDisk>⟧.tells
+        ⟦<MemoryDisk as LeaseDisk>⟧.seen ⟦<MemoryDisk as LeaseDisk>⟧.may_leave)) }
+{
+    opened_houses_begin::<MemoryDisk>();
+    let config = config_of(alloc)?;
+    let pair = DiskPair {
+        a: MemoryDisk::new(alloc, room)?,
+        b: MemoryDisk::new(alloc, 4_096)?,
+    };
+    let pairs = vec![in alloc; pair]?;
+    let Some(start) = Moment::of(1_000) else {
+        return Ok(None);
+    };
+    match SoloHouse::begin(alloc, &config, pairs, start) {
+        Ok(house) => Ok(Some(HouseLines::of(house))),
+        Err(_) => Ok(None),
+    }
+}
+
+// How a script is played, and what it puts out; nothing where the house isn't opened.
+fn played(alloc: Global, room: u64, script: &str) -> Result<Option<(PlayStatus, Vec<u8>)>, Memory> {
+    let Some(mut lines) = opened(alloc, room)? else {
+        return Ok(None);
+    };
+    let mut input = MemorySource::new(alloc, script.as_bytes().to_vec(alloc)?)?;
+    let mut out = MemorySink::new(alloc, 4_096)?;
+    let status = play(alloc, &mut input, &mut lines, &mut out);
+    Ok(Some((status, out.held().to_vec(alloc)?)))
+}
+
+// How much room side a has, and how the script is then played.
+static RUNS: [(u64, Option<PlayStatus>); 4] = [
+    (4_096, Some(PlayStatus::Done)),
+    (28, None),
+    (40, None),
+    (70, Some(PlayStatus::DiskFault(0))),
+];
+
+#[test]
+fn scripts(rt: HostRuntime) -> Result<(), Fail> {
+    for (room, want) in &RUNS {
+        let run = played(rt.alloc(), *room, SCRIPT)?;
+        let output = if *want == Some(PlayStatus::Done) {
+            OUTPUT
+        } else {
+            ""
+        };
+        match run {
+            Some((status, held)) => {
+                assert!(rt; Some(status) == *want, "{room}");
+                assert!(rt; held.as_slice() == output.as_bytes(), "{room}");
+            }
+            None => assert!(rt; want.is_none(), "{room}"),
+        }
+    }
+    Ok(())
+}
+
+// The first eight requests of number 7, as a computation apart from this program has them: seven
+// grants, and a deletion of nothing.
+static SUMMARY: &str = "requests 8\ngranted 7\nrenewed 0\ndeleted 0\nabsent 1\nrefused 0\n\
+    leases 7\nowned 7\n\
+    digest d6c4f2f6693589461130a024bc3a0fc040134873776272b77f814977780eec27\n";
+
+// How a load of number 7 from 1000 on is played, and what it puts out; nothing where the house isn't
+// opened.
+fn loaded(alloc: Global, room: u64) -> Result<Option<(LoadStatus, Vec<u8>)>, Memory> {
+    let Some(mut lines) = opened(alloc, room)? else {
+        return Ok(None);
+    };
+    let Some(start) = Moment::of(1_000) else {
+        return Ok(None);
+    };
+    let plan = LoadPlan {
+        start,
+        number: 7,
+        count: 8,
+    };
+    let mut out = MemorySink::new(alloc, 4_096)?;
+    let status = play_load(alloc, plan, &mut lines, &mut out);
+    Ok(Some((status, out.held().to_vec(alloc)?)))
+}
+
+#[test]
+fn loads(rt: HostRuntime) -> Result<(), Fail> {
+    for (room, want, output) in [
+        (4_096, LoadStatus::Done, SUMMARY),
+        (70, LoadStatus::DiskFault(0), ""),
+    ] {
+        match loaded(rt.alloc(), room)? {
+            Some((status, held)) => {
+                assert!(rt; status == want, "{room}");
+                assert!(rt; held.as_slice() == output.as_bytes(), "{room}");
+            }
+            None => assert!(rt; false, "{room}"),
+        }
+    }
+    Ok(())
+}

@@ -1,0 +1,10 @@
+pub mod AskLemmas
+pub mod BegunLemmas
+pub mod BookLemmas
+pub mod CallLemmas
+pub mod HandingBack
+pub mod ListLemmas
+pub mod LookLemmas
+pub mod OpenedBooks
+pub mod PlainLemmas
+pub mod UpdateLemmas

@@ -1,0 +1,8 @@
+use Rattle.std.proofs.Common.{◌≡◌, ◌++◌, map, take}
+use Rattle.pcp_announce.specs.Updates.{map_update}
+use Rattle.lease_house.specs.SoloOpenings.{update_to}
+use Rattle.lease_house.proofs.updates.push_maps.Given as goal
+
+abbrev pub invariant-loop-lease : goal.invariant-loop-lease
+invariant-loop-lease l = l.updates.items
+    ≡ l.initial.updates.items ++ map (λ x. update_to x.address (map_update x l.address l.m l.base)) (take l.lease-index l.leases)

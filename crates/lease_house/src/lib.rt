@@ -1,0 +1,22 @@
+//! The house: all external addresses of a server, each with its leases and its journal.
+#![tactic(auto)]
+
+mod book_calls;
+mod faults;
+mod moments;
+mod opening;
+mod opening_laws;
+#[cfg(test)]
+mod opening_tests;
+mod replying;
+mod routes;
+#[cfg(test)]
+mod serving_tests;
+mod solo;
+mod updates;
+
+pub use faults::{HouseFault, Unbegun};
+pub use opening_laws::{opened_houses_begin, pairs_are_handed_back};
+pub use routes::route;
+pub use solo::SoloHouse;
+pub use updates::CLIENT_PORT;

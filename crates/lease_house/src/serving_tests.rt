@@ -1,0 +1,208 @@
+//! Tests: a house of one external address over disks in memory, with the octets of its replies.
+ghost use Rattle.std.specs.Prelude.{◌≡◌, ◌≤◌, length, None, Ok, IfOk, OnOk};
+ghost use Rattle.std.specs.List.{AllByRecursion};
+ghost use Rattle.pcp_base.specs.Configs.{IsConfig};
+
+use crate::{HouseFault, SoloHouse};
+use lease_disk::{DiskPair, MemoryDisk};
+use pcp_base::{
+    Address, Config, Datagram, Endpoint, External, Externals, Moment, Octets, Owner, Prefix,
+    Prefixes, Protocol, Subscriber, Subscribers,
+};
+use std::alloc::Global;
+use std::test::Fail;
+
+// A MAP request of 10.0.0.5 for its UDP port 5000, for an hour, and its reply at 10 seconds.
+const REQUEST: &str = "0201000000000e1000000000000000000000ffff0a000005\
+    000102030405060708090a0b110000001388000000000000000000000000ffff00000000";
+
+const REPLY: &str = "0281000000000e100000000a000000000000000000000000\
+    000102030405060708090a0b110000001388040000000000000000000000ffffc0000201";
+
+// A datagram at a moment, and what it is told; nothing where it is silent.
+struct Line {
+    now: u64,
+    request: &'static str,
+    reply: &'static str,
+}
+
+static LINES: [Line; 6] = [
+    Line {
+        now: 1_010,
+        request: "02",
+        reply: "",
+    },
+    Line {
+        now: 1_010,
+        request: "0101",
+        reply: "02810001000007080000000a000000000000000000000000",
+    },
+    Line {
+        now: 1_010,
+        request: REQUEST,
+        reply: REPLY,
+    },
+    Line {
+        now: 1_015,
+        request: REQUEST,
+        reply: "0281000000000e100000000f000000000000000000000000\
+            000102030405060708090a0b110000001388040000000000000000000000ffffc0000201",
+    },
+    // with the shortest lifetime, at a moment that counts as 1015
+    Line {
+        now: 1_000,
+        request: "020100000000007800000000000000000000ffff0a000005\
+            000102030405060708090a0b110000001388000000000000000000000000ffff00000000",
+        reply: "02810000000000780000000f000000000000000000000000\
+            000102030405060708090a0b110000001388040000000000000000000000ffffc0000201",
+    },
+    // ANNOUNCE
+    Line {
+        now: 1_020,
+        request: "020000000000000000000000000000000000ffff0a000005",
+        reply: "028000000000000000000014000000000000000000000000",
+    },
+];
+
+fn moment(seconds: u64) -> Result<Moment, Fail> {
+    Ok(Moment::of(seconds).ok_or("no moment")?)
+}
+
+/// 192.0.2.1 serves the hosts of 10.0.0.0/8.
+fn config(alloc: Global) -> Result<Config, Fail>
+    ensures config { IfOk result IsConfig }
+    ensures one { IfOk result (λ config. length config.externals ≡ 1) }
+{
+    let external = External {
+        address: Address::v4(192, 0, 2, 1),
+        low: 1_024,
+        high: 65_535,
+    };
+    let subscriber = Subscriber {
+        prefix: Prefix {
+            bits: 104,
+            address: Address::v4(10, 0, 0, 0),
+        },
+        external: 0,
+    };
+    Ok(Config {
+        quota: 64,
+        lifetime_min: 120,
+        lifetime_max: 86_400,
+        third_party: Prefixes::of(Vec::new(alloc)),
+        externals: Externals::of(Vec::from_array(alloc, [external])?),
+        subscribers: Subscribers::of(Vec::from_array(alloc, [subscriber])?),
+    })
+}
+
+/// A house over a blank pair, of which disk a fails at a call, at 1000; none where that call is one
+/// of the opening.
+fn house(alloc: Global, failing: u64) -> Result<Option<SoloHouse<MemoryDisk>>, Fail> {
+    let mut pair = DiskPair {
+        a: MemoryDisk::new(alloc, 4_096)?,
+        b: MemoryDisk::new(alloc, 4_096)?,
+    };
+    pair.a.fail_at(alloc, failing)?;
+    let config = config(alloc)?;
+    let disks = Vec::from_array(alloc, [pair])?;
+    match SoloHouse::begin(alloc, &config, disks, moment(1_000)?) {
+        Ok(house) => Ok(Some(house)),
+        Err(_) => Ok(None),
+    }
+}
+
+/// What a request of 10.0.0.5 in these octets is told at `now`.
+fn told(
+    alloc: Global,
+    house: &mut SoloHouse<MemoryDisk>,
+    now: u64,
+    request: &str,
+) -> Result<Result<Option<Octets>, HouseFault>, Fail> {
+    let datagram = Datagram {
+        peer: Address::v4(10, 0, 0, 5),
+        port: 40_000,
+        octets: Octets::of(hex::decode(alloc, request.as_bytes())?),
+    };
+    Ok(house.serve(alloc, &datagram, moment(now)?))
+}
+
+/// Whether it is told these octets; none where they are empty.
+fn is_told(
+    alloc: Global,
+    told: &Result<Option<Octets>, HouseFault>,
+    reply: &str,
+) -> Result<bool, Fail> {
+    let reply = hex::decode(alloc, reply.as_bytes())?;
+    Ok(match told {
+        Ok(Some(octets)) => octets.items() == reply.as_slice(),
+        Ok(None) => reply.is_empty(),
+        Err(_) => false,
+    })
+}
+
+/// How many leases are lost at `now`.
+fn lost(
+    alloc: Global,
+    house: &mut SoloHouse<MemoryDisk>,
+    now: u64,
+) -> Result<Result<u32, HouseFault>, Fail> {
+    if house.config().externals.items().is_empty() {
+        return Err("no external address".into());
+    }
+    Ok(house.lose(alloc, 0, moment(now)?))
+}
+
+/// Whether each line is told what stands there.
+fn are_told(alloc: Global, house: &mut SoloHouse<MemoryDisk>) -> Result<bool, Fail> {
+    for line in &LINES {
+        let told = told(alloc, house, line.now, line.request)?;
+        if !is_told(alloc, &told, line.reply)? {
+            return Ok(false);
+        }
+    }
+    Ok(true)
+}
+
+// It is told 3 seconds after its leases were lost.
+const AFTER_LOSS: &str = "028000000000000000000003000000000000000000000000";
+
+const ANNOUNCE: &str = "020000000000000000000000000000000000ffff0a000005";
+
+#[test]
+fn answers_and_loses(rt: HostRuntime) -> Result<(), Fail> {
+    let alloc = rt.alloc();
+    let Some(mut house) = house(alloc, u64::MAX)? else {
+        return Err("no house".into());
+    };
+    assert!(rt; are_told(alloc, &mut house)?);
+    assert!(rt; matches!(lost(alloc, &mut house, 1_030)?, Ok(1)));
+    assert!(rt; matches!(lost(alloc, &mut house, 2_000)?, Ok(0)));
+    let told = told(alloc, &mut house, 2_003, ANNOUNCE)?;
+    assert!(rt; is_told(alloc, &told, AFTER_LOSS)?);
+    Ok(())
+}
+
+/// Whether the request, for which a call of disk a fails, is answered when it comes again.
+fn settles(alloc: Global, failing: u64) -> Result<bool, Fail> {
+    let Some(mut house) = house(alloc, failing)? else {
+        return Ok(false);
+    };
+    let Err(HouseFault::Disk(_)) = told(alloc, &mut house, 1_010, REQUEST)? else {
+        return Ok(false);
+    };
+    let told = told(alloc, &mut house, 1_010, REQUEST)?;
+    is_told(alloc, &told, REPLY)
+}
+
+#[test]
+fn settles_after_a_fault(rt: HostRuntime) -> Result<(), Fail> {
+    let mut settled = 0_u32;
+    for failing in 0..64 {
+        if settles(rt.alloc(), failing)? {
+            settled = settled.saturating_add(1);
+        }
+    }
+    // a frame and its gate, each written and synced
+    assert!(rt; settled == 4);
+    Ok(())
+}

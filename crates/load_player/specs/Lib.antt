@@ -1,0 +1,4 @@
+pub mod LoadEnds
+pub mod LoadRuns
+pub mod PlainLoads
+pub mod Serving
