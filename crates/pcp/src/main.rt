@@ -1,42 +1,94 @@
 //! `pcp`: answers Port Control Protocol requests (RFC 6887).
 #![tactic(auto)]
 
+mod kept;
+mod places;
 #[cfg(test)]
 mod tests;
 
+use crate::kept::KeptSource;
+use crate::places::{Places, journals_in, places_of};
 use pcp_base::Memory;
+use pcp_config::explain;
 use pcp_io::{FileSource, StdSink};
 use pcp_server::{Status, run_once};
 use std::alloc::Global;
 use std::env;
+use std::env::VarError;
 use std::io::ErrorKind;
 use std::process::ExitCode;
 
 const USAGE: &str = "usage: pcp play CONFIG SCRIPT JOURNALS START
+       pcp dump CONFIG JOURNALS
+       pcp load CONFIG JOURNALS START NUMBER COUNT
+       pcp --help
+       pcp --version
 
-Answers the Port Control Protocol requests of SCRIPT from START on, a moment in
-whole seconds below 2^40, and writes the replies to standard output. CONFIG and
-JOURNALS aren't opened yet: one external address, 192.0.2.1, serves the hosts of
-10.0.0.0/8, and leases are kept in memory.
+CONFIG is a file with the configuration, in TOML. JOURNALS is a folder that is
+there: it keeps the leases of each external address over all stops, and files
+are made in it as they are needed. START is a moment in whole seconds below 2^40.
 
-Exit status: 0 done, 2 words refused, 4 script refused at a line, 5 read failed,
-6 write failed, 8 out of memory.
+play  Opens the journals at START and answers the Port Control Protocol requests
+      of the file SCRIPT. For each line its result is written to standard output.
 
-       pcp --help       tells this
-       pcp --version    tells the version
+          mkdir journals
+          pcp play examples/first.toml examples/first.script journals 1000
+
+dump  Writes as JSON what the journals hold, and changes nothing in them.
+
+          pcp dump examples/first.toml journals
+
+load  Opens the journals at START, serves COUNT requests (at most 1000000) that
+      NUMBER (below 2^64) makes, a hundred a second, and writes a summary.
+
+          pcp load examples/first.toml journals 1000 7 20000
+
+Exit status, and the line on standard error:
+
+    0  nothing
+    2  pcp: words refused
+    3  pcp: configuration refused: too long (or: not toml, not a configuration)
+    4  pcp: script refused at line N
+    5  pcp: read failed
+    6  pcp: write failed
+    7  pcp: disk of shard N failed (N counts the external addresses from 0)
+    8  pcp: out of memory
+
+Where the environment has PCP_EXPLAIN, a second line tells why a configuration
+is refused.
 ";
 
 const VERSION: &str = "pcp 0.1.0\n";
 
-fn main(rt: HostRuntime) -> ExitCode {
-    let status = match words(&rt) {
-        Ok(words) => run(&rt, &words),
-        Err(status) => status,
-    };
-    if status != Status::Done {
-        let _ = eprintln!(rt; "{status}");
+/// How a command ended.
+#[derive(Drop)]
+struct Ended {
+    status: Status,
+    /// why the configuration is refused, where that is asked for
+    cause: Option<String>,
+}
+
+impl From<Status> for Ended {
+    fn from(status: Status) -> Ended {
+        Ended {
+            status,
+            cause: None,
+        }
     }
-    ExitCode::from(status.exit())
+}
+
+fn main(rt: HostRuntime) -> ExitCode {
+    let ended = match words(&rt) {
+        Ok(words) => run(&rt, &words, explains(&rt)),
+        Err(status) => Ended::from(status),
+    };
+    if ended.status != Status::Done {
+        let _ = eprintln!(rt; "{}", ended.status);
+    }
+    if let Some(cause) = &ended.cause {
+        let _ = eprintln!(rt; "pcp: {cause}");
+    }
+    ExitCode::from(ended.status.exit())
 }
 
 /// The words behind the program's name. A word that isn't UTF-8 is part of no command.
@@ -62,18 +114,22 @@ fn status_of(kind: ErrorKind) -> Status {
     }
 }
 
+/// Whether people are to be told why a configuration is refused.
+fn explains(rt: &HostRuntime) -> bool {
+    match env::var(rt, "PCP_EXPLAIN") {
+        Ok(_) | Err(VarError::NotUnicode) => true,
+        Err(VarError::NotPresent | VarError::OutOfMemory) => false,
+    }
+}
+
 /// Runs the command that the words are.
-fn run(rt: &HostRuntime, words: &[String]) -> Status {
+fn run(rt: &HostRuntime, words: &[String], explains: bool) -> Ended {
     match words {
-        [word] if word.as_str() == "--help" => tell(rt, USAGE),
-        [word] if word.as_str() == "--version" => tell(rt, VERSION),
-        _ => match script_of(rt.alloc(), words) {
-            Ok(path) => {
-                let mut source = FileSource::new(rt, path);
-                let mut sink = StdSink::new(rt.stdout());
-                run_once(rt.alloc(), words, &mut source, &mut sink)
-            }
-            Err(Memory) => Status::Memory,
+        [word] if word.as_str() == "--help" => Ended::from(tell(rt, USAGE)),
+        [word] if word.as_str() == "--version" => Ended::from(tell(rt, VERSION)),
+        _ => match run_at(rt, words, &places_of(words), explains) {
+            Ok(ended) => ended,
+            Err(Memory) => Ended::from(Status::Memory),
         },
     }
 }
@@ -86,8 +142,36 @@ fn tell(rt: &HostRuntime, text: &str) -> Status {
     }
 }
 
-/// The path of the script, which is the third word of `play`.
-fn script_of(alloc: Global, words: &[String]) -> Result<String, Memory> {
-    let path = words.get(2).map_or("", |word| word.as_str());
-    Ok(String::from_str(alloc, path)?)
+/// Runs a command of the server over the files at these places.
+fn run_at(
+    rt: &HostRuntime,
+    words: &[String],
+    places: &Places<'_>,
+    explains: bool,
+) -> Result<Ended, Memory> {
+    let alloc = rt.alloc();
+    let kept = if explains {
+        Some(Vec::new(alloc))
+    } else {
+        None
+    };
+    let config = FileSource::new(rt, String::from_str(alloc, places.config)?);
+    let mut config = KeptSource::of(config, kept);
+    let mut script = FileSource::new(rt, String::from_str(alloc, places.script)?);
+    let mut out = StdSink::new(rt.stdout());
+    let disks = journals_in(rt, places.journals)?;
+    let (status, _) = run_once(alloc, words, &mut config, &mut script, &mut out, disks);
+    let cause = match (status, config.kept()) {
+        (Status::ConfigRefused(_), Some(text)) => cause_in(alloc, text),
+        _ => None,
+    };
+    Ok(Ended { status, cause })
+}
+
+/// Why this text is no configuration, where there is memory to tell.
+fn cause_in(alloc: Global, text: &[u8]) -> Option<String> {
+    match explain(alloc, text) {
+        Ok(cause) => cause,
+        Err(Memory) => None,
+    }
 }

@@ -1,19 +1,12 @@
-pub mod AskLemmas
-pub mod CoveringLemmas
-pub mod Deeds
-pub mod FeedLemmas
-pub mod FieldLemmas
-pub mod HistoryLaws
-pub mod HistorySteps
-pub mod LineOctets
-pub mod OutputLemmas
-pub mod OwnedPortLemmas
-pub mod PlayLemmas
-pub mod ProfileLemmas
-pub mod PutLemmas
-pub mod RangeLemmas
-pub mod ReadingLemmas
-pub mod Steps
-pub mod VerdictLemmas
-pub mod WordLemmas
-pub mod RunLemmas
+mod CommandLemmas
+mod ConfigLemmas
+mod CountLemmas
+mod DumpLemmas
+mod LoadLemmas
+mod LoadPromises
+mod OpeningLemmas
+mod PairLemmas
+mod PlayLemmas
+mod PromiseLemmas
+mod StatusLemmas
+mod UpdateLemmas

@@ -1,149 +1,116 @@
--- What a run of `play` did with its script (our own).
-use Rattle.std.specs.Prelude.{◌≡◌, ◌≢◌, ℕ, ◌+◌, ◌-◌, ◌^◌, ◌<◌, ◌≤◌, ◌⊎◌, List, [], ◌∷◌, ◌++◌, length, flat_map, take, drop, min, slice_get, Option, Some, None, true}
-use Rattle.std.specs.List.{AllByRecursion}
+-- How a `play` ends, and what it leaves (our own).
+use Rattle.std.specs.Prelude.{◌≡◌, ◌⊎◌, ◌≤◌, ℕ, List, length, take, flat_map, Option, Some}
+use Rattle.std.specs.Io.KnownBytes.{append_known}
 use Rattle.pcp_base.specs.declared.configs.Config.{Config}
-use Rattle.pcp_base.specs.declared.configs.External.{External}
-use Rattle.pcp_base.specs.declared.datagrams.Entry.{Entry}
-use Rattle.pcp_base.specs.Tables.{empty_table}
-use Rattle.pcp_server.specs.declared.lines.Line.{Line}
-use Rattle.pcp_server.specs.declared.readers.TheConstants.{LONGEST_LINE, PIECE}
-use Rattle.pcp_server.specs.declared.statuses.Status.{Status}
-use Rattle.pcp_server.specs.declared.statuses.Status.TheVariants.{Done, WordsRefused, ScriptRefused, ReadFault, WriteFault, Memory}
-use Rattle.pcp_server.specs.Histories.{IsLegal, IsSafe}
-use Rattle.pcp_server.specs.ShardStates.{ShardState}
-use Rattle.pcp_server.specs.Lines.{AreFirst, AreLines, IsLine, IsUnbroken, ended}
-use Rattle.pcp_server.specs.Outputs.{heard_of, AreEntriesOf, printed}
+use Rattle.pcp_io.specs.Writes.{WritesPart}
+use Rattle.pcp_script.specs.Results.{reply_line}
+use Rattle.pcp_script.specs.declared.lines.Line.{Line}
+use Rattle.script_player.specs.Played.{IsKept, IsOver, Outset, Streams}
+use Rattle.script_player.specs.Scripts.{AreLines}
+use Rattle.script_player.specs.Ways.{Course, course_of}
+use Rattle.script_player.specs.declared.player.PlayStatus.{PlayStatus}
+use Rattle.lease_histories.specs.PlainHouses.{PlainHouse, house_begun}
+use Rattle.lease_house.specs.SoloHouses.{HouseView, plain_house}
+use Rattle.lease_house.specs.SoloOpenings.{updates_of}
+use Rattle.lease_house.specs.HouseImages.{HouseLeavesOnly}
+use Rattle.house_lines.specs.HouseEffects.{house_effects}
+use Rattle.server_commands.specs.declared.statuses.Status.{Status}
+use Rattle.server_commands.specs.declared.statuses.Status.TheVariants.{Done, WordsRefused, ConfigRefused, ScriptRefused, ReadFault, WriteFault, DiskFault, Memory}
+use Rattle.pcp_server.specs.Opened.{Accepts, AreUnused, EndsUnopened, EndsUnread, Opens, openings, pairs_of}
+use Rattle.pcp_server.specs.Outsides.{DiskMeanings, Input, Outside}
+use Rattle.pcp_server.specs.Promises.{LinesKeepPromises}
+use Rattle.pcp_server.specs.Statuses.{played_as}
 
--- where a history begins: one Start came, at this moment
-abbrev pub started : ℕ → ShardState
-started start = record {
-  state = record {
-    table = empty_table;
-    ends = [];
-    base = start;
-    address = None;
-    last = start;
-    started = true;
-  };
-  reached = start;
-  told = start;
-}
+-- ---- updates
 
--- The texts are lines, and their results, written one after the other, are those of a legal history
--- in which no port has two owners and only the matching nonce renews or deletes.
-pub record AreAnswered (config : Config) (external : External) (start : ℕ) (texts : List (List ℕ))
-    (written : List ℕ) : Type 0 where
-  pub lines : List Line
-  pub read : AreLines texts lines
-  pub history : List Entry
-  pub entries : AreEntriesOf start start (heard_of lines) history
-  pub legal : IsLegal config external (started start) history
-  pub safe : IsSafe config (started start) history
-  pub results : written ≡ printed lines history
+-- a `reply` line for each update of the renumbered external addresses, in order
+abbrev pub updates_text : {D : Type 0} → HouseView D → List ℕ
+updates_text house = flat_map reply_line (updates_of house)
 
--- how many octets of a script stand up to a line and its line feed, where this begins behind the line
-abbrev pub octets_through : (script tail : List ℕ) → ℕ
-octets_through script tail = length script - length (drop 1 tail)
-
--- The next line is no line of a script: it is too long, or the script is by its end, line feed included,
--- or nothing is spelled so. The line is the text, whole: behind it stands its line feed, or the script's
--- end.
-pub record IsRefused (script text tail : List ℕ) : Type 0 where
-  pub unbroken : IsUnbroken text
-  pub whole : (tail ≡ []) ⊎ (slice_get tail 0 ≡ Some 10)
-  pub some : (text ≢ []) ⊎ (tail ≢ [])
-  pub refused : (LONGEST_LINE < length text)
-      ⊎ ((2 ^ 30 < octets_through script tail) ⊎ ((line : Line) → ¬ (IsLine text line)))
-
--- What was read, where this is left of the script: these lines, and at most so many octets behind.
-pub record ReadsFew (script left : List ℕ) (texts : List (List ℕ)) (most : ℕ) : Type 0 where
-  pub ahead : List ℕ
-  pub spelled : script ≡ flat_map ended texts ++ ahead ++ left
-  pub few : length ahead ≤ most
-
--- the octets of the next line that may be read, its line feed included, and one piece
-abbrev pub most_for : List ℕ → ℕ
-most_for text = min (length text + 1) (LONGEST_LINE + 1) + PIECE
-
--- every line is answered
-pub record EndsDone (config : Config) (external : External) (start : ℕ)
-    (script left written : List ℕ) : Type 0 where
-  pub texts : List (List ℕ)
-  pub first : AreFirst script [] texts
-  pub read : left ≡ []
-  pub answered : AreAnswered config external start texts written
-
--- the lines before the n-th are answered, and that one is refused
-pub record EndsRefused (config : Config) (external : External) (start n : ℕ)
-    (script left written : List ℕ) : Type 0 where
-  pub texts : List (List ℕ)
-  pub text : List ℕ
-  pub tail : List ℕ
-  pub first : AreFirst script (text ++ tail) texts
-  pub number : n ≡ length texts + 1
-  pub refused : IsRefused script text tail
-  pub read : ReadsFew script left texts (most_for text)
-  pub answered : AreAnswered config external start texts written
-
--- every line is answered whose line feed was read
-pub record EndsReading (config : Config) (external : External) (start : ℕ)
-    (script left written : List ℕ) : Type 0 where
-  pub texts : List (List ℕ)
-  pub part : List ℕ
-  pub spelled : script ≡ flat_map ended texts ++ part ++ left
-  pub unbroken : AllByRecursion IsUnbroken texts
-  pub unended : IsUnbroken part
-  -- the line isn't too long yet, nor is the script
-  pub short : length part ≤ LONGEST_LINE
-  pub few : length (flat_map ended texts) + length part ≤ 2 ^ 30
-  pub answered : AreAnswered config external start texts written
-
--- the results of some first lines are written, but that of the last of these only in part
-pub record EndsWriting (config : Config) (external : External) (start : ℕ)
-    (script left written : List ℕ) : Type 0 where
-  pub texts : List (List ℕ)
-  pub text : List ℕ
-  pub rest : List ℕ
-  pub before : List ℕ
-  pub result : List ℕ
-  pub first : AreFirst script rest (texts ++ text ∷ [])
-  pub answered : AreAnswered config external start texts before
-  pub next : AreAnswered config external start (texts ++ text ∷ []) (before ++ result)
+-- some first octets of the text were written
+pub record WritesFront (before now : Option (List ℕ)) (text : List ℕ) : Type 0 where
   pub taken : ℕ
-  pub short : taken < length result
-  pub written_is : written ≡ before ++ take taken result
-  pub read : ReadsFew script left texts (most_for text)
+  pub few : taken ≤ length text
+  pub front : now ≡ append_known before (take taken text)
 
--- some first lines are answered, and at most one more is read
-pub record EndsEarly (config : Config) (external : External) (start : ℕ)
-    (script left written : List ℕ) : Type 0 where
-  pub texts : List (List ℕ)
-  pub rest : List ℕ
-  pub first : AreFirst script rest texts
-  pub read : ReadsFew script left texts (LONGEST_LINE + 1 + PIECE)
-  pub answered : AreAnswered config external start texts written
+-- what is written where not all updates are
+abbrev pub IsUntold : List ℕ → (before now : Option (List ℕ)) → Status → Type 0
+IsUntold text before now WriteFault = WritesPart before now text
+IsUntold text before now Memory = WritesFront before now text
+IsUntold text before now Done = ⊥
+IsUntold text before now WordsRefused = ⊥
+IsUntold text before now (ConfigRefused cause) = ⊥
+IsUntold text before now (ScriptRefused line) = ⊥
+IsUntold text before now ReadFault = ⊥
+IsUntold text before now (DiskFault shard) = ⊥
 
--- What is written, and what is left of the script, by the status.
-abbrev pub IsPlayed : Config → External → ℕ → (script left written : List ℕ) → Status → Type 0
-IsPlayed config external start script left written Done =
-    EndsDone config external start script left written
-IsPlayed config external start script left written (ScriptRefused n) =
-    EndsRefused config external start n script left written
-IsPlayed config external start script left written ReadFault =
-    EndsReading config external start script left written
-IsPlayed config external start script left written WriteFault =
-    EndsWriting config external start script left written
-IsPlayed config external start script left written Memory =
-    EndsEarly config external start script left written
--- the words are those of a command
-IsPlayed config external start script left written WordsRefused = ⊥
+-- The journals were opened, and not all updates are written. No journal has a record of a line.
+pub record EndsUntold {W D : Type 0} (disks : DiskMeanings D) (config : Config) (start : ℕ)
+    (before now : Outside W D) (status : Status) : Type 0 where
+  pub house : HouseView D
+  pub opened : Opens disks config start before.pairs house
+  pub updates : IsUntold (updates_text house) before.held now.held status
+  pub pairs : now.pairs ≡ pairs_of house
+  pub unused : AreUnused config before.pairs now.pairs
 
--- A run over, for a source and a sink that tell their octets: it left this of the script, and wrote
--- this.
-pub record IsOver (config : Config) (external : External) (start : ℕ) (script before : List ℕ)
-    (left held : Option (List ℕ)) (status : Status) : Type 0 where
-  pub rest : List ℕ
-  pub written : List ℕ
-  pub left_is : left ≡ Some rest
-  pub held_is : held ≡ Some (before ++ written)
-  pub played : IsPlayed config external start script rest written status
+-- ---- the script
+
+-- what became of a house whose lines were answered
+abbrev pub house_course : {D : Type 0} → DiskMeanings D → (old new : HouseView D) →
+    Course PlainHouse
+house_course disks old new = course_of house_effects plain_house
+    (HouseLeavesOnly disks.tells disks.moment disks.left_since disks.may_leave) old new
+
+-- What the script finds: its source has this left, and the sink holds what it held and the updates.
+pub record IsOutset {S W D : Type 0} (house : HouseView D) (script : Input S)
+    (before : Outside W D) (outset : Outset) : Type 0 where
+  pub script_is : script.left ≡ Some outset.script
+  pub held_is : append_known before.held (updates_text house) ≡ Some outset.held
+
+abbrev pub streams_of : {S W D : Type 0} → Input S → Outside W D → Streams
+streams_of script now = record { left = script.left; held = now.held }
+
+-- The updates are written, and the script was played. Its source and the sink are to tell their
+-- octets.
+pub record EndsOver {S W D : Type 0} (disks : DiskMeanings D) (config : Config) (start : ℕ)
+    (script_before script_now : Input S) (before now : Outside W D) (status : Status)
+    : Type 0 where
+  pub house : HouseView D
+  pub opened : Opens disks config start before.pairs house
+  -- it begins with the states that were found, or made
+  pub begun : plain_house house ≡ house_begun config (openings house)
+  pub ended : HouseView D
+  pub play_status : PlayStatus
+  pub told : status ≡ played_as play_status
+  -- what was read, answered and written, by the status
+  pub lines : (outset : Outset) → IsOutset house script_before before outset →
+      IsOver (house_course disks house ended) outset (streams_of script_now now) play_status
+  -- what a crash may leave of the journals, at each moment and at the end, whatever the status
+  pub crash : (outset : Outset) → IsOutset house script_before before outset →
+      IsKept (house_course disks house ended) outset (streams_of script_now now)
+  -- what holds of all lines that may be read, and so of those that were answered
+  pub promises : (texts : List (List ℕ)) (lines : List Line) →
+      AreLines config.externals texts lines → LinesKeepPromises config (openings house) lines
+  -- all pairs come back in order, and those of no external address had no call
+  pub pairs : now.pairs ≡ pairs_of ended
+  pub unused : AreUnused config before.pairs now.pairs
+
+-- ---- all of it
+
+-- how a play of this configuration ended
+abbrev pub PlaysServed : {S W D : Type 0} → DiskMeanings D → Config → (start : ℕ) →
+    (script_before script_now : Input S) → (before now : Outside W D) → Status → Type 0
+PlaysServed disks config start script_before script_now before now status =
+    ((EndsUnopened disks config start before now status
+    ⊎ EndsUntold disks config start before now status) × (script_now ≡ script_before))
+    ⊎ EndsOver disks config start script_before script_now before now status
+
+-- How a play ended: at its configuration, at the opening of a journal, at the updates, or in the
+-- script or behind it. The script is read in the last case alone.
+abbrev pub Plays : {S W D : Type 0} → DiskMeanings D → (start : ℕ) →
+    (source_before source_now : Option (List ℕ)) → (script_before script_now : Input S) →
+    (before now : Outside W D) → Status → Type 0
+Plays disks start source_before source_now script_before script_now before now status =
+    (EndsUnread source_before source_now before now status × (script_now ≡ script_before))
+    ⊎ ((config : Config) × Accepts source_before source_now config
+    × PlaysServed disks config start script_before script_now before now status)

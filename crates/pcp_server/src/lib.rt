@@ -1,19 +1,17 @@
-//! The calls that the program makes: a script is read, its requests are answered from a lease table.
+//! The calls of the server's commands that wait for nobody: a script is played over journals, the
+//! journals are dumped, generated requests are served.
 #![tactic(auto)]
 
-mod decisions;
-mod lines;
-mod outputs;
-mod profiles;
-mod readers;
-mod replies;
+mod dumping;
+mod laws;
+mod loading;
+mod playing;
 mod run;
-mod shards;
 mod statuses;
 #[cfg(test)]
 mod tests;
-mod verdicts;
-mod words;
+mod updating;
 
+pub use laws::histories_keep_promises;
 pub use run::run_once;
-pub use statuses::Status;
+pub use server_commands::{ConfigCause, Status};

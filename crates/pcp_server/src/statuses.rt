@@ -1,58 +1,68 @@
-//! How a call of the program ended.
+//! The status that a fault below is told as.
 ghost use Rattle.std.specs.Prelude.{◌≡◌};
-ghost use Rattle.pcp_server.specs.Exits.{exit_of};
+ghost use Rattle.pcp_server.specs.Statuses.{loaded_as, played_as, undumped_as, unopened_as, unread_as};
 
-use std::fmt;
+use config_source::ConfigFault;
+use journal_dump::DumpFault;
+use lease_house::HouseFault;
+use load_player::LoadStatus;
+use script_player::PlayStatus;
+use server_commands::Status;
 
-/// How a run ended.
-#[derive(Clone, Copy, Debug, PartialEq, Eq)]
-pub enum Status {
-    /// The script was read to its end, and every line is answered.
-    Done,
-    /// The words are no command.
-    WordsRefused,
-    /// This line, numbered from 1, is the first that is no line of a script; the lines before it are
-    /// answered.
-    ScriptRefused(u64),
-    /// The source failed.
-    ReadFault,
-    /// The sink failed.
-    WriteFault,
-    /// No memory was found.
-    Memory,
-}
-
-impl Status {
-    /// The exit status of the program, 0 to 8.
-    pub fn exit(self) -> u8
-        ensures { result ≡ exit_of self }
-    {
-        match self {
-            Status::Done => 0,
-            Status::WordsRefused => 2,
-            Status::ScriptRefused(_) => 4,
-            Status::ReadFault => 5,
-            Status::WriteFault => 6,
-            Status::Memory => 8,
-        }
+/// Of a configuration that wasn't read, or is refused.
+pub(crate) fn unread_as(fault: ConfigFault) -> Status
+    ensures { result ≡ unread_as fault }
+{
+    match fault {
+        ConfigFault::Refused(cause) => Status::ConfigRefused(cause),
+        ConfigFault::Read => Status::ReadFault,
+        ConfigFault::Memory => Status::Memory,
     }
 }
 
-/// The line that the program tells on standard error, without its line feed.
-impl fmt::Display for Status {
-    ghost use Rattle.std.specs.Prelude.{Some};
-    ghost use Rattle.pcp_server.specs.Exits.{message_of};
+/// Of a journal that wasn't opened.
+pub(crate) fn unopened_as(fault: HouseFault) -> Status
+    ensures { result ≡ unopened_as fault }
+{
+    match fault {
+        HouseFault::Disk(shard) => Status::DiskFault(shard),
+        HouseFault::Memory => Status::Memory,
+    }
+}
 
-    ghost output = { λ status. Some (message_of status) };
+/// Of a script.
+pub(crate) fn played_as(status: PlayStatus) -> Status
+    ensures { result ≡ played_as status }
+{
+    match status {
+        PlayStatus::Done => Status::Done,
+        PlayStatus::ScriptRefused(line) => Status::ScriptRefused(line),
+        PlayStatus::ReadFault => Status::ReadFault,
+        PlayStatus::WriteFault => Status::WriteFault,
+        PlayStatus::DiskFault(shard) => Status::DiskFault(shard),
+        PlayStatus::Memory => Status::Memory,
+    }
+}
 
-    fn fmt<W: fmt::Write>(&self, f: &mut fmt::Formatter<W>) -> fmt::Result {
-        match self {
-            Status::Done => f.write_str("pcp: done"),
-            Status::WordsRefused => f.write_str("pcp: words refused"),
-            Status::ScriptRefused(line) => write!(f, "pcp: script refused at line {line}"),
-            Status::ReadFault => f.write_str("pcp: read failed"),
-            Status::WriteFault => f.write_str("pcp: write failed"),
-            Status::Memory => f.write_str("pcp: out of memory"),
-        }
+/// Of a load.
+pub(crate) fn loaded_as(status: LoadStatus) -> Status
+    ensures { result ≡ loaded_as status }
+{
+    match status {
+        LoadStatus::Done => Status::Done,
+        LoadStatus::WriteFault => Status::WriteFault,
+        LoadStatus::DiskFault(shard) => Status::DiskFault(shard),
+        LoadStatus::Memory => Status::Memory,
+    }
+}
+
+/// Of a dump that isn't whole.
+pub(crate) fn undumped_as(fault: DumpFault) -> Status
+    ensures { result ≡ undumped_as fault }
+{
+    match fault {
+        DumpFault::Disk(shard) => Status::DiskFault(shard),
+        DumpFault::Write => Status::WriteFault,
+        DumpFault::Memory => Status::Memory,
     }
 }

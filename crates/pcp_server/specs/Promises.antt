@@ -1,0 +1,83 @@
+-- What is promised of a server's answers (our own, after RFC 6887), of one external address and of a
+-- house: every reply is the lease table's in journal order, no external port has two owners, only the
+-- matching nonce renews or deletes, ports rest, and no epoch told is above the age of a lease that was
+-- given up early.
+use Rattle.std.specs.Prelude.{◌≡◌, ℕ, ◌+◌, ◌<◌, ◌≤◌, List, [], ◌∷◌, ◌++◌, Some, IfSome, Contains}
+use Rattle.std.specs.List.{AllByRecursion, slice_get}
+use Rattle.pcp_base.specs.declared.configs.Config.{Config}
+use Rattle.pcp_base.specs.declared.configs.External.{External}
+use Rattle.pcp_base.specs.declared.datagrams.Entry.{Entry}
+use Rattle.pcp_base.specs.declared.leases.Owner.{Owner}
+use Rattle.pcp_base.specs.declared.leases.TheConstants.{REST_SECONDS}
+use Rattle.pcp_base.specs.declared.records.Record.{Record}
+use Rattle.pcp_base.specs.Apply.{state_of}
+use Rattle.pcp_base.specs.Fits.{AllFit}
+use Rattle.pcp_base.specs.Owners.{owners}
+use Rattle.pcp_base.specs.States.{State, empty_state}
+use Rattle.pcp_base.specs.Tables.{live}
+use Rattle.lease_histories.specs.Entries.{Served}
+use Rattle.lease_histories.specs.HouseHistories.{HouseEntry, IsSoloHistory, entries_at}
+use Rattle.lease_histories.specs.Laws.{AreOpenings, ChangesByNonce, GivesUp, HasNoOther, IsWithinAge, OwnsUpTo, Stands}
+use Rattle.lease_histories.specs.Legal.{IsLegal, state_after}
+use Rattle.lease_histories.specs.PlainHouses.{PlainHouse, entries_along, house_begun}
+use Rattle.pcp_script.specs.declared.lines.Line.{Line}
+use Rattle.script_player.specs.Houses.{houses_along}
+use Rattle.house_lines.specs.HouseEffects.{house_effects}
+use Rattle.house_lines.specs.LineLaws.{IsAlong, line_calls}
+
+-- Of one external address that began in this state and has these entries.
+pub record KeepsPromises (x : Served) (opening : State) (entries : List Entry) : Type 0 where
+  -- every reply is the lease table's in journal order
+  pub replies : IsLegal x opening entries
+  -- after every entry, at that and every later moment, no external port has two owners
+  pub one_owner : (before more : List Entry) → entries ≡ before ++ more →
+      Stands (state_after opening before)
+  -- only a request with the nonce of a live lease renews or deletes it
+  pub nonces : (before : List Entry) (e : Entry) (more : List Entry) →
+      entries ≡ before ++ e ∷ more →
+      ChangesByNonce x.config e (state_after opening before).table
+      (state_after opening (before ++ e ∷ [])).table
+  -- until 120 seconds after the end of a lease its ports are no other endpoint's
+  pub rests : (before behind : List Entry) (t : ℕ) (o : Owner) (n : ℕ) →
+      entries ≡ before ++ behind → OwnsUpTo opening before behind t o →
+      (state_after opening entries).last ≤ n → n < t + REST_SECONDS →
+      HasNoOther (owners (live (state_after opening entries).table n)) o
+  -- the epoch told is at most the age of each lease that was given up early, from the entry on that
+  -- gave it up
+  pub epochs : (before : List Entry) (e : Entry) (more : List Entry) →
+      entries ≡ before ++ e ∷ more →
+      IfSome e.kept (λ r. (g : ℕ) → GivesUp (state_after opening before) r g →
+      AllByRecursion (IsWithinAge g) (e ∷ more))
+  -- in each entry, where a record of the opening state gave it up
+  pub epochs_of_records : (before : List Record) (r : Record) (more : List Record) (g : ℕ) →
+      AllFit empty_state (before ++ r ∷ more) → opening ≡ state_of (before ++ r ∷ more) →
+      GivesUp (state_of before) r g → AllByRecursion (IsWithinAge g) entries
+  -- and in each entry, where it was granted by the base of the opening state: so was each lease that a
+  -- start on a blank or damaged journal forgot, if no moment before was later than that start
+  pub epochs_of_starts : (g : ℕ) → g ≤ opening.base → AllByRecursion (IsWithinAge g) entries
+
+-- Of a house on one thread: what is promised of each external address, and the base told is the
+-- greatest of all so far.
+pub record HouseKeepsPromises (config : Config) (openings : List State)
+    (history : List HouseEntry) : Type 0 where
+  pub solo : IsSoloHistory config openings history
+  pub each : (place : ℕ) (x : External) (opening : State) →
+      slice_get config.externals place ≡ Some x → slice_get openings place ≡ Some opening →
+      KeepsPromises (record { config = config; place = place; external = x }) opening
+      (entries_at place history)
+
+-- Of lines that are played from these opening states on: their entries keep the promises, and each
+-- house along them, and so each state that a journal stands for, is that of some first entries.
+pub record LinesKeepPromises (config : Config) (openings : List State) (lines : List Line)
+    : Type 0 where
+  pub history : HouseKeepsPromises config openings
+      (entries_along (house_begun config openings) (line_calls lines))
+  pub journals : (house : PlainHouse) →
+      Contains (houses_along house_effects (house_begun config openings) lines) house →
+      IsAlong config openings lines house
+
+-- so it is of each solo history
+abbrev pub HistoriesKeepPromises : Type 0
+HistoriesKeepPromises = (config : Config) (openings : List State) (history : List HouseEntry) →
+    AreOpenings config openings → IsSoloHistory config openings history →
+    HouseKeepsPromises config openings history
