@@ -3,8 +3,9 @@ use crate::granting::GRANTING;
 use crate::journals::JOURNALS;
 use crate::loads::LOADS;
 use crate::refusing::REFUSING;
-use crate::runs::{NO_FAULT, Row, octets_of, pairs_behind, run};
+use crate::runs::{Ended, NO_FAULT, Row, Step, octets_of, pairs_behind, run};
 use lease_disk::{DiskPair, LeaseDisk, MemoryDisk};
+use pcp_base::Memory;
 use std::alloc::Global;
 use std::test::Fail;
 
@@ -26,25 +27,42 @@ fn holds(alloc: Global, disk: &mut MemoryDisk, digits: &str) -> Result<bool, Fai
     Ok(held.as_str() == digits)
 }
 
+/// How this step of a row ended otherwise, if it did.
+fn other_end(
+    alloc: Global,
+    name: &str,
+    step: &Step,
+    ended: &Ended<MemoryDisk>,
+) -> Result<Option<String>, Memory> {
+    let output = octets_of(alloc, &step.output)?;
+    let told = ended.out.held();
+    if ended.status == step.status && told == output.as_slice() {
+        return Ok(None);
+    }
+    let words = step.words;
+    let status = ended.status;
+    let text = told.escape_ascii();
+    Ok(Some(format!(in alloc; "{name}, {words}: {status}, {text}")?))
+}
+
 /// What comes out otherwise than the row says, if anything.
 fn other_in(alloc: Global, row: &Row) -> Result<Option<String>, Fail> {
     let name = row.name;
     let mut pairs = pairs_behind(alloc, pair_of(alloc, row.before)?)?;
-    for (i, step) in row.steps.iter().enumerate() {
+    for step in row.steps {
         let ended = run(alloc, step, pairs, NO_FAULT)?;
-        let output = octets_of(alloc, &step.output)?;
-        let told = ended.out.held();
-        if ended.status != step.status || told != output.as_slice() {
-            let status = ended.status;
-            let told = told.escape_ascii();
-            return Ok(Some(format!(in alloc; "{name}, {i}: {status}, {told}")?));
+        if let Some(other) = other_end(alloc, name, step, &ended)? {
+            return Ok(Some(other));
         }
         pairs = ended.pairs;
     }
-    let (Some([a, b]), Some(pair)) = (row.after, pairs.first_mut()) else {
+    let Some(sides) = row.after else {
         return Ok(None);
     };
-    if !holds(alloc, &mut pair.a, a)? || !holds(alloc, &mut pair.b, b)? {
+    let Some(pair) = pairs.first_mut() else {
+        return Ok(None);
+    };
+    if !holds(alloc, &mut pair.a, sides[0])? || !holds(alloc, &mut pair.b, sides[1])? {
         return Ok(Some(format!(in alloc; "{name}: other journals")?));
     }
     Ok(None)
