@@ -1,4 +1,5 @@
 pub mod Uniques
+pub mod SortLemmas
 pub mod LookLemmas
 pub mod LeavingLemmas
 pub mod HoldingLemmas

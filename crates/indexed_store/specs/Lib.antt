@@ -1,3 +1,4 @@
+pub mod Leading
 pub mod Leaving
 pub mod Holding
 pub mod Settling

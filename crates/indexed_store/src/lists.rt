@@ -1,10 +1,12 @@
 //! What is copied of the leases.
-ghost use Rattle.std.specs.Prelude.{◌≡◌, ◌++◌, ◌||◌, flat_map, map, filter, nat_lt, position, not, IfOk, OnOk};
+ghost use Rattle.std.specs.Prelude.{◌≡◌, [], ◌∷◌, ◌++◌, flat_map, map, filter, nat_lt, IfOk, OnOk, if◌then◌else◌};
 ghost use Rattle.std.specs.List.{AllByRecursion};
+ghost use Rattle.std.specs.List.Sorted.{IsSortedBy, IsStableBy};
 ghost use Rattle.pcp_base.specs.Tables.{IsMapLease, live};
 ghost use Rattle.pcp_base.specs.Owners.{map_owners, peer_owner, owners};
 ghost use Rattle.pcp_base.specs.Sound.{Sound};
-ghost use Rattle.lease_store.specs.OwnerOrder.{precedes, with_owner, in_order, owners_in_order};
+ghost use Rattle.lease_store.specs.OwnerOrder.{precedes, in_order, owners_in_order};
+ghost use Rattle.indexed_store.specs.Leading.{leads};
 
 use crate::leases::Leases;
 use crate::owning::{add_owners, owner_of_peer};
@@ -40,45 +42,53 @@ fn stands_before(first: &Owner, second: &Owner) -> bool
     a < b || (a == b && first.external < second.external)
 }
 
-/// Whether the owner stands before the one held, or that one not before it.
-fn ends_search(held: &Owner, owner: &Owner) -> bool
-    ensures { result ≡ (precedes owner.now held.now || not (precedes held.now owner.now)) }
+/// Puts owned ports in order; those of one port keep theirs.
+fn sort(owners: &mut Vec<Owner>) -> Result<(), AllocError>
+    ensures sorted { OnOk result (IsSortedBy precedes owners.new.items) }
+    ensures stable { IsStableBy precedes owners.old.items owners.new.items }
 {
-    stands_before(owner, held) || !stands_before(held, owner)
+    owners.sort_by_key(|owner| (owner.protocol.number(), owner.external))
 }
 
-/// The place to which the owner comes, where it isn't the end.
-fn place_of(owners: &[Owner], owner: &Owner) -> Option<usize>
-    ensures { result ≡
-        position (λ x. precedes owner.now x || not (precedes x owner.now)) owners.now }
+/// Whether the owner stands before the first of the others, if there is one.
+fn leads(owner: &Owner, others: &[Owner]) -> bool
+    ensures { result ≡ leads owner.now others.now }
 {
-    owners.iter().position(|held| ends_search(held, owner))
-}
-
-/// Adds an owned port in its place, unless its port is there.
-fn add_owner(owners: &mut Vec<Owner>, owner: Owner) -> Result<(), AllocError>
-    ensures { OnOk result (owners.new.items ≡ with_owner owner owners.old.items) }
-{
-    let Some(place) = place_of(owners, &owner) else {
-        owners.push(owner)?;
-        return Ok(());
+    let Some(next) = others.first() else {
+        return true;
     };
-    let held = owners[place];
-    if stands_before(&owner, &held) {
-        owners.insert(place, owner)?;
+    stands_before(owner, next)
+}
+
+/// Adds the owner where it stands before the first of the others.
+fn add_last(owners: &mut Vec<Owner>, owner: Owner, others: &[Owner]) -> Result<(), AllocError>
+    ensures { OnOk result (owners.new.items ≡ (if leads owner others.now
+        then owners.old.items ++ owner ∷ [] else owners.old.items)) }
+{
+    if leads(&owner, others) {
+        owners.push(owner)?;
     }
     Ok(())
 }
 
-/// The owned ports in order, each once.
+/// Of owned ports in order, the last of each port.
+fn last_of_each(alloc: Global, owners: &[Owner]) -> Result<Vec<Owner>, AllocError>
+    requires { IsSortedBy precedes owners.now }
+    ensures { IfOk result (λ v. v.items ≡ in_order owners.now) }
+{
+    let mut last = Vec::with_capacity(alloc, owners.len())?;
+    for (i, owner) in owners.iter().enumerate() {
+        add_last(&mut last, *owner, &owners[i + 1..])?;
+    }
+    Ok(last)
+}
+
+/// The owned ports in order, each once: of those of one port the last.
 fn in_order(alloc: Global, mut owners: Vec<Owner>) -> Result<Vec<Owner>, AllocError>
     ensures { IfOk result (λ v. v.items ≡ in_order owners.items) }
 {
-    let mut ordered = Vec::new(alloc);
-    while let Some(owner) = owners.pop() {
-        add_owner(&mut ordered, owner)?;
-    }
-    Ok(ordered)
+    sort(&mut owners)?;
+    last_of_each(alloc, &owners)
 }
 
 impl Leases {

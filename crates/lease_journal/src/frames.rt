@@ -11,10 +11,10 @@ ghost use Rattle.lease_journal.specs.Sides.{head_text};
 
 use crate::formats::Format;
 use crate::heads::head_of;
-use crate::layout::MOST_RECORDS;
+use crate::layout::{FRAME_ENDS, MOST_RECORDS};
 use lease_records::write_record;
 use pcp_base::{Memory, Record};
-use std::alloc::Global;
+use std::alloc::{AllocError, Global};
 
 /// The texts of well formed records, one after the other.
 fn records_of(alloc: Global, batch: &[Record]) -> Result<Vec<u8>, Memory>
@@ -27,6 +27,13 @@ fn records_of(alloc: Global, batch: &[Record]) -> Result<Vec<u8>, Memory>
         write_record(alloc, &mut text, record)?;
     }
     Ok(text)
+}
+
+/// Makes room for the frame of this text and for the gate behind it, so that they take memory once.
+fn make_room(out: &mut Vec<u8>, text: &[u8]) -> Result<(), AllocError>
+    ensures { out.new.items ≡ out.old.items }
+{
+    out.reserve(text.len().saturating_add(FRAME_ENDS))
 }
 
 /// Appends a frame of 1 to [`MOST_RECORDS`] well formed records, all but its gate.
@@ -42,6 +49,7 @@ pub(crate) fn put_frame_text(
     ensures batch { OnOk result (IsBatch batch.now) }
 {
     let text = records_of(alloc, batch)?;
+    make_room(out, &text)?;
     out.extend_from_slice(&(text.len() as u32).to_be_bytes())?;
     out.extend_from_slice(&text)?;
     Ok(())

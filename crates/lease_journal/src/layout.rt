@@ -9,6 +9,9 @@ pub(crate) const MOST_FRAMED: usize = 4096;
 /// How long a frame is at most: its gate, its length, and its records.
 pub(crate) const LONGEST_FRAME: usize = 4101;
 
+/// What stands around the records of a frame: its length, and the gate of the next.
+pub(crate) const FRAME_ENDS: usize = 5;
+
 /// What stands in front of the gate of a side's first frame.
 pub(crate) const SIDE_HEAD: usize = 14;
 

@@ -7,8 +7,11 @@ ghost use Rattle.lease_records.specs.RecordTexts.{endpoint_text, filter_text, fi
 ghost use Rattle.lease_records.specs.Values.{IsEndpoint, IsFilter, IsTerm, IsMap, IsPeer, IsChangeValue, IsValue};
 
 use crate::terms::Term;
-use pcp_base::{Change, Endpoint, Filter, MapLease, Memory, PeerLease, Record};
+use pcp_base::{Change, Endpoint, Filter, MOST_FILTERS, MapLease, Memory, PeerLease, Record};
 use std::alloc::{AllocError, Global};
+
+/// How many octets the text of a record has at most: that of a MAP lease with all its filters.
+const LONGEST_TEXT: usize = 61 + 19 * MOST_FILTERS;
 
 /// Appends the text of a well formed record. After `Memory` nothing was appended.
 pub fn write_record(alloc: Global, out: &mut Vec<u8>, kept: &Record) -> Result<(), Memory>
@@ -18,7 +21,8 @@ pub fn write_record(alloc: Global, out: &mut Vec<u8>, kept: &Record) -> Result<(
     // So it is read again, whatever follows it.
     ensures text { OnOk result (IsRecordText (record_text kept.now) kept.now) }
 {
-    let mut text = Vec::new(alloc);
+    // Room for any record at once: the pieces of a text are short and many.
+    let mut text = Vec::with_capacity(alloc, LONGEST_TEXT)?;
     put_record(&mut text, kept)?;
     out.extend_from_slice(&text)?;
     Ok(())

@@ -10,10 +10,16 @@ use crate::layout::*;
 use crate::options::{Item, Items};
 use pcp_base::{Address, Answer, Ask, Memory, PortSet};
 use pcp_codec::{
-    ANNOUNCE_OPCODE, Body, Common, HEAD_OCTETS, MAP_OPCODE, PEER_OPCODE, read_body, write_head,
-    write_refusal,
+    ANNOUNCE_OPCODE, Body, Common, HEAD_OCTETS, MAP_OPCODE, PEER_OCTETS, PEER_OPCODE, read_body,
+    write_head, write_refusal,
 };
 use std::alloc::{AllocError, Global};
+
+/// How many octets a success without options has at most: the header, and the data of PEER.
+const PLAIN_OCTETS: usize = HEAD_OCTETS + PEER_OCTETS;
+
+/// How many octets an option of a success has at most: its head, and the data of FILTER.
+const LONGEST_OPTION: usize = OPTION_HEAD_OCTETS + FILTER_OCTETS;
 
 /// Appends the reply to a request whose verdict gave the ask and the items: an error reply, or a
 /// success with the data of the request, the external port and address of the answer, and the options
@@ -104,7 +110,9 @@ pub fn write_success(
         ≡ out.old.items ++ success_text lifetime epoch body.now (told_items set items.now)) }
     ensures err { OnErr result (out.new.items ≡ out.old.items) }
 {
-    let mut text = Vec::new(alloc);
+    // Room for the whole reply at once: its pieces are short and many.
+    let options = items.len().saturating_mul(LONGEST_OPTION);
+    let mut text = Vec::with_capacity(alloc, options.saturating_add(PLAIN_OCTETS))?;
     push_head(&mut text, opcode_of_body(body), lifetime, epoch)?;
     push_body(&mut text, body)?;
     push_options(&mut text, set, items)?;

@@ -121,8 +121,8 @@ pub(crate) fn decide_batch<S: LeaseStore>(
     ensures address { OnOk result ((S.state core.new).address ≡ (S.state core.old).address) }
     ensures terms { S.terms core.new ≡ S.terms core.old }
 {
-    let mut answers = Vec::new(alloc);
-    let mut records = Vec::new(alloc);
+    let mut answers = Vec::with_capacity(alloc, asks.len())?;
+    let mut records = Vec::with_capacity(alloc, asks.len())?;
     for ask in asks {
         let decided = decide_one(alloc, core, ask, m)?;
         push_kept(&mut records, &decided.kept)?;

@@ -1,13 +1,15 @@
-use Rattle.std.proofs.Common.{◌∙◌, ap, sym}
-use Rattle.plain_store.proofs.OrderLemmas.{with_owners, in_order-is, last_added}
+use Rattle.std.proofs.Common.{◌∙◌, ap, sym, subst}
+use Rattle.std.specs.List.Sorted.{IsSortedBy}
+use Rattle.std.proofs.lemmas.Result.{IfOk-weaker}
+use Rattle.lease_store.specs.OwnerOrder.{in_order, precedes}
+use Rattle.indexed_store.proofs.SortLemmas.{stable_same}
 use Rattle.indexed_store.proofs.lists.in_order.Goals as goal
 
-pub loop-owner-preserved : goal.loop-owner-preserved
-loop-owner-preserved c =
-    ap (with_owners c.pop.new.self.items) c.in_ok-add_owner.ensures
-    ∙ sym (last_added c.pop.new.self.items c.in-Some.owner c.loop-owner.ordered.items)
-    ∙ ap (λ os. with_owners os c.loop-owner.ordered.items) (sym c.in-Some.ensures.items)
-    ∙ c.loop-owner.invariant
+pub last_of_each-requires : goal.last_of_each-requires
+last_of_each-requires c = subst (IsSortedBy precedes) (sym c.deref.ensures.value) c.in_ok-sort.ensures.sorted
 
-pub loop-owner-init : goal.loop-owner-init
-loop-owner-init c = ap (with_owners c.args.owners.items) c.new-ordered.ensures.items ∙ in_order-is c.args.owners.items
+pub returns : goal.returns
+returns c =
+    IfOk-weaker c.last_of_each.result _ _
+    (λ v same. same ∙ ap in_order c.deref.ensures.value ∙ stable_same c.args.owners.items c.sort.new.owners.items c.sort.ensures.stable)
+    c.last_of_each.ensures
