@@ -1,4 +1,5 @@
 pub mod MapKeeping
+pub mod Sets
 pub mod Nexts
 pub mod Lookups
 pub mod Separates

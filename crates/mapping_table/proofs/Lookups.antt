@@ -9,13 +9,14 @@ use Rattle.pcp_base.specs.Tables.{covers, first_endpoint}
 use Rattle.pcp_base.proofs.TableLemmas.{IsCovered-from_covers, covers-from_IsCovered, covers-first}
 use Rattle.mapping_table.specs.MapLists.{owns, map_covering, map_owning}
 use Rattle.ordered_index.specs.Orders.{Place, port_at, place_of, port_cmp, place_cmp, IsLast}
-use Rattle.mapping_table.specs.Kept.{place_of_lease, port_of_lease, map_keying, AreKeptMaps}
+use Rattle.mapping_table.specs.Kept.{place_of_lease, port_of_lease, map_keying, AreKeptMaps, AreCountedMaps}
 use Rattle.ordered_index.proofs.Entries.{find_is, find_none}
-use Rattle.ordered_index.proofs.OrderLaws.{flip, port_total, place_total, place_of-one, protocol_one, ports_between, ports_up_to, places_between, places_up_to}
+use Rattle.ordered_index.proofs.OrderLaws.{flip, port_total, place_total, place_of-one, endpoint_same, protocol_one, ports_between, ports_up_to, places_between, places_up_to}
 use Rattle.ordered_index.specs.declared.numbered.Numbered.{Numbered}
 use Rattle.ordered_index.proofs.EntryLaws.{none_some, some_one}
 use Rattle.ordered_index.proofs.Keeping.{key-to, key-from, port-to, port-from}
 use Rattle.mapping_table.proofs.MapKeeping.{map_laws}
+use Rattle.mapping_table.proofs.Sets.{is_single}
 use Rattle.mapping_table.proofs.Separates.{IsOwned-from_owns, owns-from_IsOwned, one_covers, one_owns, lease_is}
 
 some_is : {X : Type 0} (o : Option X) (x : X) → o ≡ Some x → IsSome o
@@ -100,3 +101,39 @@ module _ (it : Numbered MapLease Place (ℕ × ℕ)) (h : AreKeptMaps it) where
 
   pub number_stands : (p : Place) (k : ℕ) → get place_cmp it.keys p ≡ Some k → None ≡ get nat_cmp it.leases k → ⊥
   number_stands p k found none = let from = key-from map_keying map_laws it h.kept p k found in none_some (get nat_cmp it.leases k) from.0 (sym none) from.1
+
+  -- the number at an endpoint's place is that of the lease that covers it
+  pub first_found : (e : Endpoint) (k : Place) (n : ℕ) → k ≡ place_of e → get place_cmp it.keys k ≡ Some n → get nat_cmp it.leases n ≡ map_covering e (values it.leases)
+  first_found e k n k_is number =
+      let from = key-from map_keying map_laws it h.kept k n number in
+      let same : first_endpoint from.0 ≡ e = place_of-one (first_endpoint from.0) e (from.2 ∙ k_is) in
+      let some = (lease_is it.leases h.sound n from.0 from.1).ports.some in
+      from.1 ∙ covering_is e n from.0 from.1 (ap (covers from.0) (sym same) ∙ covers-first from.0 some)
+
+  -- the number at a port is that of the lease that owns it
+  pub first_owned : (protocol : Protocol) (port : ℕ) (p : ℕ × ℕ) (n : ℕ) → p ≡ port_at protocol port → get port_cmp it.ports p ≡ Some n → get nat_cmp it.leases n ≡ map_owning protocol port (values it.leases)
+  first_owned protocol port p n p_is number =
+      let from = port-from map_keying map_laws it h.kept p n number in
+      let same : port_of_lease from.0 ≡ port_at protocol port = from.2 ∙ p_is in
+      let is : from.0.protocol ≡ protocol = protocol_one from.0.protocol protocol from.0.external port same in
+      let at : from.0.external ≡ port = ap (λ (z : ℕ × ℕ). z.1) same in
+      let some = (lease_is it.leases h.sound n from.0 from.1).ports.some in
+      from.1 ∙ owning_is protocol port n from.0 from.1 (owns-from_IsOwned from.0 protocol port is (omega (arith, at)) (omega (arith, at, some)))
+
+-- where no lease is a set, a port that isn't a first one has none
+module _ (it : Numbered MapLease Place (ℕ × ℕ)) (sets : ℕ) (h : AreCountedMaps it sets) (none : sets ≡ 0) where
+  pub no_first : (e : Endpoint) (k : Place) → k ≡ place_of e → get place_cmp it.keys k ≡ None → None ≡ map_covering e (values it.leases)
+  no_first e k k_is free = sym (find_none (λ x. covers x e) it.leases h.kept.kept.ordered (λ n x a c.
+      let is = IsCovered-from_covers x e c in
+      let single = is_single it sets h n x none a in
+      let port : x.internal ≡ e.port = (let from = is.from in let below = is.below in omega (arith, single, from, below)) in
+      let same : first_endpoint x ≡ e = endpoint_same (first_endpoint x) e is.address is.protocol port in
+      none_some (get place_cmp it.keys k) n free (ap (get place_cmp it.keys) (k_is ∙ ap place_of (sym same)) ∙ key-to map_keying map_laws it h.kept.kept n x a)))
+
+  pub no_first_port : (protocol : Protocol) (port : ℕ) (p : ℕ × ℕ) → p ≡ port_at protocol port → get port_cmp it.ports p ≡ None → None ≡ map_owning protocol port (values it.leases)
+  no_first_port protocol port p p_is free = sym (find_none (owns protocol port) it.leases h.kept.kept.ordered (λ n x a c.
+      let is = IsOwned-from_owns x protocol port c in
+      let single = is_single it sets h n x none a in
+      let at : x.external ≡ port = (let from = is.from in let below = is.below in omega (arith, single, from, below)) in
+      let same : port_of_lease x ≡ port_at protocol port = ap (λ (z : Protocol). port_at z x.external) is.protocol ∙ ap (port_at protocol) at in
+      none_some (get port_cmp it.ports p) n free (ap (get port_cmp it.ports) (p_is ∙ sym same) ∙ port-to map_keying map_laws it h.kept.kept n x a)))

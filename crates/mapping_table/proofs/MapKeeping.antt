@@ -1,7 +1,8 @@
 -- MAP leases and their maps after a call.
-use Rattle.std.proofs.Common.{◌≡◌, ℕ, not, Some, None, IsSome, Result, OnOk, OnErr, sym, ap, ◌∙◌, subst}
+use Rattle.std.proofs.Common.{◌≡◌, ℕ, true, false, not, Some, None, IsSome, Result, Ok, Err, OnOk, OnErr, sym, ap, ◌∙◌, subst}
 use Rattle.std.specs.Ordering.{nat_cmp}
 use Rattle.std.specs.BTreeMap.{get, values}
+use Rattle.std.specs.Result.{IsErr}
 use Rattle.pcp_base.specs.declared.leases.Endpoint.{Endpoint}
 use Rattle.pcp_base.specs.declared.leases.MapLease.{MapLease}
 use Rattle.pcp_base.specs.Tables.{first_endpoint, is_map_of}
@@ -9,7 +10,7 @@ use Rattle.pcp_base.proofs.Same.{same_endpoint-Decides}
 use Rattle.ordered_index.specs.declared.numbered.Numbered.{Numbered}
 use Rattle.ordered_index.specs.Orders.{Place, place_of, place_cmp, port_cmp}
 use Rattle.ordered_index.specs.Steps.{Appends, Replaces, Forgets, Stays}
-use Rattle.ordered_index.proofs.Keeping.{AreLaws, Tells, port-free, number-has, put-appended, put-replaced, taken-out, none-found, none-gone, put-either}
+use Rattle.ordered_index.proofs.Keeping.{AreLaws, Tells, port-free, number-has, put-appended, put-replaced, taken-out, none-found, none-gone, put-either, same-values, same-kept}
 use Rattle.ordered_index.proofs.OrderLaws.{port_total, port_exact, place_total, place_exact, place_of-one}
 use Rattle.mapping_table.specs.Kept.{place_of_lease, port_of_lease, map_keying, AreKeptMaps}
 use Rattle.mapping_table.specs.MapLists.{AreSoundMaps, with_map, PutsMap, RemovesMap}
@@ -44,6 +45,15 @@ module _ (it : Numbered MapLease Place (ℕ × ℕ)) (h : AreKeptMaps it) where
       map_replaced n x from to number at_n from_is to_is ok err =
           let put = put-replaced map_keying map_laws it h.kept new (is_map_of (first_endpoint l)) l (map_tells (first_endpoint l)) (ports_apart (with_map l (values it.leases)) sound) r n x from to number at_n from_is to_is ok err in
           (record { sound = put-either AreSoundMaps (values it.leases) (with_map l (values it.leases)) (values new.leases) r put.ok put.err h.sound sound; kept = put.kept }, record { ok = put.ok; err = put.err })
+
+  -- where nothing changes
+  module _ (new : Numbered MapLease Place (ℕ × ℕ)) (stays : Stays it new) where
+    pub map_stays : AreKeptMaps new
+    map_stays = record { sound = subst AreSoundMaps (sym (same-values map_keying map_laws it h.kept new stays)) h.sound; kept = same-kept map_keying map_laws it h.kept new stays }
+
+    pub map_not_put : {X E : Type 0} (l : MapLease) (r : Result X E) → IsErr r → PutsMap (values it.leases) l r (values new.leases)
+    map_not_put l (Ok v) failed = absurd (let no : false ≡ true = failed in cc)
+    map_not_put l (Err e) failed = record { ok = tt; err = same-values map_keying map_laws it h.kept new stays }
 
   -- a number that stands under a place has a lease
   pub place_has : (k : Place) (n : ℕ) → get place_cmp it.keys k ≡ Some n → IsSome (get nat_cmp it.leases n)

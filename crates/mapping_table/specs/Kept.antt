@@ -1,5 +1,5 @@
 -- How a table keeps its leases (our own; for proofs alone).
-use Rattle.std.specs.Prelude.{ℕ}
+use Rattle.std.specs.Prelude.{◌≡◌, ℕ, nat_lt, Bool, count_by, if◌then◌else◌}
 use Rattle.std.specs.BTreeMap.{values}
 use Rattle.pcp_base.specs.declared.leases.MapLease.{MapLease}
 use Rattle.pcp_base.specs.Tables.{first_endpoint}
@@ -28,3 +28,16 @@ map_keying = record {
 pub record AreKeptMaps (it : Numbered MapLease Place (ℕ × ℕ)) : Type 0 where
   pub sound : AreSoundMaps (values it.leases)
   pub kept : IsKept map_keying it
+
+-- whether the lease is a set of ports: of more than one
+abbrev pub is_set : MapLease → Bool
+is_set l = nat_lt 1 l.count
+
+-- 1 for a set
+abbrev pub sets_of : MapLease → ℕ
+sets_of l = if is_set l then 1 else 0
+
+-- the leases with their maps, and how many of them are sets
+pub record AreCountedMaps (it : Numbered MapLease Place (ℕ × ℕ)) (sets : ℕ) : Type 0 where
+  pub kept : AreKeptMaps it
+  pub counted : sets ≡ count_by is_set (values it.leases)

@@ -4,7 +4,7 @@ ghost use Rattle.std.specs.Prelude.{◌≡◌, Some, None};
 ghost use Rattle.std.specs.BTreeMap.{get, values};
 ghost use Rattle.ordered_index.specs.Orders.{place_cmp};
 ghost use Rattle.mapping_table.specs.MapLists.{AreSoundMaps, with_map, PutsMap};
-ghost use Rattle.mapping_table.specs.Kept.{place_of_lease, port_of_lease, AreKeptMaps};
+ghost use Rattle.mapping_table.specs.Kept.{place_of_lease, port_of_lease, sets_of, AreCountedMaps};
 
 use ordered_index::{Numbered, Place, Port, place_of, port_at};
 use pcp_base::{MapLease, Memory};
@@ -23,33 +23,46 @@ pub(crate) fn place_of_first(lease: &MapLease) -> Place
     place_of(&lease.first_endpoint())
 }
 
+/// One for a set of ports, and none for a single port.
+pub(crate) fn sets_of(lease: &MapLease) -> u32
+    ensures { result ≡ sets_of lease.now }
+{
+    u32::from(lease.count > 1)
+}
+
 /// Appends a lease whose key has no number.
 pub(crate) fn append(
     kept: &mut Numbered<MapLease, Place, Port>,
+    sets: &mut u32,
     lease: MapLease,
 ) -> Result<(), Memory>
-    requires kept { AreKeptMaps kept.old }
+    requires counted { AreCountedMaps kept.old sets.old }
     requires free { get place_cmp kept.old.keys (place_of_lease lease) ≡ None }
     requires sound { AreSoundMaps (with_map lease (values kept.old.leases)) }
-    ensures kept { AreKeptMaps kept.new }
+    ensures counted { AreCountedMaps kept.new sets.new }
     ensures put { PutsMap (values kept.old.leases) lease result (values kept.new.leases) }
 {
-    kept.append(lease, place_of_first(&lease), port_of(&lease), lease.expiry)
+    kept.append(lease, place_of_first(&lease), port_of(&lease), lease.expiry)?;
+    *sets += sets_of(&lease);
+    Ok(())
 }
 
 /// Puts a lease in the place of the one with its key, which has this number.
 pub(crate) fn replace(
     kept: &mut Numbered<MapLease, Place, Port>,
+    sets: &mut u32,
     number: u64,
     lease: MapLease,
 ) -> Result<(), Memory>
-    requires kept { AreKeptMaps kept.old }
+    requires counted { AreCountedMaps kept.old sets.old }
     requires key { get place_cmp kept.old.keys (place_of_lease lease) ≡ Some number }
     requires sound { AreSoundMaps (with_map lease (values kept.old.leases)) }
-    ensures kept { AreKeptMaps kept.new }
+    ensures counted { AreCountedMaps kept.new sets.new }
     ensures put { PutsMap (values kept.old.leases) lease result (values kept.new.leases) }
 {
     let old = kept.leases[&number];
     let ports = (port_of(&old), port_of(&lease));
-    kept.replace(number, lease, ports, (old.expiry, lease.expiry))
+    kept.replace(number, lease, ports, (old.expiry, lease.expiry))?;
+    *sets = *sets + sets_of(&lease) - sets_of(&old);
+    Ok(())
 }

@@ -6,9 +6,9 @@ ghost use Rattle.std.specs.BTreeMap.{values};
 ghost use Rattle.pcp_base.specs.declared.leases.MapLease.{MapLease};
 ghost use Rattle.mapping_table.specs.MapLists.{is_live_map, map_covering, map_owning, first_dead_map, IsDeadMap, IsNextCovered, AreSoundMaps, with_map, PutsMap, RemovesMap, CopiesLiveMaps};
 ghost use Rattle.ordered_index.specs.Orders.{Place, port_cmp, place_cmp};
-ghost use Rattle.mapping_table.specs.Kept.{place_of_lease, port_of_lease, AreKeptMaps};
+ghost use Rattle.mapping_table.specs.Kept.{place_of_lease, port_of_lease, AreCountedMaps};
 
-use crate::changes::{append, place_of_first, port_of, replace};
+use crate::changes::{append, place_of_first, port_of, replace, sets_of};
 use crate::owning::owns;
 use ordered_index::{
     Numbered, Place, Port, first_from, is_beside, last_up_to, place_of, port_at, port_in,
@@ -23,19 +23,21 @@ use std::marker::Model;
 pub struct MapTable {
     /// The leases, by their first endpoints and by their first external ports.
     kept: Numbered<MapLease, Place, Port>,
+    /// How many of them are sets of ports. A lease of a single port is found by that port alone.
+    sets: u32,
 }
 
 impl Model for MapTable {
     ghost use Rattle.std.specs.Prelude.{List};
     ghost use Rattle.std.specs.BTreeMap.{values};
     ghost use Rattle.pcp_base.specs.declared.leases.MapLease.{MapLease};
-    ghost use Rattle.mapping_table.specs.Kept.{AreKeptMaps};
+    ghost use Rattle.mapping_table.specs.Kept.{AreCountedMaps};
 
     ghost Value = { List MapLease };
 
     ghost view = { λ t. values t.kept.leases };
 
-    ghost invariant = { λ t. AreKeptMaps t.kept };
+    ghost invariant = { λ t. AreCountedMaps t.kept t.sets };
 }
 
 /// The leases that are live at `m`, in the order of their numbers.
@@ -60,6 +62,7 @@ impl MapTable {
     {
         Ok(MapTable {
             kept: Numbered::new(alloc),
+            sets: 0,
         })
     }
 
@@ -68,10 +71,24 @@ impl MapTable {
         ensures { self.new ≡ [] }
     {
         self.kept.clear();
+        self.sets = 0;
     }
 
     /// The lease that covers the endpoint.
     pub fn find(&self, endpoint: &Endpoint) -> Option<&MapLease>
+        ensures { option_copied result ≡ map_covering endpoint.now self.now }
+    {
+        if let Some(number) = self.kept.keys.get(&place_of(endpoint)).copied() {
+            return self.kept.leases.get(&number);
+        }
+        if self.sets == 0 {
+            return None;
+        }
+        self.find_nearest(endpoint)
+    }
+
+    /// The lease that covers the endpoint, by the nearest key up to it.
+    fn find_nearest(&self, endpoint: &Endpoint) -> Option<&MapLease>
         ensures { option_copied result ≡ map_covering endpoint.now self.now }
     {
         let Some(number) = last_up_to(&self.kept.keys, place_of(endpoint)) else {
@@ -89,6 +106,19 @@ impl MapTable {
 
     /// The lease that owns the external port.
     pub fn by_external(&self, protocol: Protocol, port: u16) -> Option<&MapLease>
+        ensures { option_copied result ≡ map_owning protocol port self.now }
+    {
+        if let Some(number) = self.kept.ports.get(&port_at(protocol, port)).copied() {
+            return self.kept.leases.get(&number);
+        }
+        if self.sets == 0 {
+            return None;
+        }
+        self.owner_nearest(protocol, port)
+    }
+
+    /// The lease that owns the external port, by the nearest first port up to it.
+    fn owner_nearest(&self, protocol: Protocol, port: u16) -> Option<&MapLease>
         ensures { option_copied result ≡ map_owning protocol port self.now }
     {
         let Some(number) = last_up_to(&self.kept.ports, port_at(protocol, port)) else {
@@ -155,8 +185,8 @@ impl MapTable {
         ensures { PutsMap self.old lease result self.new }
     {
         match self.kept.keys.get(&place_of_first(&lease)).copied() {
-            Some(number) => replace(&mut self.kept, number, lease),
-            None => append(&mut self.kept, lease),
+            Some(number) => replace(&mut self.kept, &mut self.sets, number, lease),
+            None => append(&mut self.kept, &mut self.sets, lease),
         }
     }
 
@@ -173,6 +203,7 @@ impl MapTable {
         };
         self.kept
             .forget(number, place, port_of(&lease), lease.expiry);
+        self.sets -= sets_of(&lease);
         Some(lease)
     }
 

@@ -1,19 +1,30 @@
-use Rattle.std.proofs.Common.{ap, ◌∙◌}
+use Rattle.std.proofs.Common.{ap, ◌∙◌, Ok}
 use Rattle.std.specs.BTreeMap.{get}
+use Rattle.pcp_base.specs.declared.errors.Memory.{Memory}
 use Rattle.ordered_index.specs.Orders.{port_cmp}
-use Rattle.mapping_table.proofs.MapKeeping.{port_is_free, map_appended}
+use Rattle.mapping_table.proofs.MapKeeping.{port_is_free, map_appended, map_not_put}
+use Rattle.mapping_table.proofs.Sets.{counted_stays, counted_appended}
 use Rattle.mapping_table.proofs.changes.append.Goals as goal
 
 pub append-requires-clause-port : goal.append-requires-clause-port
 append-requires-clause-port c =
-    ap (get port_cmp c.args.kept.now.ports) c.port_of.ensures ∙ port_is_free c.args.kept.now c.requires.kept c.args.lease c.requires.sound c.requires.free
-
-pub returns-clause-kept : goal.returns-clause-kept
-returns-clause-kept c =
-    (map_appended c.args.kept.now c.requires.kept c.args.lease c.requires.sound c.append.new.self c.append.result
-    c.place_of_first.result c.port_of.result c.place_of_first.ensures c.port_of.ensures c.requires.free c.append.ensures.ok c.append.ensures.err).0
+    ap (get port_cmp c.args.kept.now.ports) c.port_of.ensures ∙ port_is_free c.args.kept.now c.requires.counted.kept c.args.lease c.requires.sound c.requires.free
 
 pub returns-clause-put : goal.returns-clause-put
 returns-clause-put c =
-    (map_appended c.args.kept.now c.requires.kept c.args.lease c.requires.sound c.append.new.self c.append.result
-    c.place_of_first.result c.port_of.result c.place_of_first.ensures c.port_of.ensures c.requires.free c.append.ensures.ok c.append.ensures.err).1
+    (map_appended c.args.kept.now c.requires.counted.kept c.args.lease c.requires.sound c.append.new.self (Ok tt)
+    c.place_of_first.result c.port_of.result c.place_of_first.ensures c.port_of.ensures c.requires.free c.in_ok-append.ensures.ok tt).1
+
+pub returns-clause-counted : goal.returns-clause-counted
+returns-clause-counted c =
+    let put = map_appended c.args.kept.now c.requires.counted.kept c.args.lease c.requires.sound {E = Memory} c.append.new.self (Ok c.in_ok-append.field-0)
+    c.place_of_first.result c.port_of.result c.place_of_first.ensures c.port_of.ensures c.requires.free c.in_ok-append.ensures.ok tt in
+    counted_appended c.args.kept.now c.args.sets.now c.requires.counted c.append.new.self c.args.lease put.0 put.1.ok c.requires.free c.sets_of.result c.sets_of.ensures
+
+pub returns-in_err-append-clause-put : goal.returns-in_err-append-clause-put
+returns-in_err-append-clause-put c =
+    map_not_put c.args.kept.now c.requires.counted.kept c.append.new.self c.in_err-append.ensures.err c.args.lease c.from_residual.result c.from_residual.ensures.0
+
+pub returns-in_err-append-clause-counted : goal.returns-in_err-append-clause-counted
+returns-in_err-append-clause-counted c =
+    counted_stays c.args.kept.now c.args.sets.now c.requires.counted c.append.new.self c.in_err-append.ensures.err

@@ -1,21 +1,38 @@
-use Rattle.std.proofs.Common.{rules, ◌≡◌, Some}
+use Rattle.std.proofs.Common.{rules, ◌≡◌, Some, Ok}
 use Rattle.std.specs.Ordering.{nat_cmp}
 use Rattle.std.specs.BTreeMap.{get}
+use Rattle.pcp_base.specs.declared.errors.Memory.{Memory}
 use Rattle.mapping_table.specs.Kept.{place_of_lease}
-use Rattle.mapping_table.proofs.MapKeeping.{place_has, map_replaced}
+use Rattle.mapping_table.proofs.MapKeeping.{place_has, map_replaced, map_not_put}
+use Rattle.mapping_table.proofs.Sets.{counted_stays, counted_replaced, replaced_few}
 use Rattle.mapping_table.proofs.changes.replace.Goals as goal
 
 pub index-requires : goal.index-requires
-index-requires c = place_has c.args.kept.now c.requires.kept (place_of_lease c.args.lease) c.args.number c.requires.key
+index-requires c = place_has c.args.kept.now c.requires.counted.kept (place_of_lease c.args.lease) c.args.number c.requires.key
 
-pub returns-clause-kept : goal.returns-clause-kept
-returns-clause-kept c =
+pub overflow_sub-sets : goal.overflow_sub-sets
+overflow_sub-sets c =
     let at_n : get nat_cmp c.args.kept.now.leases c.args.number ≡ Some c.index.result.now = search rules in
-    (map_replaced c.args.kept.now c.requires.kept c.args.lease c.requires.sound c.replace.new.self c.replace.result
-    c.args.number c.index.result.now c.port_of.result c.port_of-2.result c.requires.key at_n c.port_of.ensures c.port_of-2.ensures c.replace.ensures.ok c.replace.ensures.err).0
+    replaced_few c.args.kept.now c.args.sets.now c.requires.counted c.replace.new.self c.args.lease c.args.number c.index.result.now c.requires.key at_n c.sets_of.result c.sets_of-2.result c.sets_of-2.ensures
 
 pub returns-clause-put : goal.returns-clause-put
 returns-clause-put c =
     let at_n : get nat_cmp c.args.kept.now.leases c.args.number ≡ Some c.index.result.now = search rules in
-    (map_replaced c.args.kept.now c.requires.kept c.args.lease c.requires.sound c.replace.new.self c.replace.result
-    c.args.number c.index.result.now c.port_of.result c.port_of-2.result c.requires.key at_n c.port_of.ensures c.port_of-2.ensures c.replace.ensures.ok c.replace.ensures.err).1
+    (map_replaced c.args.kept.now c.requires.counted.kept c.args.lease c.requires.sound c.replace.new.self (Ok tt)
+    c.args.number c.index.result.now c.port_of.result c.port_of-2.result c.requires.key at_n c.port_of.ensures c.port_of-2.ensures c.in_ok-replace.ensures.ok tt).1
+
+pub returns-clause-counted : goal.returns-clause-counted
+returns-clause-counted c =
+    let at_n : get nat_cmp c.args.kept.now.leases c.args.number ≡ Some c.index.result.now = search rules in
+    let put = map_replaced c.args.kept.now c.requires.counted.kept c.args.lease c.requires.sound {E = Memory} c.replace.new.self (Ok c.in_ok-replace.field-0)
+    c.args.number c.index.result.now c.port_of.result c.port_of-2.result c.requires.key at_n c.port_of.ensures c.port_of-2.ensures c.in_ok-replace.ensures.ok tt in
+    counted_replaced c.args.kept.now c.args.sets.now c.requires.counted c.replace.new.self c.args.lease c.args.number c.index.result.now c.requires.key at_n put.0 put.1.ok
+    c.sets_of.result c.sets_of-2.result c.sets_of.ensures c.sets_of-2.ensures
+
+pub returns-in_err-replace-clause-put : goal.returns-in_err-replace-clause-put
+returns-in_err-replace-clause-put c =
+    map_not_put c.args.kept.now c.requires.counted.kept c.replace.new.self c.in_err-replace.ensures.err c.args.lease c.from_residual.result c.from_residual.ensures.0
+
+pub returns-in_err-replace-clause-counted : goal.returns-in_err-replace-clause-counted
+returns-in_err-replace-clause-counted c =
+    counted_stays c.args.kept.now c.args.sets.now c.requires.counted c.replace.new.self c.in_err-replace.ensures.err

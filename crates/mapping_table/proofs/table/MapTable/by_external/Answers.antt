@@ -1,29 +1,17 @@
-use Rattle.std.proofs.Common.{ℕ, sym, ap, ◌∙◌, subst, Some, None}
+use Rattle.std.proofs.Common.{sym, ap, ◌∙◌}
 use Rattle.mapping_table.specs.MapLists.{map_owning}
-use Rattle.ordered_index.specs.Orders.{port_cmp, IsLast}
-use Rattle.mapping_table.proofs.Lookups.{last_port_has, owning_is, no_port_below, last_port_fails}
+use Rattle.mapping_table.proofs.Lookups.{first_owned, no_first_port}
 use Rattle.mapping_table.proofs.table.MapTable.by_external.Goals as goal
 
-pub returns-in_default : goal.returns-in_default
-returns-in_default c =
+pub returns-in-Some : goal.returns-in-Some
+returns-in-Some c =
     let t = c.self.inside.kept in
-    no_port_below t c.self.invariant c.args.protocol c.args.port (subst (λ (p : ℕ × ℕ). IsLast port_cmp t.ports p None) c.port_at.ensures c.in_default.ensures)
+    c.get-in-Some.ensures.value
+    ∙ first_owned t c.self.invariant.kept c.args.protocol c.args.port c.port_at.result c.in-Some.number c.port_at.ensures (sym (c.in-Some.ensures ∙ c.get.ensures.value))
     ∙ ap (map_owning c.args.protocol c.args.port) c.self.view_is
 
-pub returns-then-owns : goal.returns-then-owns
-returns-then-owns c =
+pub returns-then-self-eq0 : goal.returns-then-self-eq0
+returns-then-self-eq0 c =
     let t = c.self.inside.kept in
-    owning_is t c.self.invariant c.args.protocol c.args.port c.in-Some.number c.in-Some-get.lease.now (sym c.in-Some-get.ensures.value) (sym c.owns.ensures ∙ c.if-owns.true)
+    no_first_port t c.self.inside.sets c.self.invariant c.if-self-eq0.true c.args.protocol c.args.port c.port_at.result c.port_at.ensures (sym (c.in_default.ensures ∙ c.get.ensures.value))
     ∙ ap (map_owning c.args.protocol c.args.port) c.self.view_is
-
-pub returns-else-owns : goal.returns-else-owns
-returns-else-owns c =
-    let t = c.self.inside.kept in
-    last_port_fails t c.self.invariant c.args.protocol c.args.port c.in-Some.number c.in-Some-get.lease.now
-    (subst (λ (p : ℕ × ℕ). IsLast port_cmp t.ports p (Some c.in-Some.number)) c.port_at.ensures c.in-Some.ensures)
-    (sym c.in-Some-get.ensures.value) (sym c.owns.ensures ∙ c.if-owns.false)
-    ∙ ap (map_owning c.args.protocol c.args.port) c.self.view_is
-
-pub returns-in_default-get : goal.returns-in_default-get
-returns-in_default-get c =
-    absurd (last_port_has c.self.inside.kept c.self.invariant c.port_at.result c.in-Some.number c.in-Some.ensures c.in_default-get.ensures.value)
