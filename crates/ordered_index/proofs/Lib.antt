@@ -6,5 +6,6 @@ pub mod Entries
 pub mod OrderLaws
 pub mod Keeping
 pub mod Endings
+pub mod OctetOrder
 pub mod Puts
 pub mod FirstAndRest

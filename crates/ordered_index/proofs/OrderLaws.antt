@@ -6,7 +6,7 @@ use Rattle.std.specs.declared.cmp.Ordering.TheVariants.{Less, Equal, Greater}
 use Rattle.std.specs.Cmp.{IsTotalOrder, nat_cmp_total}
 use Rattle.std.specs.Cmp.Lexicographic.{slice_cmp}
 use Rattle.std.specs.BTreeMap.{is_at}
-use Rattle.std.proofs.lemmas.Cmp.{tied_itself, on_total, then_total, nat_list_cmp_total, ranked}
+use Rattle.std.proofs.lemmas.Cmp.{tied_itself, nat_list_cmp_total, ranked}
 use Rattle.std.proofs.lemmas.Map.Lookups.{CmpEqualImpliesEq, exact_unsigned, exact_bytes, exact_pairs}
 use Rattle.pcp_base.specs.declared.addresses.Address.{Address}
 use Rattle.pcp_base.specs.declared.leases.Protocol.{Protocol}
@@ -15,6 +15,7 @@ use Rattle.pcp_base.specs.declared.leases.Endpoint.{Endpoint}
 use Rattle.pcp_base.specs.Protocols.{protocol_number}
 use Rattle.ordered_index.proofs.EntryLaws.{equal}
 use Rattle.ordered_index.specs.Orders.{Place, port_at, place_of, port_cmp, place_cmp}
+pub use Rattle.ordered_index.specs.Orders.{port_total, place_total}
 
 pub not_gt_first : (o r : Ordering) → is_gt (ordering_then o r) ≡ false → is_gt o ≡ false
 not_gt_first Less r h = refl
@@ -57,12 +58,6 @@ module _ {K : Type 0} {R : K → K → Ordering} (o : IsTotalOrder R) where
 
 pub at_exact : {K : Type 0} {R : K → K → Ordering} → CmpEqualImpliesEq R → (x y : K) → is_at (R x) y ≡ true → x ≡ y
 at_exact {R = R} exact x y h = exact x y (equal (R x y) h)
-
-pub port_total : IsTotalOrder port_cmp
-port_total = then_total (on_total (λ (p : ℕ × ℕ). p.0) nat_cmp_total) (on_total (λ (p : ℕ × ℕ). p.1) nat_cmp_total)
-
-pub place_total : IsTotalOrder place_cmp
-place_total = then_total (on_total (λ (p : Place). p.0) nat_list_cmp_total) (on_total (λ (p : Place). p.1) port_total)
 
 pub port_exact : CmpEqualImpliesEq port_cmp
 port_exact = exact_pairs nat_cmp nat_cmp exact_unsigned exact_unsigned

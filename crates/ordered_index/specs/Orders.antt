@@ -3,7 +3,8 @@ use Rattle.std.specs.Prelude.{◌≡◌, ℕ, List, false, Option, Some, None, I
 use Rattle.std.specs.Ordering.{nat_cmp, ordering_then, is_gt, is_lt}
 use Rattle.std.specs.BTreeMap.{BTreeMap, get}
 use Rattle.std.specs.declared.cmp.Ordering.{Ordering}
-use Rattle.std.specs.Cmp.Lexicographic.{slice_cmp}
+use Rattle.std.specs.Cmp.{IsTotalOrder, nat_cmp_total, on_total, then_total}
+use Rattle.std.specs.Cmp.Lexicographic.{slice_cmp, nat_list_cmp_total}
 use Rattle.pcp_base.specs.declared.leases.Protocol.{Protocol}
 use Rattle.pcp_base.specs.Protocols.{protocol_number}
 use Rattle.pcp_base.specs.declared.leases.Endpoint.{Endpoint}
@@ -25,6 +26,15 @@ port_cmp a b = ordering_then (nat_cmp a.0 b.0) (nat_cmp a.1 b.1)
 -- by address, then protocol number, then port
 abbrev pub place_cmp : Place → Place → Ordering
 place_cmp a b = ordering_then (slice_cmp nat_cmp a.0 b.0) (port_cmp a.1 b.1)
+
+-- both are total orders
+pub port_total : IsTotalOrder port_cmp
+port_total = then_total (on_total (λ (p : ℕ × ℕ). p.0) nat_cmp_total)
+    (on_total (λ (p : ℕ × ℕ). p.1) nat_cmp_total)
+
+pub place_total : IsTotalOrder place_cmp
+place_total = then_total (on_total (λ (p : Place). p.0) nat_list_cmp_total)
+    (on_total (λ (p : Place). p.1) port_total)
 
 module _ {K : Type 0} (cmp : K → K → Ordering) where
   -- the number is that of the last key up to this one

@@ -6,8 +6,10 @@ mod expiries;
 mod keys;
 mod maps;
 mod numbered;
+mod places;
 mod ports;
 
-pub use keys::{Place, Port, first_from, is_beside, last_up_to, place_of, port_at, port_in};
+pub use keys::{Port, first_from, last_up_to, port_at};
 pub use numbered::Numbered;
+pub use places::{Place, is_beside, place_of, port_in};
 pub use ports::lesser;

@@ -1,0 +1,105 @@
+//! The places of endpoints, in an order that takes few steps to tell.
+ghost use Rattle.std.specs.Prelude.{◌≡◌, ◌↔◌, IsTrue, refl};
+ghost use Rattle.std.specs.Ordering.{nat_cmp, eq_by_cmp, as_partial_cmp};
+ghost use Rattle.std.specs.Cmp.{partial_equiv_from_equiv, partial_order_from_total, eq_by_cmp_equiv};
+ghost use Rattle.std.specs.Cmp.Lexicographic.{slice_cmp};
+ghost use Rattle.pcp_base.specs.Protocols.{protocol_number};
+ghost use Rattle.ordered_index.specs.Orders.{place_of, place_cmp, place_total};
+
+use crate::keys::{Port, port_at};
+use pcp_base::Endpoint;
+use std::cmp::Ordering;
+use std::marker::Model;
+
+/// The octets of an internal address, a protocol number and an internal port.
+#[derive(Clone, Copy)]
+pub struct Place {
+    address: [u8; 16],
+    port: Port,
+}
+
+impl Model for Place {
+    ghost use Rattle.std.specs.Prelude.{ℕ, List};
+
+    ghost Value = { List ℕ × (ℕ × ℕ) };
+
+    ghost view = { λ p. (p.address, p.port) };
+
+    ghost inverse = { λ v. record { address = v.0; port = v.1 } };
+}
+
+/// Compares octets from the front, all at once.
+#[inline]
+fn compare_octets(a: &[u8; 16], b: &[u8; 16]) -> Ordering
+    ensures { result ≡ slice_cmp nat_cmp a.now b.now }
+{
+    u128::from_be_bytes(*a).cmp(&u128::from_be_bytes(*b))
+}
+
+impl PartialEq for Place {
+    ghost eq = { eq_by_cmp place_cmp };
+
+    ghost laws = { partial_equiv_from_equiv (eq_by_cmp_equiv place_total) };
+
+    fn eq(&self, other: &Place) -> bool {
+        self.cmp(other).is_eq()
+    }
+}
+
+impl Eq for Place {
+    ghost laws = { eq_by_cmp_equiv place_total };
+}
+
+impl PartialOrd for Place {
+    ghost partial_cmp = { as_partial_cmp place_cmp };
+
+    ghost laws = { partial_order_from_total place_total };
+
+    fn partial_cmp(&self, other: &Place) -> Option<Ordering> {
+        Some(self.cmp(other))
+    }
+}
+
+impl Ord for Place {
+    ghost cmp = { place_cmp };
+
+    ghost total = { place_total };
+
+    ghost matches_partial_cmp = { λ x y. refl };
+
+    ghost matches_eq = { λ x y. refl };
+
+    fn cmp(&self, other: &Place) -> Ordering {
+        let first = compare_octets(&self.address, &other.address);
+        if first.is_ne() {
+            return first;
+        }
+        self.port.cmp(&other.port)
+    }
+}
+
+pub fn place_of(endpoint: &Endpoint) -> Place
+    ensures { result ≡ place_of endpoint.now }
+{
+    Place {
+        address: endpoint.address.0,
+        port: port_at(endpoint.protocol, endpoint.port),
+    }
+}
+
+/// Whether the place has the address and the protocol of the endpoint.
+pub fn is_beside(place: Place, endpoint: &Endpoint) -> bool
+    ensures { IsTrue result ↔ ((place.0 ≡ endpoint.now.address.0)
+        × (place.1.0 ≡ protocol_number endpoint.now.protocol)) }
+{
+    let (protocol, _) = place.port;
+    place.address == endpoint.address.0 && protocol == endpoint.protocol.number()
+}
+
+/// The port of a place.
+pub fn port_in(place: Place) -> u16
+    ensures { result ≡ place.1.1 }
+{
+    let (_, port) = place.port;
+    port
+}
