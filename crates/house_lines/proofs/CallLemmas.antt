@@ -16,11 +16,12 @@ use Rattle.lease_journal.specs.Journals.{StandsFor, StandsForWithOrWithout}
 use Rattle.shard_book.specs.Books.{BookView}
 use Rattle.shard_book.specs.Keepings.{unsure_after}
 use Rattle.lease_histories.specs.Routes.{route_of}
-use Rattle.lease_histories.specs.Entries.{request_of}
+use Rattle.lease_histories.specs.Entries.{Request, request_of}
 use Rattle.lease_histories.specs.PlainHouses.{PlainHouse, PlainShard, add_by, entry_by, lose_after, lost_count, packet_after, packet_entry, packet_reply}
 use Rattle.lease_house.specs.declared.faults.HouseFault.{HouseFault}
 use Rattle.lease_house.specs.HouseImages.{HouseLeavesOnly, StandsInOneOf}
-use Rattle.lease_house.specs.SoloCalls.{AnswersPacket, DoubtsAt, IsLineRefused, KeepsAt, LosesAt, RefusesPacket, ServesPacket, SettlesAt, loss_records, packet_records}
+use Rattle.lease_house.specs.Routings.{routed_by, routed_to}
+use Rattle.lease_house.specs.SoloCalls.{AnswersPacket, DoubtsAt, IsLineRefused, IsSilence, KeepsAt, LosesAt, RefusesPacket, ServesPacket, SettlesAt, loss_records, packet_records}
 use Rattle.lease_house.specs.SoloHouses.{ChangesBook, HouseView, IsHouse, IsSettledAt, plain_house, with_book}
 use Rattle.house_lines.specs.HouseWays.{All-at, book-stays, stands-here, stays-with}
 use Rattle.house_lines.specs.Rests.{IsAtRest}
@@ -169,6 +170,14 @@ module _ {D : Type 0} (tells : Type 0) (seen : D → List ℕ) (moment : D → �
       refused-way now (route_of old.config from) (packet_records old now from) (packet_after (plain_house old) now from) new fault (packet-has now from) refused
   packet-refused-way now from new fault (inr (asks, inr untold)) = answers-way now from new untold.reply untold.answers
 
+  -- nothing was read of a silent datagram
+  pub silence : (from : Datagram) → routed_by old.config from ≡ None → IsSilence from old old
+  silence from unread = record { silent = unrouted (request_of old.config from) unread; same = refl }
+    where
+      unrouted : (asked : Option Request) → option_map (routed_to (route_of old.config from)) asked ≡ None → asked ≡ None
+      unrouted None is = refl
+      unrouted (Some request) is = absurd cc
+
   silent-entry : (now : ℕ) (from : Datagram) → request_of old.config from ≡ None → packet_entry (plain_house old) now from ≡ None
   silent-entry now from silent =
       let house = plain_house old in
@@ -208,6 +217,19 @@ module _ {D : Type 0} (tells : Type 0) (seen : D → List ℕ) (moment : D → �
       kept-rests now (route_of old.config from) (packet_records old now from) new is
       (subst (λ (h : HouseView D). KeepsAt tells moment left_since may_leave now (route_of old.config from) (packet_records old now from) h new)
       (settled-still now (route_of old.config from) s.mid s.settles) s.keeps)
+
+  -- the configuration stays
+  pub served-config : (now : ℕ) (from : Datagram) (new : HouseView D) (reply : Option (List ℕ)) → ServesPacket tells moment left_since may_leave now from old new reply →
+      new.config ≡ old.config
+  served-config now from new reply s =
+      let house = plain_house old in
+      let place = route_of house.config from in
+      ap (λ (h : PlainHouse). h.config) (served-house now from new reply s) ∙ same (slice_get house.shards place) (packet_entry house now from)
+    where
+      same : (shard : Option PlainShard) (e : Option Entry) → (add_by (plain_house old) (route_of old.config from) shard e).config ≡ old.config
+      same None e = refl
+      same (Some shard) None = refl
+      same (Some shard) (Some e) = refl
 
   -- ---- a loss
 

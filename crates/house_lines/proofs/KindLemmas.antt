@@ -1,19 +1,21 @@
--- How a MAP request counts, by what covers its endpoint before it and the reply.
-use Rattle.std.proofs.Common.{◌≡◌, ◌∙◌, ℕ, ◌==◌, ◌&&◌, not, Bool, true, false, cond, List, [], Option, Some, None, refl, ap, sym, subst}
-use Rattle.std.specs.Prelude.{nat_le, nat_lt, is_none, is_some, unwrap_or, bytes_eq}
+-- How a request counts, by the leases that are live before it and after it, and by its reply.
+use Rattle.std.proofs.Common.{◌≡◌, ◌∙◌, ℕ, suc, ◌+◌, ◌<◌, ◌≤◌, ◌==◌, ◌&&◌, not, Bool, max, true, false, cond, List, [], Option, Some, None, refl, ap, sym, subst, arith}
+use Rattle.std.specs.Prelude.{nat_le, nat_lt, is_none, unwrap_or, bytes_eq, slice_set}
 use Rattle.std.specs.List.{AllByRecursion, slice_get}
-use Rattle.std.specs.Option.{option_map}
+use Rattle.std.specs.Option.{option_map, option_map_or}
+use Rattle.std.proofs.lemmas.Bool.{eq-eqb, le-ltb, lt-ltb, ne_eqb}
 use Rattle.pcp_base.proofs.Members.{All-IsIn, All-filter, All-from_IsIn, find-none, find-some, none-any, some-any}
 use Rattle.pcp_base.proofs.Same.{same_endpoint-Decides}
 use Rattle.pcp_base.proofs.TableLemmas.{covers-first}
 use Rattle.pcp_base.specs.Epoch.{epoch_of}
 use Rattle.pcp_base.specs.declared.asks.Ask.{Ask}
 use Rattle.pcp_base.specs.declared.asks.Ask.TheVariants as Asks
+use Rattle.pcp_base.specs.declared.configs.Config.{Config}
 use Rattle.pcp_base.specs.declared.datagrams.Datagram.{Datagram}
 use Rattle.pcp_base.specs.declared.datagrams.Entry.{Entry}
 use Rattle.lease_store.specs.LeaseTerms.{terms_of}
-use Rattle.lease_histories.specs.Entries.{Request, request_of}
-use Rattle.lease_histories.specs.PlainHouses.{PlainHouse, PlainShard, entry_by, greatest_base, packet_reply, raised}
+use Rattle.lease_histories.specs.Entries.{Request, request_entry, request_of}
+use Rattle.lease_histories.specs.PlainHouses.{PlainHouse, PlainShard, add_by, add_entry, at_last, entry_by, greatest_base, packet_after, packet_entry, packet_reply, raised, served_at, shard_after, with_kept}
 use Rattle.lease_histories.specs.Routes.{route_of}
 use Rattle.pcp_base.specs.declared.leases.Endpoint.{Endpoint}
 use Rattle.pcp_base.specs.declared.leases.MapLease.{MapLease}
@@ -28,50 +30,87 @@ use Rattle.pcp_options.specs.declared.options.Item.{Item}
 use Rattle.pcp_options.specs.Replies.{reply_text}
 use Rattle.external_pool.specs.declared.asks.Picked.{Picked}
 use Rattle.lease_store.specs.declared.terms.Terms.{Terms}
-use Rattle.lease_store.specs.Lookups.{covering, named_port}
+use Rattle.lease_store.specs.Lookups.{covering, lease_count, named_port}
 use Rattle.lease_core.specs.declared.decided.Decided.{Decided}
-use Rattle.lease_core.specs.Answers.{answered, gone, is_address_met, is_full, is_port_met, refused, refused_until}
-use Rattle.lease_core.specs.DecideMap.{choice_by, covered, decide_map, decide_map_by, granted, has_excess, is_wanted, mapped, port_told, renewed, uncovered_by}
+use Rattle.lease_core.specs.Answers.{answered, gone, granted_lifetime, is_address_met, is_full, is_port_met, refused, refused_until}
+use Rattle.lease_core.specs.DecideMap.{choice_by, covered, decide_map, decide_map_by, granted, has_excess, is_wanted, mapped, new_lease, port_told, renewed, uncovered_by}
 use Rattle.lease_core.proofs.Deeds.{by_case}
 use Rattle.load_summary.specs.Kinds.{has_live_key, kind_by}
+use Rattle.load_summary.specs.declared.counts.LoadKind.{LoadKind}
 use Rattle.load_summary.specs.declared.counts.LoadKind.TheVariants.{Granted, Renewed, Deleted, Absent, Refused}
-use Rattle.house_lines.specs.LoadFindings.{finding_by, finding_in, kind_found, kind_told}
-use Rattle.house_lines.specs.LoadEffects.{entry_kind_by, request_kind}
+use Rattle.lease_house.specs.declared.routes.Routed.{Routed}
+use Rattle.lease_house.specs.Routings.{routed_by, routed_to}
+use Rattle.house_lines.specs.LoadFindings.{kind_found, kind_told, live_in, was_there}
+use Rattle.house_lines.specs.LoadEffects.{entry_kind_by, kind_asked, request_kind}
+use Rattle.house_lines.proofs.CountLemmas.{count_at, dropped-count, granted-count, renewed-count}
+use Rattle.house_lines.proofs.StateLemmas.{get-set-same}
 
-module _ (terms : Terms) (s : State) (m : ℕ) (ask : MapAsk) (message : List ℕ) (items : List Item) (epoch : ℕ) where
-  abbrev IsRight : Bool → Bool → Decided → Type 0
-  IsRight is_covered deletes d =
-      unwrap_or (kind_by s.table m (reply_text message items d.answer epoch) d.kept) Refused
-      ≡ kind_found is_covered deletes (reply_text message items d.answer epoch)
+-- ---- by what was done to which lease
 
+abbrev kind_at : (there deletes : Bool) → LoadKind
+kind_at there deletes = cond deletes (cond there Deleted Absent) (cond there Renewed Granted)
+
+kind-deleted : (deletes : Bool) (before after : ℕ) → deletes ≡ true → after < before → Deleted ≡ kind_at (was_there deletes before after) deletes
+kind-deleted false before after is fewer = absurd cc
+kind-deleted true before after is fewer = ap (λ b. cond b Deleted Absent) (sym (lt-ltb after before fewer))
+
+kind-absent : (deletes : Bool) (n : ℕ) → deletes ≡ true → Absent ≡ kind_at (was_there deletes n n) deletes
+kind-absent false n is = absurd cc
+kind-absent true n is = ap (λ b. cond b Deleted Absent) (sym (le-ltb n n (omega arith)))
+
+kind-renewed : (deletes : Bool) (before after : ℕ) → deletes ≡ false → after ≡ before → Renewed ≡ kind_at (was_there deletes before after) deletes
+kind-renewed true before after is same = absurd cc
+kind-renewed false before after is same = ap (λ b. cond b Renewed Granted) (sym (eq-eqb after before same))
+
+kind-granted : (deletes : Bool) (before after : ℕ) → deletes ≡ false → after ≡ suc before → Granted ≡ kind_at (was_there deletes before after) deletes
+kind-granted true before after is more = absurd cc
+kind-granted false before after is more =
+    ap (λ b. cond b Renewed Granted) (sym (ne_eqb after before (λ same. absurd (omega (arith, more, same)))))
+
+module _ (terms : Terms) (s : State) (m : ℕ) (ask : MapAsk) (message : List ℕ) (items : List Item) (epoch : ℕ) (past : s.last ≤ m) (some : 0 < terms.lifetime_min) (ordered : terms.lifetime_min ≤ terms.lifetime_max) where
   abbrev deletes : Bool
   deletes = ask.lifetime == 0
 
+  abbrev live-before : ℕ
+  live-before = count_at m s
+
+  abbrev live-after : Decided → ℕ
+  live-after d = count_at m (with_kept s d.kept)
+
+  abbrev IsRight : Decided → Type 0
+  IsRight d =
+      unwrap_or (kind_by s.table m (reply_text message items d.answer epoch) d.kept) Refused
+      ≡ kind_found (was_there deletes live-before (live-after d)) deletes (reply_text message items d.answer epoch)
+
+  lasting : m < m + granted_lifetime terms ask.lifetime
+  lasting = omega (arith, some, ordered)
+
   -- a live lease covers the endpoint
-  covered-right : (lease : MapLease) → has_live_key s.table m (first_endpoint lease) ≡ true → IsRight true deletes (covered terms m ask lease)
+  covered-right : (lease : MapLease) → has_live_key s.table m (first_endpoint lease) ≡ true → IsRight (covered terms m ask lease)
   covered-right lease known =
       let last = mapped terms m ask (renewed terms m ask lease) in
-      let P : Decided → Type 0 = IsRight true deletes in
-      by_case P (not (bytes_eq lease.nonce.0 ask.nonce.0)) (refused_until m lease.expiry) _ last (λ _. refl)
-      (λ _. by_case P deletes (gone m (DropMap (first_endpoint lease))) _ last
-      (λ yes. sym (ap (λ b. cond b Deleted Renewed) yes))
-      (λ no. by_case P (ask.prefer && not (is_port_met ask.port (port_told ask lease) && is_address_met ask.address terms.external.address))
+      by_case IsRight (not (bytes_eq lease.nonce.0 ask.nonce.0)) (refused_until m lease.expiry) _ last (λ _. refl)
+      (λ _. by_case IsRight deletes (gone m (DropMap (first_endpoint lease))) _ last
+      (λ yes. kind-deleted deletes live-before (live-after (gone m (DropMap (first_endpoint lease)))) yes (dropped-count s m past (first_endpoint lease) known))
+      (λ no. by_case IsRight (ask.prefer && not (is_port_met ask.port (port_told ask lease) && is_address_met ask.address terms.external.address))
       (refused CannotProvideExternal) _ last (λ _. refl)
-      (λ _. by_case P (has_excess lease.filters ask) (refused ExcessiveRemotePeers) None last (λ _. refl)
-      (λ _. ap (λ b. cond b Renewed Granted) known ∙ sym (ap (λ b. cond b Deleted Renewed) no)))))
+      (λ _. by_case IsRight (has_excess lease.filters ask) (refused ExcessiveRemotePeers) None last (λ _. refl)
+      (λ _. ap (λ b. cond b Renewed Granted) known
+      ∙ kind-renewed deletes live-before (live-after last) no (renewed-count s m past (renewed terms m ask lease) lasting known)))))
 
   -- none does
-  uncovered-right : (named : Option ℕ) (choice : Option Picked) → has_live_key s.table m ask.endpoint ≡ false → IsRight false deletes (uncovered_by terms s m ask named choice)
+  uncovered-right : (named : Option ℕ) (choice : Option Picked) → has_live_key s.table m ask.endpoint ≡ false → IsRight (uncovered_by terms s m ask named choice)
   uncovered-right named choice new =
       let last = granted terms m ask choice in
-      let P : Decided → Type 0 = IsRight false deletes in
-      by_case P deletes (answered Gone) _ last (λ yes. sym (ap (λ b. cond b Absent Granted) yes))
-      (λ no. by_case P (is_none named && nat_le terms.quota (owned s.table m ask.endpoint.address)) (refused UserExQuota) _ last (λ _. refl)
-      (λ _. by_case P (ask.prefer && not (is_wanted terms ask choice)) (refused CannotProvideExternal) _ last (λ _. refl)
-      (λ _. by_case P (is_none choice) (refused NoResources) _ last (λ _. refl)
-      (λ _. by_case P (is_full s.table m) (refused NoResources) _ last (λ _. refl)
-      (λ _. by_case P (has_excess [] ask) (refused ExcessiveRemotePeers) None last (λ _. refl)
-      (λ _. ap (λ b. cond b Renewed Granted) new ∙ sym (ap (λ b. cond b Absent Granted) no)))))))
+      by_case IsRight deletes (answered Gone) _ last (λ yes. kind-absent deletes live-before yes)
+      (λ no. by_case IsRight (is_none named && nat_le terms.quota (owned s.table m ask.endpoint.address)) (refused UserExQuota) _ last (λ _. refl)
+      (λ _. by_case IsRight (ask.prefer && not (is_wanted terms ask choice)) (refused CannotProvideExternal) _ last (λ _. refl)
+      (λ _. by_case IsRight (is_none choice) (refused NoResources) _ last (λ _. refl)
+      (λ _. by_case IsRight (is_full s.table m) (refused NoResources) _ last (λ _. refl)
+      (λ _. by_case IsRight (has_excess [] ask) (refused ExcessiveRemotePeers) None last (λ _. refl)
+      (λ _. ap (λ b. cond b Renewed Granted) new
+      ∙ kind-granted deletes live-before (live-after last) no
+      (granted-count s m past (new_lease terms m ask (unwrap_or choice (record { start = 0; count = 0 }))) lasting new)))))))
 
   -- the lease that covers the endpoint has a live key
   known-key : (lease : MapLease) → covering s.table m ask.endpoint ≡ Some lease → has_live_key s.table m (first_endpoint lease) ≡ true
@@ -97,39 +136,106 @@ module _ (terms : Terms) (s : State) (m : ℕ) (ask : MapAsk) (message : List �
           absurd (let bad : true ≡ false = sym covered ∙ uncovered in cc)
 
   by-covering : AllByRecursion IsMapLease s.table.maps → (found : Option MapLease) → covering s.table m ask.endpoint ≡ found →
-      IsRight (is_some found) deletes (decide_map_by terms s m ask found)
+      IsRight (decide_map_by terms s m ask found)
   by-covering formed (Some lease) is = covered-right lease (known-key lease is)
   by-covering formed None is = uncovered-right (named_port s.table m ask.endpoint) (choice_by (named_port s.table m ask.endpoint) terms s m ask) (new-key formed is)
 
-  map-right : AllByRecursion IsMapLease s.table.maps → IsRight (is_some (covering s.table m ask.endpoint)) deletes (decide_map terms s m ask)
+  map-right : AllByRecursion IsMapLease s.table.maps → IsRight (decide_map terms s m ask)
   unfolding decide_map
   map-right formed = by-covering formed (covering s.table m ask.endpoint) refl
 
 -- ---- a request of a house
 
-abbrev replies : Option Entry → List ℕ
-replies e = unwrap_or (option_map (λ (e : Entry). e.reply) e) []
+-- what holds of an external address under a configuration
+pub record IsSoundShard (config : Config) (shard : PlainShard) : Type 0 where
+  pub formed : AllByRecursion IsMapLease shard.state.table.maps
+  pub later : shard.state.last ≤ shard.last
+  pub some : 0 < config.lifetime_min
+  pub ordered : config.lifetime_min ≤ config.lifetime_max
 
-ask-right : (house : PlainHouse) (now : ℕ) (from : Datagram) (shard : PlainShard) → AllByRecursion IsMapLease shard.state.table.maps → (ask : Ask) (items : List Item) →
-    kind_told (finding_by now (Some shard) (Some (record { ask = ask; items = items })))
-    (replies (entry_by house now from (Some shard) (Some (record { ask = ask; items = items }))))
-    ≡ entry_kind_by (Some shard) (entry_by house now from (Some shard) (Some (record { ask = ask; items = items }))) (Some (record { ask = ask; items = items }))
-ask-right house now from shard formed (Asks.Known refusal) items = refl
-ask-right house now from shard formed Asks.Announce items = refl
-ask-right house now from shard formed (Asks.Peer ask) items = refl
-ask-right house now from shard formed (Asks.Map ask) items =
+ask-right : (house : PlainHouse) (now : ℕ) (from : Datagram) (shard : PlainShard) → IsSoundShard house.config shard → (ask : Ask) (items : List Item) (e : Entry) →
+    e ≡ request_entry (served_at house (route_of house.config from) shard) shard.state (raised now shard) (greatest_base house) from (record { ask = ask; items = items }) →
+    kind_told ask (count_at (raised now shard) shard.state) (count_at (raised now shard) (with_kept shard.state e.kept)) e.reply ≡ kind_asked shard e ask
+ask-right house now from shard sound (Asks.Known refusal) items e is = refl
+ask-right house now from shard sound Asks.Announce items e is = refl
+ask-right house now from shard sound (Asks.Peer ask) items e is = refl
+ask-right house now from shard sound (Asks.Map ask) items e is =
     let m = raised now shard in
-    sym (map-right (terms_of shard.external house.config) shard.state m ask from.octets items (epoch_of m (greatest_base house)) formed)
+    let late = sound.later in
+    let past : shard.state.last ≤ m = omega (arith, late) in
+    rw is (sym (map-right (terms_of shard.external house.config) shard.state m ask from.octets items (epoch_of m (greatest_base house)) past sound.some sound.ordered sound.formed))
 
-by-found : (house : PlainHouse) (now : ℕ) (from : Datagram) (found : Option PlainShard) (asked : Option Request) →
-    ((shard : PlainShard) → found ≡ Some shard → AllByRecursion IsMapLease shard.state.table.maps) →
-    kind_told (finding_by now found asked) (replies (entry_by house now from found asked)) ≡ entry_kind_by found (entry_by house now from found asked) asked
-by-found house now from None asked formed = refl
-by-found house now from (Some shard) None formed = refl
-by-found house now from (Some shard) (Some request) formed = ask-right house now from shard (formed shard refl) request.ask request.items
+-- live leases when a call comes at a moment that is reached
+live-at : (house : PlainHouse) (place now : ℕ) (shard : PlainShard) → slice_get house.shards place ≡ Some shard →
+    live_in house place now ≡ count_at (raised now shard) shard.state
+live-at house place now shard there =
+    ap (λ o. option_map_or (λ (s : PlainShard). lease_count s.state.table (at_last (max now (option_map_or (λ (s : PlainShard). s.last) o 0)) s)) o 0) there
 
-pub kinds-agree : (house : PlainHouse) (now : ℕ) (from : Datagram) →
-    ((place : ℕ) (shard : PlainShard) → slice_get house.shards place ≡ Some shard → AllByRecursion IsMapLease shard.state.table.maps) →
-    kind_told (finding_in house from now) (unwrap_or (packet_reply house now from) []) ≡ request_kind house from now
-kinds-agree house now from formed =
-    by-found house now from (slice_get house.shards (route_of house.config from)) (request_of house.config from) (λ shard is. formed (route_of house.config from) shard is)
+-- after an entry at m
+after-at : (house : PlainHouse) (place now : ℕ) (shard : PlainShard) (e : Entry) → slice_get house.shards place ≡ Some shard → e.moment ≡ raised now shard →
+    live_in (add_entry house place (Some e)) place now ≡ count_at (raised now shard) (with_kept shard.state e.kept)
+after-at house place now shard e there at =
+    let added : add_entry house place (Some e) ≡ record house { shards = slice_set house.shards place (shard_after shard e) } =
+    ap (λ (o : Option PlainShard). add_by house place o (Some e)) there in
+    let found = get-set-same house.shards place shard (shard_after shard e) there in
+    let same : max now e.moment ≡ raised now shard = omega (arith, at) in
+    ap (λ h. live_in h place now) added
+    ∙ ap (λ o. option_map_or (λ (s : PlainShard). lease_count s.state.table (at_last (max now (option_map_or (λ (s : PlainShard). s.last) o 0)) s)) o 0) found
+    ∙ ap (λ n. count_at n (with_kept shard.state e.kept)) same
+
+-- by the external address to which it goes
+by-shard : (house : PlainHouse) (now : ℕ) (from : Datagram) (shard : PlainShard) (request : Request) (reply : List ℕ) →
+    slice_get house.shards (route_of house.config from) ≡ Some shard → request_of house.config from ≡ Some request → IsSoundShard house.config shard →
+    Some reply ≡ packet_reply house now from →
+    kind_told request.ask (live_in house (route_of house.config from) now) (live_in (packet_after house now from) (route_of house.config from) now) reply
+    ≡ request_kind house from now
+by-shard house now from shard request reply there asks sound told =
+    let place = route_of house.config from in
+    let e : Entry = request_entry (served_at house place shard) shard.state (raised now shard) (greatest_base house) from request in
+    let entry : packet_entry house now from ≡ Some e =
+    ap (λ o. entry_by house now from o (request_of house.config from)) there ∙ ap (λ o. entry_by house now from (Some shard) o) asks in
+    let before = live-at house place now shard there in
+    let after : live_in (packet_after house now from) place now ≡ count_at (raised now shard) (with_kept shard.state e.kept) =
+    ap (λ o. live_in (add_entry house place o) place now) entry ∙ after-at house place now shard e there refl in
+    let replied : Some reply ≡ Some e.reply = told ∙ ap (λ o. option_map (λ (x : Entry). x.reply) o) entry in
+    let same : reply ≡ e.reply = cc in
+    let kind : request_kind house from now ≡ kind_asked shard e request.ask =
+    ap (λ o. entry_kind_by o (packet_entry house now from) (request_of house.config from)) there
+    ∙ ap (λ o. entry_kind_by (Some shard) o (request_of house.config from)) entry ∙ ap (λ o. entry_kind_by (Some shard) (Some e) o) asks in
+    ap (λ n. kind_told request.ask n (live_in (packet_after house now from) place now) reply) before
+    ∙ ap (λ n. kind_told request.ask (count_at (raised now shard) shard.state) n reply) after
+    ∙ ap (λ r. kind_told request.ask (count_at (raised now shard) shard.state) (count_at (raised now shard) (with_kept shard.state e.kept)) r) same
+    ∙ ask-right house now from shard sound request.ask request.items e refl ∙ sym kind
+
+-- a request that was read of a datagram
+pub kinds-agree : (house : PlainHouse) (now : ℕ) (from : Datagram) (read : Routed) (reply : List ℕ) →
+    ((place : ℕ) (shard : PlainShard) → slice_get house.shards place ≡ Some shard → IsSoundShard house.config shard) →
+    routed_by house.config from ≡ Some read → Some reply ≡ packet_reply house now from →
+    kind_told read.ask (live_in house read.place now) (live_in (packet_after house now from) read.place now) reply ≡ request_kind house from now
+kinds-agree house now from read reply sound is told =
+    go (slice_get house.shards (route_of house.config from)) refl (request_of house.config from) refl
+  where
+    go : (found : Option PlainShard) → slice_get house.shards (route_of house.config from) ≡ found → (asked : Option Request) → request_of house.config from ≡ asked →
+        kind_told read.ask (live_in house read.place now) (live_in (packet_after house now from) read.place now) reply ≡ request_kind house from now
+    go None there asked asks =
+        let none : packet_entry house now from ≡ None = ap (λ o. entry_by house now from o (request_of house.config from)) there in
+        absurd (let bad : Some reply ≡ None = told ∙ ap (λ o. option_map (λ (x : Entry). x.reply) o) none in cc)
+    go (Some shard) there None asks =
+        let none : routed_by house.config from ≡ None = ap (λ o. option_map (routed_to (route_of house.config from)) o) asks in
+        absurd (let bad : Some read ≡ None = sym is ∙ none in cc)
+    go (Some shard) there (Some request) asks =
+        let made : Some (routed_to (route_of house.config from) request) ≡ Some read = sym (ap (λ o. option_map (routed_to (route_of house.config from)) o) asks) ∙ is in
+        let same : routed_to (route_of house.config from) request ≡ read = cc in
+        subst (λ (r : Routed). kind_told r.ask (live_in house r.place now) (live_in (packet_after house now from) r.place now) reply ≡ request_kind house from now) same
+        (by-shard house now from shard request reply there asks (sound (route_of house.config from) shard there) told)
+
+-- a silent datagram
+pub silent-kind : (house : PlainHouse) (from : Datagram) (now : ℕ) → request_of house.config from ≡ None → Refused ≡ request_kind house from now
+silent-kind house from now silent =
+    go (slice_get house.shards (route_of house.config from)) (packet_entry house now from)
+    ∙ sym (ap (λ o. entry_kind_by (slice_get house.shards (route_of house.config from)) (packet_entry house now from) o) silent)
+  where
+    go : (shard : Option PlainShard) (e : Option Entry) → Refused ≡ entry_kind_by shard e None
+    go None e = refl
+    go (Some shard) None = refl
+    go (Some shard) (Some e) = refl

@@ -1,4 +1,5 @@
 pub mod CallLemmas
+pub mod CountLemmas
 pub mod FaultLemmas
 pub mod LawLemmas
 pub mod StateLemmas

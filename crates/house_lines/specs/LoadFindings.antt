@@ -1,48 +1,33 @@
--- How a MAP request counts, by what it finds and the reply (our own; for private contracts).
-use Rattle.std.specs.Prelude.{ℕ, ◌==◌, Bool, slice_index, slice_get, is_some, if◌then◌else◌, List, Option, Some, None}
-use Rattle.std.specs.Option.{option_and_then}
+-- How a request counts, by the leases that are live before it and after it, and by the reply (our
+-- own; for private contracts).
+use Rattle.std.specs.Prelude.{ℕ, ◌==◌, max, nat_lt, Bool, slice_index, if◌then◌else◌, List}
 use Rattle.pcp_base.specs.declared.asks.Ask.{Ask}
 use Rattle.pcp_base.specs.declared.asks.Ask.TheVariants as Asks
-use Rattle.pcp_base.specs.declared.datagrams.Datagram.{Datagram}
 use Rattle.load_summary.specs.declared.counts.LoadKind.{LoadKind}
 use Rattle.load_summary.specs.declared.counts.LoadKind.TheVariants.{Granted, Renewed, Deleted, Absent, Refused}
-use Rattle.lease_store.specs.Lookups.{covering}
-use Rattle.lease_histories.specs.Entries.{Request, request_of}
-use Rattle.lease_histories.specs.PlainHouses.{PlainHouse, PlainShard, raised}
-use Rattle.lease_histories.specs.Routes.{route_of}
-use Rattle.house_lines.specs.declared.loads.Finding.{Finding}
+use Rattle.lease_histories.specs.PlainHouses.{PlainHouse, leases_in}
+use Rattle.lease_house.specs.SoloHouses.{last_in}
 
--- what a MAP request finds in the table, before it
-abbrev pub ask_finding : PlainShard → ℕ → Ask → Option Finding
-ask_finding shard now (Asks.Map ask) = Some (record {
-  covered = is_some (covering shard.state.table (raised now shard) ask.endpoint);
-  deletes = ask.lifetime == 0;
-})
-ask_finding shard now (Asks.Known refusal) = None
-ask_finding shard now Asks.Announce = None
-ask_finding shard now (Asks.Peer ask) = None
+-- how many leases of the external address at this place are live when a call comes at `now`
+abbrev pub live_in : PlainHouse → ℕ → ℕ → ℕ
+live_in house place now = leases_in house place (max now (last_in house place))
 
-abbrev pub finding_by : ℕ → Option PlainShard → Option Request → Option Finding
-finding_by now (Some shard) (Some request) = ask_finding shard now request.ask
-finding_by now None request = None
-finding_by now (Some shard) None = None
-
--- of the external address at this place
-abbrev pub finding_at : PlainHouse → ℕ → Ask → ℕ → Option Finding
-finding_at house place ask now =
-    option_and_then (λ shard. ask_finding shard now ask) (slice_get house.shards place)
-
-abbrev pub finding_in : PlainHouse → Datagram → ℕ → Option Finding
-finding_in house from now = finding_by now (slice_get house.shards (route_of house.config from))
-    (request_of house.config from)
+-- Whether what was done was done to a lease that was there: a deletion of one leaves fewer, and a
+-- renewal as many.
+abbrev pub was_there : Bool → (before after : ℕ) → Bool
+was_there deletes before after = if deletes then nat_lt after before else after == before
 
 -- how it counts, where octet 3 of the reply tells a success
-abbrev pub kind_found : (covered deletes : Bool) → List ℕ → LoadKind
-kind_found covered deletes reply = if slice_index reply 3 == 0
-    then (if deletes then (if covered then Deleted else Absent)
-    else (if covered then Renewed else Granted))
+abbrev pub kind_found : (there deletes : Bool) → List ℕ → LoadKind
+kind_found there deletes reply = if slice_index reply 3 == 0
+    then (if deletes then (if there then Deleted else Absent)
+    else (if there then Renewed else Granted))
     else Refused
 
-abbrev pub kind_told : Option Finding → List ℕ → LoadKind
-kind_told None reply = Refused
-kind_told (Some finding) reply = kind_found finding.covered finding.deletes reply
+-- what isn't a MAP request counts as refused
+abbrev pub kind_told : Ask → (before after : ℕ) → List ℕ → LoadKind
+kind_told (Asks.Map ask) before after reply =
+    kind_found (was_there (ask.lifetime == 0) before after) (ask.lifetime == 0) reply
+kind_told (Asks.Known refusal) before after reply = Refused
+kind_told Asks.Announce before after reply = Refused
+kind_told (Asks.Peer ask) before after reply = Refused

@@ -5,7 +5,7 @@ ghost use Rattle.house_lines.specs.HouseEffects.{told_reply};
 use crate::faults::fault_told;
 use crate::seen::SeenHouse;
 use lease_disk::{DiskPair, LeaseDisk};
-use lease_house::SoloHouse;
+use lease_house::{Routed, SoloHouse};
 use pcp_base::{Config, Datagram, Memory, Moment, Octets, OwnerList};
 use pcp_script::{Line, LineResult};
 use script_player::{AnswerFault, LineAnswerer};
@@ -41,11 +41,12 @@ fn told_reply(from: &Datagram, reply: Option<Octets>) -> LineResult
 }
 
 impl<D: LeaseDisk + Drop> HouseLines<D> {
-    ghost use Rattle.std.specs.Prelude.{ℕ, ◌<◌, ◌≤◌, [], ◌∷◌, ◌++◌, length, map, Err, IfOk, OnOk};
+    ghost use Rattle.std.specs.Prelude.{ℕ, ◌<◌, ◌≤◌, [], ◌∷◌, ◌++◌, length, map, Err, Some, IfOk, OnOk};
     ghost use Rattle.script_player.specs.Ways.{HasFault};
     ghost use Rattle.script_player.specs.declared.answerers.AnswerFault.TheVariants.{Disk};
     ghost use Rattle.lease_histories.specs.PlainHouses.{lose_after, lost_count, owners_in, packet_after, packet_reply};
     ghost use Rattle.lease_house.specs.HouseImages.{HouseLeavesOnly};
+    ghost use Rattle.lease_house.specs.Routings.{MayBeAsked, routed_by};
     ghost use Rattle.lease_house.specs.SoloHouses.{plain_house};
     ghost use Rattle.house_lines.specs.DiskFaults.{disk_faults};
     ghost use Rattle.house_lines.specs.Rests.{IsAtRest};
@@ -92,6 +93,38 @@ impl<D: LeaseDisk + Drop> HouseLines<D> {
             disk_faults D.faults self.old shard disk ≤ disk_faults D.faults self.new shard disk }
     {
         let reply = match self.house.serve(alloc, from, now) {
+            Ok(reply) => reply,
+            Err(fault) => return Err(fault_told(fault)),
+        };
+        Ok(reply)
+    }
+
+    /// The reply to what was read of a datagram.
+    pub(crate) fn reply_read(
+        &mut self,
+        alloc: Global,
+        from: &Datagram,
+        request: &Routed,
+        now: Moment,
+    ) -> Result<Octets, AnswerFault>
+        requires rests { IsAtRest D.tells D.seen D.may_leave self.old }
+        requires read { routed_by self.old.config from.now ≡ Some request.now }
+        requires may_be_asked { MayBeAsked self.old.config from.now
+            request.now.place request.now.ask }
+        ensures told { IfOk result
+            (λ reply. Some reply ≡ packet_reply (plain_house self.old) now from.now) }
+        ensures house { OnOk result
+            (plain_house self.new ≡ packet_after (plain_house self.old) now from.now) }
+        ensures rests { OnOk result (IsAtRest D.tells D.seen D.may_leave self.new) }
+        ensures config { OnOk result (self.new.config ≡ self.old.config) }
+        ensures way { HouseLeavesOnly D.tells D.moment D.left_since D.may_leave self.old self.new
+            (plain_house self.old ∷ packet_after (plain_house self.old) now from.now ∷ []) }
+        ensures cause { (shard : ℕ) → result ≡ Err (Disk shard) → HasFault
+            (disk_faults D.faults self.old shard) (disk_faults D.faults self.new shard) }
+        ensures later { (shard disk : ℕ) →
+            disk_faults D.faults self.old shard disk ≤ disk_faults D.faults self.new shard disk }
+    {
+        let reply = match self.house.serve_read(alloc, from, request, now) {
             Ok(reply) => reply,
             Err(fault) => return Err(fault_told(fault)),
         };

@@ -1,37 +1,42 @@
 //! A house on one thread serves the requests of a load.
-ghost use Rattle.std.specs.Prelude.{◌≡◌, max, [], unwrap_or};
-ghost use Rattle.house_lines.specs.LoadFindings.{kind_told};
+ghost use Rattle.std.specs.Prelude.{◌≡◌, max};
+ghost use Rattle.house_lines.specs.LoadFindings.{kind_told, was_there};
 
 use crate::lines::HouseLines;
 use crate::seen::SeenHouse;
 use lease_disk::LeaseDisk;
+use lease_house::read_datagram;
 use load_player::{LoadAnswerer, LoadReply};
 use load_summary::LoadKind;
-use pcp_base::{Ask, Datagram, MapAsk, Memory, Moment, Octets};
-use pcp_options::{Verdict, judge};
+use pcp_base::{Ask, Datagram, Memory, Moment, Octets};
 use script_player::AnswerFault;
 use std::alloc::Global;
 
-/// What a MAP request finds in the table.
-#[derive(Clone, Copy)]
-pub(crate) struct Finding {
-    /// whether a live lease covers its endpoint
-    pub(crate) covered: bool,
-    /// whether it asks for a deletion
-    pub(crate) deletes: bool,
+/// Whether a request that was met was for a lease that was there: a deletion of one leaves fewer
+/// leases, and a renewal as many.
+fn was_there(deletes: bool, before: u32, after: u32) -> bool
+    ensures { result ≡ was_there deletes before after }
+{
+    if deletes {
+        after < before
+    } else {
+        after == before
+    }
 }
 
-/// How a request counts: by what it found, where it was a MAP request, and by its reply.
-fn kind_told(finding: Option<Finding>, reply: &[u8]) -> LoadKind
-    ensures { result ≡ kind_told finding reply.now }
+/// How a request counts, by how many leases were live before it and after it, and by its reply. So
+/// no lease is looked up a second time.
+fn kind_told(ask: &Ask, before: u32, after: u32, reply: &[u8]) -> LoadKind
+    ensures { result ≡ kind_told ask.now before after reply.now }
 {
-    let Some(finding) = finding else {
+    let Ask::Map(ask) = ask else {
         return LoadKind::Refused;
     };
     if reply.get(3).is_some_and(|code| *code != 0) {
         return LoadKind::Refused;
     }
-    match (finding.deletes, finding.covered) {
+    let deletes = ask.lifetime == 0;
+    match (deletes, was_there(deletes, before, after)) {
         (true, true) => LoadKind::Deleted,
         (true, false) => LoadKind::Absent,
         (false, true) => LoadKind::Renewed,
@@ -46,69 +51,20 @@ fn later(m: Moment, other: Moment) -> Moment
     if m.get() < other.get() { other } else { m }
 }
 
-/// The octets of a reply; a silent datagram has none.
-fn octets_of(alloc: Global, reply: Option<Octets>) -> Octets
-    ensures { result ≡ unwrap_or reply [] }
-{
-    match reply {
-        Some(octets) => octets,
-        None => Octets::of(Vec::new(alloc)),
-    }
-}
-
 impl<D: LeaseDisk + Drop> HouseLines<D> {
-    ghost use Rattle.std.specs.Prelude.{◌<◌, ◌≤◌, length, IfOk, Some};
-    ghost use Rattle.pcp_base.specs.declared.asks.Ask.TheVariants.{Map};
+    ghost use Rattle.std.specs.Prelude.{◌<◌, ◌≤◌, length};
     ghost use Rattle.lease_house.specs.SoloHouses.{plain_house};
-    ghost use Rattle.house_lines.specs.LoadFindings.{finding_at, finding_in};
+    ghost use Rattle.house_lines.specs.LoadFindings.{live_in};
     ghost use Rattle.house_lines.specs.Rests.{IsAtRest};
 
-    /// What a datagram finds, where it is a MAP request.
-    fn finding(
-        &self,
-        alloc: Global,
-        from: &Datagram,
-        now: Moment,
-    ) -> Result<Option<Finding>, Memory>
+    /// How many leases of an external address are live when a request comes at this moment.
+    fn live_at(&self, place: u32, now: Moment) -> u32
+        requires place { place < length self.now.config.externals }
         requires rests { IsAtRest D.tells D.seen D.may_leave self.now }
-        ensures { IfOk result
-            (λ finding. finding ≡ finding_in (plain_house self.now) from.now now) }
+        ensures { result ≡ live_in (plain_house self.now) place now }
     {
-        let config = self.house().config();
-        match judge(alloc, config, &from.peer, from.octets.items())? {
-            Verdict::Asked { shard, ask, .. } => Ok(self.finding_of(shard, &ask, now)),
-            Verdict::Refuse(_) => Ok(None),
-            Verdict::Silent => Ok(None),
-        }
-    }
-
-    /// What a request finds on this external address.
-    fn finding_of(&self, shard: u32, ask: &Ask, now: Moment) -> Option<Finding>
-        requires rests { IsAtRest D.tells D.seen D.may_leave self.now }
-        ensures { result ≡ finding_at (plain_house self.now) shard ask.now now }
-    {
-        if shard as usize >= self.house().config().externals.items().len() {
-            return None;
-        }
-        match ask {
-            Ask::Map(ask) => Some(self.map_finding(shard, ask, now)),
-            Ask::Known(_) => None,
-            Ask::Announce => None,
-            Ask::Peer(_) => None,
-        }
-    }
-
-    /// What a MAP request finds, which comes at this moment.
-    fn map_finding(&self, shard: u32, ask: &MapAsk, now: Moment) -> Finding
-        requires shard { shard < length self.now.config.externals }
-        requires rests { IsAtRest D.tells D.seen D.may_leave self.now }
-        ensures { Some result ≡ finding_at (plain_house self.now) shard (Map ask.now) now }
-    {
-        let m = later(now, self.house().last(shard));
-        Finding {
-            covered: self.house().covered(shard, &ask.endpoint, m),
-            deletes: ask.lifetime == 0,
-        }
+        let m = later(now, self.house().last(place));
+        self.house().leases(place, m)
     }
 
     /// How many external addresses there are, at most 16.
@@ -151,11 +107,17 @@ impl<D: LeaseDisk + Drop> LoadAnswerer for HouseLines<D> {
         request: &Datagram,
         now: Moment,
     ) -> Result<LoadReply, AnswerFault> {
-        let finding = self.finding(alloc, request, now)?;
-        let reply = self.reply_to(alloc, request, now)?;
-        let octets = octets_of(alloc, reply);
+        let Some(read) = read_datagram(alloc, self.house().config(), request)? else {
+            return Ok(LoadReply {
+                kind: LoadKind::Refused,
+                octets: Octets::of(Vec::new(alloc)),
+            });
+        };
+        let before = self.live_at(read.place, now);
+        let octets = self.reply_read(alloc, request, &read, now)?;
+        let after = self.live_at(read.place, now);
         Ok(LoadReply {
-            kind: kind_told(finding, octets.items()),
+            kind: kind_told(&read.ask, before, after, octets.items()),
             octets,
         })
     }

@@ -26,10 +26,9 @@ use Rattle.pcp_options.specs.Options.{items_of}
 use Rattle.pcp_options.specs.Responses.{AreOctets}
 use Rattle.pcp_options.specs.Verdicts.{asked_by, options_in, request_steps, verdict_by, verdict_of}
 use Rattle.lease_histories.specs.Routes.{judged, place_by}
-use Rattle.lease_histories.specs.Entries.{Request, request_by}
+use Rattle.lease_histories.specs.Entries.{request_by}
 use Rattle.lease_house.specs.declared.routes.Routed.{Routed}
-use Rattle.lease_house.specs.BookCalls.{MayBeAsked}
-use Rattle.lease_house.specs.Routings.{routed_to}
+use Rattle.lease_house.specs.Routings.{MayBeAsked, routed_to}
 
 -- ---- places
 

@@ -1,5 +1,5 @@
 -- What opened books are.
-use Rattle.std.proofs.Common.{◌≡◌, ◌≤◌, ◌<◌, ◌+◌, ℕ, suc, zero, List, [], ◌∷◌, Some, None, length, map, drop, refl, subst, sym, ap, ◌∙◌, arith, true}
+use Rattle.std.proofs.Common.{◌≡◌, ℕ, suc, zero, List, [], ◌∷◌, Some, None, length, map, drop, refl, subst, ap, ◌∙◌, arith, true}
 use Rattle.std.specs.List.{AllByRecursion, slice_get}
 use Rattle.pcp_base.specs.declared.configs.Config.{Config}
 use Rattle.pcp_base.specs.declared.configs.External.{External}
@@ -9,10 +9,9 @@ use Rattle.pcp_base.specs.States.{State}
 use Rattle.lease_disk.specs.declared.disks.DiskPair.{DiskPair}
 use Rattle.lease_store.specs.declared.terms.Terms.{Terms}
 use Rattle.shard_book.specs.Books.{BookView, IsBook}
-use Rattle.lease_histories.specs.Laws.{AreOpenings}
-use Rattle.lease_histories.specs.PlainHouses.{PlainHouse, PlainShard, house_begun, shards_begun}
-use Rattle.lease_house.specs.OpeningLaws.{IsBegun, OpenedHousesBegin, openings_of}
-use Rattle.lease_house.specs.SoloHouses.{HouseView, IsHouse, plain_house, plain_shard}
+use Rattle.lease_histories.specs.PlainHouses.{PlainHouse, PlainShard, shards_begun}
+use Rattle.lease_house.specs.OpeningLaws.{OpenedHousesBegin, openings_of}
+use Rattle.lease_house.specs.SoloHouses.{plain_shard}
 use Rattle.lease_house.specs.SoloOpenings.{OpensAll, OpensOne}
 
 pub all-at : {X : Type 0} (P : X → Type 0) (xs : List X) (i : ℕ) (x : X) → AllByRecursion P xs → slice_get xs i ≡ Some x → P x

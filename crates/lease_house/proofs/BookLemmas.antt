@@ -1,7 +1,7 @@
 -- What a call on one book leaves of a house.
 use Rattle.std.specs.Prelude.{slice_set, Result, Ok, Err}
 use Rattle.std.specs.List.{slice_get}
-use Rattle.std.proofs.Common.{◌≡◌, ◌∙◌, ℕ, ◌<◌, ◌≤◌, List, [], ◌∷◌, ◌⊎◌, length, map, Some, None, refl, ap, sym, subst, inl, inr, arith}
+use Rattle.std.proofs.Common.{◌≡◌, ◌∙◌, ℕ, ◌<◌, List, ◌⊎◌, length, map, Some, None, refl, ap, sym, subst, inl, inr, arith}
 use Rattle.pcp_base.specs.declared.configs.Config.{Config}
 use Rattle.pcp_base.specs.declared.configs.External.{External}
 use Rattle.lease_store.specs.declared.terms.Terms.{Terms}
@@ -12,11 +12,10 @@ use Rattle.lease_journal.proofs.ShutLaws.{cause_on}
 use Rattle.lease_journal.specs.declared.errors.JournalFault.{JournalFault}
 use Rattle.lease_journal.specs.declared.errors.JournalFault.TheVariants as Journals
 use Rattle.shard_book.specs.Books.{BookView, IsBook}
-use Rattle.lease_house.specs.declared.faults.HouseFault.{HouseFault}
 use Rattle.lease_house.specs.declared.faults.HouseFault.TheVariants.{Disk}
 use Rattle.lease_house.specs.BookCalls.{ChangesAt, IsSettledIn, StaysBook}
 use Rattle.lease_house.specs.SoloCalls.{SettlesAt, fault_at, told_at}
-use Rattle.lease_house.specs.SoloHouses.{ChangesBook, HaveCauses, HouseView, IsHouse, with_book}
+use Rattle.lease_house.specs.SoloHouses.{ChangesBook, HaveCauses, HouseView, IsHouse}
 use Rattle.lease_house.proofs.ListLemmas.{All-put, get-map, get-map-back, get-put, get-within, length-map, length-put, map-put-same, put-at, within-get}
 
 abbrev pub house-of : {D : Type 0} → Config → List (BookView D) → List (DiskPair D) → HouseView D

@@ -1,7 +1,7 @@
 -- A call on a book that is settled.
 use Rattle.std.specs.Prelude.{max, IsSome, Result, Ok, Err, IfOk, IfErr, OnOk}
 use Rattle.std.specs.List.{slice_get}
-use Rattle.std.proofs.Common.{◌≡◌, ◌∙◌, ℕ, List, [], ◌∷◌, ◌⊎◌, map, get_or, Option, Some, None, refl, ap, sym, subst, inl, inr, arith}
+use Rattle.std.proofs.Common.{◌≡◌, ◌∙◌, ℕ, List, [], ◌∷◌, map, get_or, Option, Some, None, refl, ap, subst, inl, inr, arith}
 use Rattle.pcp_base.specs.declared.asks.Ask.{Ask}
 use Rattle.pcp_base.specs.declared.configs.Config.{Config}
 use Rattle.pcp_base.specs.declared.records.Record.{Record}

@@ -2,8 +2,7 @@
 use Rattle.std.specs.Prelude.{max, slice_set, IsSome}
 use Rattle.std.specs.List.{slice_get}
 use Rattle.std.specs.Option.{option_map, option_map_or}
-use Rattle.std.proofs.Common.{◌≡◌, ◌∙◌, ℕ, List, [], ◌∷◌, ◌⊎◌, map, Option, Some, None, refl, ap, sym, subst, inl, inr, arith}
-use Rattle.pcp_base.specs.declared.asks.Ask.{Ask}
+use Rattle.std.proofs.Common.{◌≡◌, ◌∙◌, ℕ, List, [], map, Option, Some, None, refl, ap, sym, subst, inl, inr}
 use Rattle.pcp_base.specs.declared.configs.Config.{Config}
 use Rattle.pcp_base.specs.declared.configs.External.{External}
 use Rattle.pcp_base.specs.declared.datagrams.Datagram.{Datagram}
@@ -12,7 +11,6 @@ use Rattle.pcp_base.specs.declared.records.Record.{Record}
 use Rattle.pcp_base.specs.Apply.{apply_all}
 use Rattle.pcp_base.specs.Epoch.{epoch_of}
 use Rattle.pcp_base.specs.States.{State}
-use Rattle.pcp_options.specs.declared.options.Item.{Item}
 use Rattle.pcp_options.specs.Replies.{reply_text}
 use Rattle.lease_core.specs.Decide.{decide}
 use Rattle.lease_store.specs.declared.terms.Terms.{Terms}

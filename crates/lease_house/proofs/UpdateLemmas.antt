@@ -9,7 +9,6 @@ use Rattle.pcp_base.specs.declared.configs.External.{External}
 use Rattle.lease_store.specs.LeaseTerms.{terms_of}
 use Rattle.shard_book.specs.Books.{BookView}
 use Rattle.lease_histories.specs.HouseHistories.{greatest}
-use Rattle.lease_histories.specs.PlainHouses.{PlainShard}
 use Rattle.lease_house.specs.SoloHouses.{HouseView, IsHouse, plain_shard}
 use Rattle.lease_house.specs.SoloOpenings.{book_updates, updates_of}
 

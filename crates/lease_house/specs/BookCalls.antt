@@ -1,10 +1,7 @@
 -- A call on one of the books of a house (our own; for private contracts).
-use Rattle.std.specs.Prelude.{◌≡◌, ◌≤◌, ◌<◌, ℕ, max, List, length, slice_set, Some, None}
+use Rattle.std.specs.Prelude.{◌≡◌, ℕ, max, List, slice_set, Some, None}
 use Rattle.std.specs.List.{slice_get}
 use Rattle.pcp_base.specs.declared.asks.Ask.{Ask}
-use Rattle.pcp_base.specs.declared.configs.Config.{Config}
-use Rattle.pcp_base.specs.declared.datagrams.Datagram.{Datagram}
-use Rattle.pcp_base.specs.Asks.{IsWellFormedAsk}
 use Rattle.lease_core.specs.Decide.{decide}
 use Rattle.lease_disk.specs.Pairs.{PairHasCause}
 use Rattle.lease_store.specs.LeaseTerms.{terms_of}
@@ -55,10 +52,3 @@ pub record AnswersAsk {D : Type 0} (tells : Type 0) (moment : D → ℕ)
   pub keeps : Keeps tells moment left_since may_leave (max now book.last) (ask_records now ask book)
       book kept_book
   pub changes : ChangesBook place book kept_book mid new
-
--- a request that may be asked of an external address of the configuration
-pub record MayBeAsked (config : Config) (from : Datagram) (place : ℕ) (ask : Ask) : Type 0 where
-  pub there : place < length config.externals
-  pub formed : IsWellFormedAsk ask
-  -- it has an opcode
-  pub long : 2 ≤ length from.octets

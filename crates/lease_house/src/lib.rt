@@ -17,6 +17,6 @@ mod updates;
 
 pub use faults::{HouseFault, Unbegun};
 pub use opening_laws::{opened_houses_begin, pairs_are_handed_back};
-pub use routes::route;
+pub use routes::{Routed, read_datagram, route};
 pub use solo::SoloHouse;
 pub use updates::CLIENT_PORT;

@@ -5,8 +5,7 @@ ghost use Rattle.pcp_base.specs.Pairing.{place_of};
 ghost use Rattle.pcp_options.specs.Responses.{AreOctets};
 ghost use Rattle.pcp_options.specs.Verdicts.{IsAsked, verdict_of};
 ghost use Rattle.lease_histories.specs.Routes.{judged, place_by, route_of};
-ghost use Rattle.lease_house.specs.BookCalls.{MayBeAsked};
-ghost use Rattle.lease_house.specs.Routings.{routed_by};
+ghost use Rattle.lease_house.specs.Routings.{MayBeAsked, routed_by};
 
 use pcp_base::{Address, Ask, Config, Datagram, Memory, pair};
 use pcp_options::{Items, Verdict, asks_are_well_formed, judge};
@@ -14,10 +13,11 @@ use std::alloc::Global;
 
 /// A request, and the index of the external address to which it goes.
 #[derive(Drop)]
-pub(crate) struct Routed {
-    pub(crate) place: u32,
-    pub(crate) ask: Ask,
-    pub(crate) items: Items,
+pub struct Routed {
+    pub place: u32,
+    pub ask: Ask,
+    /// the options that came with it
+    pub items: Items,
 }
 
 /// The index of the external address of a source; the first where it has none.
@@ -56,8 +56,10 @@ fn judge_octets(
     judge(alloc, config, source, octets)
 }
 
-/// What a datagram asks, and where; none where it is silent.
-pub(crate) fn read_datagram(
+/// What a datagram asks, and where; none where it is silent. [`SoloHouse::serve_read`] answers it.
+///
+/// [`SoloHouse::serve_read`]: crate::SoloHouse::serve_read
+pub fn read_datagram(
     alloc: Global,
     config: &Config,
     datagram: &Datagram,

@@ -5,7 +5,7 @@ use crate::faults::{HouseFault, Unbegun};
 use crate::moments::{greatest_base, later};
 use crate::opening::{copy_of, hand_back, open_books};
 use crate::replying::reply_of;
-use crate::routes::read_datagram;
+use crate::routes::{Routed, read_datagram};
 use crate::updates::updates_of;
 use lease_core::Core;
 use lease_disk::{DiskPair, LeaseDisk};
@@ -54,7 +54,8 @@ impl<D: LeaseDisk + Drop> SoloHouse<D> {
     ghost use Rattle.shard_book.specs.Books.{IsBook};
     ghost use Rattle.lease_histories.specs.PlainHouses.{covering_in, leases_in, look_in, owners_in};
     ghost use Rattle.lease_house.specs.BookCalls.{AnswersAsk};
-    ghost use Rattle.lease_house.specs.SoloCalls.{IsDoubtKept, IsLineRefused, LosesAt, RefusesPacket, ServesPacket, SettlesAt, ask_records, loss_records};
+    ghost use Rattle.lease_house.specs.Routings.{MayBeAsked, routed_by};
+    ghost use Rattle.lease_house.specs.SoloCalls.{AnswersPacket, IsDoubtKept, IsLineRefused, LosesAt, RefusesPacket, ServesPacket, SettlesAt, ask_records, loss_records};
     ghost use Rattle.lease_house.specs.SoloHouses.{HaveCauses, IsHouse, IsSettledAt, last_in, plain_house};
     ghost use Rattle.lease_house.specs.SoloOpenings.{HandsBackAll, IsOfPlace, OpensAll, updates_of};
     ghost use Rattle.lease_house.specs.declared.faults.HouseFault.TheVariants.{Disk};
@@ -141,10 +142,36 @@ impl<D: LeaseDisk + Drop> SoloHouse<D> {
         let Some(request) = read_datagram(alloc, self.config(), datagram)? else {
             return Ok(None);
         };
+        let reply = self.serve_read(alloc, datagram, &request, now)?;
+        Ok(Some(reply))
+    }
+
+    /// Answers what was read of a datagram by [`read_datagram`], as `serve` does: for a caller that
+    /// wants to know what is asked.
+    pub fn serve_read(
+        &mut self,
+        alloc: Global,
+        datagram: &Datagram,
+        request: &Routed,
+        now: Moment,
+    ) -> Result<Octets, HouseFault>
+        requires read { routed_by self.old.config datagram.now ≡ Some request.now }
+        requires may_be_asked { MayBeAsked self.old.config datagram.now
+            request.now.place request.now.ask }
+        ensures served { IfOk result
+            (AnswersPacket D.tells D.moment D.left_since D.may_leave now datagram.now
+            self.old self.new) }
+        ensures refused { IfErr result
+            (RefusesPacket D.tells D.moment D.left_since D.may_leave now datagram.now
+            self.old self.new) }
+        ensures house { IsHouse D.tells D.seen D.may_leave self.new }
+        ensures cause { HaveCauses D.faults self.old self.new
+            (λ place. result ≡ Err (Disk place)) }
+    {
         let answered = self.answer(alloc, request.place, &request.ask, now)?;
         let octets = datagram.octets.items();
         let reply = reply_of(alloc, octets, &request.ask, &request.items, &answered)?;
-        Ok(Some(reply))
+        Ok(reply)
     }
 
     /// Loses all leases of an external address, and says how many were live. It is settled first,

@@ -122,7 +122,7 @@ pub(crate) fn decide_batch<S: LeaseStore>(
     ensures terms { S.terms core.new ≡ S.terms core.old }
 {
     let mut answers = Vec::with_capacity(alloc, asks.len())?;
-    let mut records = Vec::with_capacity(alloc, asks.len())?;
+    let mut records = Vec::new(alloc);
     for ask in asks {
         let decided = decide_one(alloc, core, ask, m)?;
         push_kept(&mut records, &decided.kept)?;

@@ -1,4 +1,4 @@
-use Rattle.std.proofs.Common.{◌≡◌, ◌+◌, length, arith}
+use Rattle.std.proofs.Common.{arith}
 use Rattle.lease_house.proofs.OpenedBooks.{back_one, same_count}
 use Rattle.lease_house.proofs.opening.hand_back.Goals as goal
 

@@ -1,7 +1,6 @@
-use Rattle.std.proofs.Common.{◌≡◌, ◌+◌, ◌<◌, ◌≤◌, ◌∷◌, [], ℕ, drop, length, subst, sym, ap, ◌∙◌, refl, arith}
+use Rattle.std.proofs.Common.{◌≡◌, ◌+◌, ◌<◌, ◌∷◌, [], ℕ, drop, length, subst, sym, ap, refl, arith}
 use Rattle.std.proofs.lemmas.List.{length-append, length-drop}
 use Rattle.std.specs.List.{AllByRecursion}
-use Rattle.pcp_base.specs.declared.configs.External.{External}
 use Rattle.pcp_base.specs.Configs.{IsExternal}
 use Rattle.lease_house.proofs.HandingBack.{memory_touches_none, of_place}
 use Rattle.lease_house.proofs.OpenedBooks.{all_on, underway_begins, underway_done, underway_on, underway_stops}

@@ -1,9 +1,9 @@
-use Rattle.std.proofs.Common.{◌≡◌, ◌∙◌, List, ℕ, ap, refl, sym, subst}
+use Rattle.std.proofs.Common.{◌∙◌, List, ℕ, ap, refl, sym, subst}
 use Rattle.pcp_base.specs.declared.asks.Ask.TheVariants.{Known}
 use Rattle.pcp_options.specs.declared.verdicts.Verdict.TheVariants.{Asked, Refuse}
 use Rattle.pcp_options.specs.Responses.{AreOctets}
 use Rattle.pcp_options.specs.Verdicts.{verdict_of}
-use Rattle.lease_house.specs.BookCalls.{MayBeAsked}
+use Rattle.lease_house.specs.Routings.{MayBeAsked}
 use Rattle.lease_house.proofs.AskLemmas.{by-verdict}
 use Rattle.lease_house.proofs.routes.read_datagram.Goals as goal
 

@@ -1,4 +1,4 @@
-use Rattle.std.proofs.Common.{◌≡◌, None, Some}
+use Rattle.std.proofs.Common.{◌≡◌, None}
 use Rattle.shard_book.specs.Books.{IsBook}
 use Rattle.lease_house.specs.SoloOpenings.{book_updates}
 use Rattle.lease_house.proofs.UpdateLemmas.{all_get, flat_on}

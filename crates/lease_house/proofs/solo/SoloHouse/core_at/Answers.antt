@@ -1,4 +1,3 @@
-use Rattle.std.proofs.Common.{refl}
 use Rattle.lease_house.proofs.LookLemmas.{book-there, state-there}
 use Rattle.lease_house.proofs.solo.SoloHouse.core_at.Goals as goal
 
