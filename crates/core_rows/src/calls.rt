@@ -1,21 +1,24 @@
 //! Each call of a core, with ample memory.
-ghost use Rattle.std.specs.Prelude.{IfOk};
+ghost use Rattle.std.specs.Prelude.{◌≡◌, IfOk};
+ghost use Rattle.lease_store.specs.LeaseTerms.{AreTerms};
 ghost use Rattle.core_rows.specs.Serving.{MayServe};
 
+use crate::making::{WIDE, indexed, plain};
 use crate::requests::{Told, Wish, host, remote, told_of};
 use crate::rows::{Step, first_other};
-use crate::serving::{core, moment, serve};
+use crate::serving::{begun, moment, serve};
 use Protocol::Udp;
 use Step::Ask as Asked;
 use Told::{Gone, Leased};
 use Wish::{Nothing, Peer};
 use lease_core::LeaseCore;
+use lease_store::LeaseStore;
 use pcp_base::{
     Address, Ask, Change, End, Endpoint, Filters, MapLease, Moment, Nonce, Owner, PeerLease,
     Protocol, Record, Replay,
 };
-use plain_store::PlainStore;
 use std::alloc::Global;
+use std::process::Abort;
 use std::test::Fail;
 
 static STEPS: [Step; 4] = [
@@ -68,21 +71,30 @@ fn peer_lease(granted: Moment) -> PeerLease {
     }
 }
 
-/// A core after the steps.
-fn served(alloc: Global) -> Result<LeaseCore<PlainStore>, Fail>
-    ensures { IfOk result (λ core. MayServe core.state core.terms) }
+/// The core that was made, after the steps.
+fn served<S: LeaseStore + Drop>(
+    alloc: Global,
+    made: Result<LeaseCore<S>, Fail>,
+) -> Result<LeaseCore<S>, Fail>
+    requires { IfOk made (λ core. AreTerms (S.terms core)) }
+    ensures { IfOk result (λ core. MayServe (S.state core) (S.terms core)) }
 {
-    let mut core = core(alloc, 1024, 65535, 64)?;
+    let mut core = begun(alloc, made)?;
     if first_other(alloc, &mut core, &STEPS)? != None {
         return Err("a step is answered otherwise".into());
     }
     Ok(core)
 }
 
-#[test]
-fn leases_and_owners(rt: HostRuntime) -> Result<(), Fail> {
-    let alloc = rt.alloc();
-    let core = served(alloc)?;
+/// The leases, their owner and an end, after the steps.
+fn has_leases<S: LeaseStore + Drop, R: Abort>(
+    rt: &R,
+    alloc: Global,
+    made: Result<LeaseCore<S>, Fail>,
+) -> Result<(), Fail>
+    requires { IfOk made (λ core. AreTerms (S.terms core)) }
+{
+    let core = served(alloc, made)?;
     let (granted, m) = (moment(1010)?, moment(1020)?);
     assert!(rt; core.leases(m) == 2);
     assert!(rt; core.maps(alloc, m)?.as_slice() == [map_lease(granted)].as_slice());
@@ -105,9 +117,21 @@ fn leases_and_owners(rt: HostRuntime) -> Result<(), Fail> {
 }
 
 #[test]
-fn base_last_and_address(rt: HostRuntime) -> Result<(), Fail> {
+fn leases_and_owners(rt: HostRuntime) -> Result<(), Fail> {
     let alloc = rt.alloc();
-    let mut core = served(alloc)?;
+    has_leases(&rt, alloc, indexed(alloc, WIDE))?;
+    has_leases(&rt, alloc, plain(alloc, WIDE))
+}
+
+/// What a core tells of its state after the steps, and after a Start by the first format.
+fn has_state<S: LeaseStore + Drop, R: Abort>(
+    rt: &R,
+    alloc: Global,
+    made: Result<LeaseCore<S>, Fail>,
+) -> Result<(), Fail>
+    requires { IfOk made (λ core. AreTerms (S.terms core)) }
+{
+    let mut core = served(alloc, made)?;
     assert!(rt; core.base().get() == 1000);
     assert!(rt; core.last().get() == 1020);
     assert!(rt; core.address() == Some(Address::v4(192, 0, 2, 1)));
@@ -128,10 +152,28 @@ fn base_last_and_address(rt: HostRuntime) -> Result<(), Fail> {
 }
 
 #[test]
+fn base_last_and_address(rt: HostRuntime) -> Result<(), Fail> {
+    let alloc = rt.alloc();
+    has_state(&rt, alloc, indexed(alloc, WIDE))?;
+    has_state(&rt, alloc, plain(alloc, WIDE))
+}
+
+/// What is answered to an ANNOUNCE.
+fn announced_by<S: LeaseStore + Drop>(
+    alloc: Global,
+    made: Result<LeaseCore<S>, Fail>,
+) -> Result<Told, Fail>
+    requires { IfOk made (λ core. AreTerms (S.terms core)) }
+{
+    let mut core = begun(alloc, made)?;
+    let answer = serve(alloc, &mut core, &Ask::Announce, moment(1010)?)?;
+    Ok(told_of(&answer))
+}
+
+#[test]
 fn announced(rt: HostRuntime) -> Result<(), Fail> {
     let alloc = rt.alloc();
-    let mut core = core(alloc, 1024, 65535, 64)?;
-    let answer = serve(alloc, &mut core, &Ask::Announce, moment(1010)?)?;
-    assert!(rt; told_of(&answer) == Told::Announced);
+    assert!(rt; announced_by(alloc, indexed(alloc, WIDE))? == Told::Announced);
+    assert!(rt; announced_by(alloc, plain(alloc, WIDE))? == Told::Announced);
     Ok(())
 }

@@ -1,9 +1,11 @@
 //! Requests one after the other, with their answers and what remote peers find between them.
-ghost use Rattle.std.specs.Prelude.{◌≡◌, ◌≤◌, OnOk};
+ghost use Rattle.std.specs.Prelude.{◌≡◌, ◌≤◌, IfOk, OnOk};
+ghost use Rattle.lease_store.specs.LeaseTerms.{AreTerms};
 ghost use Rattle.core_rows.specs.Serving.{MayServe};
 
+use crate::making::{Profile, WIDE, indexed, plain};
 use crate::requests::{Request, Told, Wish, ask_of, host, remote, told_of};
-use crate::serving::{core, moment, serve};
+use crate::serving::{begun, moment, serve};
 use Told::{Gone, Leased, LeasedSet, Refused};
 use Wish::{AllOrNothing, Filters, Nothing, Peer, Set};
 use lease_core::LeaseCore;
@@ -34,9 +36,9 @@ impl Step {
     }
 }
 
-/// The first and the last port that are given, the quota, and the steps.
+/// The ports and the quota, and the steps.
 #[derive(Clone, Copy)]
-struct Row(u16, u16, u32, &'static [Step]);
+struct Row(Profile, &'static [Step]);
 
 // Another nonce is told how long the lease still lasts.
 static RENEWED: [Step; 4] = [
@@ -80,6 +82,13 @@ static SUGGESTED: [Step; 3] = [
     Ask(1010, 5, 5000, 1, 3600, 0, Nothing, Leased(3600, 1024)),
     Ask(1011, 6, 5000, 1, 3600, 1024, Nothing, Leased(3600, 1025)),
     Ask(1011, 7, 5000, 1, 3600, 1024, AllOrNothing, Refused(11, 30)),
+];
+
+// As usual hosts ask: the suggestion is told again at the renewal and at the deletion.
+static SUGGESTED_AGAIN: [Step; 3] = [
+    Ask(1010, 5, 5000, 1, 7200, 8080, Nothing, Leased(7200, 8080)),
+    Ask(4700, 5, 5000, 1, 7200, 8080, Nothing, Leased(7200, 8080)),
+    Ask(6000, 5, 5000, 1, 0, 8080, Nothing, Gone),
 ];
 
 // Prefix 0 empties the list before the next filter.
@@ -234,7 +243,7 @@ static RESTED: [Step; 2] = [
 ];
 
 /// Whether the request is answered so at `m`.
-fn is_answered<S: LeaseStore>(
+pub(crate) fn is_answered<S: LeaseStore>(
     alloc: Global,
     core: &mut LeaseCore<S>,
     m: Moment,
@@ -316,30 +325,48 @@ pub(crate) fn first_other<S: LeaseStore>(
     Ok(None)
 }
 
+/// The same of a core that was made.
+fn first_other_on<S: LeaseStore + Drop>(
+    alloc: Global,
+    made: Result<LeaseCore<S>, Fail>,
+    steps: &[Step],
+) -> Result<Option<usize>, Fail>
+    requires { IfOk made (λ core. AreTerms (S.terms core)) }
+{
+    first_other(alloc, &mut begun(alloc, made)?, steps)
+}
+
+/// The same of the core that a server uses, and of a plain one beside it.
+fn first_others(alloc: Global, row: &Row) -> Result<(Option<usize>, Option<usize>), Fail> {
+    let on_indexed = first_other_on(alloc, indexed(alloc, row.0), row.1)?;
+    let on_plain = first_other_on(alloc, plain(alloc, row.0), row.1)?;
+    Ok((on_indexed, on_plain))
+}
+
 #[test]
 fn answers_one_after_the_other(rt: HostRuntime) -> Result<(), Fail> {
     let alloc = rt.alloc();
-    let rows: [Row; 15] = [
-        Row(1024, 65535, 64, &RENEWED),
-        Row(1024, 65535, 64, &LIFETIMES),
-        Row(1024, 65535, 64, &OTHER_NONCE),
-        Row(1024, 65535, 64, &DELETED),
-        Row(1024, 65535, 64, &LOOKED_UP),
-        Row(1024, 65535, 64, &SUGGESTED),
-        Row(1024, 65535, 64, &FILTERED),
-        Row(1024, 65535, 64, &MOST_FILTERS),
-        Row(1024, 1028, 64, &SETS),
-        Row(1024, 1028, 64, &SET_OF_ONE),
-        Row(1024, 65535, 4, &AT_QUOTA),
-        Row(1024, 1024, 64, &FULL),
-        Row(1024, 65535, 64, &SHARED),
-        Row(1024, 65535, 64, &RESTING),
-        Row(1024, 65535, 64, &RESTED),
+    let rows: [Row; 16] = [
+        Row(WIDE, &RENEWED),
+        Row(WIDE, &LIFETIMES),
+        Row(WIDE, &OTHER_NONCE),
+        Row(WIDE, &DELETED),
+        Row(WIDE, &LOOKED_UP),
+        Row(WIDE, &SUGGESTED),
+        Row(WIDE, &SUGGESTED_AGAIN),
+        Row(WIDE, &FILTERED),
+        Row(WIDE, &MOST_FILTERS),
+        Row(Profile(1024, 1028, 64), &SETS),
+        Row(Profile(1024, 1028, 64), &SET_OF_ONE),
+        Row(Profile(1024, 65535, 4), &AT_QUOTA),
+        Row(Profile(1024, 1024, 64), &FULL),
+        Row(WIDE, &SHARED),
+        Row(WIDE, &RESTING),
+        Row(WIDE, &RESTED),
     ];
-    for (i, Row(low, high, quota, steps)) in rows.iter().enumerate() {
-        let mut core = core(alloc, *low, *high, *quota)?;
-        let other = first_other(alloc, &mut core, steps)?;
-        assert!(rt; other == None, "row {i}, step {other:?}");
+    for (i, row) in rows.iter().enumerate() {
+        let others = first_others(alloc, row)?;
+        assert!(rt; others == (None, None), "row {i}, step {others:?}");
     }
     Ok(())
 }

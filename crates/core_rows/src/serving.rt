@@ -1,20 +1,14 @@
 //! Requests served one after the other: what is decided is applied.
 ghost use Rattle.std.specs.Prelude.{◌≡◌, ◌≤◌, IfSome, IfOk, OnOk};
 ghost use Rattle.pcp_base.specs.Apply.{apply};
-ghost use Rattle.pcp_base.specs.Configs.{IsConfig, IsExternal};
 ghost use Rattle.pcp_base.specs.Fits.{Fits};
-ghost use Rattle.pcp_base.specs.declared.configs.TheConstants.{MOST_QUOTA};
 ghost use Rattle.lease_store.specs.LeaseTerms.{AreTerms};
 ghost use Rattle.core_rows.specs.Serving.{MayServe};
 
 use crate::requests::is_well_formed;
 use lease_core::{LeaseCore, decisions_fit};
-use lease_store::{LeaseStore, Terms};
-use pcp_base::{
-    Address, Answer, Ask, Change, Config, External, Externals, MOST_QUOTA, Memory, Moment,
-    Prefixes, Record, Replay, Subscribers, states_are_sound,
-};
-use plain_store::PlainStore;
+use lease_store::LeaseStore;
+use pcp_base::{Address, Answer, Ask, Change, Memory, Moment, Record, Replay, states_are_sound};
 use std::alloc::Global;
 use std::test::Fail;
 
@@ -22,57 +16,6 @@ pub(crate) fn moment(seconds: u64) -> Result<Moment, Fail>
     ensures { IfOk result (λ m. m ≡ seconds) }
 {
     Ok(Moment::of(seconds).ok_or("no moment")?)
-}
-
-/// The external address 192.0.2.1 with these ports.
-fn external(low: u16, high: u16) -> External
-    requires some { 1 ≤ low }
-    requires ordered { low ≤ high }
-    ensures { IsExternal result }
-{
-    External {
-        address: Address::v4(192, 0, 2, 1),
-        low,
-        high,
-    }
-}
-
-/// A configuration with one external address, lifetimes from 120 to 86,400 seconds, and no
-/// subscriber, since a core pairs nothing.
-fn config(alloc: Global, external: &External, quota: u32) -> Result<Config, Fail>
-    requires external { IsExternal external.now }
-    requires some { 1 ≤ quota }
-    requires most { quota ≤ MOST_QUOTA }
-    ensures { IfOk result IsConfig }
-{
-    Ok(Config {
-        quota,
-        lifetime_min: 120,
-        lifetime_max: 86_400,
-        third_party: Prefixes::of(Vec::new(alloc)),
-        externals: Externals::of(Vec::from_array(alloc, [*external])?),
-        subscribers: Subscribers::of(Vec::new(alloc)),
-    })
-}
-
-/// A core of ports from 1 on over a plain store, with a Start at 1000.
-pub(crate) fn core(
-    alloc: Global,
-    low: u16,
-    high: u16,
-    quota: u32,
-) -> Result<LeaseCore<PlainStore>, Fail>
-    ensures may { IfOk result (λ core. MayServe core.state core.terms) }
-    ensures reached { IfOk result (λ core. core.reached ≡ 1000) }
-{
-    if low < 1 || low > high || quota < 1 || quota > MOST_QUOTA {
-        return Err("no such profile".into());
-    }
-    let external = external(low, high);
-    let config = config(alloc, &external, quota)?;
-    let mut core = LeaseCore::over(PlainStore::new(alloc, Terms::of(&external, &config))?);
-    start(alloc, &mut core)?;
-    Ok(core)
 }
 
 /// Admits a record of this change at 1000, which fits.
@@ -104,6 +47,20 @@ fn start<S: LeaseStore>(alloc: Global, core: &mut LeaseCore<S>) -> Result<(), Fa
     core.clear();
     begin(alloc, core, Change::Start)?;
     begin(alloc, core, Change::Renumber(Address::v4(192, 0, 2, 1)))
+}
+
+/// The core that was made, begun by a Start and the external address at 1000.
+pub(crate) fn begun<S: LeaseStore + Drop>(
+    alloc: Global,
+    made: Result<LeaseCore<S>, Fail>,
+) -> Result<LeaseCore<S>, Fail>
+    requires { IfOk made (λ core. AreTerms (S.terms core)) }
+    ensures may { IfOk result (λ core. MayServe (S.state core) (S.terms core)) }
+    ensures reached { IfOk result (λ core. S.reached core ≡ 1000) }
+{
+    let mut core = made?;
+    start(alloc, &mut core)?;
+    Ok(core)
 }
 
 /// Applies the record of a decision at `m`, if there is one.

@@ -1,0 +1,64 @@
+//! As many leases as an external address may have.
+ghost use Rattle.std.specs.Prelude.{◌≡◌, ◌≤◌, IfOk, OnOk};
+ghost use Rattle.lease_store.specs.LeaseTerms.{AreTerms};
+ghost use Rattle.core_rows.specs.Serving.{MayServe};
+
+use crate::making::{Profile, indexed};
+use crate::requests::{Request, Told, Wish};
+use crate::rows::is_answered;
+use crate::serving::{begun, moment};
+use Told::{Leased, Refused};
+use Wish::Nothing;
+use lease_core::LeaseCore;
+use lease_store::LeaseStore;
+use pcp_base::Moment;
+use std::alloc::Global;
+use std::process::Abort;
+use std::test::Fail;
+
+/// Asks for 32,768 leases of one host, of one port each. The first that isn't given the external
+/// port of the same number.
+fn first_ungranted<S: LeaseStore>(
+    alloc: Global,
+    core: &mut LeaseCore<S>,
+    m: Moment,
+) -> Result<Option<u16>, Fail>
+    requires may { MayServe (S.state core.old) (S.terms core.old) }
+    requires later { S.reached core.old ≤ m }
+    ensures may { OnOk result (MayServe (S.state core.new) (S.terms core.new)) }
+    ensures reached { OnOk result (S.reached core.new ≤ m) }
+{
+    for port in 1024..33_792 {
+        let request = Request(5, port, 1, 3600, 0, Nothing);
+        if !is_answered(alloc, core, m, &request, Leased(3600, port))? {
+            return Ok(Some(port));
+        }
+    }
+    Ok(None)
+}
+
+/// No other host is granted a lease then, though ports are left; a renewal needs no room.
+fn is_full<S: LeaseStore + Drop, R: Abort>(
+    rt: &R,
+    alloc: Global,
+    made: Result<LeaseCore<S>, Fail>,
+) -> Result<(), Fail>
+    requires { IfOk made (λ core. AreTerms (S.terms core)) }
+{
+    let mut core = begun(alloc, made)?;
+    let m = moment(1010)?;
+    assert!(rt; first_ungranted(alloc, &mut core, m)? == None);
+    assert!(rt; core.leases(m) == 32_768);
+    let another = Request(6, 5000, 1, 3600, 0, Nothing);
+    assert!(rt; is_answered(alloc, &mut core, m, &another, Refused(8, 30))?);
+    let again = Request(5, 20_000, 1, 3600, 0, Nothing);
+    assert!(rt; is_answered(alloc, &mut core, m, &again, Leased(3600, 20_000))?);
+    assert!(rt; core.leases(m) == 32_768);
+    Ok(())
+}
+
+#[test]
+fn no_more_leases_than_there_may_be(rt: HostRuntime) -> Result<(), Fail> {
+    let alloc = rt.alloc();
+    is_full(&rt, alloc, indexed(alloc, Profile(1024, 65535, 65_535)))
+}
