@@ -1,0 +1,122 @@
+//! What fails: a read of the script, a write of what comes out, and the first disk.
+use crate::configs::PROFILE;
+use crate::runs::{Ended, Failing, NEVER, Step, Text, octets_of, pairs_behind, run};
+use lease_disk::{DiskPair, MemoryDisk};
+use pcp_base::Memory;
+use pcp_server::Status;
+use std::alloc::Global;
+use std::test::Fail;
+
+/// A request at 1010.
+pub(crate) static REQUEST: Step = Step {
+    words: "play c s j 1000",
+    config: PROFILE,
+    script: Text::Whole(
+        "packet 1010 10.0.0.5 40000 0201000000000e1000000000000000000000ffff0a000005\
+        000102030405060708090a0b110000001388000000000000000000000000ffff00000000\n",
+    ),
+    status: Status::Done,
+    output: Text::Whole(
+        "reply 10.0.0.5 40000 0281000000000e100000000a000000000000000000000000\
+        000102030405060708090a0b110000001388040000000000000000000000ffffc0000201\n",
+    ),
+};
+
+/// What fails: the read and the write of this number, the device call of this number on side a of
+/// the first journal, what passes its room; how the play ends, and whether the reply is written.
+struct Fault {
+    read: u64,
+    write: u64,
+    call: u64,
+    room: u64,
+    status: Status,
+    replied: bool,
+}
+
+// The first device call is a sync. A start has 59 octets, and with the lease 125.
+static FAULTS: [Fault; 7] = [
+    Fault {
+        read: 1,
+        write: NEVER,
+        call: NEVER,
+        room: 4_096,
+        status: Status::ReadFault,
+        replied: true,
+    },
+    Fault {
+        read: NEVER,
+        write: 0,
+        call: NEVER,
+        room: 4_096,
+        status: Status::WriteFault,
+        replied: false,
+    },
+    Fault {
+        read: NEVER,
+        write: NEVER,
+        call: 0,
+        room: 4_096,
+        status: Status::DiskFault(0),
+        replied: false,
+    },
+    Fault {
+        read: NEVER,
+        write: NEVER,
+        call: NEVER,
+        room: 28,
+        status: Status::DiskFault(0),
+        replied: false,
+    },
+    Fault {
+        read: NEVER,
+        write: NEVER,
+        call: NEVER,
+        room: 40,
+        status: Status::DiskFault(0),
+        replied: false,
+    },
+    Fault {
+        read: NEVER,
+        write: NEVER,
+        call: NEVER,
+        room: 70,
+        status: Status::DiskFault(0),
+        replied: false,
+    },
+    Fault {
+        read: NEVER,
+        write: NEVER,
+        call: NEVER,
+        room: 4_096,
+        status: Status::Done,
+        replied: true,
+    },
+];
+
+fn run_failing(alloc: Global, fault: &Fault) -> Result<Ended<MemoryDisk>, Memory> {
+    let mut a = MemoryDisk::new(alloc, fault.room)?;
+    a.fail_at(alloc, fault.call)?;
+    let b = MemoryDisk::new(alloc, 4_096)?;
+    let pairs = pairs_behind(alloc, DiskPair { a, b })?;
+    let failing = Failing {
+        read: fault.read,
+        write: fault.write,
+    };
+    run(alloc, &REQUEST, pairs, failing)
+}
+
+#[test]
+fn faults(rt: HostRuntime) -> Result<(), Fail> {
+    let reply = octets_of(rt.alloc(), &REQUEST.output)?;
+    for (i, fault) in FAULTS.iter().enumerate() {
+        let ended = run_failing(rt.alloc(), fault)?;
+        let told = ended.out.held();
+        assert!(rt; ended.status == fault.status, "{i}: {}", ended.status);
+        if fault.replied {
+            assert!(rt; told == reply.as_slice(), "{i}: {}", told.escape_ascii());
+        } else {
+            assert!(rt; told.is_empty(), "{i}: {}", told.escape_ascii());
+        }
+    }
+    Ok(())
+}
