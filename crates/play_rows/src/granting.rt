@@ -4,7 +4,7 @@ use crate::octets::LEASED;
 use crate::runs::{Row, Step, Text};
 use pcp_server::Status;
 
-pub(crate) static GRANTING: [Row; 13] = [
+pub(crate) static PLAIN_GRANTS: [Row; 6] = [
     Row {
         name: "a grant",
         before: "",
@@ -175,6 +175,9 @@ pub(crate) static GRANTING: [Row; 13] = [
         }],
         after: None,
     },
+];
+
+pub(crate) static OTHER_GRANTS: [Row; 7] = [
     // A ninth filter is one too many.
     Row {
         name: "nine filters",

@@ -1,5 +1,5 @@
 //! Rows: commands over the same journals, with their texts and octets.
-use crate::granting::GRANTING;
+use crate::granting::{OTHER_GRANTS, PLAIN_GRANTS};
 use crate::journals::JOURNALS;
 use crate::loads::LOADS;
 use crate::refusing::REFUSING;
@@ -79,8 +79,15 @@ fn other_among(alloc: Global, rows: &[Row]) -> Result<Option<String>, Fail> {
 }
 
 #[test]
-fn grants(rt: HostRuntime) -> Result<(), Fail> {
-    let other = other_among(rt.alloc(), &GRANTING)?;
+fn plain_grants(rt: HostRuntime) -> Result<(), Fail> {
+    let other = other_among(rt.alloc(), &PLAIN_GRANTS)?;
+    assert!(rt; other.is_none(), "{other:?}");
+    Ok(())
+}
+
+#[test]
+fn other_grants(rt: HostRuntime) -> Result<(), Fail> {
+    let other = other_among(rt.alloc(), &OTHER_GRANTS)?;
     assert!(rt; other.is_none(), "{other:?}");
     Ok(())
 }
