@@ -8,18 +8,20 @@ ghost use Rattle.pcp_base.specs.declared.addresses.Address.{Address};
 ghost use Rattle.pcp_base.specs.Tables.{same_address};
 ghost use Rattle.external_pool.specs.Kept.{count_held};
 
+use crate::hosts::Host;
 use pcp_base::{Address, Memory};
 use std::collections::BTreeMap;
 
 /// How many ports an address holds.
-pub fn count_of(counts: &BTreeMap<[u8; 16], u32>, who: &Address) -> u32
+pub fn count_of(counts: &BTreeMap<Host, u32>, who: &Address) -> u32
     ensures { result ≡ count_held counts.now who.now }
 {
-    counts.get(&who.0).copied().unwrap_or(0)
+    let host = Host { octets: who.0 };
+    counts.get(&host).copied().unwrap_or(0)
 }
 
 /// Counts `n` more.
-pub fn raise(counts: &mut BTreeMap<[u8; 16], u32>, who: &Address, n: u32) -> Result<(), Memory>
+pub fn raise(counts: &mut BTreeMap<Host, u32>, who: &Address, n: u32) -> Result<(), Memory>
     requires { count_held counts.old who.now + n < 2 ^ 32 }
     ensures ok { OnOk result ((other : Address) →
         count_held counts.new other
@@ -28,24 +30,25 @@ pub fn raise(counts: &mut BTreeMap<[u8; 16], u32>, who: &Address, n: u32) -> Res
         count_held counts.new other ≡ count_held counts.old other) }
 {
     let count = count_of(counts, who) + n;
-    counts.insert(who.0, count)?;
+    counts.insert(Host { octets: who.0 }, count)?;
     Ok(())
 }
 
 /// Gives an address that is counted another count.
-fn overwrite(counts: &mut BTreeMap<[u8; 16], u32>, who: &Address, count: u32)
+fn overwrite(counts: &mut BTreeMap<Host, u32>, who: &Address, count: u32)
     requires { IsSome (get (slice_cmp nat_cmp) counts.old who.now.0) }
     ensures { (other : List ℕ) → get (slice_cmp nat_cmp) counts.new other
         ≡ (if is_at (slice_cmp nat_cmp who.now.0) other then Some count
         else get (slice_cmp nat_cmp) counts.old other) }
 {
-    if let Some(place) = counts.get_mut(&who.0) {
+    let host = Host { octets: who.0 };
+    if let Some(place) = counts.get_mut(&host) {
         *place = count;
     }
 }
 
 /// Counts `n` fewer, and forgets an address that holds none.
-pub fn lower(counts: &mut BTreeMap<[u8; 16], u32>, who: &Address, n: u32)
+pub fn lower(counts: &mut BTreeMap<Host, u32>, who: &Address, n: u32)
     requires { n ≤ count_held counts.old who.now }
     ensures { (other : Address) →
         count_held counts.new other
@@ -53,7 +56,8 @@ pub fn lower(counts: &mut BTreeMap<[u8; 16], u32>, who: &Address, n: u32)
 {
     let count = count_of(counts, who) - n;
     if count == 0 {
-        counts.remove(&who.0);
+        let host = Host { octets: who.0 };
+        counts.remove(&host);
     } else {
         overwrite(counts, who, count);
     }

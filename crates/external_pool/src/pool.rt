@@ -8,6 +8,7 @@ ghost use Rattle.external_pool.specs.declared.uses.Use.TheVariants.{Free, Restin
 
 use crate::asks::{PickAsk, PickRefused, Picked, judge};
 use crate::counts::{count_of, lower, raise};
+use crate::hosts::Host;
 use crate::side::Side;
 use crate::uses::Use;
 use pcp_base::{Address, Endpoint, Memory, Protocol};
@@ -23,7 +24,7 @@ pub struct Pool {
     quota: u32,
     tcp: Side,
     udp: Side,
-    counts: BTreeMap<[u8; 16], u32>,
+    counts: BTreeMap<Host, u32>,
 }
 
 impl Model for Pool {

@@ -1,12 +1,12 @@
 //! The places of endpoints, in an order that takes few steps to tell.
 ghost use Rattle.std.specs.Prelude.{◌≡◌, ◌↔◌, IsTrue, refl};
-ghost use Rattle.std.specs.Ordering.{nat_cmp, eq_by_cmp, as_partial_cmp};
+ghost use Rattle.std.specs.Ordering.{eq_by_cmp, as_partial_cmp};
 ghost use Rattle.std.specs.Cmp.{partial_equiv_from_equiv, partial_order_from_total, eq_by_cmp_equiv};
-ghost use Rattle.std.specs.Cmp.Lexicographic.{slice_cmp};
 ghost use Rattle.pcp_base.specs.Protocols.{protocol_number};
 ghost use Rattle.ordered_index.specs.Orders.{place_of, place_cmp, place_total};
 
 use crate::keys::{Port, port_at};
+use octet_order::compare_octets;
 use pcp_base::Endpoint;
 use std::cmp::Ordering;
 use std::marker::Model;
@@ -26,14 +26,6 @@ impl Model for Place {
     ghost view = { λ p. (p.address, p.port) };
 
     ghost inverse = { λ v. record { address = v.0; port = v.1 } };
-}
-
-/// Compares octets from the front, all at once.
-#[inline]
-fn compare_octets(a: &[u8; 16], b: &[u8; 16]) -> Ordering
-    ensures { result ≡ slice_cmp nat_cmp a.now b.now }
-{
-    u128::from_be_bytes(*a).cmp(&u128::from_be_bytes(*b))
 }
 
 impl PartialEq for Place {

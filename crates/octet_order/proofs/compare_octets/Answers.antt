@@ -1,7 +1,7 @@
 use Rattle.std.proofs.Common.{ℕ, ap, sym, ◌∙◌, arith}
 use Rattle.std.specs.Ordering.{nat_cmp}
-use Rattle.ordered_index.proofs.OctetOrder.{spelled-order, whole, octets_from}
-use Rattle.ordered_index.proofs.places.compare_octets.Goals as goal
+use Rattle.octet_order.proofs.OctetOrder.{spelled-order, whole, octets_from}
+use Rattle.octet_order.proofs.compare_octets.Goals as goal
 
 pub returns : goal.returns
 returns c =
