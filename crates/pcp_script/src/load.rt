@@ -1,17 +1,22 @@
 //! The load that a number makes.
-ghost use Rattle.std.specs.Prelude.{◌≡◌, ℕ, ◌+◌, ◌++◌, OnOk, OnErr, IfOk};
+ghost use Rattle.std.specs.Prelude.{◌≡◌, ℕ, ◌+◌, ◌≤◌, [], vec_len, OnOk, OnErr, IfOk};
+ghost use Rattle.std.specs.Vec.{vec_capacity};
 ghost use Rattle.rand_chacha.specs.ChaCha.{next_word};
-ghost use Rattle.pcp_script.specs.Loads.{load_at, load_head, load_host, load_lifetime, load_nonce, load_ports, load_protocol, load_request, request_at};
+ghost use Rattle.pcp_script.specs.Loads.{load_at, load_host, load_lifetime, load_port, load_protocol, load_request, request_at};
+ghost use Rattle.pcp_script.specs.declared.load.TheConstants.{REQUEST_OCTETS};
 
 use pcp_base::{Address, Datagram, Memory, Octets, Protocol};
 use rand_chacha::ChaCha8Rng;
 use rand_core::SeedableRng;
 use rand_core::utils::NextWord;
-use std::alloc::{AllocError, Global};
+use std::alloc::Global;
 use std::marker::Model;
 
 /// The UDP port from which every request of a load comes.
 pub const LOAD_PORT: u16 = 40_000;
+
+/// How many octets each request of a load has.
+const REQUEST_OCTETS: usize = 60;
 
 /// MAP requests of the hosts of 10.0.0.0/22, one after the other, that a number makes: each takes three
 /// words of ChaCha8, whose key is the number.
@@ -56,11 +61,10 @@ impl Load {
             → OnOk result (self.new ≡ load_at number (i + 1)) }
         ensures unchanged { OnErr result (self.new ≡ self.old) }
     {
-        let mut words = self.words.clone()?;
-        let draw = draw_of(&mut words);
-        let from = request_of(alloc, draw)?;
-        self.words = words;
-        Ok(from)
+        // The memory is taken before the words are.
+        let octets = Vec::with_capacity(alloc, REQUEST_OCTETS)?;
+        let draw = draw_of(&mut self.words);
+        Ok(request_of(octets, draw))
     }
 }
 
@@ -80,28 +84,48 @@ fn draw_of(words: &mut ChaCha8Rng) -> Draw
     }
 }
 
-// The request that three words make.
-fn request_of(alloc: Global, draw: Draw) -> Result<Datagram, Memory>
-    ensures { IfOk result (λ from. from ≡ load_request draw.first draw.second draw.third) }
+// The request that three words make, in a vector that is empty and has room for it.
+fn request_of(mut octets: Vec<u8>, draw: Draw) -> Datagram
+    requires empty { octets.items ≡ [] }
+    requires start { vec_len octets ≡ 0 }
+    requires room { REQUEST_OCTETS ≤ vec_capacity octets }
+    ensures { result ≡ load_request draw.first draw.second draw.third }
 {
-    let host = host_of(draw.first);
-    let peer = Address::v4(host[0], host[1], host[2], host[3]);
-    let port = 1024 + (draw.second % 512) as u16;
-    let mut octets = Vec::new(alloc);
-    push_head(&mut octets, &peer, lifetime_of(draw.third))?;
-    push_nonce(&mut octets, host, port)?;
-    push_ports(&mut octets, port, protocol_of(draw.second))?;
-    Ok(Datagram {
-        peer,
+    // With room for all of them it doesn't fail.
+    let _appended = octets.extend_from_slice(&octets_of(draw));
+    let [a, b, c, d] = host_of(draw.first);
+    Datagram {
+        peer: Address::v4(a, b, c, d),
         port: LOAD_PORT,
         octets: Octets::of(octets),
-    })
+    }
+}
+
+// The octets of the request that three words make. It suggests nothing.
+fn octets_of(draw: Draw) -> [u8; REQUEST_OCTETS]
+    ensures { result ≡ (load_request draw.first draw.second draw.third).octets }
+{
+    let [a, b, c, d] = host_of(draw.first);
+    let [p0, p1] = port_of(draw.second).to_be_bytes();
+    let [l0, l1, l2, l3] = lifetime_of(draw.third).to_be_bytes();
+    let number = protocol_of(draw.second).number();
+    [
+        2, 1, 0, 0, l0, l1, l2, l3, 0, 0, 0, 0, 0, 0, 0, 0, 0, 0, 255, 255, a, b, c, d, a, b, c, d,
+        p0, p1, 0, 0, 0, 0, 0, 0, number, 0, 0, 0, p0, p1, 0, 0, 0, 0, 0, 0, 0, 0, 0, 0, 0, 0, 0,
+        0, 0, 0, 0, 0,
+    ]
 }
 
 fn host_of(word: u32) -> [u8; 4]
     ensures { result ≡ load_host word }
 {
     [10, 0, (word / 256 % 4) as u8, (word % 256) as u8]
+}
+
+fn port_of(word: u32) -> u16
+    ensures { result ≡ load_port word }
+{
+    1024 + (word % 512) as u16
 }
 
 fn protocol_of(word: u32) -> Protocol
@@ -123,31 +147,4 @@ fn lifetime_of(word: u32) -> u32
         2 => 3_600,
         _ => 86_400,
     }
-}
-
-// Appends the head of a MAP request.
-fn push_head(out: &mut Vec<u8>, peer: &Address, lifetime: u32) -> Result<(), AllocError>
-    ensures { OnOk result (out.new.items ≡ out.old.items ++ load_head peer.now lifetime) }
-{
-    out.extend_from_slice(&[2, 1, 0, 0])?;
-    out.extend_from_slice(&lifetime.to_be_bytes())?;
-    out.extend_from_slice(&peer.0)
-}
-
-// Appends the nonce of a host's request: its IPv4 address, the internal port and zeros.
-fn push_nonce(out: &mut Vec<u8>, host: [u8; 4], port: u16) -> Result<(), AllocError>
-    ensures { OnOk result (out.new.items ≡ out.old.items ++ load_nonce host port) }
-{
-    out.extend_from_slice(&host)?;
-    out.extend_from_slice(&port.to_be_bytes())?;
-    out.extend_from_slice(&[0; 6])
-}
-
-// Appends the rest of the data of a MAP request, which suggests nothing.
-fn push_ports(out: &mut Vec<u8>, port: u16, protocol: Protocol) -> Result<(), AllocError>
-    ensures { OnOk result (out.new.items ≡ out.old.items ++ load_ports port protocol) }
-{
-    out.extend_from_slice(&[protocol.number(), 0, 0, 0])?;
-    out.extend_from_slice(&port.to_be_bytes())?;
-    out.extend_from_slice(&[0; 18])
 }

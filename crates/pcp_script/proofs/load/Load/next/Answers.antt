@@ -4,7 +4,7 @@ use Rattle.pcp_script.proofs.load.Load.next.Goals as goal
 
 pub returns-clause-request : goal.returns-clause-request
 returns-clause-request c number i at =
-    c.in_ok-from.ensures
+    c.request_of.ensures
     ∙ request_of_draw number i c.args.self.now at _ _ _
     (search (rules, c.draw_of-draw.ensures.first))
     (search (rules, c.draw_of-draw.ensures.second))
