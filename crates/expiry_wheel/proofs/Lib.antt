@@ -1,5 +1,6 @@
 pub mod Order
 pub mod Maps
+pub mod Marks
 pub mod Pairs
 pub mod Next
 pub mod Trees

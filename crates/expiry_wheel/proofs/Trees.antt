@@ -1,11 +1,12 @@
 -- What a write to a node leaves of a tree.
-use Rattle.std.proofs.Common.{◌≡◌, ◌≢◌, ℕ, ◌+◌, ◌-◌, ◌*◌, ◌/◌, ◌<◌, ◌≤◌, ◌^◌, List, Option, None, length, drop, slice_set, sym, ap, subst, ◌∙◌, arith, add-one, inl, inr}
+use Rattle.std.proofs.Common.{◌≡◌, ◌≢◌, ℕ, ◌+◌, ◌-◌, ◌*◌, ◌/◌, ◌%◌, ◌==◌, ◌<◌, ◌≤◌, ◌^◌, Bool, true, false, cond, refl, List, Option, None, length, drop, slice_set, sym, ap, subst, ◌∙◌, arith, add-one, inl, inr}
 use Rattle.std.proofs.lemmas.List.{get_or-set_same, get_or-set_other, drop-set-lt, drop-set-add}
 use Rattle.std.proofs.Math.ListN.{length-set}
+use Rattle.std.proofs.lemmas.Grind.{common_steps}
 use Rattle.std.proofs.Math.Pow.{pow_mono}
 use Rattle.std.proofs.Math.Nat.{mul-le-mul_right, pow-suc}
 use Rattle.expiry_wheel.specs.declared.pair.Pair.{Pair}
-use Rattle.expiry_wheel.specs.Slots.{IsTree, IsParent, IsWayUp, IsCostOfTaking, kept_at, leaves_of}
+use Rattle.expiry_wheel.specs.Slots.{IsTree, IsParent, IsWayUp, IsCostOfTaking, beside, kept_at, leaves_of, of_both}
 use Rattle.expiry_wheel.specs.Order.{sooner}
 use Rattle.expiry_wheel.proofs.Maps.{below_or_not, same_or_not}
 
@@ -42,6 +43,48 @@ parents_above nodes j v positive within is parents k k_positive k_within apart =
       | inr ne ↦ IsParent-apart nodes j k v ne (λ e. apart (omega arith)) (λ e. apart (omega arith)) (parents k k_positive short ne)
     ]
 
+-- a node and the one beside it are the children of their parent
+pub both_children : (nodes : List (Option Pair)) (i : ℕ) → of_both i (kept_at nodes i) (kept_at nodes (beside i)) ≡ sooner (kept_at nodes (2 * (i / 2))) (kept_at nodes (2 * (i / 2) + 1))
+both_children nodes i =
+    let parent = sooner (kept_at nodes (2 * (i / 2))) (kept_at nodes (2 * (i / 2) + 1)) in
+    let is : Bool → Type 0 = λ v. cond v (sooner (kept_at nodes i) (kept_at nodes (cond v (i + 1) (i - 1)))) (sooner (kept_at nodes (cond v (i + 1) (i - 1))) (kept_at nodes i)) ≡ parent in
+    let at : (v : Bool) → (i % 2 == 0) ≡ v → is v = λ v. elim v as (λ v. (i % 2 == 0) ≡ v → is v) [
+      | true ↦ λ e.
+          let even : i ≡ 2 * (i / 2) = grind (arith, common_steps) in
+          ap (λ n. sooner (kept_at nodes n) (kept_at nodes (n + 1))) even
+      | false ↦ λ e.
+          let odd : i ≡ 2 * (i / 2) + 1 = grind (arith, common_steps) in
+          let lower : i - 1 ≡ 2 * (i / 2) = omega (arith, odd) in
+          ap (λ n. sooner (kept_at nodes n) (kept_at nodes i)) lower ∙ ap (λ n. sooner (kept_at nodes (2 * (i / 2))) (kept_at nodes n)) odd
+    ] in at (i % 2 == 0) refl
+
+beside_other : (i : ℕ) → 0 < i → beside i ≢ i
+beside_other i positive e =
+    let at : (v : Bool) → cond v (i + 1) (i - 1) ≡ i → ⊥ = λ v. elim v as (λ v. cond v (i + 1) (i - 1) ≡ i → ⊥) [ true ↦ λ h. omega (arith, h) | false ↦ λ h. omega (arith, h, positive) ] in
+    at (i % 2 == 0) e
+
+-- what a node is told to have been stood there
+pub stood_there : (nodes : List (Option Pair)) (i : ℕ) (was other after : Option Pair) → kept_at nodes (i / 2) ≡ of_both i was (kept_at nodes (beside i)) → other ≡ kept_at nodes (beside i) → after ≡ of_both i was other → kept_at nodes (i / 2) ≡ after
+stood_there nodes i was other after would looked is = would ∙ ap (of_both i was) (sym looked) ∙ sym is
+
+-- what a node is to keep is the sooner of its children
+pub joined_there : (nodes : List (Option Pair)) (i : ℕ) (kept other after : Option Pair) → kept ≡ kept_at nodes i → other ≡ kept_at nodes (beside i) → after ≡ of_both i kept other → after ≡ sooner (kept_at nodes (2 * (i / 2))) (kept_at nodes (2 * (i / 2) + 1))
+joined_there nodes i kept other after stands looked is = is ∙ ap (of_both i kept) looked ∙ ap (λ (n : Option Pair). of_both i n (kept_at nodes (beside i))) stands ∙ both_children nodes i
+
+-- a node is written, and its parent would be right if it were as it was
+pub parent_was : (nodes : List (Option Pair)) (i : ℕ) (was v : Option Pair) → 1 < i → kept_at nodes i ≡ was → IsParent nodes (i / 2) → kept_at (slice_set nodes i v) (i / 2) ≡ of_both i was (kept_at (slice_set nodes i v) (beside i))
+parent_was nodes i was v inner is parent =
+    get_or-set_other nodes i (i / 2) v None (λ e. omega arith) ∙ parent ∙ sym (both_children nodes i)
+    ∙ ap (λ (n : Option Pair). of_both i n (kept_at nodes (beside i))) is
+    ∙ ap (of_both i was) (sym (get_or-set_other nodes i (beside i) v None (beside_other i (omega (arith, inner)))))
+
+-- where a node stays as it was, all are right
+pub tree_whole : (nodes : List (Option Pair)) (i : ℕ) (was : Option Pair) → was ≡ kept_at nodes i → (1 < i → kept_at nodes (i / 2) ≡ of_both i was (kept_at nodes (beside i))) → ParentsBut nodes (i / 2) → IsTree nodes
+tree_whole nodes i was same would parents k positive within = elim (same_or_not k (i / 2)) [
+  | inl e ↦ subst (IsParent nodes) (sym e) (would (omega arith) ∙ ap (λ (n : Option Pair). of_both i n (kept_at nodes (beside i))) same ∙ both_children nodes i)
+  | inr ne ↦ parents k positive within ne
+]
+
 -- the slots after a write
 pub slots_below : (nodes : List (Option Pair)) (i : ℕ) (v : Option Pair) → i < length nodes / 2 → leaves_of (slice_set nodes i v) ≡ leaves_of nodes
 slots_below nodes i v low = ap (λ n. drop (n / 2) (slice_set nodes i v)) (length-set nodes i v) ∙ drop-set-lt (length nodes / 2) nodes i v low
@@ -60,19 +103,12 @@ one_more_step i t leaf h =
     let halves : (i / 2 * 2) * 2 ^ t ≤ i * 2 ^ t = mul-le-mul_right (2 ^ t) (omega arith) in
     rw doubled (grind arith)
 
-pub one_less_step : (i t leaf : ℕ) → leaf < (i + 1) * 2 ^ t → leaf < (i / 2 + 1) * 2 ^ (t + 1)
-one_less_step i t leaf h =
-    let doubled : 2 ^ (t + 1) ≡ 2 ^ t * 2 = ap (λ n. 2 ^ n) (add-one t) ∙ pow-suc 2 t in
-    let halves : (i + 1) * 2 ^ t ≤ ((i / 2 + 1) * 2) * 2 ^ t = mul-le-mul_right (2 ^ t) (omega arith) in
-    rw doubled (grind arith)
-
--- the way is over at the root
-pub way_over : (i leaf old new : ℕ) → i ≡ 1 → old ≤ new → i * 2 ^ (new - old) ≤ leaf → leaf < (i + 1) * 2 ^ (new - old) → IsWayUp leaf old new
-way_over i leaf old new one counted from to =
-    let doubled : 2 ^ (new - old + 1) ≡ 2 ^ (new - old) * 2 = ap (λ n. 2 ^ n) (add-one (new - old)) ∙ pow-suc 2 (new - old) in
-    let from_one : 1 * 2 ^ (new - old) ≤ leaf = subst (λ (k : ℕ). k * 2 ^ (new - old) ≤ leaf) one from in
-    let to_one : leaf < (1 + 1) * 2 ^ (new - old) = subst (λ (k : ℕ). leaf < (k + 1) * 2 ^ (new - old)) one to in
-    record { levels = new - old; is = omega arith; from = omega (arith, from_one); to = omega (arith, to_one, doubled) }
+-- the way is over at any node above
+pub way_over : (i leaf old new : ℕ) → 0 < i → old + 1 ≤ new → i * 2 ^ (new - (old + 1)) ≤ leaf → IsWayUp leaf old new
+way_over i leaf old new positive counted halved =
+    let t = new - (old + 1) in
+    let one : 1 * 2 ^ t ≤ i * 2 ^ t = mul-le-mul_right (2 ^ t) positive in
+    record { levels = t; is = omega (arith, counted); within = omega (arith, one, halved) }
 
 -- so there are few
 few_steps : (i t leaf half : ℕ) → 0 < i → i * 2 ^ t ≤ leaf → leaf < 2 * half → half ≤ 2 ^ 18 → t ≤ 18
@@ -84,16 +120,21 @@ few_steps i t leaf half positive h within small = elim (below_or_not t 19) [
       absurd (omega (arith, large, one, h, within, small))
 ]
 
-few_levels : (leaf half old new : ℕ) → IsWayUp leaf old new → leaf < 2 * half → half ≤ 2 ^ 18 → new ≤ old + 18
+few_levels : (leaf half old new : ℕ) → IsWayUp leaf old new → leaf < 2 * half → half ≤ 2 ^ 18 → new ≤ old + 19
 few_levels leaf half old new way within small =
-    let few : way.levels ≤ 18 = few_steps 1 way.levels leaf half (omega arith) (omega (arith, way.from)) within small in
+    let few : way.levels ≤ 18 = few_steps 1 way.levels leaf half (omega arith) (omega (arith, way.within)) within small in
     omega (arith, way.is, few)
 
-pub few_of_taking : (slots slot last old new : ℕ) → IsCostOfTaking slots slot last old new → slot < slots → last < slots → slots ≤ 2 ^ 18 → new ≤ old + 37
+pub few_of_taking : (slots slot last old new : ℕ) → IsCostOfTaking slots slot last old new → slot < slots → last < slots → slots ≤ 2 ^ 18 → new ≤ old + 39
 few_of_taking slots slot last old new cost at_slot at_last small =
-    let moved = few_levels (slots + slot) slots (old + 1) cost.between cost.moved (omega arith) small in
     let freed = few_levels (slots + last) slots cost.between new cost.freed (omega arith) small in
-    omega (arith, moved, freed)
+    elim (same_or_not slot last) [
+      | inl same ↦ omega (arith, cost.filled.stays same, freed)
+      | inr ne ↦ omega (arith, few_levels (slots + slot) slots (old + 1) cost.between (cost.filled.moves ne) (omega arith) small, freed)
+    ]
 
 pub some_of_taking : (slots slot last old new : ℕ) → IsCostOfTaking slots slot last old new → old < new
-some_of_taking slots slot last old new cost = omega (arith, cost.moved.is, cost.freed.is)
+some_of_taking slots slot last old new cost = elim (same_or_not slot last) [
+  | inl same ↦ omega (arith, cost.filled.stays same, cost.freed.is)
+  | inr ne ↦ let moved = cost.filled.moves ne in omega (arith, moved.is, cost.freed.is)
+]

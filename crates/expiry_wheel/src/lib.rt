@@ -5,6 +5,7 @@
 //! `plain::PlainWheel` keeps the same contract by a list that is searched, to compare with.
 #![tactic(auto)]
 
+mod by_id;
 mod pair;
 pub mod plain;
 mod tree;
@@ -14,6 +15,9 @@ pub use wheel::Wheel;
 
 /// The most pairs that a wheel may keep.
 pub const MOST_PAIRS: usize = 262_144;
+
+/// Ids from this number on are refused, as for want of memory.
+pub const IDS: u32 = 1_048_576;
 
 #[cfg(test)]
 mod tests;

@@ -28,3 +28,14 @@ pub fn sooner(a: Option<Pair>, b: Option<Pair>) -> Option<Pair>
         (None, b) => b,
     }
 }
+
+/// Whether two are the same.
+pub fn is_same(a: Option<Pair>, b: Option<Pair>) -> bool
+    ensures { IsTrue result ↔ a ≡ b }
+{
+    match (a, b) {
+        (Some(p), Some(q)) => p.expiry == q.expiry && p.id == q.id,
+        (None, None) => true,
+        _ => false,
+    }
+}

@@ -4,7 +4,7 @@ ghost use Rattle.std.specs.Prelude.{◌≡◌, ◌+◌, ◌<◌, ◌≤◌};
 ghost use Rattle.std.specs.FinMap as map;
 
 use crate::plain::PlainWheel;
-use crate::{MOST_PAIRS, Wheel};
+use crate::{IDS, MOST_PAIRS, Wheel};
 use pcp_base::Memory;
 use std::alloc::Global;
 use std::marker::Brand;
@@ -56,10 +56,10 @@ const CALLS: [Call; 32] = [
     Call::Remove(5, false),
     Call::Due(9, Some(6)),
     // The ends of both ranges.
-    Call::Put(u32::MAX, u64::MAX),
+    Call::Put(IDS - 1, u64::MAX),
     Call::Put(0, 0),
     Call::Due(0, Some(0)),
-    Call::Due(u64::MAX, Some(u32::MAX)),
+    Call::Due(u64::MAX, Some(IDS - 1)),
 ];
 
 /// Puts a pair into both.
@@ -157,6 +157,20 @@ fn answer_all<L: Ledger, R: Abort>(rt: &R, alloc: Global, blank: Blank) -> Resul
 #[test]
 fn calls_have_these_answers(rt: HostRuntime) -> Result<(), Fail> {
     answer_all::<Brand, HostRuntime>(&rt, rt.alloc(), Blank::new(1))
+}
+
+/// Whether a wheel with no pair refuses one.
+fn refuses(wheel: &mut Wheel, alloc: Global, id: u32) -> bool
+    requires { map.len wheel.old < MOST_PAIRS }
+{
+    wheel.put(alloc, id, 1).is_err()
+}
+
+#[test]
+fn ids_are_below_a_bound(rt: HostRuntime) -> Result<(), Fail> {
+    let mut wheel = Wheel::new(rt.alloc())?;
+    assert!(rt; refuses(&mut wheel, rt.alloc(), IDS));
+    Ok(())
 }
 
 /// The next number of a fixed sequence, which looks random enough.

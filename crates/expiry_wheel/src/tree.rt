@@ -3,10 +3,10 @@
 
 ghost use Rattle.std.specs.Prelude.{◌≡◌, ℕ, ◌+◌, ◌-◌, ◌*◌, ◌/◌, ◌<◌, ◌≤◌, ◌∷◌, ◌++◌, [], length, vec_len, replicate, slice_set, Contains, None, IfOk, OnOk};
 ghost use Rattle.expiry_wheel.specs.Order.{IsNoLater, sooner};
-ghost use Rattle.expiry_wheel.specs.Slots.{IsTree, HasSlots, IsWayUp, kept_at, leaves_of};
+ghost use Rattle.expiry_wheel.specs.Slots.{IsTree, HasSlots, IsWayUp, beside, kept_at, leaves_of, of_both};
 
 use crate::MOST_PAIRS;
-use crate::pair::{Pair, sooner};
+use crate::pair::{Pair, is_same, sooner};
 use std::alloc::{AllocError, Global};
 use std::marker::Model;
 use std::sync::ledger::Ledger;
@@ -43,23 +43,32 @@ fn look<L: Ledger>(nodes: &[Node], i: usize, steps: &mut Steps<L>) -> Node
     nodes[i]
 }
 
-/// What the parent of a node is to be: the sooner of `node`, which stands at `i`, and its sibling.
-fn parent_of<L: Ledger>(nodes: &[Node], i: usize, node: Node, steps: &mut Steps<L>) -> Node
+/// Looks at the node beside the one at `i`, below the same parent.
+fn look_beside<L: Ledger>(nodes: &[Node], i: usize, steps: &mut Steps<L>) -> Node
     requires inner { 1 < i }
     requires within { 2 * (i / 2) + 1 < length nodes.now }
-    requires stands { node ≡ kept_at nodes.now i }
-    ensures value { result
-        ≡ sooner (kept_at nodes.now (2 * (i / 2))) (kept_at nodes.now (2 * (i / 2) + 1)) }
+    ensures value { result ≡ kept_at nodes.now (beside i) }
     ensures step { steps.new ≡ steps.old + 1 }
 {
     if i % 2 == 0 {
-        sooner(node, look(nodes, i + 1, steps))
+        look(nodes, i + 1, steps)
     } else {
-        sooner(look(nodes, i - 1, steps), node)
+        look(nodes, i - 1, steps)
     }
 }
 
-/// Writes a leaf, and the nodes above it.
+/// What the parent keeps of a node at `i` and of the one beside it.
+fn of_both(i: usize, node: Node, other: Node) -> Node
+    ensures { result ≡ of_both i node other }
+{
+    if i % 2 == 0 {
+        sooner(node, other)
+    } else {
+        sooner(other, node)
+    }
+}
+
+/// Writes a leaf, and the nodes above it up to the first that stays as it was.
 fn write<L: Ledger>(nodes: &mut [Node], leaf: usize, node: Node, steps: &mut Steps<L>)
     requires slots { HasSlots nodes.old }
     requires tree { IsTree nodes.old }
@@ -70,13 +79,19 @@ fn write<L: Ledger>(nodes: &mut [Node], leaf: usize, node: Node, steps: &mut Ste
         ≡ slice_set (leaves_of nodes.old) (leaf - length nodes.old / 2) node }
     ensures steps { IsWayUp leaf steps.old steps.new }
 {
+    let mut was = look(nodes, leaf, steps);
+    let mut kept = node;
     nodes[leaf] = node;
     let mut i = leaf;
-    let mut kept = node;
     while i > 1 {
-        kept = parent_of(nodes, i, kept, steps);
+        let other = look_beside(nodes, i, steps);
+        was = of_both(i, was, other);
+        kept = of_both(i, kept, other);
         i /= 2;
         nodes[i] = kept;
+        if is_same(was, kept) {
+            return;
+        }
     }
 }
 

@@ -4,19 +4,17 @@
 //! first, so that the root keeps the next.
 
 ghost use Rattle.std.specs.Bool.{OnTrue};
-ghost use Rattle.std.specs.Prelude.{◌-◌, ◌≡◌, ◌==◌, ℕ, ◌+◌, ◌<◌, ◌≤◌, if◌then◌else◌, length, slice_set, unwrap_or, Some, None, IsSome, IfSome, IfNone, IfOk, OnOk, OnErr};
-ghost use Rattle.std.specs.Ordering.{nat_cmp};
-ghost use Rattle.std.specs.BTreeMap.{get, btree_map_len};
+ghost use Rattle.std.specs.Prelude.{◌-◌, ◌≡◌, ℕ, ◌+◌, ◌<◌, ◌≤◌, ◌^◌, length, slice_set, unwrap_or, Some, None, IfSome, IfNone, IfOk, OnOk, OnErr};
 ghost use Rattle.std.specs.FinMap as map;
-ghost use Rattle.expiry_wheel.specs.Slots.{expiries_in, kept_at, IsCostOfTaking, IsWheel};
+ghost use Rattle.expiry_wheel.specs.Slots.{expiries_in, kept_at, IsCostOfFilling, IsCostOfTaking, IsFilled, IsWheel};
 ghost use Rattle.expiry_wheel.specs.Due.{IsNextDue};
 
 use crate::MOST_PAIRS;
+use crate::by_id::SlotsById;
 use crate::pair::Pair;
 use crate::tree::{Node, Tree};
 use pcp_base::Memory;
 use std::alloc::{AllocError, Global};
-use std::collections::BTreeMap;
 use std::marker::{Brand, Model};
 use std::sync::ledger::{Blank, Ledger};
 use step_count::Steps;
@@ -24,11 +22,11 @@ use step_count::Steps;
 /// Ids with the moments at which they expire, at most `MOST_PAIRS` of them.
 ///
 /// It is seen as a finite map from ids to expiries: a list of pairs of an id and an expiry, ids
-/// distinct. In memory it has 48 octets for each slot beside its ordered map, and as many slots as
-/// there were pairs at most, rounded up to a power of 2.
+/// distinct. In memory it has 48 octets for each slot, and as many slots as there were pairs at
+/// most, rounded up to a power of 2; and at most 8 octets for each id up to the greatest one.
 #[derive(Drop)]
 pub struct Wheel {
-    slots: BTreeMap<u32, u32>,
+    slots: SlotsById,
     tree: Tree,
 }
 
@@ -44,7 +42,7 @@ impl Model for Wheel {
 
     ghost use Rattle.expiry_wheel.specs.Slots.{expiries_in, kept_at, IsWheel};
 
-    ghost view = { λ w. expiries_in w.slots.entries (kept_at w.tree) };
+    ghost view = { λ w. expiries_in w.slots (kept_at w.tree) };
 
     ghost invariant = { λ w. IsWheel w.slots w.tree };
 }
@@ -54,6 +52,7 @@ fn free_slot(tree: &mut Tree, alloc: Global, taken: usize) -> Result<u32, AllocE
     requires within { taken ≤ length tree.old }
     requires few { taken < MOST_PAIRS }
     ensures slot { IfOk result (λ slot. slot ≡ taken) }
+    ensures small { IfOk result (λ slot. slot + 1 < 2 ^ 32) }
     ensures room { OnOk result (taken < length tree.new) }
     ensures unchanged { (slot : ℕ) → kept_at tree.new slot ≡ kept_at tree.old slot }
 {
@@ -64,20 +63,16 @@ fn free_slot(tree: &mut Tree, alloc: Global, taken: usize) -> Result<u32, AllocE
 }
 
 /// The slot of an id: its own, or else the first free one.
-fn slot_for(
-    slots: &BTreeMap<u32, u32>,
-    tree: &mut Tree,
-    alloc: Global,
-    id: u32,
-) -> Result<u32, AllocError>
+fn slot_for(slots: &SlotsById, tree: &mut Tree, alloc: Global, id: u32) -> Result<u32, AllocError>
     requires wheel { IsWheel slots.now tree.old }
-    requires few { get nat_cmp slots.now id ≡ None → btree_map_len slots.now < MOST_PAIRS }
+    requires few { map.get slots.now id ≡ None → map.len slots.now < MOST_PAIRS }
     ensures slot { IfOk result (λ slot.
-        slot ≡ unwrap_or (get nat_cmp slots.now id) (btree_map_len slots.now)) }
+        slot ≡ unwrap_or (map.get slots.now id) (map.len slots.now)) }
+    ensures small { IfOk result (λ slot. slot + 1 < 2 ^ 32) }
     ensures room { IfOk result (λ slot. slot < length tree.new) }
     ensures unchanged { (slot : ℕ) → kept_at tree.new slot ≡ kept_at tree.old slot }
 {
-    match slots.get(&id).copied() {
+    match slots.get(id) {
         Some(slot) => Ok(slot),
         None => free_slot(tree, alloc, slots.len()),
     }
@@ -95,44 +90,54 @@ fn set_uncounted<L: Ledger>(tree: &mut Tree, slot: usize, node: Node, blank: Bla
     tree.set(slot, node, &mut steps);
 }
 
-/// Gives an id that has a slot another one.
-fn relocate(slots: &mut BTreeMap<u32, u32>, id: u32, slot: u32)
-    requires { IsSome (get nat_cmp slots.old id) }
-    ensures moved { (q : ℕ) →
-        get nat_cmp slots.new q ≡ (if q == id then Some slot else get nat_cmp slots.old q) }
-    ensures len { btree_map_len slots.new ≡ btree_map_len slots.old }
+/// Moves the pair of the last taken slot into a slot, and gives its id this one, unless they are
+/// the same.
+fn fill_gap<L: Ledger>(
+    slots: &mut SlotsById,
+    tree: &mut Tree,
+    slot: u32,
+    last: usize,
+    steps: &mut Steps<L>,
+)
+    requires wheel { IsWheel slots.old tree.old }
+    requires slot { slot < map.len slots.old }
+    requires last { last ≡ map.len slots.old - 1 }
+    ensures filled { IsFilled slots.old tree.old slot last slots.new tree.new }
+    ensures few { length tree.old ≤ MOST_PAIRS }
+    ensures steps { IsCostOfFilling (length tree.old) slot last steps.old steps.new }
 {
-    if let Some(place) = slots.get_mut(&id) {
-        *place = slot;
+    let Some(pair) = tree.slot(last, steps) else {
+        return;
+    };
+    if slot as usize == last {
+        return;
     }
+    tree.set(slot as usize, Some(pair), steps);
+    slots.relocate(pair.id, slot);
 }
 
 /// Takes out the pair in a slot. The pair of the last taken slot moves there, so that the free ones
 /// stay last.
 fn vacate<L: Ledger>(
-    slots: &mut BTreeMap<u32, u32>,
+    slots: &mut SlotsById,
     tree: &mut Tree,
     id: u32,
     slot: u32,
     steps: &mut Steps<L>,
 )
     requires wheel { IsWheel slots.old tree.old }
-    requires slot { get nat_cmp slots.old id ≡ Some slot }
+    requires slot { map.get slots.old id ≡ Some slot }
     ensures wheel { IsWheel slots.new tree.new }
-    ensures removed { expiries_in slots.new.entries (kept_at tree.new)
-        ≡ map.remove (expiries_in slots.old.entries (kept_at tree.old)) id }
+    ensures removed { expiries_in slots.new (kept_at tree.new)
+        ≡ map.remove (expiries_in slots.old (kept_at tree.old)) id }
     ensures few { length tree.old ≤ MOST_PAIRS }
-    ensures steps { IsCostOfTaking (length tree.old) slot (btree_map_len slots.old - 1)
+    ensures steps { IsCostOfTaking (length tree.old) slot (map.len slots.old - 1)
         steps.old steps.new }
 {
     let last = slots.len() - 1;
-    let moved = tree.slot(last, steps);
-    tree.set(slot as usize, moved, steps);
+    fill_gap(slots, tree, slot, last, steps);
     tree.set(last, None, steps);
-    if let Some(pair) = moved {
-        relocate(slots, pair.id, slot);
-    }
-    slots.remove(&id);
+    slots.remove(id);
 }
 
 impl Wheel {
@@ -141,7 +146,7 @@ impl Wheel {
         ensures { IfOk result (λ wheel. wheel ≡ map.empty) }
     {
         Ok(Wheel {
-            slots: BTreeMap::new(alloc),
+            slots: SlotsById::new(alloc),
             tree: Tree::new(alloc)?,
         })
     }
@@ -154,7 +159,8 @@ impl Wheel {
         self.tree.clear();
     }
 
-    /// Sets the expiry of an id. The one error is want of memory, which changes nothing.
+    /// Sets the expiry of an id. The one error is want of memory, which changes nothing. Ids from
+    /// `IDS` on are refused so.
     pub fn put(&mut self, alloc: Global, id: u32, expiry: u64) -> Result<(), Memory>
         requires { map.len (map.insert self.old id expiry) ≤ MOST_PAIRS }
         ensures ok { OnOk result (self.new ≡ map.insert self.old id expiry) }
@@ -195,10 +201,10 @@ impl Wheel {
     fn take_out<L: Ledger>(&mut self, id: u32, steps: &mut Steps<L>) -> bool
         ensures found { result ≡ map.contains_key self.old id }
         ensures removed { self.new ≡ map.remove self.old id }
-        ensures steps { steps.new ≤ steps.old + 37 }
+        ensures steps { steps.new ≤ steps.old + 39 }
         ensures looked { OnTrue result (steps.old < steps.new) }
     {
-        let Some(slot) = self.slots.get(&id).copied() else {
+        let Some(slot) = self.slots.get(id) else {
             return false;
         };
         vacate(&mut self.slots, &mut self.tree, id, slot, steps);
@@ -208,8 +214,8 @@ impl Wheel {
     /// Takes out the pair with the least expiry, then the least id, if that expiry is at most `m`.
     /// Else it answers `None`, and changes nothing.
     ///
-    /// A step is one node of the tree that is looked at, and the call takes at most 64. The ordered
-    /// map from ids to slots is std's, and what it looks at isn't counted.
+    /// A step is one node of the tree that is looked at, and the call takes at most 64. The slot of
+    /// an id stands in a list at the id's place; what is looked at there isn't counted.
     pub fn due<L: Ledger>(&mut self, m: u64, steps: &mut Steps<L>) -> Option<u32>
         ensures next { IfSome result (IsNextDue self.old m) }
         ensures taken { IfSome result (λ id. self.new ≡ map.remove self.old id) }

@@ -1,6 +1,4 @@
 use Rattle.std.proofs.Common.{◌≡◌, ◌-◌, length, Some, None, is_some, sym, ap, ◌∙◌, arith}
-use Rattle.std.specs.Ordering.{nat_cmp}
-use Rattle.std.specs.BTreeMap.{get, btree_map_len}
 use Rattle.std.specs.FinMap as map
 use Rattle.expiry_wheel.specs.Slots.{kept_at}
 use Rattle.expiry_wheel.proofs.Maps.{none_removed}
@@ -10,28 +8,28 @@ use Rattle.expiry_wheel.proofs.wheel.Wheel.take_out.Goals as goal
 
 pub returns-in_default-clause-found : goal.returns-in_default-clause-found
 returns-in_default-clause-found g c =
-    let absent : get nat_cmp c.self.inside.slots c.args.id ≡ None = sym c.get.ensures.value ∙ (sym c.copied.ensures ∙ c.in_default.is) in
+    let absent : map.get c.self.inside.slots c.args.id ≡ None = sym c.get.ensures.slot ∙ c.in_default.is in
     sym (ap (λ m. map.contains_key m c.args.id) (sym c.self.view_is) ∙ has-expiries_in c.self.inside.slots (kept_at c.self.inside.tree) c.args.id ∙ ap is_some absent)
 
 pub returns-in_default-clause-removed : goal.returns-in_default-clause-removed
 returns-in_default-clause-removed g c =
-    let absent : get nat_cmp c.self.inside.slots c.args.id ≡ None = sym c.get.ensures.value ∙ (sym c.copied.ensures ∙ c.in_default.is) in
+    let absent : map.get c.self.inside.slots c.args.id ≡ None = sym c.get.ensures.slot ∙ c.in_default.is in
     none_removed c.args.self.now c.args.id (ap (λ m. map.get m c.args.id) (sym c.self.view_is) ∙ absent_in c.self.inside.slots (kept_at c.self.inside.tree) c.args.id absent)
 
 pub returns-clause-found : goal.returns-clause-found
 returns-clause-found g c =
-    let there : get nat_cmp c.self.inside.slots c.args.id ≡ Some c.in-Some.slot = sym c.get.ensures.value ∙ (sym c.copied.ensures ∙ c.in-Some.is) in
+    let there : map.get c.self.inside.slots c.args.id ≡ Some c.in-Some.slot = sym c.get.ensures.slot ∙ c.in-Some.is in
     sym (ap (λ m. map.contains_key m c.args.id) (sym c.self.view_is) ∙ has-expiries_in c.self.inside.slots (kept_at c.self.inside.tree) c.args.id ∙ ap is_some there)
 
 pub returns-clause-steps : goal.returns-clause-steps
 returns-clause-steps g c =
     let slots = c.self.inside.slots in
     let tree = c.self.inside.tree in
-    let there : get nat_cmp slots c.args.id ≡ Some c.in-Some.slot = sym c.get.ensures.value ∙ (sym c.copied.ensures ∙ c.in-Some.is) in
+    let there : map.get slots c.args.id ≡ Some c.in-Some.slot = sym c.get.ensures.slot ∙ c.in-Some.is in
     let low = slot_taken slots tree c.args.id c.in-Some.slot c.self.invariant there in
     let room = room_for slots tree c.self.invariant in
-    few_of_taking (length tree) c.in-Some.slot (btree_map_len slots - 1) c.args.steps.now c.vacate.new.steps c.vacate.ensures.steps (omega (arith, low, room)) (omega (arith, low, room)) c.vacate.ensures.few
+    few_of_taking (length tree) c.in-Some.slot (map.len slots - 1) c.args.steps.now c.vacate.new.steps c.vacate.ensures.steps (omega (arith, low, room)) (omega (arith, low, room)) c.vacate.ensures.few
 
 pub returns-clause-looked : goal.returns-clause-looked
 returns-clause-looked g c =
-    some_of_taking (length c.self.inside.tree) c.in-Some.slot (btree_map_len c.self.inside.slots - 1) c.args.steps.now c.vacate.new.steps c.vacate.ensures.steps
+    some_of_taking (length c.self.inside.tree) c.in-Some.slot (map.len c.self.inside.slots - 1) c.args.steps.now c.vacate.new.steps c.vacate.ensures.steps
