@@ -74,6 +74,36 @@ rejoining_more low high place flags nodes from to small h =
       above = λ j past fits. IsJoined-set_other flags nodes place node j (omega arith) (omega arith) (omega arith) (h.above j past fits);
     }
 
+-- and where no node is another than before, those before the place are all joined
+abbrev pub Rejoined : ℕ → ℕ → ℕ → List Bool → List Node → Bool → Type 0
+Rejoined low high place flags nodes changed =
+    Rejoining low high place flags nodes × (changed ≡ false → AreJoinedBut place high flags nodes)
+
+-- a node that is right already needs no write
+pub rejoined_still : (low high place : ℕ) (flags : List Bool) (nodes : List Node) (changed : Bool) → IsJoined flags nodes place → Rejoined low high place flags nodes changed → Rejoined low high (place + 1) flags nodes changed
+rejoined_still low high place flags nodes changed right h = (
+  record {
+    all = h.0.all;
+    below = λ j some before out fits. elim (cases_eq j place) [
+      | inl here ↦ subst (λ (i : ℕ). IsJoined flags nodes i) (sym here) right
+      | inr other ↦ h.0.below j some (omega arith) out fits
+    ];
+    between = λ j some before out fits. elim (cases_eq j place) [
+      | inl here ↦ subst (λ (i : ℕ). IsJoined flags nodes i) (sym here) right
+      | inr other ↦ h.0.between j some (omega arith) out fits
+    ];
+    above = h.0.above;
+  },
+  λ same. record {
+    all = h.0.all;
+    below = λ j some before fits. elim (cases_eq j place) [
+      | inl here ↦ subst (λ (i : ℕ). IsJoined flags nodes i) (sym here) right
+      | inr other ↦ (h.1 same).below j some (omega arith) fits
+    ];
+    above = h.0.above;
+  },
+)
+
 pub joined_from_none : (low high : ℕ) (flags : List Bool) (nodes : List Node) → high ≡ 0 → AreJoinedBut low high flags nodes → AreJoined flags nodes
 joined_from_none low high flags nodes none h = record { all = h.all; each = λ j some small. h.above j (omega arith) small }
 

@@ -5,6 +5,7 @@
 //! at 32,768 and on, are made of the flags when they are looked at. Place 0 is not used.
 
 ghost use Rattle.std.specs.Prelude.{true, false, ◌≡◌, ℕ, ◌+◌, ◌-◌, ◌/◌, ◌*◌, ◌<◌, ◌≤◌, ◌↔◌, length, IsTrue, IfOk, IfSome, IfNone, slice_index_or, vec_len};
+ghost use Rattle.std.specs.Bool.{OnFalse};
 ghost use Rattle.port_runs.specs.Nodes.{empty_node, pair_of, join, extend, crossing, longest, tree_node, AreJoined, AreJoinedBut, IsTreeOf, IsFirstOver, IsCostOfWay};
 ghost use Rattle.port_runs.specs.Flags.{IsMarked, FitsFlags, HasSetRun, IsSetAlone, IsSetCountAt};
 ghost use Rattle.port_runs.specs.Ports.{HasParity, IsLeast, IsGreatest};
@@ -25,7 +26,7 @@ const LEVELS: usize = 15;
 /// What the runs of a block are, a block being two or more flags from an even place on.
 ///
 /// No run has more than 65,535 flags, since the first of all flags is never set.
-#[derive(Clone, Copy)]
+#[derive(Clone, Copy, PartialEq, Eq)]
 pub struct Node {
     /// How many flags are set from the block's first on.
     pub prefix: u16,
@@ -141,23 +142,31 @@ fn node_of(flags: &[bool], nodes: &[Node], place: usize) -> Node
     }
 }
 
-/// Makes the nodes from `low` to `high` anew, and leaves their parents to be made anew.
-fn rejoin(flags: &[bool], nodes: &mut [Node], low: usize, high: usize)
+/// Makes the nodes from `low` to `high` anew, leaves their parents to be made anew, and tells
+/// whether some node is another than before. Where none is, the parents are right already.
+fn rejoin(flags: &[bool], nodes: &mut [Node], low: usize, high: usize) -> bool
     requires high { high < NODES }
     requires flags { length flags.now ≡ FLAGS }
     requires joined { AreJoinedBut low high flags.now nodes.old }
-    ensures { AreJoinedBut (low / 2) (high / 2) flags.now nodes.new }
+    ensures joined { AreJoinedBut (low / 2) (high / 2) flags.now nodes.new }
+    ensures same { OnFalse result (AreJoined flags.now nodes.new) }
 {
+    let mut changed = false;
     for place in low..high + 1 {
-        nodes[place] = joined(
+        let node = joined(
             node_of(flags, nodes, 2 * place),
             node_of(flags, nodes, 2 * place + 1),
         );
+        if node != nodes[place] {
+            nodes[place] = node;
+            changed = true;
+        }
     }
+    changed
 }
 
 /// Makes all nodes anew of whose flags some from `from` up to `to`, which isn't among them,
-/// changed.
+/// changed. It stops after a level on which no node is another than before.
 fn refresh(flags: &[bool], nodes: &mut [Node], from: usize, to: usize)
     requires ordered { from < to }
     requires within { to ≤ FLAGS }
@@ -168,7 +177,9 @@ fn refresh(flags: &[bool], nodes: &mut [Node], from: usize, to: usize)
     let mut low = (FLAGS + from) / 4;
     let mut high = (FLAGS + to - 1) / 4;
     while high > 0 {
-        rejoin(flags, nodes, low, high);
+        if !rejoin(flags, nodes, low, high) {
+            return;
+        }
         low /= 2;
         high /= 2;
     }
