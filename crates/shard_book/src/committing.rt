@@ -19,7 +19,7 @@ ghost use Rattle.shard_book.specs.Insides.{IsKnownAs};
 ghost use Rattle.shard_book.specs.Keepings.{Journals, frame_octets, is_overlong, unsure_after};
 
 use crate::lengths::LONGEST_SIDE;
-use crate::snapshots::{snapshot_of, texts_of_state};
+use crate::snapshots::snapshot_of;
 use crate::texts::KeptTexts;
 use lease_core::LeaseCore;
 use lease_disk::LeaseDisk;
@@ -65,7 +65,7 @@ pub(crate) fn snapshot_if_overlong<D: LeaseDisk, S: LeaseStore>(
         return Ok(Vec::new(alloc));
     }
     let snapshot = snapshot_of(alloc, core)?;
-    *texts = texts_of_state(alloc, core)?;
+    *texts = KeptTexts::of(alloc, &snapshot)?;
     Ok(snapshot)
 }
 

@@ -47,6 +47,7 @@ fn put_ends(out: &mut Vec<Record>, m: Moment, ends: &[End]) -> Result<(), Memory
 fn put_maps(out: &mut Vec<Record>, m: Moment, leases: &[MapLease]) -> Result<(), Memory>
     ensures { OnOk result (out.new.items ≡ out.old.items ++ map (map_record m) leases.now) }
 {
+    out.reserve(leases.len())?;
     for lease in leases {
         out.push(Record {
             moment: m,
