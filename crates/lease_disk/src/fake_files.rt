@@ -1,11 +1,14 @@
 //! A file system for tests: its files take two octets a write, an interrupted call comes before each
 //! read, and a sync fails where it is told to.
+ghost use Rattle.std.specs.Prelude.{IsErr};
+
 use crate::replays::put;
 use std::alloc::{Allocator, Global};
-use std::cell::Cell;
+use std::cell::{Cell, RefCell};
 use std::fs::{Metadata, OpenFile, OpenOptions};
 use std::io;
 use std::io::{ErrorKind, Read, Seek, SeekFrom, Write};
+use std::os::unix::fs::FileExt;
 use std::rt::Files;
 
 /// A read from this place on gives how many syncs of the file were called.
@@ -24,40 +27,52 @@ pub(crate) struct FakeFiles {
 /// An opened file, or the folder.
 #[derive(Drop)]
 pub(crate) struct FakeFile {
-    octets: Vec<u8>,
-    at: u64,
-    interrupted: bool,
+    octets: RefCell<Vec<u8>>,
+    interrupted: Cell<bool>,
     syncs: Cell<u8>,
     failing_sync: u8,
 }
 
-fn refused<T>() -> io::Result<T> {
+fn refused<T>() -> io::Result<T>
+    ensures { IsErr result }
+{
     Err(io::Error::from(ErrorKind::Unsupported))
 }
 
-impl Read for FakeFile {
-    fn read(&mut self, buf: &mut [u8]) -> io::Result<usize> {
-        self.interrupted = !self.interrupted;
-        if self.interrupted {
+impl FileExt for FakeFile {
+    fn read_at(&self, buf: &mut [u8], offset: u64) -> io::Result<usize> {
+        self.interrupted.set(!self.interrupted.get());
+        if self.interrupted.get() {
             return Err(io::Error::from(ErrorKind::Interrupted));
         }
-        if self.at >= SYNCS_AT && !buf.is_empty() {
+        if offset >= SYNCS_AT && !buf.is_empty() {
             buf[0] = self.syncs.get();
             return Ok(1);
         }
-        let start = self.octets.len().min(self.at as usize);
-        let count = buf.len().min(self.octets.len() - start);
-        buf[..count].copy_from_slice(&self.octets[start..start + count]);
+        let octets = self.octets.try_borrow().or(refused())?;
+        let start = octets.len().min(offset as usize);
+        let count = buf.len().min(octets.len() - start);
+        buf[..count].copy_from_slice(&octets[start..start + count]);
+        Ok(count)
+    }
+
+    fn write_at(&self, buf: &[u8], offset: u64) -> io::Result<usize> {
+        let mut octets = self.octets.try_borrow_mut().or(refused())?;
+        let count = buf.len().min(2);
+        put(&mut octets, offset as usize, &buf[..count])?;
         Ok(count)
     }
 }
 
+impl Read for FakeFile {
+    fn read(&mut self, _buf: &mut [u8]) -> io::Result<usize> {
+        refused()
+    }
+}
+
 impl Write for FakeFile {
-    fn write(&mut self, buf: &[u8]) -> io::Result<usize> {
-        let count = buf.len().min(2);
-        put(&mut self.octets, self.at as usize, &buf[..count])?;
-        self.at = self.at.wrapping_add(count as u64);
-        Ok(count)
+    fn write(&mut self, _buf: &[u8]) -> io::Result<usize> {
+        refused()
     }
 
     fn flush(&mut self) -> io::Result<()> {
@@ -66,18 +81,15 @@ impl Write for FakeFile {
 }
 
 impl Seek for FakeFile {
-    fn seek(&mut self, to: SeekFrom) -> io::Result<u64> {
-        let SeekFrom::Start(place) = to else {
-            return refused();
-        };
-        self.at = place;
-        Ok(place)
+    fn seek(&mut self, _to: SeekFrom) -> io::Result<u64> {
+        refused()
     }
 }
 
 impl OpenFile for FakeFile {
     fn metadata(&self) -> io::Result<Metadata> {
-        Ok(Metadata::of_file(self.octets.len() as u64))
+        let octets = self.octets.try_borrow().or(refused())?;
+        Ok(Metadata::of_file(octets.len() as u64))
     }
 
     fn set_len(&self, _size: u64) -> io::Result<()> {
@@ -105,9 +117,8 @@ impl Files for FakeFiles {
     fn open_file(&self, how: &OpenOptions, path: &str) -> io::Result<FakeFile> {
         how.check()?;
         Ok(FakeFile {
-            octets: Vec::new(self.alloc),
-            at: 0,
-            interrupted: false,
+            octets: RefCell::new(Vec::new(self.alloc)),
+            interrupted: Cell::new(false),
             syncs: Cell::new(0),
             failing_sync: if path == "folder" {
                 self.failing_folder

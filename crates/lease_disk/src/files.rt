@@ -6,9 +6,9 @@ use crate::memory::MOST_OCTETS;
 use pcp_base::Failed;
 use std::fs::{File, OpenFile, OpenOptions};
 use std::io;
-use std::io::{ErrorKind, Read, Seek, SeekFrom, Write};
+use std::io::ErrorKind;
 use std::marker::Model;
-use std::os::unix::fs::OpenOptionsExt;
+use std::os::unix::fs::{FileExt, OpenOptionsExt};
 use std::path::Path;
 use std::rt::Files;
 
@@ -60,7 +60,10 @@ impl<F: Files + Drop> FileDisk<F> {
     }
 }
 
-impl<F: Files + Drop> LeaseDisk for FileDisk<F> {
+impl<F: Files + Drop> LeaseDisk for FileDisk<F>
+where
+    F::File: FileExt,
+{
     ghost use Rattle.std.specs.Prelude.{[], OnOk};
     ghost use Rattle.pcp_io.specs.CallLogs.{one_more};
 
@@ -149,7 +152,10 @@ struct SideFile<F: Files + Drop> {
     lost: bool,
 }
 
-impl<F: Files + Drop> SideFile<F> {
+impl<F: Files + Drop> SideFile<F>
+where
+    F::File: FileExt,
+{
     fn file(&mut self) -> io::Result<&mut F::File> {
         let file = match self.opened.take() {
             Some(file) => file,
@@ -171,9 +177,7 @@ impl<F: Files + Drop> SideFile<F> {
     fn read_at(&mut self, place: u64, piece: &mut [u8]) -> io::Result<usize>
         ensures bound { IfOk result (λ n. n ≤ length piece.new) }
     {
-        let file = self.file()?;
-        file.seek(SeekFrom::Start(place))?;
-        read_uninterrupted(file, piece)
+        read_uninterrupted(self.file()?, place, piece)
     }
 
     fn write_at(&mut self, place: u64, piece: &[u8]) -> io::Result<()>
@@ -182,9 +186,7 @@ impl<F: Files + Drop> SideFile<F> {
         if place > MOST_OCTETS || piece.len() as u64 > MOST_OCTETS - place {
             return Err(io::Error::from(ErrorKind::FileTooLarge));
         }
-        let file = self.file()?;
-        file.seek(SeekFrom::Start(place))?;
-        file.write_all(piece)
+        self.file()?.write_all_at(piece, place)
     }
 
     fn cut(&mut self, length: u64) -> io::Result<()> {
@@ -204,12 +206,12 @@ impl<F: Files + Drop> SideFile<F> {
     }
 }
 
-/// One read, which is made again where a signal interrupts it.
-fn read_uninterrupted<R: Read>(reader: &mut R, piece: &mut [u8]) -> io::Result<usize>
+/// One read from a place on, which is made again where a signal interrupts it.
+fn read_uninterrupted<R: FileExt>(file: &R, place: u64, piece: &mut [u8]) -> io::Result<usize>
     ensures bound { IfOk result (λ n. n ≤ length piece.new) }
 {
     for _ in 0..u64::MAX {
-        match reader.read(piece) {
+        match file.read_at(piece, place) {
             Err(error) if error.kind() == ErrorKind::Interrupted => {}
             done => return done,
         }

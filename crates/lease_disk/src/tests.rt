@@ -87,10 +87,10 @@ fn failing_calls(rt: HostRuntime) -> Result<(), Fail> {
 fn files(rt: HostRuntime) -> Result<(), Fail> {
     let alloc = rt.alloc();
     let lost = String::from_str(alloc, "nowhere/side")?;
-    let mut disk = FileDisk::new(rt.clone()?, lost);
+    let mut disk = FileDisk::new(&rt, lost);
     assert!(rt; octets(alloc, &mut disk)?.as_slice() == b"!".as_slice());
     let path = String::from_str(alloc, "side")?;
-    let mut disk = FileDisk::new(rt.clone()?, path.clone()?);
+    let mut disk = FileDisk::new(&rt, path.clone()?);
     assert!(rt; disk.len().ok() == Some(0));
     assert!(rt; fs::metadata(&rt, "side")?.permissions().mode() % 0o1000 == 0o600);
     assert!(rt; disk.write_at(0, b"abcdef").is_ok());
@@ -98,7 +98,7 @@ fn files(rt: HostRuntime) -> Result<(), Fail> {
     assert!(rt; disk.cut(5).is_ok());
     assert!(rt; disk.sync().is_ok());
     assert!(rt; disk.write_at(1 << 62, b"z").is_err());
-    let mut again = FileDisk::new(rt.clone()?, path);
+    let mut again = FileDisk::new(&rt, path);
     assert!(rt; octets(alloc, &mut again)?.as_slice() == b"abxye".as_slice());
     assert!(rt; again.len().ok() == Some(5));
     assert!(rt; fs::read(&rt, "side")?.as_slice() == b"abxye".as_slice());
@@ -115,7 +115,7 @@ fn no_regular_file(rt: HostRuntime) -> Result<(), Fail> {
     symlink(&rt, "target", "link")?;
     symlink(&rt, "missing", "dangling")?;
     for path in NO_FILES {
-        let mut disk = FileDisk::new(rt.clone()?, String::from_str(alloc, path)?);
+        let mut disk = FileDisk::new(&rt, String::from_str(alloc, path)?);
         assert!(rt; disk.len().is_err());
         assert!(rt; disk.write_at(0, b"x").is_err());
     }
