@@ -1,5 +1,6 @@
 pub mod MapKeeping
 pub mod Sets
+pub mod Sieving
 pub mod Nexts
 pub mod Lookups
 pub mod Separates

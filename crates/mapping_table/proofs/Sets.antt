@@ -22,7 +22,7 @@ use Rattle.mapping_table.specs.MapLists.{with_map}
 use Rattle.mapping_table.proofs.MapKeeping.{map_laws, map_tells, map_stays}
 
 -- 1 for what was found and passes
-abbrev tally_found : {X : Type 0} → (X → Bool) → Option X → ℕ
+abbrev pub tally_found : {X : Type 0} → (X → Bool) → Option X → ℕ
 tally_found p None = 0
 tally_found p (Some x) = tally (p x)
 
@@ -35,7 +35,7 @@ put_step p has y x xs false rest =
     let new = count-cons p x (put has y xs) in let old = count-cons p x xs in omega (arith, new, old, rest)
 
 -- what is put comes in place of what was found
-count-put : {X : Type 0} (p has : X → Bool) (y : X) (xs : List X) → count_by p (put has y xs) + tally_found p (find has xs) ≡ count_by p xs + tally (p y)
+pub count-put : {X : Type 0} (p has : X → Bool) (y : X) (xs : List X) → count_by p (put has y xs) + tally_found p (find has xs) ≡ count_by p xs + tally (p y)
 count-put p has y [] = let new = count-cons p y [] in omega (arith, new)
 count-put p has y (x ∷ xs) = put_step p has y x xs (has x) (count-put p has y xs)
 

@@ -1,11 +1,12 @@
 -- How a table keeps its leases (our own; for proofs alone).
-use Rattle.std.specs.Prelude.{◌≡◌, ℕ, nat_lt, Bool, count_by, if◌then◌else◌}
+use Rattle.std.specs.Prelude.{◌≡◌, ℕ, ◌<◌, ◌==◌, nat_lt, Bool, List, length, count_by, slice_index, if◌then◌else◌}
 use Rattle.std.specs.BTreeMap.{values}
 use Rattle.pcp_base.specs.declared.leases.MapLease.{MapLease}
 use Rattle.pcp_base.specs.Tables.{first_endpoint}
 use Rattle.ordered_index.specs.declared.numbered.Numbered.{Numbered}
 use Rattle.ordered_index.specs.Kept.{Keying, IsKept}
 use Rattle.ordered_index.specs.Orders.{Place, port_at, place_of, port_cmp, place_cmp}
+use Rattle.ordered_index.specs.Sieves.{slot_of, no_places}
 use Rattle.mapping_table.specs.MapLists.{AreSoundMaps}
 
 abbrev pub place_of_lease : MapLease → Place
@@ -41,3 +42,19 @@ sets_of l = if is_set l then 1 else 0
 pub record AreCountedMaps (it : Numbered MapLease Place (ℕ × ℕ)) (sets : ℕ) : Type 0 where
   pub kept : AreKeptMaps it
   pub counted : sets ≡ count_by is_set (values it.leases)
+
+-- whether the place of the lease's first endpoint falls on the number
+abbrev pub falls_on : ℕ → MapLease → Bool
+falls_on slot l = slot_of (place_of_lease l) == slot
+
+-- where the sieve has less than 255 for a number, that is how many leases fall on it
+pub record SievesMaps (sieve : List ℕ) (ls : List MapLease) : Type 0 where
+  pub whole : length sieve ≡ length no_places
+  pub tells : (slot : ℕ) → slice_index sieve slot < 255
+      → slice_index sieve slot ≡ count_by (falls_on slot) ls
+
+-- the leases with their maps, how many of them are sets, and the sieve
+pub record AreSievedMaps (it : Numbered MapLease Place (ℕ × ℕ)) (sets : ℕ) (sieve : List ℕ)
+    : Type 0 where
+  pub counted : AreCountedMaps it sets
+  pub sieved : SievesMaps sieve (values it.leases)

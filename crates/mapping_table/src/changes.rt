@@ -1,12 +1,12 @@
 //! Leases that come and change.
 
-ghost use Rattle.std.specs.Prelude.{◌≡◌, Some, None};
+ghost use Rattle.std.specs.Prelude.{◌≡◌, ℕ, List, Some, None};
 ghost use Rattle.std.specs.BTreeMap.{get, values};
 ghost use Rattle.ordered_index.specs.Orders.{place_cmp};
 ghost use Rattle.mapping_table.specs.MapLists.{AreSoundMaps, with_map, PutsMap};
-ghost use Rattle.mapping_table.specs.Kept.{place_of_lease, port_of_lease, sets_of, AreCountedMaps};
+ghost use Rattle.mapping_table.specs.Kept.{place_of_lease, port_of_lease, sets_of, AreCountedMaps, SievesMaps};
 
-use ordered_index::{Numbered, Place, Port, place_of, port_at};
+use ordered_index::{Numbered, Place, Port, Sieve, place_of, port_at};
 use pcp_base::{MapLease, Memory};
 
 /// The first external port of the lease.
@@ -33,17 +33,22 @@ pub(crate) fn sets_of(lease: &MapLease) -> u32
 /// Appends a lease whose key has no number.
 pub(crate) fn append(
     kept: &mut Numbered<MapLease, Place, Port>,
+    sieve: &mut Sieve,
     sets: &mut u32,
     lease: MapLease,
 ) -> Result<(), Memory>
     requires counted { AreCountedMaps kept.old sets.old }
+    requires sieved { SievesMaps sieve.old (values kept.old.leases) }
     requires free { get place_cmp kept.old.keys (place_of_lease lease) ≡ None }
     requires sound { AreSoundMaps (with_map lease (values kept.old.leases)) }
     ensures counted { AreCountedMaps kept.new sets.new }
+    ensures sieved { SievesMaps sieve.new (values kept.new.leases) }
     ensures put { PutsMap (values kept.old.leases) lease result (values kept.new.leases) }
 {
-    kept.append(lease, place_of_first(&lease), port_of(&lease), lease.expiry)?;
+    let place = place_of_first(&lease);
+    kept.append(lease, place, port_of(&lease), lease.expiry)?;
     *sets += sets_of(&lease);
+    sieve.add(&place);
     Ok(())
 }
 
@@ -58,6 +63,8 @@ pub(crate) fn replace(
     requires key { get place_cmp kept.old.keys (place_of_lease lease) ≡ Some number }
     requires sound { AreSoundMaps (with_map lease (values kept.old.leases)) }
     ensures counted { AreCountedMaps kept.new sets.new }
+    ensures sieved { (sieve : List ℕ) → SievesMaps sieve (values kept.old.leases)
+        → SievesMaps sieve (values kept.new.leases) }
     ensures put { PutsMap (values kept.old.leases) lease result (values kept.new.leases) }
 {
     let old = kept.leases[&number];

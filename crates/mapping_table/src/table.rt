@@ -2,16 +2,16 @@
 
 ghost use Rattle.std.specs.Prelude.{◌≡◌, ◌+◌, [], find, filter, count_by, not, IfOk};
 ghost use Rattle.std.specs.Option.{option_copied};
-ghost use Rattle.std.specs.BTreeMap.{values};
+ghost use Rattle.std.specs.BTreeMap.{get, values};
 ghost use Rattle.pcp_base.specs.declared.leases.MapLease.{MapLease};
 ghost use Rattle.mapping_table.specs.MapLists.{is_live_map, map_covering, map_owning, first_dead_map, IsDeadMap, IsNextCovered, AreSoundMaps, with_map, PutsMap, RemovesMap, CopiesLiveMaps};
 ghost use Rattle.ordered_index.specs.Orders.{Place, port_cmp, place_cmp};
-ghost use Rattle.mapping_table.specs.Kept.{place_of_lease, port_of_lease, AreCountedMaps};
+ghost use Rattle.mapping_table.specs.Kept.{place_of_lease, port_of_lease, AreKeptMaps, SievesMaps, AreSievedMaps};
 
 use crate::changes::{append, place_of_first, port_of, replace, sets_of};
 use crate::owning::owns;
 use ordered_index::{
-    Numbered, Place, Port, first_from, is_beside, last_up_to, place_of, port_at, port_in,
+    Numbered, Place, Port, Sieve, first_from, is_beside, last_up_to, place_of, port_at, port_in,
 };
 use pcp_base::{Endpoint, MapLease, Memory, Moment, Protocol};
 use std::alloc::{AllocError, Global};
@@ -25,19 +25,21 @@ pub struct MapTable {
     kept: Numbered<MapLease, Place, Port>,
     /// How many of them are sets of ports. A lease of a single port is found by that port alone.
     sets: u32,
+    /// How many of their first endpoints fall on each number. Most look-ups that miss end here.
+    sieve: Sieve,
 }
 
 impl Model for MapTable {
     ghost use Rattle.std.specs.Prelude.{List};
     ghost use Rattle.std.specs.BTreeMap.{values};
     ghost use Rattle.pcp_base.specs.declared.leases.MapLease.{MapLease};
-    ghost use Rattle.mapping_table.specs.Kept.{AreCountedMaps};
+    ghost use Rattle.mapping_table.specs.Kept.{AreSievedMaps};
 
     ghost Value = { List MapLease };
 
     ghost view = { λ t. values t.kept.leases };
 
-    ghost invariant = { λ t. AreCountedMaps t.kept t.sets };
+    ghost invariant = { λ t. AreSievedMaps t.kept t.sets t.sieve };
 }
 
 /// The leases that are live at `m`, in the order of their numbers.
@@ -55,6 +57,19 @@ fn live_of(
         .collect(alloc)
 }
 
+/// The number at the place. The ordered map is asked only where the sieve doesn't tell that there
+/// is none.
+fn number_at(sieve: &Sieve, kept: &Numbered<MapLease, Place, Port>, place: &Place) -> Option<u64>
+    requires kept { AreKeptMaps kept.now }
+    requires sieved { SievesMaps sieve.now (values kept.now.leases) }
+    ensures { result ≡ get place_cmp kept.now.keys place.now }
+{
+    if sieve.lacks(place) {
+        return None;
+    }
+    kept.keys.get(place).copied()
+}
+
 impl MapTable {
     /// A table without a lease. The one error is want of memory.
     pub fn new(alloc: Global) -> Result<MapTable, Memory>
@@ -63,6 +78,7 @@ impl MapTable {
         Ok(MapTable {
             kept: Numbered::new(alloc),
             sets: 0,
+            sieve: Sieve::new(alloc)?,
         })
     }
 
@@ -72,13 +88,14 @@ impl MapTable {
     {
         self.kept.clear();
         self.sets = 0;
+        self.sieve.clear();
     }
 
     /// The lease that covers the endpoint.
     pub fn find(&self, endpoint: &Endpoint) -> Option<&MapLease>
         ensures { option_copied result ≡ map_covering endpoint.now self.now }
     {
-        if let Some(number) = self.kept.keys.get(&place_of(endpoint)).copied() {
+        if let Some(number) = number_at(&self.sieve, &self.kept, &place_of(endpoint)) {
             return self.kept.leases.get(&number);
         }
         if self.sets == 0 {
@@ -184,9 +201,9 @@ impl MapTable {
         requires { AreSoundMaps (with_map lease self.old) }
         ensures { PutsMap self.old lease result self.new }
     {
-        match self.kept.keys.get(&place_of_first(&lease)).copied() {
+        match number_at(&self.sieve, &self.kept, &place_of_first(&lease)) {
             Some(number) => replace(&mut self.kept, &mut self.sets, number, lease),
-            None => append(&mut self.kept, &mut self.sets, lease),
+            None => append(&mut self.kept, &mut self.sieve, &mut self.sets, lease),
         }
     }
 
@@ -195,7 +212,7 @@ impl MapTable {
         ensures { RemovesMap self.old key.now result self.new }
     {
         let place = place_of(key);
-        let Some(number) = self.kept.keys.get(&place).copied() else {
+        let Some(number) = number_at(&self.sieve, &self.kept, &place) else {
             return None;
         };
         let Some(lease) = self.kept.leases.get(&number).copied() else {
@@ -204,6 +221,7 @@ impl MapTable {
         self.kept
             .forget(number, place, port_of(&lease), lease.expiry);
         self.sets -= sets_of(&lease);
+        self.sieve.take(&place);
         Some(lease)
     }
 

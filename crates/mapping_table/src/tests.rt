@@ -323,3 +323,16 @@ fn both_bodies_agree(rt: HostRuntime) -> Result<(), Memory> {
     }
     Ok(())
 }
+
+#[test]
+fn a_cleared_table_finds_no_lease(rt: HostRuntime) -> Result<(), Memory> {
+    let alloc = rt.alloc();
+    let mut table = MapTable::new(alloc)?;
+    let mut plain = PlainMapTable::new(alloc)?;
+    let endpoint = at(1, Udp, 7);
+    put_both(alloc, &mut table, &mut plain, &lease(&endpoint, 1, 9, 40))?;
+    assert!(rt; table.find(&endpoint).is_some());
+    table.clear();
+    assert!(rt; table.find(&endpoint).is_none());
+    Ok(())
+}

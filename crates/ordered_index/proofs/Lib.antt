@@ -8,3 +8,4 @@ pub mod Keeping
 pub mod Endings
 pub mod Puts
 pub mod FirstAndRest
+pub mod PlaceCounts

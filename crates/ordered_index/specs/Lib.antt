@@ -4,3 +4,4 @@ pub mod Ended
 pub mod Lesser
 pub mod Kept
 pub mod Orders
+pub mod Sieves

@@ -8,8 +8,10 @@ mod maps;
 mod numbered;
 mod places;
 mod ports;
+mod sieves;
 
 pub use keys::{Port, first_from, last_up_to, port_at};
 pub use numbered::Numbered;
 pub use places::{Place, is_beside, place_of, port_in};
 pub use ports::lesser;
+pub use sieves::Sieve;

@@ -4,6 +4,7 @@ ghost use Rattle.std.specs.Ordering.{eq_by_cmp, as_partial_cmp};
 ghost use Rattle.std.specs.Cmp.{partial_equiv_from_equiv, partial_order_from_total, eq_by_cmp_equiv};
 ghost use Rattle.pcp_base.specs.Protocols.{protocol_number};
 ghost use Rattle.ordered_index.specs.Orders.{place_of, place_cmp, place_total};
+ghost use Rattle.ordered_index.specs.Sieves.{slot_of};
 
 use crate::keys::{Port, port_at};
 use octet_order::compare_octets;
@@ -67,6 +68,22 @@ impl Ord for Place {
             return first;
         }
         self.port.cmp(&other.port)
+    }
+}
+
+/// An odd number near 2^128 over the golden ratio: its products spread places over the numbers.
+pub(crate) const MIXER: u128 = 0x9e37_79b9_7f4a_7c15_f39c_c060_5ced_c835;
+
+impl Place {
+    /// The number below 2^18 that it falls on.
+    #[inline]
+    pub(crate) fn slot(&self) -> usize
+        ensures { result ≡ slot_of self.now }
+    {
+        let (protocol, port) = self.port;
+        let port = u128::from(protocol) * 65536 + u128::from(port);
+        let number = u128::from_be_bytes(self.address).wrapping_add(port * (1 << 64));
+        (number.wrapping_mul(MIXER) >> 110) as usize
     }
 }
 

@@ -1,9 +1,11 @@
-use Rattle.std.proofs.Common.{ap, ◌∙◌, Ok}
-use Rattle.std.specs.BTreeMap.{get}
+use Rattle.std.proofs.Common.{ℕ, List, sym, subst, ap, ◌∙◌, Ok}
+use Rattle.std.specs.BTreeMap.{get, values}
 use Rattle.pcp_base.specs.declared.errors.Memory.{Memory}
 use Rattle.ordered_index.specs.Orders.{port_cmp}
+use Rattle.mapping_table.specs.Kept.{SievesMaps}
 use Rattle.mapping_table.proofs.MapKeeping.{port_is_free, map_appended, map_not_put}
 use Rattle.mapping_table.proofs.Sets.{counted_stays, counted_appended}
+use Rattle.mapping_table.proofs.Sieving.{sieved_stays, sieved_more}
 use Rattle.mapping_table.proofs.changes.append.Goals as goal
 
 pub append-requires-clause-port : goal.append-requires-clause-port
@@ -13,12 +15,12 @@ append-requires-clause-port c =
 pub returns-clause-put : goal.returns-clause-put
 returns-clause-put c =
     (map_appended c.args.kept.now c.requires.counted.kept c.args.lease c.requires.sound c.append.new.self (Ok tt)
-    c.place_of_first.result c.port_of.result c.place_of_first.ensures c.port_of.ensures c.requires.free c.in_ok-append.ensures.ok tt).1
+    c.place_of_first-place.result c.port_of.result c.place_of_first-place.ensures c.port_of.ensures c.requires.free c.in_ok-append.ensures.ok tt).1
 
 pub returns-clause-counted : goal.returns-clause-counted
 returns-clause-counted c =
     let put = map_appended c.args.kept.now c.requires.counted.kept c.args.lease c.requires.sound {E = Memory} c.append.new.self (Ok c.in_ok-append.field-0)
-    c.place_of_first.result c.port_of.result c.place_of_first.ensures c.port_of.ensures c.requires.free c.in_ok-append.ensures.ok tt in
+    c.place_of_first-place.result c.port_of.result c.place_of_first-place.ensures c.port_of.ensures c.requires.free c.in_ok-append.ensures.ok tt in
     counted_appended c.args.kept.now c.args.sets.now c.requires.counted c.append.new.self c.args.lease put.0 put.1.ok c.requires.free c.sets_of.result c.sets_of.ensures
 
 pub returns-in_err-append-clause-put : goal.returns-in_err-append-clause-put
@@ -28,3 +30,14 @@ returns-in_err-append-clause-put c =
 pub returns-in_err-append-clause-counted : goal.returns-in_err-append-clause-counted
 returns-in_err-append-clause-counted c =
     counted_stays c.args.kept.now c.args.sets.now c.requires.counted c.append.new.self c.in_err-append.ensures.err
+
+pub returns-clause-sieved : goal.returns-clause-sieved
+returns-clause-sieved c =
+    let put = map_appended c.args.kept.now c.requires.counted.kept c.args.lease c.requires.sound {E = Memory} c.append.new.self (Ok c.in_ok-append.field-0)
+    c.place_of_first-place.result c.port_of.result c.place_of_first-place.ensures c.port_of.ensures c.requires.free c.in_ok-append.ensures.ok tt in
+    subst (λ (s : List ℕ). SievesMaps s (values c.append.new.self.leases)) (sym c.add.ensures)
+    (sieved_more c.args.kept.now c.requires.counted.kept c.args.sieve.now c.requires.sieved c.append.new.self c.args.lease put.1.ok c.requires.free c.place_of_first-place.result c.place_of_first-place.ensures)
+
+pub returns-in_err-append-clause-sieved : goal.returns-in_err-append-clause-sieved
+returns-in_err-append-clause-sieved c =
+    sieved_stays c.args.kept.now c.requires.counted.kept c.args.sieve.now c.requires.sieved c.append.new.self c.in_err-append.ensures.err

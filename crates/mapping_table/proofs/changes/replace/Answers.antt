@@ -5,6 +5,7 @@ use Rattle.pcp_base.specs.declared.errors.Memory.{Memory}
 use Rattle.mapping_table.specs.Kept.{place_of_lease}
 use Rattle.mapping_table.proofs.MapKeeping.{place_has, map_replaced, map_not_put}
 use Rattle.mapping_table.proofs.Sets.{counted_stays, counted_replaced, replaced_few}
+use Rattle.mapping_table.proofs.Sieving.{sieved_stays, sieved_as_many}
 use Rattle.mapping_table.proofs.changes.replace.Goals as goal
 
 pub index-requires : goal.index-requires
@@ -36,3 +37,14 @@ returns-in_err-replace-clause-put c =
 pub returns-in_err-replace-clause-counted : goal.returns-in_err-replace-clause-counted
 returns-in_err-replace-clause-counted c =
     counted_stays c.args.kept.now c.args.sets.now c.requires.counted c.replace.new.self c.in_err-replace.ensures.err
+
+pub returns-clause-sieved : goal.returns-clause-sieved
+returns-clause-sieved c =
+    let at_n : get nat_cmp c.args.kept.now.leases c.args.number ≡ Some c.index.result.now = search rules in
+    let put = map_replaced c.args.kept.now c.requires.counted.kept c.args.lease c.requires.sound {E = Memory} c.replace.new.self (Ok c.in_ok-replace.field-0)
+    c.args.number c.index.result.now c.port_of.result c.port_of-2.result c.requires.key at_n c.port_of.ensures c.port_of-2.ensures c.in_ok-replace.ensures.ok tt in
+    λ sieve sieved. sieved_as_many c.args.kept.now c.requires.counted.kept sieve sieved c.replace.new.self c.args.lease put.1.ok c.args.number c.requires.key
+
+pub returns-in_err-replace-clause-sieved : goal.returns-in_err-replace-clause-sieved
+returns-in_err-replace-clause-sieved c =
+    λ sieve sieved. sieved_stays c.args.kept.now c.requires.counted.kept sieve sieved c.replace.new.self c.in_err-replace.ensures.err

@@ -6,12 +6,12 @@ use Rattle.mapping_table.proofs.table.MapTable.find.Goals as goal
 pub returns-in-Some : goal.returns-in-Some
 returns-in-Some c =
     let t = c.self.inside.kept in
-    c.get-in-Some.ensures.value
-    ∙ first_found t c.self.invariant.kept c.args.endpoint.now c.place_of.result c.in-Some.number c.place_of.ensures (sym (c.in-Some.ensures ∙ c.get.ensures.value))
+    c.get.ensures.value
+    ∙ first_found t c.self.invariant.counted.kept c.args.endpoint.now c.place_of.result c.in-Some.number c.place_of.ensures (sym c.in-Some.ensures)
     ∙ ap (map_covering c.args.endpoint.now) c.self.view_is
 
 pub returns-then-self-eq0 : goal.returns-then-self-eq0
 returns-then-self-eq0 c =
     let t = c.self.inside.kept in
-    no_first t c.self.inside.sets c.self.invariant c.if-self-eq0.true c.args.endpoint.now c.place_of.result c.place_of.ensures (sym (c.in_default.ensures ∙ c.get.ensures.value))
+    no_first t c.self.inside.sets c.self.invariant.counted c.if-self-eq0.true c.args.endpoint.now c.place_of.result c.place_of.ensures (sym c.in_default.ensures)
     ∙ ap (map_covering c.args.endpoint.now) c.self.view_is

@@ -7,11 +7,11 @@ use Rattle.mapping_table.proofs.table.MapTable.live.Goals as goal
 
 pub overflow_sub-result : goal.overflow_sub-result
 overflow_sub-result c =
-    let few = ended-few map_keying map_laws c.self.inside.kept c.self.invariant.kept.kept c.args.m c.ended.result c.ended.ensures in
+    let few = ended-few map_keying map_laws c.self.inside.kept c.self.invariant.counted.kept.kept c.args.m c.ended.result c.ended.ensures in
     let all = c.len.ensures.len in
     omega (arith, few, all)
 
 pub returns : goal.returns
 returns c =
-    ap (λ n. n - c.ended.result) c.len.ensures.len ∙ live-count map_keying map_laws c.self.inside.kept c.self.invariant.kept.kept c.args.m c.ended.result c.ended.ensures
+    ap (λ n. n - c.ended.result) c.len.ensures.len ∙ live-count map_keying map_laws c.self.inside.kept c.self.invariant.counted.kept.kept c.args.m c.ended.result c.ended.ensures
     ∙ ap (count_by (is_live_map c.args.m)) c.self.view_is
