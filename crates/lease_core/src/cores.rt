@@ -57,6 +57,7 @@ impl<S: LeaseStore> LeaseCore<S> {
     }
 
     /// Applies a record that fits, and whose moment isn't below the one reached.
+    #[inline(never)]
     pub fn apply(&mut self, alloc: Global, kept: &Record) -> Result<(), Memory>
         requires sound { IsReached (S.state self.old) }
         requires fits { Fits (S.state self.old) kept.now }

@@ -13,6 +13,7 @@ use pcp_base::{Answer, Ask, Moment};
 
 /// What is decided on a request at a moment that isn't below the one reached, which it becomes. The
 /// state stays: a record that is told is for the caller to apply. No memory is taken.
+#[inline(never)]
 pub fn decide<S: LeaseStore>(store: &mut S, ask: &Ask, m: Moment) -> Decided
     requires sound { IsReached (S.state store.old) }
     requires later { S.reached store.old ≤ m }

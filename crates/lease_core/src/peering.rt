@@ -144,6 +144,7 @@ fn decide_unknown<S: LeaseStore>(store: &S, m: Moment, ask: &PeerAsk) -> Decided
 }
 
 /// What is decided on a PEER request at the moment reached.
+#[inline(never)]
 pub(crate) fn decide_peer<S: LeaseStore>(store: &S, m: Moment, ask: &PeerAsk) -> Decided
     requires sound { IsReached (S.state store.now) }
     requires reached { S.reached store.now ≡ m }

@@ -316,6 +316,8 @@ fn find<D: LeaseDisk, S: LeaseStore>(
 
 impl<D: LeaseDisk, S: LeaseStore + Drop> LeaseBook<D, S> {
     /// Settles a book after this fault.
+    #[cold]
+    #[inline(never)]
     pub(crate) fn resume(
         &mut self,
         alloc: Global,
