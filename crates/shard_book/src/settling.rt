@@ -317,7 +317,7 @@ fn find<D: LeaseDisk, S: LeaseStore>(
 impl<D: LeaseDisk, S: LeaseStore + Drop> LeaseBook<D, S> {
     /// Settles a book after this fault.
     #[cold]
-    #[inline(never)]
+    #[inline(never)] // its frame is large, and would be cleared at each request
     pub(crate) fn resume(
         &mut self,
         alloc: Global,

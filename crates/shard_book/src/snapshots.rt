@@ -34,6 +34,7 @@ fn put_start(out: &mut Vec<Record>, base: Moment, address: Option<Address>) -> R
 fn put_ends(out: &mut Vec<Record>, m: Moment, ends: &[End]) -> Result<(), Memory>
     ensures { OnOk result (out.new.items ≡ out.old.items ++ map (end_record m) ends.now) }
 {
+    out.reserve(ends.len())?;
     for end in ends {
         out.push(Record {
             moment: m,
@@ -61,6 +62,7 @@ fn put_maps(out: &mut Vec<Record>, m: Moment, leases: &[MapLease]) -> Result<(),
 fn put_peers(out: &mut Vec<Record>, m: Moment, leases: &[PeerLease]) -> Result<(), Memory>
     ensures { OnOk result (out.new.items ≡ out.old.items ++ map (peer_record m) leases.now) }
 {
+    out.reserve(leases.len())?;
     for lease in leases {
         out.push(Record {
             moment: m,
