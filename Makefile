@@ -1,6 +1,7 @@
 # `make demo` builds the proved program, stops it in the middle of the example and plays on; `make test` is the merge gate;
-# `make help` prints the program's usage.
-.PHONY: demo test help
+# `make edits` tries each wrong body of edits/, or those of some crates (`make edits NAMES="lease_disk pcp_codec"`), which the
+# prover must refuse; `make help` prints the program's usage.
+.PHONY: demo test edits help
 
 demo:
 	@cd crates/pcp && rt run -- --version
@@ -8,6 +9,9 @@ demo:
 
 test:
 	bash .ci/run
+
+edits:
+	@.ci/edits $(NAMES)
 
 help:
 	@cd crates/pcp && rt run -- --help
