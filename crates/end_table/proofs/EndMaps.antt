@@ -14,14 +14,10 @@ use Rattle.pcp_base.specs.Ends.{is_before, with_end}
 use Rattle.pcp_base.proofs.Members.{IsIn, IsIn-map, All-from_IsIn, filter-all}
 use Rattle.ordered_index.specs.Orders.{port_cmp}
 use Rattle.ordered_index.proofs.EntryLaws.{none_some}
-use Rattle.ordered_index.proofs.Entries.{false_by}
+use Rattle.ordered_index.proofs.Entries.{false_by, same_tests}
 use Rattle.ordered_index.proofs.Mirrorings.{entry-at}
 use Rattle.ordered_index.proofs.OrderLaws.{port_total, port_exact, at_self, at_exact}
 use Rattle.end_table.specs.Kept.{port_of_end, has_port}
-
-pub same_tests : (a b : Bool) → (a ≡ true → b ≡ true) → (b ≡ true → a ≡ true) → a ≡ b
-same_tests true b f g = sym (f refl)
-same_tests false b f g = sym (false_by b (λ t. let both : false ≡ true = g t in cc))
 
 pub pair_same : (a b : ℕ × ℕ) → a.0 ≡ b.0 → a.1 ≡ b.1 → a ≡ b
 pair_same a b e f = ap (λ (z : ℕ). (z, a.1)) e ∙ ap (λ (z : ℕ). (b.0, z)) f

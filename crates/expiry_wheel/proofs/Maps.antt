@@ -6,13 +6,7 @@ use Rattle.std.specs.FinMap.{FinMap, get, insert, remove, len, contains_key, len
 use Rattle.std.specs.Cmp.{nat_cmp_total}
 use Rattle.std.proofs.lemmas.Bool.{eq-eqb}
 use Rattle.std.proofs.lemmas.Grind.{common_steps}
-
--- the two tests of numbers are one
-by_tests : (less same : Bool) → (less ≡ true → same ≡ false) → is_eq (cond less Less (cond same Equal Greater)) ≡ same
-by_tests true true h = sym (h refl)
-by_tests true false h = refl
-by_tests false true h = refl
-by_tests false false h = refl
+use Rattle.pcp_base.proofs.OrderTests.{by_tests}
 
 pub eq_by_cmp-nat : (a b : ℕ) → eq_by_cmp nat_cmp a b ≡ (a == b)
 eq_by_cmp-nat a b = by_tests (ltb a b) (a == b) (λ less. grind (arith, common_steps))

@@ -26,23 +26,18 @@ use Rattle.pcp_base.proofs.EndOrder.{InOrder, InOrder-one}
 use Rattle.pcp_base.proofs.EndLemmas.{left-by_expiry, left-owned, unowned-fewer, owners-deleted, owner-ports, owner-protocol}
 use Rattle.pcp_base.proofs.TableLemmas.{map_owners-IsIn}
 use Rattle.pcp_base.proofs.RestLaws.{InOrder-same}
-use Rattle.pcp_base.proofs.StageLaws.{unlike}
+use Rattle.pcp_base.proofs.StageLaws.{unlike, expiry-parts}
 use Rattle.leased_ports.specs.LastEnds.{last_end}
 use Rattle.leased_ports.specs.Leased.{Leased, IsPortsOf, end_of, while_recent}
 use Rattle.leased_ports.specs.Recorded.{touched, held_until, end_by_rest}
-use Rattle.leased_ports.proofs.ExpiryLemmas.{parts, map_ends-end, sooner-dead}
+use Rattle.leased_ports.proofs.ExpiryLemmas.{map_ends-end, sooner-dead}
 use Rattle.leased_ports.proofs.LastEndLemmas.{last-some, last-from, old-last, old-ended}
-use Rattle.leased_ports.proofs.RecordLemmas.{recorded-last}
+use Rattle.leased_ports.proofs.RecordLemmas.{recorded-last, same-options}
 use Rattle.indexed_store.specs.Holding.{AreNear, IsOwner}
 use Rattle.indexed_store.specs.Settling.{AreOrdered, AreOwn, come_by, end_among, rest_owners}
 use Rattle.indexed_store.proofs.Uniques.{all-none}
 use Rattle.indexed_store.proofs.HoldingLemmas.{same_number}
 use Rattle.indexed_store.proofs.SettlingLemmas.{port_is, is_port_of}
-
-same-options : (a b : Option End) → ((e : End) → a ≡ Some e → b ≡ Some e) → ((e : End) → b ≡ Some e → a ≡ Some e) → a ≡ b
-same-options None None f g = refl
-same-options None (Some y) f g = g y refl
-same-options (Some x) b f g = sym (f x refl)
 
 -- ---- ends by their ports
 
@@ -114,7 +109,7 @@ recent-come m (Some e) h = step (nat_lt m e.end)
 module _ (s : State) (reached : IsReached s) where
   -- what its leases leave is to come
   pub late : (e : End) → IsIn e (ends_at_expiry s.table) → s.last < e.end
-  late e h = elim (parts s.table e h) [
+  late e h = elim (expiry-parts s.table e h) [
     | inl a ↦ (let term = All-IsIn (λ (l : MapLease). IsTermAt s.last l.granted l.expiry) s.table.maps a.0 reached.maps a.1 in let same = map_ends-end a.0 e a.2 in omega (arith, term.live, same))
     | inr b ↦ (let term = All-IsIn (λ (l : PeerLease). IsTermAt s.last l.granted l.expiry) s.table.peers b.0 reached.peers b.1 in let same : b.0.expiry ≡ e.end = ap (λ (x : End). x.end) b.2 in omega (arith, term.live, same))
   ]

@@ -11,17 +11,17 @@ use Rattle.pcp_base.specs.declared.leases.Owner.{Owner}
 use Rattle.pcp_base.specs.declared.leases.End.{End}
 use Rattle.pcp_base.specs.Protocols.{protocol_number}
 use Rattle.pcp_base.specs.Tables.{Table, same_protocol}
-use Rattle.pcp_base.specs.Owners.{map_owners, peer_owner, is_port}
+use Rattle.pcp_base.specs.Owners.{map_owners, peer_owner, is_port, owns}
 use Rattle.pcp_base.specs.Ends.{end_at, ends_at_expiry, is_end_of}
 use Rattle.pcp_base.proofs.Members.{IsIn, All-IsIn, IsIn-filter, filter-IsIn, IsIn-map, map-IsIn, any-some, some-any, find-some, find-none}
 use Rattle.pcp_base.proofs.Same.{same_protocol-Decides}
 use Rattle.pcp_base.proofs.TableLemmas.{map_owners-IsIn}
-use Rattle.pcp_base.proofs.StageLaws.{unlike}
-use Rattle.plain_store.proofs.PortLemmas.{owned_by}
-use Rattle.mapping_table.specs.MapLists.{owns, map_owning}
+use Rattle.pcp_base.proofs.StageLaws.{unlike, map_ends, peer_end, expiry-parts, from_map, from_peer}
+use Rattle.pcp_base.proofs.PortLemmas.{owned_by}
+use Rattle.leased_ports.proofs.RecordLemmas.{latest-least}
+use Rattle.mapping_table.specs.MapLists.{map_owning}
 use Rattle.peer_table.specs.PeerLists.{IsLastExpiry}
 use Rattle.leased_ports.specs.Recorded.{latest, held_until}
-use Rattle.leased_ports.proofs.ExpiryLemmas.{map_ends, peer_end, parts, from_map, from_peer}
 use Rattle.indexed_store.specs.Holding.{AreNear, IsOwner, later_by}
 use Rattle.indexed_store.proofs.Uniques.{one-owns}
 
@@ -32,11 +32,6 @@ same_number Udp Tcp = refl
 same_number Udp Udp = refl
 
 -- ---- the latest end
-
-pub latest-least : (m : ℕ) (es : List End) (f : End) → IsIn f es → f.end ≤ latest m es
-latest-least m [] f h = absurd h
-latest-least m (e ∷ es) f (inl same) = let one : e.end ≡ f.end = ap (λ (x : End). x.end) same in omega (arith, one)
-latest-least m (e ∷ es) f (inr h) = let rest = latest-least m es f h in omega (arith, rest)
 
 latest-from : (m : ℕ) (es : List End) → m ≤ latest m es
 latest-from m [] = omega arith
@@ -141,7 +136,7 @@ module _ (t : Table) (protocol : Protocol) (port : ℕ) where
     each : (e : End) → IsIn e ends → e.end ≤ r
     each e i =
         let k = IsIn-filter (is_end_of protocol port) (ends_at_expiry t) e i in
-        elim (parts t e k.0) [
+        elim (expiry-parts t e k.0) [
           | inl x ↦ (let o = map-owns x.0 e x.2 k.1 in
               let found = one_owns x.0 x.1 o.0 (map_owning protocol port t.maps) refl in
               let here = later-some m x.0.expiry a (ap (option_map (λ (l : MapLease). l.expiry)) found) in

@@ -18,7 +18,7 @@ use Rattle.pcp_base.specs.Sound.{Sound}
 use Rattle.pcp_base.specs.Records.{IsTermAt, IsEndAt}
 use Rattle.pcp_base.specs.Fits.{RestForNoOther, IsUnused}
 use Rattle.pcp_base.specs.Rooms.{HasRoomForMap, HasRoomForPeer}
-use Rattle.pcp_base.proofs.Members.{IsIn, All-IsIn, All-from_IsIn, All-weaker, filter-all, any-some, IsIn-append, IsIn-left, IsIn-right, IsIn-flat_map, flat_map-IsIn, IsIn-map, map-IsIn, IsIn-from_Contains, Contains-from_IsIn, find-some, find-none, any-none, none-any, some-any}
+use Rattle.pcp_base.proofs.Members.{IsIn, All-IsIn, All-from_IsIn, All-weaker, filter-all, any-some, IsIn-append, IsIn-left, IsIn-right, IsIn-flat_map, flat_map-IsIn, IsIn-map, map-IsIn, IsIn-from_Contains, Contains-from_IsIn, find-some, find-none, any-none, none-any, some-any, IsIn-range}
 use Rattle.pcp_base.proofs.Same.{same_endpoint-Decides}
 use Rattle.pcp_base.proofs.TableLemmas.{IsCovered-from_covers, map_owners-IsIn, owner-covered, Sound-live}
 use Rattle.pcp_base.proofs.RestLaws.{rests_for-some}
@@ -74,20 +74,13 @@ or-second true b e h = absurd (let never : true ≡ false = e in cc)
 or-second false b e h = h
 
 -- an endpoint that a lease covers has one of its ports
-in-range : (a n i : ℕ) → a ≤ i → i < a + n → IsIn i (range_with_len a n)
-in-range a zero i lo hi = absurd (omega (arith, lo, hi))
-in-range a (suc n) i lo hi = elim (two_ways (a == i)) [
-  | inl e ↦ inl (eqb-true a i e)
-  | inr e ↦ inr (in-range (a + 1) n i (let other = Rattle.std.proofs.lemmas.Bool.eqb-false a i e in omega (arith, lo, other)) (omega (arith, hi)))
-]
-
 pub covered-owner : (l : MapLease) (e : Endpoint) → covers l e ≡ true → (o : Owner) × IsIn o (map_owners l) × (o.endpoint ≡ e) × (o.external ≡ l.external + (e.port - l.internal))
 covered-owner l e h =
     let k = IsCovered-from_covers l e h in
     let i = e.port - l.internal in
     let at : l.internal + i ≡ e.port = omega (arith, k.from) in (
       map_owner l i,
-      map-IsIn (map_owner l) (range_with_len 0 l.count) i (in-range 0 l.count i (omega arith) (omega (arith, k.below, k.from))),
+      map-IsIn (map_owner l) (range_with_len 0 l.count) i (IsIn-range 0 l.count i (omega arith) (omega (arith, k.below, k.from))),
       ap (λ a. record { address = a; protocol = l.protocol; port = l.internal + i }) k.address ∙ ap (λ p. record { address = e.address; protocol = p; port = l.internal + i }) k.protocol
           ∙ ap (λ n. record { address = e.address; protocol = e.protocol; port = n }) at,
       refl,

@@ -9,9 +9,8 @@ use Rattle.pcp_base.specs.declared.leases.MapLease.{MapLease}
 use Rattle.pcp_base.specs.declared.leases.PeerLease.{PeerLease}
 use Rattle.pcp_base.specs.Tables.{Table, covers, names}
 use Rattle.pcp_base.specs.declared.leases.Owner.{Owner}
-use Rattle.pcp_base.specs.Owners.{map_owners, peer_owner, owners, is_port}
-use Rattle.plain_store.specs.OwnedPorts.{endpoint_behind}
-use Rattle.plain_store.proofs.LookLemmas.{found_in}
+use Rattle.pcp_base.specs.Owners.{map_owners, peer_owner, owners, is_port, endpoint_behind}
+use Rattle.pcp_base.proofs.OwnerLooks.{found_in}
 use Rattle.pcp_base.specs.Sound.{Sound}
 use Rattle.pcp_base.proofs.Members.{IsIn, IsIn-filter, filter-IsIn, IsIn-right, map-IsIn, Contains-from_IsIn, find-some, find-IsIn, All-IsIn, All-from_IsIn, any-some, some-any, none-any, any-none}
 use Rattle.pcp_base.proofs.Same.{same_endpoint-Decides}
@@ -191,7 +190,7 @@ module _ (t : Table) (e : Endpoint) where
 
 module _ (protocol : Protocol) (port : ℕ) (maps : List MapLease) (peers : List PeerLease) where
   abbrev through_map : Option Endpoint
-  through_map = option_map (endpoint_behind port) (find (Rattle.plain_store.specs.OwnedPorts.owns protocol port) maps)
+  through_map = option_map (endpoint_behind port) (find (Rattle.pcp_base.specs.Owners.owns protocol port) maps)
 
   abbrev through_peer : Option Endpoint
   through_peer = option_map (λ (l : PeerLease). l.endpoint) (find (λ l. is_port protocol port (peer_owner l)) peers)

@@ -8,7 +8,7 @@ use Rattle.pcp_base.specs.declared.leases.Endpoint.{Endpoint}
 use Rattle.pcp_base.specs.declared.leases.MapLease.{MapLease}
 use Rattle.pcp_base.specs.declared.leases.PeerLease.{PeerLease}
 use Rattle.pcp_base.specs.Tables.{Table, EachTwo, AreApart, HaveOtherKeys, covers, first_endpoint, is_map_of, is_peer_of, live, IsMapLease, same_address, same_protocol}
-use Rattle.pcp_base.specs.Owners.{owners, map_owners, peer_owner, is_port}
+use Rattle.pcp_base.specs.Owners.{owners, map_owners, peer_owner, is_port, owns}
 use Rattle.pcp_base.specs.Sound.{Sound}
 use Rattle.lease_store.specs.Lookups.{is_with}
 use Rattle.peer_table.specs.PeerLists.{opens}
@@ -16,7 +16,7 @@ use Rattle.pcp_base.proofs.Members.{IsIn, IsIn-filter, IsIn-right, map-IsIn, Con
 use Rattle.pcp_base.proofs.Same.{same_address-Decides, same_endpoint-Decides, same_protocol-Decides}
 use Rattle.pcp_base.proofs.TableLemmas.{same_key, other_key, covers-first, Sound-live}
 use Rattle.pcp_base.proofs.StageLaws.{unlike}
-use Rattle.mapping_table.specs.MapLists.{owns, AreSeparate}
+use Rattle.mapping_table.specs.MapLists.{AreSeparate}
 use Rattle.mapping_table.proofs.Separates.{own_apart}
 use Rattle.mapping_table.proofs.SoundTables.{sound_maps}
 

@@ -4,7 +4,7 @@ use Rattle.pcp_base.specs.States.{State}
 use Rattle.pcp_base.specs.Reached.{IsReached, IsReachedFirst}
 use Rattle.lease_store.specs.declared.terms.Terms.{Terms}
 use Rattle.lease_store.specs.LeaseTerms.{AreTerms}
-use Rattle.plain_store.specs.Stores.{Stored}
+use Rattle.lease_store.specs.Stores.{Stored}
 use Rattle.leased_ports.specs.Leased.{Leased, IsPortsOf, IsOnTerms}
 
 -- records that fit have made the state, and no later moment is reached

@@ -6,13 +6,12 @@ ghost use Rattle.pcp_base.specs.declared.records.Change.TheVariants.{Map, Peer};
 ghost use Rattle.pcp_base.specs.Tables.{HasPorts, IsMapLease, is_map_of, live};
 ghost use Rattle.pcp_base.specs.Owners.{map_owners};
 ghost use Rattle.pcp_base.specs.Sound.{Sound};
-ghost use Rattle.pcp_base.specs.Fits.{IsAllowed, IsRested};
+ghost use Rattle.pcp_base.specs.Fits.{IsAllowed, IsRested, renews};
 ghost use Rattle.pcp_base.specs.Rooms.{HasRoom, IsNext, Suits};
 ghost use Rattle.pcp_base.specs.Records.{IsWellFormedRecord};
 ghost use Rattle.lease_store.specs.Lookups.{covering, lease_count, named_port, peer_count};
 ghost use Rattle.pcp_base.specs.Reached.{IsReached};
 ghost use Rattle.leased_ports.specs.Leased.{IsPortsOf, end_of};
-ghost use Rattle.plain_replay.specs.Renewals.{renews};
 ghost use Rattle.indexed_store.specs.Judging as the;
 ghost use Rattle.indexed_store.specs.Judging.{IsCurrent};
 

@@ -3,10 +3,9 @@ ghost use Rattle.std.specs.Prelude.{◌≡◌, ◌&&◌, nat_lt, filter, find, m
 ghost use Rattle.std.specs.Option.{option_map};
 ghost use Rattle.pcp_base.specs.Tables.{HasPorts, live};
 ghost use Rattle.pcp_base.specs.Sound.{Sound};
-ghost use Rattle.pcp_base.specs.Owners.{is_port, peer_owner};
+ghost use Rattle.pcp_base.specs.Owners.{is_port, peer_owner, owns, endpoint_behind};
 ghost use Rattle.filter_rules.specs.Filters.{allows as lets};
 ghost use Rattle.lease_store.specs.Lookups.{is_with, owners_for};
-ghost use Rattle.plain_store.specs.OwnedPorts.{owns, endpoint_behind};
 
 use crate::leases::Leases;
 use filter_rules::allows;

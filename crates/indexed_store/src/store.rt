@@ -36,7 +36,7 @@ pub struct IndexedStore {
 }
 
 impl Model for IndexedStore {
-    ghost use Rattle.plain_store.specs.Stores.{Stored};
+    ghost use Rattle.lease_store.specs.Stores.{Stored};
     ghost use Rattle.indexed_store.specs.Indexed.{IsIndexed};
 
     ghost Value = { Stored };

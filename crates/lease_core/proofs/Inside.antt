@@ -11,7 +11,7 @@ use Rattle.pcp_base.specs.declared.leases.TheConstants.{MOST_PORTS}
 use Rattle.pcp_base.specs.Asks.{IsMapAsk}
 use Rattle.pcp_base.specs.Tables.{Table, live, covers, names}
 use Rattle.pcp_base.specs.States.{State}
-use Rattle.pcp_base.proofs.Members.{All-IsIn, IsIn, any-none, find-none}
+use Rattle.pcp_base.proofs.Members.{All-IsIn, IsIn, any-none, find-none, IsIn-range}
 use Rattle.lease_store.specs.Lookups.{is_taken_inside, next_inside, with_port}
 use Rattle.lease_core.specs.DecideMap.{room_inside, size_asked, up_to_next}
 use Rattle.lease_core.proofs.RoomLemmas.{room-few}
@@ -27,14 +27,6 @@ before_first p a (suc n) x y h low below =
       | inr here ↦ (let e : a ≡ y = omega arith in subst (λ z. p z ≡ false) e not_here)
     ]) h
 
-in-range : (a n y : ℕ) → a ≤ y → y < a + n → IsIn y (range_with_len a n)
-in-range a zero y low below = absurd (omega arith)
-in-range a (suc n) y low below =
-    elim (cases_lt a y) [
-      | inl after ↦ inr (in-range (a + 1) n y (omega arith) (omega arith))
-      | inr here ↦ inl (omega arith)
-    ]
-
 -- no port up to the next one is in use
 before_next : (t : Table) (m : ℕ) (e : Endpoint) (next : Option ℕ) (room port : ℕ) → next_inside t m e ≡ next →
     e.port < port → port < e.port + up_to_next next e.port room → port ≤ 65535 → is_taken_inside t m e port ≡ false
@@ -42,7 +34,7 @@ unfolding next_inside
 before_next t m e None room port h above below end =
     All-IsIn (λ x. is_taken_inside t m e x ≡ false) (range_with_len (e.port + 1) (65535 - e.port)) port
     (find-none (is_taken_inside t m e) (range_with_len (e.port + 1) (65535 - e.port)) h)
-    (in-range (e.port + 1) (65535 - e.port) port (omega arith) (omega arith))
+    (IsIn-range (e.port + 1) (65535 - e.port) port (omega arith) (omega arith))
 before_next t m e (Some next) room port h above below end =
     before_first (is_taken_inside t m e) (e.port + 1) (65535 - e.port) next port h (omega arith) (omega arith)
 

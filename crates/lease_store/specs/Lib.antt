@@ -2,3 +2,4 @@ pub mod LeaseTerms
 pub mod Lookups
 pub mod OwnerOrder
 pub mod Picks
+pub mod Stores

@@ -10,32 +10,7 @@ use Rattle.pcp_base.specs.Tables.{Table, live, dead}
 use Rattle.pcp_base.specs.Owners.{map_owners, peer_owner, owners}
 use Rattle.pcp_base.specs.Ends.{end_at, ends_at_expiry}
 use Rattle.pcp_base.proofs.Members.{IsIn, IsIn-filter, filter-IsIn, IsIn-append, IsIn-left, IsIn-right, IsIn-map, map-IsIn, IsIn-flat_map, flat_map-IsIn}
-
-abbrev pub map_ends : MapLease → List End
-map_ends l = map (end_at l.expiry) (map_owners l)
-
-abbrev pub peer_end : PeerLease → End
-peer_end l = end_at l.expiry (peer_owner l)
-
--- which lease leaves an end
-abbrev pub FromMap : Table → End → Type 0
-FromMap t e = (l : MapLease) × IsIn l t.maps × IsIn e (map_ends l)
-
-abbrev pub FromPeer : Table → End → Type 0
-FromPeer t e = (l : PeerLease) × IsIn l t.peers × (peer_end l ≡ e)
-
-pub parts : (t : Table) (e : End) → IsIn e (ends_at_expiry t) → FromMap t e ⊎ FromPeer t e
-parts t e h =
-    elim (IsIn-append (flat_map map_ends t.maps) (map peer_end t.peers) e h) [
-      | inl a ↦ inl (IsIn-flat_map map_ends t.maps e a)
-      | inr b ↦ inr (IsIn-map peer_end t.peers e b)
-    ]
-
-pub from_map : (t : Table) (e : End) → FromMap t e → IsIn e (ends_at_expiry t)
-from_map t e h = IsIn-left (flat_map map_ends t.maps) (map peer_end t.peers) e (flat_map-IsIn map_ends t.maps h.0 e h.1 h.2)
-
-pub from_peer : (t : Table) (e : End) → FromPeer t e → IsIn e (ends_at_expiry t)
-from_peer t e h = IsIn-right (flat_map map_ends t.maps) (map peer_end t.peers) e (subst (λ (x : End). IsIn x (map peer_end t.peers)) h.2 (map-IsIn peer_end t.peers h.0 h.1))
+use Rattle.pcp_base.proofs.StageLaws.{map_ends, peer_end, FromMap, FromPeer, expiry-parts, from_map, from_peer}
 
 pub map_ends-end : (l : MapLease) (e : End) → IsIn e (map_ends l) → l.expiry ≡ e.end
 map_ends-end l e h = let k = IsIn-map (end_at l.expiry) (map_owners l) e h in ap (λ (x : End). x.end) k.2
@@ -44,7 +19,7 @@ map_ends-end l e h = let k = IsIn-map (end_at l.expiry) (map_owners l) e h in ap
 pub fewer : (t u : Table) (e : End) → ((l : MapLease) → IsIn l t.maps → l.expiry ≡ e.end → IsIn l u.maps) → ((l : PeerLease) → IsIn l t.peers → l.expiry ≡ e.end → IsIn l u.peers)
     → IsIn e (ends_at_expiry t) → IsIn e (ends_at_expiry u)
 fewer t u e maps peers h =
-    elim (parts t e h) [
+    elim (expiry-parts t e h) [
       | inl a ↦ from_map u e (a.0, maps a.0 a.1 (map_ends-end a.0 e a.2), a.2)
       | inr b ↦ from_peer u e (b.0, peers b.0 b.1 (ap (λ (x : End). x.end) b.2), b.2)
     ]
@@ -74,7 +49,7 @@ dead-any t m e =
 -- what a live lease leaves comes later
 pub live-later : (t : Table) (m : ℕ) (e : End) → IsIn e (ends_at_expiry (live t m)) → m < e.end
 live-later t m e h =
-    elim (parts (live t m) e h) [
+    elim (expiry-parts (live t m) e h) [
       | inl a ↦ (let k = IsIn-filter (λ (l : MapLease). nat_lt m l.expiry) t.maps a.0 a.1 in
           let late : m < a.0.expiry = ltb-true m a.0.expiry k.1 in omega (arith, late, map_ends-end a.0 e a.2))
       | inr b ↦ (let k = IsIn-filter (λ (l : PeerLease). nat_lt m l.expiry) t.peers b.0 b.1 in

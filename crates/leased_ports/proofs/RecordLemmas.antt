@@ -29,41 +29,18 @@ use Rattle.pcp_base.proofs.TableLemmas.{map_owners-IsIn}
 use Rattle.pcp_base.proofs.EndOrder.{SamePort, SamePort-sym, InOrder, InOrder-one, with_end-all, with_end-ordered, with_end-has, with_end-keeps, with_ends-ordered}
 use Rattle.pcp_base.proofs.EndLemmas.{left-by_expiry, left-by_deletion, left-owned, owned-some, some-owned, unowned-fewer, owners-live, owners-deleted, put-IsIn, owner-protocol}
 use Rattle.pcp_base.proofs.RestLaws.{protocol_number-same, owned-same, end-same, IsLatestLeft, AreLeft, with_left-parts, with_left-old, with_left-new, resting-parts, ends_by-members}
-use Rattle.pcp_base.proofs.StageLaws.{unlike, two_ways, with_left-unowned}
-use Rattle.pcp_base.proofs.StepLaws.{ends_3-by}
+use Rattle.pcp_base.proofs.StageLaws.{unlike, two_ways, with_left-unowned, expiry-parts, from_map, from_peer}
+use Rattle.pcp_base.proofs.StepLaws.{ends_3-by, put-or, put-new, found}
 use Rattle.pcp_base.proofs.ApplyLaws.{owners-kept, OneOwner-at, IsReached-apply}
 use Rattle.leased_ports.specs.LastEnds.{last_end}
 use Rattle.std.proofs.Math.ListN.{get_or-map}
 use Rattle.leased_ports.specs.Leased.{Leased, IsPortsOf, at_moment, end_of, fresh_ports, no_ends, place, while_recent}
 use Rattle.leased_ports.proofs.StepLemmas.{end_in-no_ends}
 use Rattle.leased_ports.specs.Recorded.{touched, latest, held_until, end_by_rest, end_after}
-use Rattle.leased_ports.proofs.ExpiryLemmas.{parts, from_map, from_peer, map_ends-end, later-live, live-any, dead-any, owner-leaves}
+use Rattle.leased_ports.proofs.ExpiryLemmas.{map_ends-end, later-live, live-any, dead-any, owner-leaves}
 use Rattle.leased_ports.proofs.LastEndLemmas.{later_or_not, last-some, last-from, latest-last, old-last, old-ended, last-rests, rests-last}
 
 -- ---- leases that a change leaves
-
-put-or : {X : Type 0} (has_key : X → Bool) (new : X) (xs : List X) (x : X) → IsIn x xs → IsIn x (put has_key new xs) ⊎ (find has_key xs ≡ Some x)
-put-or has_key new [] x h = absurd h
-put-or {X = X} has_key new (y ∷ ys) x (inl e) =
-    elim (two_ways (has_key y)) [
-      | inl is ↦ inr (rw is (ap (λ z. Some z) e))
-      | inr other ↦ inl (rw other (inl e))
-    ]
-put-or {X = X} has_key new (y ∷ ys) x (inr h) =
-    elim (two_ways (has_key y)) [
-      | inl is ↦ inl (rw is (inr h))
-      | inr other ↦ elim (put-or has_key new ys x h) [
-        | inl a ↦ inl (rw other (inr a))
-        | inr b ↦ inr (rw other b)
-      ]
-    ]
-
-put-new : {X : Type 0} (has_key : X → Bool) (new : X) (xs : List X) → IsIn new (put has_key new xs)
-put-new has_key new [] = inl refl
-put-new has_key new (y ∷ ys) = cond_both (has_key y) (new ∷ ys) (y ∷ put has_key new ys) (λ zs. IsIn new zs) (λ _. inl refl) (λ _. inr (put-new has_key new ys))
-
-found : {X : Type 0} (P : X → Type 0) (o : Option X) (x : X) → o ≡ Some x → IfSome o P → P x
-found P o x e h = subst (λ o. IfSome o P) e h
 
 map_owner-there : (t : Table) (l : MapLease) (o : Owner) → IsIn l t.maps → IsIn o (map_owners l) → IsIn o (owners t)
 map_owner-there t l o there h = IsIn-left (flat_map map_owners t.maps) (map peer_owner t.peers) o (flat_map-IsIn map_owners t.maps l o there h)
@@ -152,7 +129,7 @@ Apart os e = (o : Owner) → IsIn o os → o.external ≡ e.external → o.endpo
 leaves-kept : (t u : Table) (os : List Owner) (e : End) → ((l : MapLease) → IsIn l t.maps → IsIn l u.maps ⊎ ((o : Owner) → IsIn o (map_owners l) → IsIn o os))
     → ((l : PeerLease) → IsIn l t.peers → IsIn l u.peers ⊎ IsIn (peer_owner l) os) → Apart os e → IsIn e (ends_at_expiry t) → IsIn e (ends_at_expiry u)
 leaves-kept t u os e maps peers apart h =
-    elim (parts t e h) [
+    elim (expiry-parts t e h) [
       | inl a ↦ elim (maps a.0 a.1) [
         | inl still ↦ from_map u e (a.0, still, a.2)
         | inr out ↦ (let k = IsIn-map (end_at a.0.expiry) (map_owners a.0) e a.2 in
@@ -216,7 +193,7 @@ deleted-fewer (Renumber a) t o other h k = absurd h
 
 -- ---- the latest of some ends
 
-latest-least : (m : ℕ) (es : List End) (f : End) → IsIn f es → f.end ≤ latest m es
+pub latest-least : (m : ℕ) (es : List End) (f : End) → IsIn f es → f.end ≤ latest m es
 latest-least m [] f h = absurd h
 latest-least m (e ∷ es) f (inl same) = let one : e.end ≡ f.end = ap (λ (x : End). x.end) same in omega (arith, one)
 latest-least m (e ∷ es) f (inr h) = let rest = latest-least m es f h in omega (arith, rest)
@@ -235,7 +212,7 @@ latest-is m (e ∷ es) =
 -- leases that are live leave ends to come
 ends-late : (t : Table) (m : ℕ) (e : End) → AllByRecursion (λ l. IsTermAt m l.granted l.expiry) t.maps → AllByRecursion (λ l. IsTermAt m l.granted l.expiry) t.peers → IsIn e (ends_at_expiry t) → m < e.end
 ends-late t m e maps peers h =
-    elim (parts t e h) [
+    elim (expiry-parts t e h) [
       | inl a ↦ (let term = All-IsIn (λ l. IsTermAt m l.granted l.expiry) t.maps a.0 maps a.1 in omega (arith, term.live, map_ends-end a.0 e a.2))
       | inr b ↦ (let term = All-IsIn (λ l. IsTermAt m l.granted l.expiry) t.peers b.0 peers b.1 in
           let same : b.0.expiry ≡ e.end = ap (λ (x : End). x.end) b.2 in omega (arith, term.live, same))
@@ -327,7 +304,7 @@ changed-unowned (Renumber a) s m os ends fewer rests h = h
 changed-unowned (Rest d q end) s m os ends fewer rests h =
     with_end-all (λ e. is_owned_by os e ≡ false) (record { endpoint = d; external = q; end = end }) ends (unowned-fewer d.protocol q (owners s.table) os fewer rests.unowned) h
 
-same-options : (a b : Option End) → ((e : End) → a ≡ Some e → b ≡ Some e) → ((e : End) → b ≡ Some e → a ≡ Some e) → a ≡ b
+pub same-options : (a b : Option End) → ((e : End) → a ≡ Some e → b ≡ Some e) → ((e : End) → b ≡ Some e → a ≡ Some e) → a ≡ b
 same-options None None f g = refl
 same-options None (Some e) f g = g e refl
 same-options (Some e) b f g = sym (f e refl)

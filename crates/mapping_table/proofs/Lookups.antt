@@ -7,7 +7,8 @@ use Rattle.pcp_base.specs.declared.leases.Endpoint.{Endpoint}
 use Rattle.pcp_base.specs.declared.leases.MapLease.{MapLease}
 use Rattle.pcp_base.specs.Tables.{covers, first_endpoint}
 use Rattle.pcp_base.proofs.TableLemmas.{IsCovered-from_covers, covers-from_IsCovered, covers-first}
-use Rattle.mapping_table.specs.MapLists.{owns, map_covering, map_owning}
+use Rattle.pcp_base.specs.Owners.{owns}
+use Rattle.mapping_table.specs.MapLists.{map_covering, map_owning}
 use Rattle.ordered_index.specs.Orders.{Place, port_at, place_of, port_cmp, place_cmp, IsLast}
 use Rattle.mapping_table.specs.Kept.{place_of_lease, port_of_lease, map_keying, AreKeptMaps, AreCountedMaps}
 use Rattle.ordered_index.proofs.Entries.{find_is, find_none}

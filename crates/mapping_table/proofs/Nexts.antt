@@ -12,7 +12,7 @@ use Rattle.pcp_base.proofs.TableLemmas.{IsCovered, IsCovered-from_covers, covers
 use Rattle.mapping_table.specs.MapLists.{map_covering, is_covered, IsNextCovered}
 use Rattle.ordered_index.specs.Orders.{Place, place_of, place_cmp, IsFirstKey, IsFirst}
 use Rattle.mapping_table.specs.Kept.{place_of_lease, map_keying, AreKeptMaps}
-use Rattle.ordered_index.proofs.Entries.{false_by, any_in, any_at, find_in, find_none_at, entry_at}
+use Rattle.ordered_index.proofs.Entries.{false_by, any_in, any_at, find_in, find_none_at, entry_at, some_of}
 use Rattle.ordered_index.proofs.OrderLaws.{place_total, place_of-one, places_between, places_up_to}
 use Rattle.ordered_index.specs.declared.numbered.Numbered.{Numbered}
 use Rattle.ordered_index.proofs.EntryLaws.{none_some}
@@ -26,10 +26,6 @@ below_or_not a b = let at : (v : Bool) → ltb a b ≡ v → (a < b) ⊎ (b ≤ 
 -- the endpoint with another port
 abbrev pub with_port : Endpoint → ℕ → Endpoint
 with_port e port = record { address = e.address; protocol = e.protocol; port = port }
-
-some_of : {X : Type 0} (o : Option X) → IsSome o → (x : X) × (o ≡ Some x)
-some_of None h = absurd (let no : false ≡ true = h in cc)
-some_of (Some x) h = (x, refl)
 
 module _ (it : Numbered MapLease Place (ℕ × ℕ)) (h : AreKeptMaps it) (e : Endpoint) where
   -- a lease that covers a port

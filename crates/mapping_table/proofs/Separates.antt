@@ -14,7 +14,8 @@ use Rattle.pcp_base.proofs.TableLemmas.{IsCovered-from_covers}
 use Rattle.ordered_index.proofs.Keeping.{each_weaker}
 use Rattle.ordered_index.proofs.OrderLaws.{protocol_one}
 use Rattle.mapping_table.specs.Kept.{port_of_lease}
-use Rattle.mapping_table.specs.MapLists.{owns, runs_meet, AreSeparate, AreSoundMaps}
+use Rattle.pcp_base.specs.Owners.{owns}
+use Rattle.mapping_table.specs.MapLists.{runs_meet, AreSeparate, AreSoundMaps}
 use Rattle.ordered_index.proofs.Entries.{one_passes, All-at}
 
 -- what `owns` says

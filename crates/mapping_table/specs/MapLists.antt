@@ -6,17 +6,12 @@ use Rattle.pcp_base.specs.declared.leases.TheConstants.{MOST_LEASES}
 use Rattle.pcp_base.specs.declared.leases.Protocol.{Protocol}
 use Rattle.pcp_base.specs.declared.leases.Endpoint.{Endpoint}
 use Rattle.pcp_base.specs.declared.leases.MapLease.{MapLease}
+use Rattle.pcp_base.specs.Owners.{owns}
 use Rattle.pcp_base.specs.Tables.{EachTwo, IsMapLease, covers, first_endpoint, is_map_of, put, same_address, same_protocol}
 
 -- whether the lease is live at m
 abbrev pub is_live_map : ℕ → MapLease → Bool
 is_live_map m l = nat_lt m l.expiry
-
--- whether the lease owns the external port
-abbrev pub owns : Protocol → ℕ → MapLease → Bool
-owns protocol port l =
-    same_protocol l.protocol protocol && nat_le l.external port
-    && nat_lt port (l.external + l.count)
 
 -- the lease that covers the endpoint
 abbrev pub map_covering : Endpoint → List MapLease → Option MapLease

@@ -1,6 +1,6 @@
 //! Which external ports a lease owns.
 ghost use Rattle.std.specs.Prelude.{◌≡◌};
-ghost use Rattle.mapping_table.specs.MapLists.{owns};
+ghost use Rattle.pcp_base.specs.Owners.{owns};
 
 use pcp_base::{MapLease, Protocol};
 

@@ -1,5 +1,5 @@
 -- Entries by their numbers, and their values as a list.
-use Rattle.std.proofs.Common.{◌≡◌, ℕ, ◌<◌, ◌==◌, nat_lt, Bool, true, false, not, cond, List, [], ◌∷◌, ◌++◌, filter, find, Option, Some, None, refl, sym, ap, ◌∙◌, subst, inl, inr, arith}
+use Rattle.std.proofs.Common.{◌≡◌, ℕ, ◌<◌, ◌==◌, nat_lt, Bool, true, false, not, cond, List, [], ◌∷◌, ◌++◌, filter, find, Option, Some, None, IsSome, refl, sym, ap, ◌∙◌, subst, inl, inr, arith}
 use Rattle.std.specs.List.{AllByRecursion, list_any}
 use Rattle.std.specs.List.Sorted.{IsStrictlySortedBy}
 use Rattle.std.specs.Map.{lookup, set_value, remove_entry, keys_of, values_of}
@@ -15,13 +15,7 @@ use Rattle.std.proofs.lemmas.Map.Lookups.{exact_unsigned}
 use Rattle.std.proofs.lemmas.Map.Views.{btree_map_get_iff}
 use Rattle.pcp_base.specs.Tables.{EachTwo, put}
 use Rattle.pcp_base.proofs.Members.{IsIn, Contains-from_IsIn, All-from_IsIn, IsIn-map}
-
--- the two tests of numbers are one
-by_tests : (less same : Bool) → (less ≡ true → same ≡ false) → is_eq (cond less Less (cond same Equal Greater)) ≡ same
-by_tests true true h = sym (h refl)
-by_tests true false h = refl
-by_tests false true h = refl
-by_tests false false h = refl
+use Rattle.pcp_base.proofs.OrderTests.{by_tests}
 
 is_at-nat : (a b : ℕ) → is_at (nat_cmp a) b ≡ (a == b)
 is_at-nat a b = by_tests (nat_lt a b) (a == b) (λ less. grind (arith, common_steps))
@@ -221,3 +215,12 @@ module _ {X : Type 0} where
       let r = IsIn-map (λ (e : ℕ × X). e.1) m.entries x h in
       let no : p r.0.1 ≡ false = false_by (p r.0.1) (none r.0.0 r.0.1 (entry_at m ordered r.0.0 r.0.1 r.1)) in
       ap p (sym r.2) ∙ no)
+
+-- two tests that hold of each other
+pub same_tests : (a b : Bool) → (a ≡ true → b ≡ true) → (b ≡ true → a ≡ true) → a ≡ b
+same_tests true b f g = sym (f refl)
+same_tests false b f g = sym (false_by b (λ t. let both : false ≡ true = g t in cc))
+
+pub some_of : {X : Type 0} (o : Option X) → IsSome o → (x : X) × (o ≡ Some x)
+some_of None h = absurd (let no : false ≡ true = h in cc)
+some_of (Some x) h = (x, refl)

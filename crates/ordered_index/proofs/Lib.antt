@@ -6,6 +6,5 @@ pub mod Entries
 pub mod OrderLaws
 pub mod Keeping
 pub mod Endings
-pub mod Puts
 pub mod FirstAndRest
 pub mod PlaceCounts

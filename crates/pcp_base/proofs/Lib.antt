@@ -1,4 +1,5 @@
 pub mod AddressLemmas
+pub mod Anys
 pub mod ApplyLaws
 pub mod Decimals
 pub mod EndFacts
@@ -6,7 +7,13 @@ pub mod EndLemmas
 pub mod EndOrder
 pub mod FirstRoomLaws
 pub mod Members
+pub mod OrderTests
+pub mod OwnerLooks
+pub mod Places
+pub mod PortLemmas
 pub mod PrefixLemmas
+pub mod Puts
+pub mod RenewalLemmas
 pub mod RestLaws
 pub mod RoomLaws
 pub mod Same

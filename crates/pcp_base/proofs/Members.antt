@@ -2,7 +2,7 @@
 use Rattle.std.specs.Prelude.{◌≡◌, refl, ℕ, ◌+◌, ◌<◌, ◌≤◌, ◌⊎◌, zero, suc, Bool, true, false, List, [], ◌∷◌, ◌++◌, map, flat_map, filter, find, Contains, Some, None, IsSome}
 use Rattle.std.specs.List.{AllByRecursion, AllZip, list_any, range_with_len}
 use Rattle.std.proofs.Common.{inl, inr, ap, arith}
-use Rattle.std.proofs.lemmas.Bool.{cond_both, or_parts, or_from, or_cases, or_left, or_right}
+use Rattle.std.proofs.lemmas.Bool.{cond_both, or_parts, or_from, or_cases, or_left, or_right, cases_lt}
 use Rattle.pcp_base.specs.Tables.{EachTwo}
 
 -- x is one of the list
@@ -166,6 +166,14 @@ pub range-IsIn : (a n i : ℕ) → IsIn i (range_with_len a n) → (a ≤ i) × 
 range-IsIn a zero i h = absurd h
 range-IsIn a (suc n) i (inl e) = (omega arith, omega arith)
 range-IsIn a (suc n) i (inr h) = let r = range-IsIn (a + 1) n i h in (omega arith, omega arith)
+
+pub IsIn-range : (a n y : ℕ) → a ≤ y → y < a + n → IsIn y (range_with_len a n)
+IsIn-range a zero y low below = absurd (omega arith)
+IsIn-range a (suc n) y low below =
+    elim (cases_lt a y) [
+      | inl after ↦ inr (IsIn-range (a + 1) n y (omega arith) (omega arith))
+      | inr here ↦ inl (omega arith)
+    ]
 
 pub AllZip-refl : {X : Type 0} (R : X → X → Type 0) → ((x : X) → R x x) → (xs : List X) → AllZip R xs xs
 AllZip-refl R r [] = tt

@@ -73,7 +73,7 @@ back_is_number text front back h spelled p k =
 number_same : (back : List ℕ) (m n : ℕ) → back ≡ decimal m → back ≡ decimal n → m ≤ 128 → n ≤ 128 → m ≡ n
 number_same back m n em en hm hn = decimal_injective m n (omega arith) (omega arith) (sym em ∙ en)
 
-same_prefix : (p q : Prefix) → p.bits ≡ q.bits → p.address ≡ q.address → p ≡ q
+pub same_prefix : (p q : Prefix) → p.bits ≡ q.bits → p.address ≡ q.address → p ≡ q
 same_prefix p q e f = λ i. record { bits = e i; address = f i }
 
 IsPrefixParts-unique : (front : List ℕ) (bits : ℕ) (p q : Prefix) → IsPrefixParts front bits p → IsPrefixParts front bits q → p ≡ q

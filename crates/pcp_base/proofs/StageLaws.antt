@@ -143,29 +143,29 @@ with_left-same t now left others ends h k f g =
 -- ---- leases that expire
 
 -- which lease left an end: one of the MAP leases, or one of the PEER leases
-abbrev FromMap : Table → End → Type 0
+abbrev pub FromMap : Table → End → Type 0
 FromMap t e = (l : MapLease) × IsIn l t.maps × IsIn e (map (end_at l.expiry) (map_owners l))
 
-abbrev FromPeer : Table → End → Type 0
+abbrev pub FromPeer : Table → End → Type 0
 FromPeer t e = (l : PeerLease) × IsIn l t.peers × (end_at l.expiry (peer_owner l) ≡ e)
 
-abbrev map_ends : MapLease → List End
+abbrev pub map_ends : MapLease → List End
 map_ends l = map (end_at l.expiry) (map_owners l)
 
-abbrev peer_end : PeerLease → End
+abbrev pub peer_end : PeerLease → End
 peer_end l = end_at l.expiry (peer_owner l)
 
-expiry-parts : (t : Table) (e : End) → IsIn e (ends_at_expiry t) → FromMap t e ⊎ FromPeer t e
+pub expiry-parts : (t : Table) (e : End) → IsIn e (ends_at_expiry t) → FromMap t e ⊎ FromPeer t e
 expiry-parts t e h =
     elim (IsIn-append (flat_map map_ends t.maps) (map peer_end t.peers) e h) [
       | inl a ↦ inl (IsIn-flat_map map_ends t.maps e a)
       | inr b ↦ inr (IsIn-map peer_end t.peers e b)
     ]
 
-from_map : (t : Table) (e : End) → FromMap t e → IsIn e (ends_at_expiry t)
+pub from_map : (t : Table) (e : End) → FromMap t e → IsIn e (ends_at_expiry t)
 from_map t e h = IsIn-left (flat_map map_ends t.maps) (map peer_end t.peers) e (flat_map-IsIn map_ends t.maps h.0 e h.1 h.2)
 
-from_peer : (t : Table) (e : End) → FromPeer t e → IsIn e (ends_at_expiry t)
+pub from_peer : (t : Table) (e : End) → FromPeer t e → IsIn e (ends_at_expiry t)
 from_peer t e h = IsIn-right (flat_map map_ends t.maps) (map peer_end t.peers) e (subst (λ (x : End). IsIn x (map peer_end t.peers)) h.2 (map-IsIn peer_end t.peers h.0 h.1))
 
 map_ends-end : (l : MapLease) (e : End) → IsIn e (map_ends l) → e.end ≡ l.expiry

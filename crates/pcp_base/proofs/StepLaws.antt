@@ -39,7 +39,7 @@ ends_by-ordered s m h = with_ends-ordered (filter (λ e. not (is_owned_by (owner
 -- ---- a lease is put
 
 -- what another lease is put for is the one that a look-up gives
-put-or : {X : Type 0} (has_key : X → Bool) (new : X) (xs : List X) (x : X) → IsIn x xs → IsIn x (put has_key new xs) ⊎ (find has_key xs ≡ Some x)
+pub put-or : {X : Type 0} (has_key : X → Bool) (new : X) (xs : List X) (x : X) → IsIn x xs → IsIn x (put has_key new xs) ⊎ (find has_key xs ≡ Some x)
 put-or has_key new [] x h = absurd h
 put-or {X = X} has_key new (y ∷ ys) x (inl e) =
     elim (two_ways (has_key y)) [
@@ -55,11 +55,11 @@ put-or {X = X} has_key new (y ∷ ys) x (inr h) =
       ]
     ]
 
-put-new : {X : Type 0} (has_key : X → Bool) (new : X) (xs : List X) → IsIn new (put has_key new xs)
+pub put-new : {X : Type 0} (has_key : X → Bool) (new : X) (xs : List X) → IsIn new (put has_key new xs)
 put-new has_key new [] = inl refl
 put-new has_key new (y ∷ ys) = cond_both (has_key y) (new ∷ ys) (y ∷ put has_key new ys) (λ zs. IsIn new zs) (λ _. inl refl) (λ _. inr (put-new has_key new ys))
 
-found : {X : Type 0} (P : X → Type 0) (o : Option X) (x : X) → o ≡ Some x → IfSome o P → P x
+pub found : {X : Type 0} (P : X → Type 0) (o : Option X) (x : X) → o ≡ Some x → IfSome o P → P x
 found P o x e h = subst (λ o. IfSome o P) e h
 
 put_map-keeps : (t : Table) (l : MapLease) → IsAllowed t (Map l) → (o : Owner) → IsIn o (owners t) → IsIn o (owners (table_changed (Map l) t))

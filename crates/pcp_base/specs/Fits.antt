@@ -1,18 +1,24 @@
 -- Records that may come after those of a state (our own).
-use Rattle.std.specs.Prelude.{◌≡◌, ℕ, ◌≤◌, not, true, false, List, [], ◌∷◌, find, IsSome, IfSome, IfNone, ⊤}
+use Rattle.std.specs.Prelude.{◌≡◌, ◌&&◌, ◌==◌, ℕ, ◌≤◌, not, Bool, bytes_eq, true, false, List, [], ◌∷◌, find, IsSome, IfSome, IfNone, ⊤}
 use Rattle.std.specs.List.{AllByRecursion, list_any}
 use Rattle.pcp_base.specs.declared.leases.Endpoint.{Endpoint}
+use Rattle.pcp_base.specs.declared.leases.MapLease.{MapLease}
 use Rattle.pcp_base.specs.declared.leases.Owner.{Owner}
 use Rattle.pcp_base.specs.declared.records.Change.{Change}
 use Rattle.pcp_base.specs.declared.records.Change.TheVariants.{Map, Peer, DropMap, DropPeer, Rest, Renumber}
 use Rattle.pcp_base.specs.declared.records.Record.{Record}
-use Rattle.pcp_base.specs.Tables.{Table, live, first_endpoint, is_map_of, is_peer_of}
+use Rattle.pcp_base.specs.Tables.{Table, live, first_endpoint, is_map_of, is_peer_of, same_endpoint}
 use Rattle.pcp_base.specs.Owners.{map_owners, peer_owner, owners, is_owned}
 use Rattle.pcp_base.specs.Ends.{is_end_of, rests_for}
 use Rattle.pcp_base.specs.States.{State}
 use Rattle.pcp_base.specs.Records.{IsWellFormedRecord}
 use Rattle.pcp_base.specs.Sound.{Sound, SoundState}
 use Rattle.pcp_base.specs.Apply.{apply, apply_first, is_start}
+
+-- whether the second lease has every field of the first but the expiry and the filters
+abbrev pub renews : MapLease → MapLease → Bool
+renews old new = same_endpoint (first_endpoint old) (first_endpoint new) && old.count == new.count
+    && old.external == new.external && bytes_eq old.nonce.0 new.nonce.0 && old.granted == new.granted
 
 -- A renewal keeps every field but the expiry and the filters; what is deleted is there.
 abbrev pub IsAllowed : Table → Change → Type 0

@@ -1,8 +1,9 @@
 -- Who owns which external port (our own).
-use Rattle.std.specs.Prelude.{◌≡◌, ℕ, ◌+◌, ◌&&◌, ◌==◌, Bool, List, [], ◌∷◌, ◌++◌, map, flat_map, filter, Contains, if◌then◌else◌}
+use Rattle.std.specs.Prelude.{◌≡◌, ℕ, ◌+◌, ◌-◌, ◌&&◌, ◌==◌, nat_le, nat_lt, Bool, List, [], ◌∷◌, ◌++◌, map, flat_map, filter, Contains, if◌then◌else◌}
 use Rattle.std.specs.List.{list_any, range_with_len}
 use Rattle.pcp_base.specs.declared.addresses.Address.{Address}
 use Rattle.pcp_base.specs.declared.leases.Protocol.{Protocol}
+use Rattle.pcp_base.specs.declared.leases.Endpoint.{Endpoint}
 use Rattle.pcp_base.specs.declared.leases.MapLease.{MapLease}
 use Rattle.pcp_base.specs.declared.leases.PeerLease.{PeerLease}
 use Rattle.pcp_base.specs.declared.leases.Owner.{Owner}
@@ -19,6 +20,19 @@ map_owner l i = record {
 -- the ports of a MAP lease, one to one
 abbrev pub map_owners : MapLease → List Owner
 map_owners l = map (map_owner l) (range_with_len 0 l.count)
+
+-- whether the MAP lease owns the port
+abbrev pub owns : Protocol → ℕ → MapLease → Bool
+owns protocol port l = same_protocol l.protocol protocol
+    && nat_le l.external port && nat_lt port (l.external + l.count)
+
+-- the endpoint to which an external port of the MAP lease belongs
+abbrev pub endpoint_behind : ℕ → MapLease → Endpoint
+endpoint_behind port l = record {
+  address = l.address;
+  protocol = l.protocol;
+  port = l.internal + (port - l.external);
+}
 
 -- the port of a PEER lease
 abbrev pub peer_owner : PeerLease → Owner

@@ -6,6 +6,7 @@ use Rattle.std.proofs.lemmas.Fmt.{decimal_injective, decimal_is_IsNumeral}
 use Rattle.pcp_base.specs.AddressTexts.{IsDottedText, IsLongText, IsPrefixText}
 use Rattle.pcp_base.specs.declared.addresses.Prefix.{Prefix}
 use Rattle.pcp_base.proofs.AddressLemmas.{IsDotted-not_long, IsDottedText-unique, IsLongText-unique}
+use Rattle.pcp_base.proofs.PrefixLemmas.{same_prefix}
 
 abbrev HasNoSlash : List ℕ → Type 0
 HasNoSlash text = AllByRecursion (λ c. c ≢ 47) text
@@ -34,9 +35,6 @@ last_slash (x ∷ xs) (y ∷ ys) bs cs h k e =
     let rest : xs ++ 47 ∷ bs ≡ ys ++ 47 ∷ cs = cc e in
     let found = last_slash xs ys bs cs h k rest in
     let fronts : xs ≡ ys = found.0 in (cc, found.1)
-
-same_prefix : (p q : Prefix) → p.bits ≡ q.bits → p.address ≡ q.address → p ≡ q
-same_prefix p q e f = λ i. record { bits = e i; address = f i }
 
 -- what stands before the slash, and the number behind it
 abbrev Parts : List ℕ → ℕ → Prefix → Type 0

@@ -16,7 +16,7 @@ use Rattle.pcp_base.proofs.Members.{IsIn, IsIn-map, IsIn-filter, filter-IsIn, ma
 use Rattle.pcp_base.proofs.Same.{same_protocol-Decides}
 use Rattle.ordered_index.specs.declared.numbered.Numbered.{Numbered}
 use Rattle.ordered_index.specs.Orders.{port_at, port_cmp}
-use Rattle.ordered_index.proofs.Entries.{entry_at, false_by}
+use Rattle.ordered_index.proofs.Entries.{entry_at, false_by, same_tests}
 use Rattle.ordered_index.proofs.Keeping.{port-from, port-to}
 use Rattle.ordered_index.proofs.Mirrorings.{entry-at, at-entry}
 use Rattle.ordered_index.proofs.OrderLaws.{port_total, port_exact, at_self, at_exact}
@@ -26,7 +26,6 @@ use Rattle.peer_table.specs.PeerLists.{IsLastExpiry}
 use Rattle.peer_table.specs.Kept.{PeerKey, Opening, opening_cmp, opening_of_lease, peer_keying, AreKeptPeers, IsOpeningBound, expiry_in, later, last_of}
 use Rattle.peer_table.proofs.PeerKeeping.{peer_laws, opening_total, opening_exact, protocol_of_number}
 use Rattle.peer_table.proofs.PeerKeys.{within_cases, bound_cases}
-use Rattle.peer_table.proofs.PortUses.{same_tests}
 
 -- ---- the later of two
 

@@ -11,7 +11,7 @@ use Rattle.pcp_base.specs.Tables.{names}
 use Rattle.pcp_base.proofs.Same.{same_endpoint-Decides}
 use Rattle.ordered_index.specs.declared.numbered.Numbered.{Numbered}
 use Rattle.ordered_index.specs.Orders.{Place, place_of, place_cmp, IsFirstKey, IsFirst}
-use Rattle.ordered_index.proofs.Entries.{any_in, any_at, entry_at}
+use Rattle.ordered_index.proofs.Entries.{any_in, any_at, entry_at, some_of}
 use Rattle.ordered_index.proofs.Entries.{false_by}
 use Rattle.ordered_index.proofs.EntryLaws.{none_some}
 use Rattle.ordered_index.proofs.Keeping.{key-to, key-from}
@@ -24,10 +24,6 @@ use Rattle.peer_table.proofs.PeerKeys.{places_up, up_places, past_bound}
 -- the endpoint with another port
 abbrev with_port : Endpoint → ℕ → Endpoint
 with_port e port = record { address = e.address; protocol = e.protocol; port = port }
-
-some_of : {X : Type 0} (o : Option X) → IsSome o → (x : X) × (o ≡ Some x)
-some_of None h = absurd (let no : false ≡ true = h in cc)
-some_of (Some x) h = (x, refl)
 
 module _ (it : Numbered PeerLease PeerKey Opening) (h : AreKeptPeers it) (e : Endpoint) (start : PeerKey) (bound : IsBound e 2 start) where
   -- a lease that names a port

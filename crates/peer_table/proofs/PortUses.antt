@@ -15,7 +15,7 @@ use Rattle.pcp_base.proofs.Members.{IsIn, IsIn-filter, find-some}
 use Rattle.pcp_base.proofs.Same.{same_endpoint-Decides}
 use Rattle.ordered_index.specs.declared.numbered.Numbered.{Numbered}
 use Rattle.ordered_index.specs.Orders.{place_of, place_cmp}
-use Rattle.ordered_index.proofs.Entries.{false_by}
+use Rattle.ordered_index.proofs.Entries.{false_by, same_tests}
 use Rattle.ordered_index.proofs.Endings.{count-values}
 use Rattle.ordered_index.proofs.Entries.{any_at, entry_at}
 use Rattle.ordered_index.proofs.EntryLaws.{tally, count-cons}
@@ -60,10 +60,6 @@ count_filtered p q (x ∷ xs) =
     let a = count-cons (λ y. q y && p y) x xs in
     let b = filter_step p q x xs (q x) refl (count_filtered p q xs) in
     omega (arith, a, b)
-
-pub same_tests : (a b : Bool) → (a ≡ true → b ≡ true) → (b ≡ true → a ≡ true) → a ≡ b
-same_tests true b f g = sym (f refl)
-same_tests false b f g = sym (false_by b (λ t. let both : false ≡ true = g t in cc))
 
 at_most : (a b : Bool) → tally (a && b) ≤ tally a
 at_most true true = omega arith

@@ -10,7 +10,7 @@ use Rattle.pcp_base.specs.Tables.{Table, EachTwo, HaveOtherKeys, same_endpoint, 
 use Rattle.pcp_base.proofs.Members.{IsIn, All-IsIn, All-from_IsIn, Contains-from_IsIn, IsIn-right, map-IsIn}
 use Rattle.pcp_base.proofs.Same.{same_endpoint-Decides, same_protocol-Decides}
 use Rattle.peer_table.specs.PeerLists.{AreFellows, AreSoundPeers}
-use Rattle.peer_table.proofs.PortUses.{same_tests}
+use Rattle.ordered_index.proofs.Entries.{same_tests}
 
 module _ (t : Table) (h : Sound t) where
   owns : (l : PeerLease) → IsIn l t.peers → IsIn (peer_owner l) (owners t)

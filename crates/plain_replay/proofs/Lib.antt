@@ -2,5 +2,3 @@ pub mod AgreeLemmas
 pub mod EndPlaces
 pub mod Listing
 pub mod NewLeases
-pub mod Puts
-pub mod RenewalLemmas

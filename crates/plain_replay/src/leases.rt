@@ -2,7 +2,7 @@
 ghost use Rattle.std.specs.Prelude.{◌≡◌, filter, find, position, nat_lt, not, is_some, IfOk, OnOk, OnErr};
 ghost use Rattle.std.specs.Option.{option_copied};
 ghost use Rattle.pcp_base.specs.Tables.{first_endpoint, is_map_of, is_peer_of, put};
-ghost use Rattle.plain_replay.specs.Renewals.{renews};
+ghost use Rattle.pcp_base.specs.Fits.{renews};
 
 use pcp_base::{Address, Endpoint, MapLease, Moment, PeerLease};
 use std::alloc::{AllocError, Global};

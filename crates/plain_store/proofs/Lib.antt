@@ -1,5 +1,3 @@
-pub mod Anys
-pub mod PortLemmas
 pub mod RestLemmas
 pub mod LookLemmas
 pub mod CountLemmas

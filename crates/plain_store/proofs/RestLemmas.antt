@@ -13,7 +13,7 @@ use Rattle.pcp_base.specs.declared.leases.End.{End}
 use Rattle.pcp_base.specs.declared.leases.TheConstants.{REST_SECONDS}
 use Rattle.pcp_base.specs.Protocols.{protocol_number}
 use Rattle.pcp_base.specs.Tables.{Table, live, dead, same_protocol, same_endpoint}
-use Rattle.pcp_base.specs.Owners.{map_owner, map_owners, peer_owner, owners, is_port, is_owned}
+use Rattle.pcp_base.specs.Owners.{map_owner, map_owners, peer_owner, owners, is_port, is_owned, owns, endpoint_behind}
 use Rattle.pcp_base.specs.States.{State}
 use Rattle.pcp_base.specs.Ends.{end_at, ends_at_expiry, is_owned_by, ends_by, is_recent, is_end_of, resting, rests}
 use Rattle.pcp_base.specs.Sound.{SoundState}
@@ -22,10 +22,9 @@ use Rattle.pcp_base.proofs.EndOrder.{SamePort, InOrder-one, HasAsLate, with_ends
 use Rattle.pcp_base.proofs.EndLemmas.{IsLeftBy, left-by_expiry, left-owned, owners-dead}
 use Rattle.pcp_base.proofs.RestLaws.{protocol_number-same, owned-same, left-one, resting-parts}
 use Rattle.lease_store.specs.Picks.{rests_for_another}
-use Rattle.plain_store.specs.OwnedPorts.{owns, endpoint_behind}
 use Rattle.plain_store.specs.RecentEnds.{map_leaves, peer_leaves, end_leaves, map_leaves_another, peer_leaves_another, end_leaves_another}
-use Rattle.plain_store.proofs.Anys.{any-same, any-map, any-flat_map, any-filter}
-use Rattle.plain_store.proofs.PortLemmas.{port_among}
+use Rattle.pcp_base.proofs.Anys.{any-same, any-map, any-flat_map, any-filter}
+use Rattle.pcp_base.proofs.PortLemmas.{port_among}
 
 same_number : (p q : Protocol) → (protocol_number p == protocol_number q) ≡ same_protocol p q
 same_number Tcp Tcp = refl

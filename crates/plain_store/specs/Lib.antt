@@ -1,4 +1,2 @@
-pub mod OwnedPorts
 pub mod RecentEnds
 pub mod AddressPorts
-pub mod Stores

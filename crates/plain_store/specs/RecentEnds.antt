@@ -7,9 +7,8 @@ use Rattle.pcp_base.specs.declared.leases.MapLease.{MapLease}
 use Rattle.pcp_base.specs.declared.leases.PeerLease.{PeerLease}
 use Rattle.pcp_base.specs.declared.leases.End.{End}
 use Rattle.pcp_base.specs.Tables.{same_endpoint}
-use Rattle.pcp_base.specs.Owners.{is_port, peer_owner}
+use Rattle.pcp_base.specs.Owners.{is_port, peer_owner, owns, endpoint_behind}
 use Rattle.pcp_base.specs.Ends.{is_recent, is_end_of}
-use Rattle.plain_store.specs.OwnedPorts.{owns, endpoint_behind}
 
 -- whether what ended then ended less than 120 seconds before m, and not after it
 abbrev pub has_just_ended : ℕ → ℕ → Bool

@@ -1,10 +1,9 @@
 //! How many different ports the leases of an address own.
 ghost use Rattle.std.specs.Prelude.{◌≡◌, ◌+◌, ◌*◌, ◌≤◌, ◌||◌, ◌∷◌, not, length, filter, count_by};
 ghost use Rattle.std.specs.List.{list_any, range_with_len};
-ghost use Rattle.pcp_base.specs.Owners.{is_owned, is_port, peer_owner, port_count, owned};
+ghost use Rattle.pcp_base.specs.Owners.{is_owned, is_port, peer_owner, port_count, owned, owns};
 ghost use Rattle.pcp_base.specs.Reached.{IsReached};
 ghost use Rattle.pcp_base.specs.declared.leases.TheConstants.{MOST_LEASES};
-ghost use Rattle.plain_store.specs.OwnedPorts.{owns};
 ghost use Rattle.plain_store.specs.AddressPorts as address_ports;
 
 use crate::owned::{is_map_owner, is_peer_owner};

@@ -2,8 +2,7 @@
 ghost use Rattle.std.specs.Prelude.{◌≡◌, ◌+◌, ◌-◌, ◌||◌, nat_lt, filter};
 ghost use Rattle.std.specs.List.{list_any};
 ghost use Rattle.pcp_base.specs.Tables.{live};
-ghost use Rattle.pcp_base.specs.Owners.{owners, is_owned, is_port, peer_owner};
-ghost use Rattle.plain_store.specs.OwnedPorts.{owns};
+ghost use Rattle.pcp_base.specs.Owners.{owners, is_owned, is_port, peer_owner, owns};
 
 use pcp_base::{MapLease, Moment, PeerLease, Protocol};
 use plain_replay::PlainReplay;

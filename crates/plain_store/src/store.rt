@@ -24,7 +24,7 @@ pub struct PlainStore {
 }
 
 impl Model for PlainStore {
-    ghost use Rattle.plain_store.specs.Stores.{Stored, IsStored};
+    ghost use Rattle.lease_store.specs.Stores.{Stored, IsStored};
 
     ghost Value = { Stored };
 

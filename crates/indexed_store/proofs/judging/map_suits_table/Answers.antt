@@ -9,8 +9,8 @@ use Rattle.pcp_base.specs.Tables.{live, first_endpoint, is_map_of}
 use Rattle.pcp_base.specs.Owners.{map_owners}
 use Rattle.pcp_base.specs.Rooms.{HasRoomForMap}
 use Rattle.lease_store.specs.Lookups.{lease_count}
-use Rattle.plain_replay.specs.Renewals.{renews}
-use Rattle.plain_replay.proofs.RenewalLemmas.{renewed-from_test, test-from_renewed}
+use Rattle.pcp_base.specs.Fits.{renews}
+use Rattle.pcp_base.proofs.RenewalLemmas.{renewed-from_test, test-from_renewed}
 use Rattle.indexed_store.specs.Judging.{has_room_at}
 use Rattle.indexed_store.proofs.JudgeLemmas.{told-neither, told-some, map-room}
 use Rattle.indexed_store.proofs.judging.map_suits_table.Goals as goal

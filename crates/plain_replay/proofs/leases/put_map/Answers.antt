@@ -1,7 +1,7 @@
 use Rattle.std.proofs.Common.{◌∙◌, ap}
 use Rattle.std.specs.List.{position}
 use Rattle.pcp_base.specs.Tables.{first_endpoint, is_map_of}
-use Rattle.plain_replay.proofs.Puts.{put_at, put_behind}
+use Rattle.pcp_base.proofs.Puts.{put_at, put_behind}
 use Rattle.plain_replay.proofs.leases.put_map.Goals as goal
 
 pub returns-in-Some-clause-ok : goal.returns-in-Some-clause-ok

@@ -1,6 +1,6 @@
 use Rattle.std.proofs.Common.{sym, ◌∙◌, filter, ◌+◌}
 use Rattle.plain_store.specs.AddressPorts.{is_map_at, is_peer_at}
-use Rattle.plain_store.proofs.PortLemmas.{owned_of_either}
+use Rattle.pcp_base.proofs.PortLemmas.{owned_of_either}
 use Rattle.plain_store.proofs.counts.is_counted.Goals as goal
 
 pub returns : goal.returns

@@ -1,7 +1,7 @@
 use Rattle.std.proofs.Common.{sym, ◌∙◌, filter}
 use Rattle.pcp_base.specs.Owners.{is_port, peer_owner}
 use Rattle.plain_store.specs.AddressPorts.{is_peer_at}
-use Rattle.plain_store.proofs.Anys.{any-map}
+use Rattle.pcp_base.proofs.Anys.{any-map}
 use Rattle.plain_store.proofs.counts.is_named_port.Goals as goal
 
 pub returns : goal.returns

@@ -3,7 +3,7 @@ use Rattle.pcp_base.specs.declared.leases.MapLease.{MapLease}
 use Rattle.pcp_base.specs.Tables.{IsMapLease}
 use Rattle.pcp_base.proofs.Members.{All-filter, All-IsIn, find-some}
 use Rattle.filter_rules.specs.Filters.{allows}
-use Rattle.plain_store.specs.OwnedPorts.{owns}
+use Rattle.pcp_base.specs.Owners.{owns}
 use Rattle.plain_store.proofs.lookups.behind_map.Goals as goal
 
 pub endpoint_behind-requires : goal.endpoint_behind-requires

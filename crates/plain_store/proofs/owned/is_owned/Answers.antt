@@ -1,6 +1,6 @@
 use Rattle.std.proofs.Common.{sym, ◌∙◌}
 use Rattle.pcp_base.specs.Tables.{live}
-use Rattle.plain_store.proofs.PortLemmas.{owned_of_either}
+use Rattle.pcp_base.proofs.PortLemmas.{owned_of_either}
 use Rattle.plain_store.proofs.owned.is_owned.Goals as goal
 
 pub returns : goal.returns

@@ -3,7 +3,7 @@ use Rattle.pcp_base.specs.declared.leases.MapLease.{MapLease}
 use Rattle.pcp_base.specs.Tables.{IsMapLease}
 use Rattle.pcp_base.proofs.Members.{find-some, IsIn-filter, All-IsIn}
 use Rattle.filter_rules.specs.Filters.{allows}
-use Rattle.plain_store.specs.OwnedPorts.{owns}
+use Rattle.pcp_base.specs.Owners.{owns}
 use Rattle.indexed_store.proofs.leases.Leases.behind_map.Goals as goal
 
 pub endpoint_behind-requires-clause-ports : goal.endpoint_behind-requires-clause-ports

@@ -3,7 +3,8 @@ use Rattle.std.proofs.lemmas.Bool.{and_parts}
 use Rattle.pcp_base.specs.declared.leases.MapLease.{MapLease}
 use Rattle.pcp_base.specs.Tables.{Table}
 use Rattle.filter_rules.specs.Filters.{allows}
-use Rattle.mapping_table.specs.MapLists.{owns, map_owning}
+use Rattle.pcp_base.specs.Owners.{owns}
+use Rattle.mapping_table.specs.MapLists.{map_owning}
 use Rattle.indexed_store.proofs.Uniques.{none-within, one-within, gone-within_both, one-owns}
 use Rattle.indexed_store.proofs.leases.Leases.map_through.Goals as goal
 

@@ -2,7 +2,7 @@ use Rattle.std.proofs.Common.{[], sym, ◌∙◌, subst}
 use Rattle.pcp_base.specs.States.{State}
 use Rattle.pcp_base.specs.Reached.{IsReached, IsReachedFirst}
 use Rattle.leased_ports.specs.Leased.{IsPortsOf}
-use Rattle.plain_store.specs.Stores.{Stored}
+use Rattle.lease_store.specs.Stores.{Stored}
 use Rattle.indexed_store.proofs.store.IndexedStoreLeaseStore.admit_first.Goals as goal
 
 pub invariant_of-self : goal.invariant_of-self

@@ -3,7 +3,7 @@ use Rattle.pcp_base.specs.States.{State}
 use Rattle.pcp_base.specs.Fits.{Fits}
 use Rattle.pcp_base.specs.Reached.{IsReached}
 use Rattle.leased_ports.specs.Leased.{IsPortsOf}
-use Rattle.plain_store.specs.Stores.{Stored}
+use Rattle.lease_store.specs.Stores.{Stored}
 use Rattle.indexed_store.proofs.store.IndexedStoreLeaseStore.apply.Goals as goal
 
 pub invariant_of-self : goal.invariant_of-self

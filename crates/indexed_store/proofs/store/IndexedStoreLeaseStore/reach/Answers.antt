@@ -1,6 +1,6 @@
 use Rattle.std.proofs.Common.{◌≡◌, ◌≤◌, sym, ap, subst, arith}
 use Rattle.leased_ports.specs.Leased.{Leased, IsPortsOf, IsOnTerms}
-use Rattle.plain_store.specs.Stores.{Stored}
+use Rattle.lease_store.specs.Stores.{Stored}
 use Rattle.indexed_store.proofs.MoveLemmas.{on_later}
 use Rattle.indexed_store.proofs.store.IndexedStoreLeaseStore.reach.Goals as goal
 

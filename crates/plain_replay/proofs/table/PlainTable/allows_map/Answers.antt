@@ -3,7 +3,7 @@ use Rattle.std.specs.Prelude.{find}
 use Rattle.pcp_base.specs.declared.leases.MapLease.{MapLease}
 use Rattle.pcp_base.specs.Tables.{Table, first_endpoint, is_map_of}
 use Rattle.plain_replay.proofs.NewLeases.{decided_where_some}
-use Rattle.plain_replay.proofs.RenewalLemmas.{renewed-from_test, test-from_renewed}
+use Rattle.pcp_base.proofs.RenewalLemmas.{renewed-from_test, test-from_renewed}
 use Rattle.plain_replay.proofs.table.PlainTable.allows_map.Goals as goal
 
 pub returns : goal.returns

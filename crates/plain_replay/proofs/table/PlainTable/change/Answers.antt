@@ -4,7 +4,7 @@ use Rattle.pcp_base.specs.declared.leases.MapLease.{MapLease}
 use Rattle.pcp_base.specs.Tables.{IsMapLease, first_endpoint, is_map_of, put}
 use Rattle.pcp_base.specs.Records.{IsWellFormedChange}
 use Rattle.pcp_base.proofs.Members.{All-filter}
-use Rattle.plain_replay.proofs.Puts.{put_All, put_or_kept}
+use Rattle.pcp_base.proofs.Puts.{put_All, put_or_kept}
 use Rattle.plain_replay.proofs.table.PlainTable.change.Goals as goal
 
 pub invariant_of-self-in-Map-1 : goal.invariant_of-self-in-Map-1

@@ -1,6 +1,6 @@
 use Rattle.std.proofs.Common.{◌≡◌, suc, ◌+◌, ◌-◌, arith, ap, sym, ◌∙◌}
 use Rattle.lease_store.specs.Picks.{is_vacant_run}
-use Rattle.plain_store.specs.Stores.{Stored}
+use Rattle.lease_store.specs.Stores.{Stored}
 use Rattle.plain_store.proofs.LookLemmas.{find_later}
 use Rattle.plain_store.proofs.store.PlainStore.first_vacant.Goals as goal
 

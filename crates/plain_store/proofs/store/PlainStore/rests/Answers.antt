@@ -1,6 +1,6 @@
 use Rattle.std.proofs.Common.{◌≡◌, subst}
 use Rattle.pcp_base.specs.Ends.{rests}
-use Rattle.plain_store.specs.Stores.{Stored}
+use Rattle.lease_store.specs.Stores.{Stored}
 use Rattle.plain_store.proofs.store.PlainStore.rests.Goals as goal
 
 pub returns : goal.returns

@@ -1,7 +1,7 @@
 use Rattle.std.proofs.Common.{◌≡◌, subst}
 use Rattle.lease_store.specs.Lookups.{with_port}
 use Rattle.lease_store.specs.Picks.{rests_for_another}
-use Rattle.plain_store.specs.Stores.{Stored}
+use Rattle.lease_store.specs.Stores.{Stored}
 use Rattle.plain_store.proofs.store.PlainStore.rests_for_another.Goals as goal
 
 pub returns : goal.returns

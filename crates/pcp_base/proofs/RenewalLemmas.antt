@@ -1,5 +1,5 @@
 -- A lease that renews another is that lease with its own expiry and filters.
-use Rattle.std.specs.Prelude.{◌≡◌, refl, ℕ, ◌&&◌, ◌==◌, Bool, true, List, bytes_eq}
+use Rattle.std.specs.Prelude.{◌≡◌, ℕ, true, List, bytes_eq}
 use Rattle.std.proofs.Common.{sym, ap, ◌∙◌}
 use Rattle.std.proofs.lemmas.Bool.{and_parts, and_from, eqb-true, eq-eqb}
 use Rattle.std.proofs.lemmas.Slice.Eq.{bytes_eq-Decides}
@@ -7,9 +7,9 @@ use Rattle.pcp_base.specs.declared.addresses.Nonce.{Nonce}
 use Rattle.pcp_base.specs.declared.leases.Endpoint.{Endpoint}
 use Rattle.pcp_base.specs.declared.leases.Filter.{Filter}
 use Rattle.pcp_base.specs.declared.leases.MapLease.{MapLease}
-use Rattle.pcp_base.specs.Tables.{first_endpoint, same_endpoint}
+use Rattle.pcp_base.specs.Tables.{first_endpoint}
 use Rattle.pcp_base.proofs.Same.{same_endpoint-Decides}
-use Rattle.plain_replay.specs.Renewals.{renews}
+use Rattle.pcp_base.specs.Fits.{renews}
 
 abbrev made : Endpoint → ℕ → ℕ → Nonce → ℕ → ℕ → List Filter → MapLease
 made e count external nonce granted expiry filters = record {

@@ -1,4 +1,4 @@
--- What a plain store stands for (our own).
+-- What a store stands for (our own).
 use Rattle.std.specs.Prelude.{ℕ, ◌≤◌}
 use Rattle.pcp_base.specs.States.{State}
 use Rattle.lease_store.specs.declared.terms.Terms.{Terms}

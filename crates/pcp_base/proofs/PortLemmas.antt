@@ -10,9 +10,8 @@ use Rattle.pcp_base.specs.declared.leases.MapLease.{MapLease}
 use Rattle.pcp_base.specs.declared.leases.PeerLease.{PeerLease}
 use Rattle.pcp_base.specs.declared.leases.Owner.{Owner}
 use Rattle.pcp_base.specs.Tables.{same_protocol}
-use Rattle.pcp_base.specs.Owners.{map_owner, map_owners, peer_owner, is_port, is_owned}
-use Rattle.plain_store.specs.OwnedPorts.{owns, endpoint_behind}
-use Rattle.plain_store.proofs.Anys.{any-same, any-map, any-flat_map}
+use Rattle.pcp_base.specs.Owners.{map_owner, map_owners, peer_owner, is_port, is_owned, owns, endpoint_behind}
+use Rattle.pcp_base.proofs.Anys.{any-same, any-map, any-flat_map}
 
 -- no port is below its own place, or none is left
 ends : (x port : ℕ) → false ≡ (nat_le x port && nat_lt port (x + 0))
