@@ -18,7 +18,7 @@ at_least first (u ∷ vs) (suc j) v e = let r = at_least first vs j v e in omega
 
 pub is_greatest : WordIsGreatest
 is_greatest first s r =
-    let (j, v, there, is) = r.some_view in
+    let (j, v, there, is, _) = r.some_view in
     let a = at_least first s.views j v there in
     let b = at_most first _ s.views r.low (λ i u e. (r.each i u e).raised) in
     omega arith

@@ -1,15 +1,15 @@
 //! The greatest moment that any thread has raised, in one word.
 #![tactic(auto)]
 
-ghost use Rattle.std.specs.Prelude.{◌≡◌, ◌≤◌, max, IfOk, IsOkAnd};
-ghost use Rattle.epoch_word.specs.Rule.{seat_knowledge};
+ghost use Rattle.std.specs.Prelude.{◌≡◌, ◌+◌, ◌<◌, ◌≤◌, max, IfOk, OnErr};
+ghost use Rattle.epoch_word.specs.Rule.{AreSplit, new_share, seat_knowledge};
 
 mod laws;
 #[cfg(test)]
 mod tests;
 mod views;
 
-use crate::views::{Raise, SplitAndJoin, Tell, WordRule, WordView};
+use crate::views::{Raise, SplitAndJoin, Tell, Weigh, WordRule, WordView};
 use atomic_table::{Seat, Table};
 pub use laws::word_is_the_greatest;
 use pcp_base::{Memory, Moment};
@@ -18,6 +18,12 @@ use std::marker::Model;
 
 /// The one word of the table.
 const EPOCH: usize = 0;
+
+/// The share of the first seat.
+const FIRST_SHARE: u64 = u64::MAX;
+
+/// The share of a seat that is split off one with more than twice as much.
+const NEW_SHARE: u64 = 1 << 32;
 
 /// A moment that only rises. To contracts it is a name.
 #[derive(Drop)]
@@ -37,39 +43,46 @@ impl Model for EpochWord {
 }
 
 /// What one caller knows of a word: the greatest moment that was raised with this seat, and the
-/// greatest that it was told. It takes no octets.
+/// greatest that it was told. It has a share of the right to raise, which alone takes octets.
 #[derive(Drop)]
 pub struct EpochSeat {
     seat: Seat<u8, WordView>,
+    share: u64,
 }
 
 impl Model for EpochSeat {
-    ghost use Rattle.std.specs.Prelude.{◌≡◌, []};
+    ghost use Rattle.std.specs.Prelude.{◌≡◌, ◌<◌, []};
     ghost use Rattle.epoch_word.specs.Rule.{SeatKnowledge, seat_knowledge};
 
     ghost Value = { SeatKnowledge };
 
-    ghost view = { λ e. seat_knowledge e.seat.table_id e.seat.me.0.raised e.seat.me.0.heard };
+    ghost view = { λ e.
+        seat_knowledge e.seat.table_id e.seat.me.0.raised e.seat.me.0.heard e.share };
 
-    ghost invariant = { λ e. e.seat.me.1 ≡ [] };
+    ghost invariant = { λ e.
+        (e.seat.me.1 ≡ []) × (e.share ≡ e.seat.me.0.share) × (0 < e.share) };
 }
 
 impl EpochWord {
     /// A word that stands at the first moment, and the first seat, which counts as having raised
-    /// that and been told it. The one error is want of memory.
+    /// that and been told it, and has the whole share. The one error is want of memory.
     pub fn new(alloc: Global, first: Moment) -> Result<(EpochWord, EpochSeat), Memory>
-        ensures { IfOk result (λ made. made.1 ≡ seat_knowledge made.0 first first) }
+        ensures { IfOk result (λ made. made.1 ≡ seat_knowledge made.0 first first FIRST_SHARE) }
     {
         let moment = first.get();
         let (table, seat) = Table::of_words(alloc, &[moment], &moment)?;
-        Ok((EpochWord { table }, EpochSeat { seat }))
+        let seat = EpochSeat {
+            seat,
+            share: FIRST_SHARE,
+        };
+        Ok((EpochWord { table }, seat))
     }
 
     /// Raises the word to this moment, where it is below. The seat must be of this word. It takes
     /// no memory and waits for nobody.
     pub fn raise(&self, seat: &mut EpochSeat, to: Moment)
         requires word { seat.old.word ≡ self.now }
-        ensures { seat.new ≡ seat_knowledge seat.old.word (max seat.old.raised to) seat.old.heard }
+        ensures { seat.new ≡ record seat.old { raised = max seat.old.raised to } }
     {
         self.table
             .shared
@@ -80,7 +93,7 @@ impl EpochWord {
     /// seat must be of this word. It takes no memory and waits for nobody.
     pub fn told(&self, seat: &mut EpochSeat) -> Moment
         requires word { seat.old.word ≡ self.now }
-        ensures seat { seat.new ≡ seat_knowledge seat.old.word seat.old.raised result }
+        ensures seat { seat.new ≡ record seat.old { heard = result } }
         ensures raised { seat.old.raised ≤ result }
         ensures heard { seat.old.heard ≤ result }
     {
@@ -88,30 +101,52 @@ impl EpochWord {
         Moment::of(seconds).unwrap()
     }
 
-    /// Another seat, which knows as much. The seat must be of this word. It takes no memory and is
-    /// never refused.
+    /// Another seat, which knows as much and gets a part of this one's share: 2^32, but at most a
+    /// half. The seat must be of this word. It takes no memory. It is refused, as for want of memory,
+    /// where the share can't be divided any more.
     pub fn split(&self, _alloc: Global, seat: &mut EpochSeat) -> Result<EpochSeat, Memory>
         requires word { seat.old.word ≡ self.now }
-        ensures unchanged { seat.new ≡ seat.old }
-        ensures ok { IsOkAnd result (λ other. other ≡ seat.old) }
+        ensures ok { IfOk result (AreSplit seat.old seat.new) }
+        ensures refused { OnErr result (seat.old.share < 2) }
+        ensures unchanged { OnErr result (seat.new ≡ seat.old) }
     {
-        Ok(EpochSeat {
-            seat: self.table.shared.split_seat::<SplitAndJoin>(&mut seat.seat),
-        })
+        if seat.share < 2 {
+            return Err(Memory);
+        }
+        let other = self.table.shared.split_seat::<SplitAndJoin>(&mut seat.seat);
+        let share = new_share_of(seat.share);
+        seat.share -= share;
+        Ok(EpochSeat { seat: other, share })
     }
 
-    /// Takes in what another seat knows. Both must be of this word. It takes no memory and waits
-    /// for nobody.
+    /// Takes in what another seat knows, and its share. Both must be of this word. It takes no
+    /// memory and waits for nobody.
     pub fn join(&self, seat: &mut EpochSeat, other: EpochSeat)
         requires word { seat.old.word ≡ self.now }
         requires other { other.word ≡ self.now }
         ensures word { seat.new.word ≡ seat.old.word }
         ensures raised { seat.new.raised ≡ max seat.old.raised other.raised }
         ensures heard { seat.new.heard ≡ max seat.old.heard other.heard }
+        ensures share { seat.new.share ≡ seat.old.share + other.share }
     {
-        let EpochSeat { seat: other } = other;
+        let EpochSeat { seat: other, share } = other;
         self.table
             .shared
             .join_seat::<SplitAndJoin>(&mut seat.seat, other);
+        self.table.shared.load::<Weigh>(&mut seat.seat, EPOCH);
+        seat.share += share;
+    }
+}
+
+// How much of this share a new seat gets: `NEW_SHARE`, but at most a half.
+fn new_share_of(share: u64) -> u64
+    requires { 2 ≤ share }
+    ensures exact { result ≡ new_share share }
+    ensures some { (0 < result) × (result < share) }
+{
+    if 2 * NEW_SHARE < share {
+        NEW_SHARE
+    } else {
+        share / 2
     }
 }

@@ -1,5 +1,5 @@
 //! What a seat at the word's table knows, the rule of the table, and what each step tells.
-ghost use Rattle.epoch_word.specs.Rule.{TellsRaise, TellsMoment, joined_word_view, spent_word_view};
+ghost use Rattle.epoch_word.specs.Rule.{TellsRaise, TellsMoment, TellsShare, joined_word_view, keeper_word_view, newcomer_word_view, spent_word_view};
 
 use atomic_table::{Join, Play, Split, TableRule};
 
@@ -10,6 +10,9 @@ pub struct WordView {
 
     /// The greatest moment that it was told.
     pub heard: u64,
+
+    /// Its part of the right to raise the word. Without one it may raise nothing.
+    pub share: u64,
 }
 
 /// The rule of the table. Its key is the first moment.
@@ -37,13 +40,20 @@ impl<S> Play<S, WordView> for Tell {
     ghost then = { TellsMoment };
 }
 
+/// The seat's share is told to be no more than all there is.
+pub struct Weigh;
+
+impl<S> Play<S, WordView> for Weigh {
+    ghost then = { TellsShare };
+}
+
 /// How a view is split, and how two are joined.
 pub struct SplitAndJoin;
 
 impl Split<WordView> for SplitAndJoin {
-    ghost left = { λ v. v };
+    ghost left = { keeper_word_view };
 
-    ghost right = { λ v. v };
+    ghost right = { newcomer_word_view };
 }
 
 impl Join<WordView> for SplitAndJoin {

@@ -6,3 +6,9 @@ returns-clause-greatest c = is_greatest
 
 pub returns-clause-heard : goal.returns-clause-heard
 returns-clause-heard c = none_heard_more
+
+pub returns-clause-raised : goal.returns-clause-raised
+returns-clause-raised c = λ first s r. r.some_view
+
+pub returns-clause-shares : goal.returns-clause-shares
+returns-clause-shares c = λ first s r. r.whole
