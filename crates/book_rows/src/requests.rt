@@ -3,7 +3,7 @@ ghost use Rattle.std.specs.Prelude.{◌≡◌, ◌≤◌, length, IfOk};
 ghost use Rattle.std.specs.Bool.{OnTrue};
 ghost use Rattle.std.specs.List.{AllByRecursion};
 ghost use Rattle.pcp_base.specs.Asks.{IsMapAsk, IsPort, IsWellFormedAsk};
-ghost use Rattle.lease_journal.specs.declared.layout.TheConstants.{MOST_RECORDS};
+ghost use Rattle.journal_sides.specs.declared.layout.TheConstants.{MOST_RECORDS};
 
 use lease_journal::MOST_RECORDS;
 use pcp_base::{Address, Answer, Ask, Endpoint, Filter, FilterList, MapAsk, Nonce, Protocol};

@@ -10,9 +10,9 @@ use Rattle.pcp_base.specs.Apply.{apply_all}
 use Rattle.pcp_base.proofs.Members.{Contains-from_IsIn}
 use Rattle.lease_disk.specs.Pairs.{PairLeavesOnly}
 use Rattle.lease_disk.proofs.PairLemmas.{pair_weaker}
-use Rattle.lease_journal.specs.declared.errors.JournalFault.{JournalFault}
-use Rattle.lease_journal.specs.declared.errors.JournalFault.TheVariants as Journals
-use Rattle.lease_journal.specs.Journals.{StandsFor, StandsForWithOrWithout}
+use Rattle.journal_sides.specs.declared.errors.JournalFault.{JournalFault}
+use Rattle.journal_sides.specs.declared.errors.JournalFault.TheVariants as Journals
+use Rattle.journal_sides.specs.Journals.{StandsFor, StandsForWithOrWithout}
 use Rattle.shard_book.specs.Books.{BookView}
 use Rattle.shard_book.specs.Keepings.{unsure_after}
 use Rattle.lease_histories.specs.Routes.{route_of}

@@ -5,8 +5,8 @@ use Rattle.pcp_base.specs.declared.datagrams.Datagram.{Datagram}
 use Rattle.pcp_base.specs.declared.records.Record.{Record}
 use Rattle.lease_disk.specs.declared.disks.DiskPair.{DiskPair}
 use Rattle.lease_disk.specs.Pairs.{PairHasCause}
-use Rattle.lease_journal.specs.declared.errors.JournalFault.{JournalFault}
-use Rattle.lease_journal.specs.declared.errors.JournalFault.TheVariants as Journals
+use Rattle.journal_sides.specs.declared.errors.JournalFault.{JournalFault}
+use Rattle.journal_sides.specs.declared.errors.JournalFault.TheVariants as Journals
 use Rattle.script_player.specs.Ways.{HasFault}
 use Rattle.script_player.specs.declared.answerers.AnswerFault.TheVariants as Told
 use Rattle.shard_book.specs.Books.{BookView}

@@ -10,8 +10,8 @@ use Rattle.script_player.specs.Ways.{WayLaws}
 use Rattle.lease_disk.specs.Pairs.{HoldsNow, PairLeavesOnly}
 use Rattle.lease_disk.proofs.PairLemmas.{pair_goes_on, pair_started, pair_weaker}
 use Rattle.shard_book.proofs.PairRuns.{holds_after}
-use Rattle.lease_journal.specs.declared.errors.JournalFault.TheVariants.{Disk}
-use Rattle.lease_journal.specs.Journals.{StandsFor, StandsForWithOrWithout}
+use Rattle.journal_sides.specs.declared.errors.JournalFault.TheVariants.{Disk}
+use Rattle.journal_sides.specs.Journals.{StandsFor, StandsForWithOrWithout}
 use Rattle.shard_book.specs.Books.{BookView, IsBook}
 use Rattle.lease_histories.specs.PlainHouses.{PlainHouse, PlainShard, add_entry, loss_entry, packet_entry}
 use Rattle.lease_histories.specs.Routes.{route_of}

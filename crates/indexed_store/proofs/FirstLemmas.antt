@@ -24,7 +24,7 @@ use Rattle.leased_ports.proofs.LastEndLemmas.{last-some, last-from, latest-last}
 use Rattle.std.proofs.Math.ListN.{get_or-map}
 use Rattle.leased_ports.proofs.StepLemmas.{end_in-no_ends}
 use Rattle.indexed_store.specs.Holding.{IsOwner, IsFirstAt, HoldsEach}
-use Rattle.indexed_store.proofs.HoldingLemmas.{latest-least}
+use Rattle.leased_ports.proofs.RecordLemmas.{latest-least}
 use Rattle.indexed_store.proofs.SettlingLemmas.{port_is, is_port_of, any_more, settled_more}
 use Rattle.indexed_store.proofs.ApplyLemmas.{late}
 

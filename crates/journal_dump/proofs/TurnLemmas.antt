@@ -8,7 +8,7 @@ use Rattle.std.specs.Prelude.{slice_set}
 use Rattle.serde_json.specs.Data.{Data}
 use Rattle.pcp_base.specs.declared.configs.External.{External}
 use Rattle.lease_disk.specs.declared.disks.DiskPair.{DiskPair}
-use Rattle.lease_journal.specs.Reads.{IsRead}
+use Rattle.journal_sides.specs.Reads.{IsRead}
 use Rattle.pcp_io.specs.Faults.{HasRisen}
 use Rattle.journal_dump.specs.Dumps.{HasPairFault, IsOnlyRead, reading_value, reading_values}
 use Rattle.journal_dump.specs.Readings.{JournalReading}

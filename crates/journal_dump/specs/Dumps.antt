@@ -8,7 +8,7 @@ use Rattle.pcp_base.specs.declared.configs.External.{External}
 use Rattle.pcp_io.specs.Faults.{HasRisen}
 use Rattle.lease_disk.specs.declared.disks.DiskPair.{DiskPair}
 use Rattle.lease_disk.specs.Pairs.{PairHasCause}
-use Rattle.lease_journal.specs.Reads.{ArePairRead, AreSeenStill}
+use Rattle.journal_sides.specs.Reads.{ArePairRead, AreSeenStill}
 use Rattle.lease_json.specs.Objects.{address_value, maps_value, members, named, natural, peers_value}
 use Rattle.journal_dump.specs.Readings.{JournalReading, IsReadingOf}
 use Rattle.journal_dump.specs.Readings.JournalReading.{Recovered, Blank, Damaged}

@@ -1,6 +1,6 @@
 -- What the sides of a journal are read as (our own).
 use Rattle.std.specs.Prelude.{ℕ, List}
-use Rattle.lease_journal.specs.Journals.{IsBlank, IsDamaged, StandsFor}
+use Rattle.journal_sides.specs.Journals.{IsBlank, IsDamaged, StandsFor}
 use Rattle.lease_journal.specs.declared.errors.Found.{Found}
 use Rattle.pcp_base.specs.States.{State}
 

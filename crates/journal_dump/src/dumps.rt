@@ -9,7 +9,7 @@ ghost use Rattle.pcp_base.specs.declared.configs.TheConstants.{MOST_EXTERNALS};
 ghost use Rattle.pcp_io.specs.Faults.{HasRisen};
 ghost use Rattle.pcp_io.specs.Writes.{WritesPart};
 ghost use Rattle.lease_disk.specs.Pairs.{PairHasCause};
-ghost use Rattle.lease_journal.specs.declared.errors.JournalFault.TheVariants.{Disk as DiskFailed};
+ghost use Rattle.journal_sides.specs.declared.errors.JournalFault.TheVariants.{Disk as DiskFailed};
 ghost use Rattle.journal_dump.specs.Dumps.{HasPairFault, IsDump, IsOnlyRead};
 ghost use Rattle.journal_dump.specs.Turns.{AreReadAs, ChangesAt, IsReadAs};
 ghost use Rattle.journal_dump.specs.declared.faults.DumpFault.TheVariants.{Disk, Memory, Write};

@@ -9,8 +9,8 @@ use Rattle.lease_store.specs.LeaseTerms.{terms_of}
 use Rattle.lease_disk.specs.declared.disks.DiskPair.{DiskPair}
 use Rattle.lease_disk.specs.Pairs.{PairHasCause}
 use Rattle.lease_journal.proofs.ShutLaws.{cause_on}
-use Rattle.lease_journal.specs.declared.errors.JournalFault.{JournalFault}
-use Rattle.lease_journal.specs.declared.errors.JournalFault.TheVariants as Journals
+use Rattle.journal_sides.specs.declared.errors.JournalFault.{JournalFault}
+use Rattle.journal_sides.specs.declared.errors.JournalFault.TheVariants as Journals
 use Rattle.shard_book.specs.Books.{BookView, IsBook}
 use Rattle.lease_house.specs.declared.faults.HouseFault.TheVariants.{Disk}
 use Rattle.lease_house.specs.BookCalls.{ChangesAt, IsSettledIn, StaysBook}

@@ -8,8 +8,8 @@ use Rattle.pcp_base.specs.declared.records.Record.{Record}
 use Rattle.lease_core.specs.Decide.{decide}
 use Rattle.lease_store.specs.Lookups.{lease_count}
 use Rattle.lease_disk.specs.declared.disks.DiskPair.{DiskPair}
-use Rattle.lease_journal.specs.declared.errors.JournalFault.{JournalFault}
-use Rattle.lease_journal.specs.declared.errors.JournalFault.TheVariants.{Disk}
+use Rattle.journal_sides.specs.declared.errors.JournalFault.{JournalFault}
+use Rattle.journal_sides.specs.declared.errors.JournalFault.TheVariants.{Disk}
 use Rattle.shard_book.specs.declared.batches.Answered.{Answered}
 use Rattle.shard_book.specs.declared.standings.Settled.{Settled}
 use Rattle.shard_book.specs.Batches.{answer_at}

@@ -4,8 +4,8 @@ use Rattle.std.specs.List.{slice_get}
 use Rattle.pcp_base.specs.declared.configs.External.{External}
 use Rattle.lease_disk.specs.declared.disks.DiskPair.{DiskPair}
 use Rattle.lease_disk.proofs.PairLemmas.{pair_started}
-use Rattle.lease_journal.specs.declared.errors.JournalFault.{JournalFault}
-use Rattle.lease_journal.specs.declared.errors.JournalFault.TheVariants as Journals
+use Rattle.journal_sides.specs.declared.errors.JournalFault.{JournalFault}
+use Rattle.journal_sides.specs.declared.errors.JournalFault.TheVariants as Journals
 use Rattle.lease_house.specs.declared.faults.HouseFault.{HouseFault}
 use Rattle.lease_house.specs.declared.faults.HouseFault.TheVariants.{Disk, Memory}
 use Rattle.lease_house.specs.SoloCalls.{fault_at}

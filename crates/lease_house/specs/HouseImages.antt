@@ -1,7 +1,7 @@
 -- What a crash may leave of a house over time (our own): images of each pair of disks, by themselves.
 use Rattle.std.specs.Prelude.{◌≡◌, ℕ, List, length, slice_get, Contains, Some}
 use Rattle.lease_disk.specs.Pairs.{PairLeavesOnly}
-use Rattle.lease_journal.specs.Journals.{StandsFor}
+use Rattle.journal_sides.specs.Journals.{StandsFor}
 use Rattle.shard_book.specs.Books.{BookView}
 use Rattle.lease_histories.specs.PlainHouses.{PlainHouse, PlainShard}
 use Rattle.lease_house.specs.SoloHouses.{HouseView}

@@ -5,8 +5,8 @@ use Rattle.pcp_base.specs.declared.datagrams.Datagram.{Datagram}
 use Rattle.pcp_base.specs.declared.records.Change.TheVariants.{Lose}
 use Rattle.pcp_base.specs.declared.records.Record.{Record}
 use Rattle.lease_core.specs.Decide.{decide}
-use Rattle.lease_journal.specs.declared.errors.JournalFault.{JournalFault}
-use Rattle.lease_journal.specs.declared.errors.JournalFault.TheVariants as Journals
+use Rattle.journal_sides.specs.declared.errors.JournalFault.{JournalFault}
+use Rattle.journal_sides.specs.declared.errors.JournalFault.TheVariants as Journals
 use Rattle.shard_book.specs.declared.standings.Settled.{Settled}
 use Rattle.shard_book.specs.Batches.{kept_before}
 use Rattle.shard_book.specs.Books.{BookView}

@@ -1,7 +1,7 @@
 //! A call on one of the books of a house.
 ghost use Rattle.std.specs.Prelude.{◌≡◌, ◌<◌, length, map, max, Err, IfOk, IfErr};
 ghost use Rattle.pcp_base.specs.Asks.{IsWellFormedAsk};
-ghost use Rattle.lease_journal.specs.declared.errors.JournalFault.TheVariants.{Disk};
+ghost use Rattle.journal_sides.specs.declared.errors.JournalFault.TheVariants.{Disk};
 ghost use Rattle.lease_store.specs.Lookups.{lease_count};
 ghost use Rattle.shard_book.specs.Keepings.{Doubts, Keeps};
 ghost use Rattle.shard_book.specs.Settlings.{KeepsDoubt, Settles};

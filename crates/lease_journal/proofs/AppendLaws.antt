@@ -8,19 +8,19 @@ use Rattle.pcp_base.specs.Fits.{AllFit}
 use Rattle.lease_disk.specs.Contents.{after_write, with_zeros}
 use Rattle.lease_disk.specs.Images.{Torn}
 use Rattle.lease_disk.specs.ImageLaws.{torn-after_write, length-with_zeros}
-use Rattle.lease_journal.specs.declared.formats.Format.{Format}
-use Rattle.lease_journal.specs.declared.formats.Format.TheVariants.{Second}
-use Rattle.lease_journal.specs.declared.sides.Side.{Side}
-use Rattle.lease_journal.specs.declared.walks.Standing.{Standing}
-use Rattle.lease_journal.specs.Appending.{MayFollow}
-use Rattle.lease_journal.specs.Formats.{state_by}
-use Rattle.lease_journal.specs.Frames.{IsBatch, frame_text, records_of}
-use Rattle.lease_journal.specs.Journals.{GivesWay, StandsFor, StandsForWithOrWithout}
-use Rattle.lease_journal.specs.Settled.{StandsBy, with_frame}
-use Rattle.lease_journal.specs.Sides.{side_text, IsOpenSide}
-use Rattle.lease_journal.specs.Writes.{ChangesSide, of_side, other, side_parity}
-use Rattle.lease_journal.proofs.FrameLaws.{records_of-push}
-use Rattle.lease_journal.proofs.SideLaws.{behind_torn, behind_written, staged, staged_open, with_or_without, gate_torn, gate_written, side_text-push}
+use Rattle.journal_sides.specs.declared.formats.Format.{Format}
+use Rattle.journal_sides.specs.declared.formats.Format.TheVariants.{Second}
+use Rattle.journal_sides.specs.declared.sides.Side.{Side}
+use Rattle.journal_sides.specs.declared.walks.Standing.{Standing}
+use Rattle.journal_sides.specs.Appending.{MayFollow}
+use Rattle.journal_sides.specs.Formats.{state_by}
+use Rattle.journal_sides.specs.Frames.{IsBatch, frame_text, records_of}
+use Rattle.journal_sides.specs.Journals.{GivesWay, StandsFor, StandsForWithOrWithout}
+use Rattle.journal_sides.specs.Settled.{StandsBy, with_frame}
+use Rattle.journal_sides.specs.Sides.{side_text, IsOpenSide}
+use Rattle.journal_sides.specs.Writes.{ChangesSide, of_side, other, side_parity}
+use Rattle.journal_sides.proofs.FrameLaws.{records_of-push}
+use Rattle.journal_sides.proofs.SideLaws.{behind_torn, behind_written, staged, staged_open, with_or_without, gate_torn, gate_written, side_text-push}
 use Rattle.lease_journal.proofs.StandingLaws.{apply_all-append, counted}
 
 -- so many octets written at a place within a list make it so long

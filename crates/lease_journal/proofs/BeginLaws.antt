@@ -3,12 +3,12 @@ use Rattle.std.proofs.Common.{◌≡◌, inl, inr, ⊎_elim, ℕ, ◌+◌, max, 
 use Rattle.pcp_base.specs.declared.records.Record.{Record}
 use Rattle.lease_disk.specs.Contents.{after_write}
 use Rattle.lease_disk.specs.Images.{Torn}
-use Rattle.lease_journal.specs.declared.formats.Format.TheVariants.{Second}
-use Rattle.lease_journal.specs.declared.sides.Side.{Side}
+use Rattle.journal_sides.specs.declared.formats.Format.TheVariants.{Second}
+use Rattle.journal_sides.specs.declared.sides.Side.{Side}
 use Rattle.lease_journal.specs.Beginnings.{IsBegun, IsPrepared, MayBegin, MayShut}
-use Rattle.lease_journal.specs.Shut.{IsShut, hidden_text}
-use Rattle.lease_journal.specs.Sides.{AreBatches, IsClosedSide, IsOpenSide}
-use Rattle.lease_journal.specs.Writes.{ChangesSide, of_side, side_parity}
+use Rattle.journal_sides.specs.Shut.{IsShut, hidden_text}
+use Rattle.journal_sides.specs.Sides.{AreBatches, IsClosedSide, IsOpenSide}
+use Rattle.journal_sides.specs.Writes.{ChangesSide, of_side, side_parity}
 use Rattle.lease_journal.proofs.Begins.{shut_closed, shut_torn, hidden, hidden_written, gate_opens, gate_is_open}
 
 begun_long : (h text octets image : List ℕ) (size now : ℕ) → text ≡ h ++ 0 ∷ [] → size ≡ length octets → now ≡ max size (1 + length text) → image ≡ 1 ∷ (h ++ 0 ∷ drop (1 + length (h ++ 0 ∷ [])) octets) → now ≡ length image

@@ -7,9 +7,9 @@ use Rattle.pcp_base.specs.declared.records.Record.{Record}
 use Rattle.lease_disk.specs.Contents.{after_write}
 use Rattle.lease_disk.specs.Images.{Torn, CutOrNot}
 use Rattle.lease_disk.proofs.Within.{after_write_within}
-use Rattle.lease_journal.specs.declared.formats.Format.TheVariants.{Second}
-use Rattle.lease_journal.specs.Sides.{AreBatches, IsOpenSide, IsClosedSide}
-use Rattle.lease_journal.specs.Shut.{IsShut, hidden_text}
+use Rattle.journal_sides.specs.declared.formats.Format.TheVariants.{Second}
+use Rattle.journal_sides.specs.Sides.{AreBatches, IsOpenSide, IsClosedSide}
+use Rattle.journal_sides.specs.Shut.{IsShut, hidden_text}
 
 pub shut_closed : (octets : List ℕ) → IsShut octets → IsClosedSide octets
 shut_closed octets shut = inr shut.gate

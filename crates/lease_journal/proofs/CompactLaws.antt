@@ -7,18 +7,18 @@ use Rattle.pcp_base.specs.Fits.{AllFit}
 use Rattle.lease_disk.specs.Contents.{after_write}
 use Rattle.lease_disk.specs.declared.disks.DiskPair.{DiskPair}
 use Rattle.lease_disk.specs.Images.{CutOrNot, Torn}
-use Rattle.lease_journal.specs.declared.formats.Format.TheVariants.{Second}
-use Rattle.lease_journal.specs.declared.sides.Side.{Side}
-use Rattle.lease_journal.specs.declared.sides.Side.TheVariants.{A, B}
-use Rattle.lease_journal.specs.declared.walks.Standing.{Standing}
+use Rattle.journal_sides.specs.declared.formats.Format.TheVariants.{Second}
+use Rattle.journal_sides.specs.declared.sides.Side.{Side}
+use Rattle.journal_sides.specs.declared.sides.Side.TheVariants.{A, B}
+use Rattle.journal_sides.specs.declared.walks.Standing.{Standing}
 use Rattle.lease_journal.specs.Beginnings.{IsBegun, MayBegin}
 use Rattle.lease_journal.specs.Compactions.{TakesOver}
-use Rattle.lease_journal.specs.Journals.{GivesWay, StandsFor}
-use Rattle.lease_journal.specs.Judging.{IsStanding}
-use Rattle.lease_journal.specs.Settled.{StandsBy, IsSettledBy}
-use Rattle.lease_journal.specs.Shut.{IsHidden}
-use Rattle.lease_journal.specs.Sides.{AreBatches, IsClosedSide, IsOpenSide}
-use Rattle.lease_journal.specs.Writes.{ChangesSide, of_side, other, side_parity}
+use Rattle.journal_sides.specs.Journals.{GivesWay, StandsFor}
+use Rattle.journal_sides.specs.Judging.{IsStanding}
+use Rattle.journal_sides.specs.Settled.{StandsBy, IsSettledBy}
+use Rattle.journal_sides.specs.Shut.{IsHidden}
+use Rattle.journal_sides.specs.Sides.{AreBatches, IsClosedSide, IsOpenSide}
+use Rattle.journal_sides.specs.Writes.{ChangesSide, of_side, other, side_parity}
 use Rattle.lease_journal.proofs.Begins.{cut_closed}
 use Rattle.lease_journal.proofs.PairLaws.{way_torn}
 use Rattle.lease_journal.proofs.PrepareLaws.{shut_written}

@@ -6,16 +6,16 @@ use Rattle.lease_disk.specs.declared.disks.DiskPair.{DiskPair}
 use Rattle.lease_disk.specs.Pairs.{HoldsNow, Leads, OnOneSide, PairLeavesOnly}
 use Rattle.lease_disk.proofs.CallLemmas.{has_now}
 use Rattle.lease_disk.proofs.PairLemmas.{pair_goes_on, pair_weaker}
-use Rattle.lease_journal.specs.declared.judging.Verdict.{Verdict}
-use Rattle.lease_journal.specs.declared.judging.Verdict.TheVariants.{Counting, Neither, Broken}
-use Rattle.lease_journal.specs.declared.formats.Format.{Format}
-use Rattle.lease_journal.specs.declared.formats.Format.TheVariants.{First, Second}
-use Rattle.lease_journal.specs.Formats.{IsReplaying}
-use Rattle.lease_journal.specs.Journals.{IsBlank, IsDamaged, IsStarting, IsStartingAnew}
+use Rattle.journal_sides.specs.declared.judging.Verdict.{Verdict}
+use Rattle.journal_sides.specs.declared.judging.Verdict.TheVariants.{Counting, Neither, Broken}
+use Rattle.journal_sides.specs.declared.formats.Format.{Format}
+use Rattle.journal_sides.specs.declared.formats.Format.TheVariants.{First, Second}
+use Rattle.journal_sides.specs.Formats.{IsReplaying}
+use Rattle.journal_sides.specs.Journals.{IsBlank, IsDamaged, IsStarting, IsStartingAnew}
 use Rattle.lease_journal.specs.Openings.{LeavesOld, MayOpen, Opens}
-use Rattle.lease_journal.specs.Reads.{ArePairRead, AreSeenStill}
-use Rattle.lease_journal.specs.Verdicts.{AreFound}
-use Rattle.lease_journal.specs.Writes.{AreDurable}
+use Rattle.journal_sides.specs.Reads.{ArePairRead, AreSeenStill}
+use Rattle.journal_sides.specs.Verdicts.{AreFound}
+use Rattle.journal_sides.specs.Writes.{AreDurable}
 use Rattle.lease_journal.proofs.PrepareLaws.{pair_still}
 use Rattle.lease_journal.proofs.StandingLaws.{stands_for}
 

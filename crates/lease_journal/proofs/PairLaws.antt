@@ -5,10 +5,10 @@ use Rattle.pcp_base.specs.declared.records.Record.{Record}
 use Rattle.pcp_base.specs.declared.records.Change.TheVariants.{Start}
 use Rattle.pcp_base.proofs.TableLemmas.{Sound-empty}
 use Rattle.lease_disk.specs.Images.{Torn}
-use Rattle.lease_journal.specs.declared.formats.Format.TheVariants.{Second}
-use Rattle.lease_journal.specs.Sides.{AreBatches, IsOpenSide, IsClosedSide}
-use Rattle.lease_journal.specs.Journals.{GivesWay, IsStarting}
-use Rattle.lease_journal.specs.Shut.{IsShut}
+use Rattle.journal_sides.specs.declared.formats.Format.TheVariants.{Second}
+use Rattle.journal_sides.specs.Sides.{AreBatches, IsOpenSide, IsClosedSide}
+use Rattle.journal_sides.specs.Journals.{GivesWay, IsStarting}
+use Rattle.journal_sides.specs.Shut.{IsShut}
 use Rattle.lease_journal.proofs.Begins.{shut_closed, short_torn, open_torn, hidden, gate_opens}
 
 -- the batches of a start

@@ -5,9 +5,9 @@ use Rattle.lease_disk.specs.Moments.{LeavesOnly}
 use Rattle.lease_disk.specs.Pairs.{PairLeavesOnly}
 use Rattle.lease_disk.proofs.CallLemmas.{weaker}
 use Rattle.lease_disk.proofs.PairLemmas.{on_a, on_b}
-use Rattle.lease_journal.specs.declared.sides.Side.{Side}
-use Rattle.lease_journal.specs.declared.sides.Side.TheVariants.{A, B}
-use Rattle.lease_journal.specs.Writes.{AreDurable, ChangesSide}
+use Rattle.journal_sides.specs.declared.sides.Side.{Side}
+use Rattle.journal_sides.specs.declared.sides.Side.TheVariants.{A, B}
+use Rattle.journal_sides.specs.Writes.{AreDurable, ChangesSide}
 
 module _ {D : Type 0} (seen : D → List ℕ) (may_leave : D → List ℕ → Type 0) (moment : D → ℕ) (left_since : D → ℕ → List ℕ → Type 0) (step : List ℕ → List ℕ → Type 0) (same : (octets : List ℕ) → step octets octets) (pair : DiskPair D) (durable : AreDurable seen may_leave pair) where
   pub side_a : (side : Side) (new : D) → side ≡ A → LeavesOnly moment left_since pair.a new (step (seen pair.a)) → PairLeavesOnly moment left_since may_leave pair (record { a = new; b = pair.b }) (ChangesSide side step (seen pair.a) (seen pair.b))

@@ -9,16 +9,16 @@ use Rattle.lease_disk.specs.Pairs.{HoldsNow, PairLeavesOnly}
 use Rattle.lease_disk.specs.declared.disks.DiskPair.{DiskPair}
 use Rattle.lease_disk.proofs.CallLemmas.{has_now, weaker}
 use Rattle.lease_disk.proofs.PairLemmas.{on_a, on_b, pair_goes_on}
-use Rattle.lease_journal.specs.declared.sides.Side.{Side}
-use Rattle.lease_journal.specs.declared.sides.Side.TheVariants.{A, B}
-use Rattle.lease_journal.specs.declared.walks.Judged.{Judged}
-use Rattle.lease_journal.specs.declared.walks.Judged.TheVariants.{Closed, Bad, Good}
+use Rattle.journal_sides.specs.declared.sides.Side.{Side}
+use Rattle.journal_sides.specs.declared.sides.Side.TheVariants.{A, B}
+use Rattle.journal_sides.specs.declared.walks.Judged.{Judged}
+use Rattle.journal_sides.specs.declared.walks.Judged.TheVariants.{Closed, Bad, Good}
 use Rattle.lease_journal.specs.Beginnings.{IsPrepared, MayShut}
-use Rattle.lease_journal.specs.Judging.{IsSideJudged}
-use Rattle.lease_journal.specs.Reads.{IsRead, ArePairRead, AreSeenStill}
-use Rattle.lease_journal.specs.Shut.{IsShut}
-use Rattle.lease_journal.specs.Sides.{IsClosedSide}
-use Rattle.lease_journal.specs.Writes.{AreDurable, ChangesSide, of_side, other, side_parity}
+use Rattle.journal_sides.specs.Judging.{IsSideJudged}
+use Rattle.journal_sides.specs.Reads.{IsRead, ArePairRead, AreSeenStill}
+use Rattle.journal_sides.specs.Shut.{IsShut}
+use Rattle.journal_sides.specs.Sides.{IsClosedSide}
+use Rattle.journal_sides.specs.Writes.{AreDurable, ChangesSide, of_side, other, side_parity}
 use Rattle.lease_journal.proofs.Begins.{shut_closed, short_torn, open_torn}
 
 -- no gate is read

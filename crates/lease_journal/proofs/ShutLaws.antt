@@ -4,16 +4,16 @@ use Rattle.std.specs.Prelude.{◌⊎◌}
 use Rattle.pcp_io.specs.Faults.{HasRisen}
 use Rattle.lease_disk.specs.declared.disks.DiskPair.{DiskPair}
 use Rattle.lease_disk.specs.Pairs.{PairHasCause}
-use Rattle.lease_journal.specs.declared.sides.Side.TheVariants.{A, B}
-use Rattle.lease_journal.specs.declared.walks.Judged.{Judged}
-use Rattle.lease_journal.specs.declared.walks.Judged.TheVariants.{Closed, Bad, Good}
-use Rattle.lease_journal.specs.declared.walks.Standing.{Standing}
+use Rattle.journal_sides.specs.declared.sides.Side.TheVariants.{A, B}
+use Rattle.journal_sides.specs.declared.walks.Judged.{Judged}
+use Rattle.journal_sides.specs.declared.walks.Judged.TheVariants.{Closed, Bad, Good}
+use Rattle.journal_sides.specs.declared.walks.Standing.{Standing}
 use Rattle.lease_journal.specs.Beginnings.{MayShut}
-use Rattle.lease_journal.specs.Journals.{IsBlank, IsDamaged}
-use Rattle.lease_journal.specs.Judging.{IsSideJudged}
-use Rattle.lease_journal.specs.Sides.{IsClosedSide, IsBadSide}
-use Rattle.lease_journal.specs.Verdicts.{AreBroken}
-use Rattle.lease_journal.specs.Writes.{ChangesSide}
+use Rattle.journal_sides.specs.Journals.{IsBlank, IsDamaged}
+use Rattle.journal_sides.specs.Judging.{IsSideJudged}
+use Rattle.journal_sides.specs.Sides.{IsClosedSide, IsBadSide}
+use Rattle.journal_sides.specs.Verdicts.{AreBroken}
+use Rattle.journal_sides.specs.Writes.{ChangesSide}
 
 abbrev pub IsShutting : List ℕ → List ℕ → Type 0
 IsShutting x y = IsDamaged x y ⊎ IsBlank x y

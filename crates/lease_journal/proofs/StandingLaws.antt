@@ -3,17 +3,17 @@ use Rattle.std.proofs.Common.{◌≡◌, inl, inr, ℕ, ◌+◌, ◌≤◌, List
 use Rattle.pcp_base.specs.declared.records.Record.{Record}
 use Rattle.pcp_base.specs.States.{State}
 use Rattle.pcp_base.specs.Apply.{apply, apply_all}
-use Rattle.lease_journal.specs.Formats.{state_by}
-use Rattle.lease_journal.specs.declared.formats.Format.{Format}
-use Rattle.lease_journal.specs.Frames.{records_of}
-use Rattle.lease_journal.specs.Judging.{IsStanding}
-use Rattle.lease_journal.specs.Sides.{IsOpenSide, side_text}
-use Rattle.lease_journal.specs.Journals.{GivesWay, StandsFor, StandsForWithOrWithout}
-use Rattle.lease_journal.specs.Settled.{StandsBy, IsSettledBy}
-use Rattle.lease_journal.specs.declared.sides.Side.{Side}
-use Rattle.lease_journal.specs.declared.sides.Side.TheVariants.{A, B}
-use Rattle.lease_journal.specs.declared.walks.Standing.{Standing}
-use Rattle.lease_journal.specs.Writes.{of_side, other, side_parity}
+use Rattle.journal_sides.specs.Formats.{state_by}
+use Rattle.journal_sides.specs.declared.formats.Format.{Format}
+use Rattle.journal_sides.specs.Frames.{records_of}
+use Rattle.journal_sides.specs.Judging.{IsStanding}
+use Rattle.journal_sides.specs.Sides.{IsOpenSide, side_text}
+use Rattle.journal_sides.specs.Journals.{GivesWay, StandsFor, StandsForWithOrWithout}
+use Rattle.journal_sides.specs.Settled.{StandsBy, IsSettledBy}
+use Rattle.journal_sides.specs.declared.sides.Side.{Side}
+use Rattle.journal_sides.specs.declared.sides.Side.TheVariants.{A, B}
+use Rattle.journal_sides.specs.declared.walks.Standing.{Standing}
+use Rattle.journal_sides.specs.Writes.{of_side, other, side_parity}
 use Rattle.lease_disk.specs.declared.disks.DiskPair.{DiskPair}
 use Rattle.lease_disk.specs.Pairs.{HoldsNow, PairLeavesOnly}
 use Rattle.lease_disk.proofs.PairLemmas.{pair_started}

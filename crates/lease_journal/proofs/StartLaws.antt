@@ -7,14 +7,14 @@ use Rattle.pcp_base.specs.Apply.{apply, state_of}
 use Rattle.pcp_base.specs.Fits.{AllFit, Fits}
 use Rattle.lease_disk.specs.declared.disks.DiskPair.{DiskPair}
 use Rattle.lease_disk.specs.Pairs.{HoldsNow}
-use Rattle.lease_journal.specs.declared.formats.Format.TheVariants.{Second}
-use Rattle.lease_journal.specs.declared.sides.Side.TheVariants.{A}
+use Rattle.journal_sides.specs.declared.formats.Format.TheVariants.{Second}
+use Rattle.journal_sides.specs.declared.sides.Side.TheVariants.{A}
 use Rattle.lease_journal.specs.Beginnings.{IsBegun, MayBegin}
-use Rattle.lease_journal.specs.Journals.{IsBlank, IsStarting, StandsFor, fresh_state}
-use Rattle.lease_journal.specs.Settled.{StandsBy}
-use Rattle.lease_journal.specs.Shut.{IsHidden, hidden_text}
-use Rattle.lease_journal.specs.Sides.{AreBatches, IsClosedSide, side_text}
-use Rattle.lease_journal.specs.Writes.{AreDurable, ChangesSide}
+use Rattle.journal_sides.specs.Journals.{IsBlank, IsStarting, StandsFor, fresh_state}
+use Rattle.journal_sides.specs.Settled.{StandsBy}
+use Rattle.journal_sides.specs.Shut.{IsHidden, hidden_text}
+use Rattle.journal_sides.specs.Sides.{AreBatches, IsClosedSide, side_text}
+use Rattle.journal_sides.specs.Writes.{AreDurable, ChangesSide}
 use Rattle.lease_journal.proofs.PairLaws.{first_batches, start_at}
 use Rattle.lease_journal.proofs.StandingLaws.{counts_a}
 

@@ -1,12 +1,12 @@
 -- A side that is written anew (our own).
 use Rattle.std.specs.Prelude.{◌≡◌, ◌⊎◌, ◌<◌, ℕ, Bool, true, false, List, length, get_or}
 use Rattle.pcp_base.specs.declared.records.Record.{Record}
-use Rattle.lease_journal.specs.declared.layout.TheConstants.{SHORTEST_SIDE}
-use Rattle.lease_journal.specs.declared.formats.Format.TheVariants.{Second}
-use Rattle.lease_journal.specs.declared.sides.Side.{Side}
-use Rattle.lease_journal.specs.Shut.{IsShut}
-use Rattle.lease_journal.specs.Sides.{IsOpenSide, IsClosedSide}
-use Rattle.lease_journal.specs.Writes.{of_side, other, side_parity}
+use Rattle.journal_sides.specs.declared.layout.TheConstants.{SHORTEST_SIDE}
+use Rattle.journal_sides.specs.declared.formats.Format.TheVariants.{Second}
+use Rattle.journal_sides.specs.declared.sides.Side.{Side}
+use Rattle.journal_sides.specs.Shut.{IsShut}
+use Rattle.journal_sides.specs.Sides.{IsOpenSide, IsClosedSide}
+use Rattle.journal_sides.specs.Writes.{of_side, other, side_parity}
 
 -- in the middle of it: what it was, closed, or open with these batches
 abbrev pub MayBegin : ℕ → ℕ → List (List Record) → List ℕ → List ℕ → Type 0

@@ -3,12 +3,12 @@ use Rattle.std.specs.Prelude.{◌≡◌, ℕ, ◌<◌, List, [], ◌∷◌, ◌+
 use Rattle.pcp_base.specs.declared.records.Record.{Record}
 use Rattle.pcp_base.specs.States.{State}
 use Rattle.pcp_base.specs.Apply.{state_of}
-use Rattle.lease_journal.specs.declared.formats.Format.TheVariants.{Second}
-use Rattle.lease_journal.specs.declared.sides.Side.{Side}
-use Rattle.lease_journal.specs.Frames.{records_of}
-use Rattle.lease_journal.specs.Shut.{hidden_text}
-use Rattle.lease_journal.specs.Sides.{AreBatches}
-use Rattle.lease_journal.specs.Writes.{other, side_parity}
+use Rattle.journal_sides.specs.declared.formats.Format.TheVariants.{Second}
+use Rattle.journal_sides.specs.declared.sides.Side.{Side}
+use Rattle.journal_sides.specs.Frames.{records_of}
+use Rattle.journal_sides.specs.Shut.{hidden_text}
+use Rattle.journal_sides.specs.Sides.{AreBatches}
+use Rattle.journal_sides.specs.Writes.{other, side_parity}
 
 -- These octets, behind its gate, let the other side take over from this one: its generation is
 -- greater, and its records stand for the same.

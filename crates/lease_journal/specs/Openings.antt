@@ -5,13 +5,13 @@ use Rattle.lease_disk.specs.declared.disks.DiskPair.{DiskPair}
 use Rattle.lease_disk.specs.Pairs.{PairLeavesOnly}
 use Rattle.lease_journal.specs.declared.errors.Found.{Found}
 use Rattle.lease_journal.specs.declared.errors.Found.TheVariants.{Recovered, Blank, Damaged}
-use Rattle.lease_journal.specs.declared.formats.Format.TheVariants.{Second}
-use Rattle.lease_journal.specs.declared.sides.Side.{Side}
-use Rattle.lease_journal.specs.declared.sides.Side.TheVariants.{A}
-use Rattle.lease_journal.specs.declared.walks.Standing.{Standing}
-use Rattle.lease_journal.specs.Journals.{IsBlank, IsDamaged, StandsFor, IsStarting, IsStartingAnew, fresh_state}
-use Rattle.lease_journal.specs.Reads.{AreSeenStill}
-use Rattle.lease_journal.specs.Writes.{AreDurable}
+use Rattle.journal_sides.specs.declared.formats.Format.TheVariants.{Second}
+use Rattle.journal_sides.specs.declared.sides.Side.{Side}
+use Rattle.journal_sides.specs.declared.sides.Side.TheVariants.{A}
+use Rattle.journal_sides.specs.declared.walks.Standing.{Standing}
+use Rattle.journal_sides.specs.Journals.{IsBlank, IsDamaged, StandsFor, IsStarting, IsStartingAnew, fresh_state}
+use Rattle.journal_sides.specs.Reads.{AreSeenStill}
+use Rattle.journal_sides.specs.Writes.{AreDurable}
 
 -- After sides that held a and b are read and opened at m, in the middle too, a crash may leave x
 -- and y.

@@ -1,10 +1,10 @@
 -- A journal as contracts see it (our own).
-use Rattle.std.specs.Prelude.{◌≤◌, ◌^◌, ◌<◌, ℕ, Bool, List}
+use Rattle.std.specs.Prelude.{ℕ, Bool, List}
 use Rattle.pcp_base.specs.States.{State}
 use Rattle.lease_disk.specs.declared.disks.DiskPair.{DiskPair}
-use Rattle.lease_journal.specs.declared.sides.Side.{Side}
-use Rattle.lease_journal.specs.declared.walks.Standing.{Standing}
-use Rattle.lease_journal.specs.Settled.{IsSettledBy}
+use Rattle.journal_sides.specs.declared.sides.Side.{Side}
+use Rattle.journal_sides.specs.declared.walks.Standing.{Standing}
+use Rattle.journal_sides.specs.Settled.{IsSettledBy}
 
 pub record JournalView (D : Type 0) : Type 0 where
   pub pair : DiskPair D
@@ -21,8 +21,3 @@ abbrev pub IsSettled : {D : Type 0} → (D → List ℕ) → (D → List ℕ →
     → State → Type 0
 IsSettled seen may_leave journal s =
     IsSettledBy seen may_leave journal.side journal.standing journal.pair s
-
--- the walk over a side ends within what a disk may hold
-pub record IsInReach (standing : Standing) : Type 0 where
-  pub ends : standing.end < 2 ^ 62
-  pub long : standing.length ≤ 2 ^ 62

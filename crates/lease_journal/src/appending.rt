@@ -5,14 +5,14 @@ ghost use Rattle.pcp_base.specs.Apply.{apply_all};
 ghost use Rattle.pcp_base.specs.Fits.{AllFit};
 ghost use Rattle.pcp_base.specs.States.{State};
 ghost use Rattle.lease_disk.specs.Pairs.{PairHasCause, PairLeavesOnly};
-ghost use Rattle.lease_journal.specs.declared.formats.Format.TheVariants.{Second};
-ghost use Rattle.lease_journal.specs.declared.walks.Standing.{Standing};
-ghost use Rattle.lease_journal.specs.Frames.{IsBatch, frame_text};
-ghost use Rattle.lease_journal.specs.Journals.{StandsForWithOrWithout};
-ghost use Rattle.lease_journal.specs.Settled.{IsSettledBy, with_frame};
+ghost use Rattle.journal_sides.specs.declared.formats.Format.TheVariants.{Second};
+ghost use Rattle.journal_sides.specs.declared.walks.Standing.{Standing};
+ghost use Rattle.journal_sides.specs.Frames.{IsBatch, frame_text};
+ghost use Rattle.journal_sides.specs.Journals.{StandsForWithOrWithout};
+ghost use Rattle.journal_sides.specs.Settled.{IsSettledBy, with_frame};
 
-use crate::sides::Side;
 use crate::writes::write_side;
+use journal_sides::Side;
 use lease_disk::{DiskPair, LeaseDisk};
 use pcp_base::Failed;
 

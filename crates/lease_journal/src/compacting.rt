@@ -2,16 +2,16 @@
 ghost use Rattle.std.specs.Prelude.{◌≡◌, ◌<◌, ◌≤◌, ◌^◌, ℕ, [], ◌∷◌, get_or, length, IfOk, OnOk, IsErr};
 ghost use Rattle.pcp_base.specs.States.{State};
 ghost use Rattle.lease_disk.specs.Pairs.{PairHasCause, PairLeavesOnly};
-ghost use Rattle.lease_journal.specs.declared.formats.Format.TheVariants.{Second};
-ghost use Rattle.lease_journal.specs.declared.walks.Standing.{Standing};
+ghost use Rattle.journal_sides.specs.declared.formats.Format.TheVariants.{Second};
+ghost use Rattle.journal_sides.specs.declared.walks.Standing.{Standing};
 ghost use Rattle.lease_journal.specs.Compactions.{TakesOver};
-ghost use Rattle.lease_journal.specs.Journals.{StandsFor};
-ghost use Rattle.lease_journal.specs.Settled.{IsSettledBy};
-ghost use Rattle.lease_journal.specs.Writes.{of_side, other};
+ghost use Rattle.journal_sides.specs.Journals.{StandsFor};
+ghost use Rattle.journal_sides.specs.Settled.{IsSettledBy};
+ghost use Rattle.journal_sides.specs.Writes.{of_side, other};
 
 use crate::openings::begin_side;
-use crate::sides::Side;
 use crate::writes::{cut_side, write_side};
+use journal_sides::Side;
 use lease_disk::{DiskPair, LeaseDisk};
 use pcp_base::Failed;
 

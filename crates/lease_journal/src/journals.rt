@@ -3,14 +3,11 @@ ghost use Rattle.std.specs.Prelude.{◌≡◌};
 
 use crate::appending::put_frame;
 use crate::compacting::take_over;
-use crate::errors::{Found, JournalFault, Unopened};
-use crate::formats::Format;
-use crate::frames::{frame_of, hidden_of};
-use crate::judging::{Verdict, judge};
-use crate::layout::MOST_RECORDS;
+use crate::errors::{Found, Unopened};
 use crate::openings::open;
-use crate::sides::Side;
-use crate::walks::Standing;
+use journal_sides::{
+    Format, JournalFault, MOST_RECORDS, Side, Standing, Verdict, frame_of, hidden_of, judge,
+};
 use lease_disk::{DiskPair, LeaseDisk};
 use pcp_base::{Moment, Record, Replay};
 use std::alloc::Global;
@@ -28,7 +25,8 @@ pub struct Journal<D> {
 }
 
 impl<D> Model for Journal<D> {
-    ghost use Rattle.lease_journal.specs.Views.{JournalView, IsInReach};
+    ghost use Rattle.journal_sides.specs.Settled.{IsInReach};
+    ghost use Rattle.lease_journal.specs.Views.{JournalView};
 
     ghost Value = { JournalView D };
 
@@ -51,16 +49,16 @@ impl<D: LeaseDisk> Journal<D> {
     ghost use Rattle.pcp_base.specs.Records.{IsWellFormedRecord};
     ghost use Rattle.pcp_base.specs.States.{State, empty_state};
     ghost use Rattle.lease_disk.specs.Pairs.{PairHasCause, PairLeavesOnly};
-    ghost use Rattle.lease_journal.specs.declared.errors.JournalFault.TheVariants.{Disk, Memory};
-    ghost use Rattle.lease_journal.specs.declared.formats.Format.TheVariants.{Second};
-    ghost use Rattle.lease_journal.specs.declared.layout.TheConstants.{MOST_RECORDS};
-    ghost use Rattle.lease_journal.specs.Formats.{HasNext, IsReplaying, format_octet};
-    ghost use Rattle.lease_journal.specs.Frames.{frame_text};
-    ghost use Rattle.lease_journal.specs.Journals.{StandsFor, StandsForWithOrWithout};
+    ghost use Rattle.journal_sides.specs.declared.errors.JournalFault.TheVariants.{Disk, Memory};
+    ghost use Rattle.journal_sides.specs.declared.formats.Format.TheVariants.{Second};
+    ghost use Rattle.journal_sides.specs.declared.layout.TheConstants.{MOST_RECORDS};
+    ghost use Rattle.journal_sides.specs.Formats.{HasNext, IsReplaying, format_octet};
+    ghost use Rattle.journal_sides.specs.Frames.{frame_text};
+    ghost use Rattle.journal_sides.specs.Journals.{StandsFor, StandsForWithOrWithout};
     ghost use Rattle.lease_journal.specs.Openings.{FoundMeans, HasStarted, IsClearedUnless, LeavesOld, Opens, ViewMeans, ViewReplays};
-    ghost use Rattle.lease_journal.specs.Reads.{ArePairRead, AreSeenStill};
+    ghost use Rattle.journal_sides.specs.Reads.{ArePairRead, AreSeenStill};
     ghost use Rattle.lease_journal.specs.Views.{IsSettled};
-    ghost use Rattle.lease_journal.specs.Writes.{of_side, other};
+    ghost use Rattle.journal_sides.specs.Writes.{of_side, other};
 
     /// Appends 1 to [`MOST_RECORDS`] well formed records that fit, in one frame, to a journal of
     /// format 2. At each moment a crash leaves all of them or none; from `Ok` on all. After

@@ -5,21 +5,12 @@
 mod appending;
 mod compacting;
 mod errors;
-mod formats;
-mod frames;
-mod heads;
 mod journals;
-mod judging;
-mod laws;
-mod layout;
 mod openings;
-mod sides;
-#[cfg(test)]
-mod tests;
-mod walks;
 mod writes;
 
-pub use errors::{Found, JournalFault, Unopened};
+pub use errors::{Found, Unopened};
+pub use journal_sides::{
+    JournalFault, MOST_RECORDS, formats_differ, one_journal, snapshots_take_over,
+};
 pub use journals::Journal;
-pub use laws::{formats_differ, one_journal, snapshots_take_over};
-pub use layout::MOST_RECORDS;

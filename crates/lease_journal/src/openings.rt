@@ -3,29 +3,26 @@ ghost use Rattle.std.specs.Prelude.{◌≡◌, ◌⊎◌, ◌<◌, ◌≤◌, �
 ghost use Rattle.pcp_io.specs.Faults.{HasCause};
 ghost use Rattle.pcp_base.specs.declared.records.Record.{Record};
 ghost use Rattle.lease_disk.specs.Pairs.{PairHasCause, PairLeavesOnly};
-ghost use Rattle.lease_journal.specs.declared.errors.JournalFault.TheVariants.{Disk};
-ghost use Rattle.lease_journal.specs.declared.formats.Format.TheVariants.{Second};
-ghost use Rattle.lease_journal.specs.declared.sides.Side.TheVariants.{A};
+ghost use Rattle.journal_sides.specs.declared.errors.JournalFault.TheVariants.{Disk};
+ghost use Rattle.journal_sides.specs.declared.formats.Format.TheVariants.{Second};
+ghost use Rattle.journal_sides.specs.declared.sides.Side.TheVariants.{A};
 ghost use Rattle.lease_journal.specs.Beginnings.{GateMeans, IsBegun, IsPrepared, MayBegin, MayShut};
-ghost use Rattle.lease_journal.specs.Formats.{HasNext, IsReplaying};
-ghost use Rattle.lease_journal.specs.Journals.{IsBlank, IsDamaged, IsStarting, IsStartingAnew, fresh_state};
-ghost use Rattle.lease_journal.specs.Judging.{IsSideJudged};
+ghost use Rattle.journal_sides.specs.Formats.{HasNext, IsReplaying};
+ghost use Rattle.journal_sides.specs.Journals.{IsBlank, IsDamaged, IsStarting, IsStartingAnew, fresh_state};
+ghost use Rattle.journal_sides.specs.Judging.{IsSideJudged};
 ghost use Rattle.lease_journal.specs.Openings.{FoundMeans, HasStarted, IsNew, LeavesOld, MayOpen, Opens};
-ghost use Rattle.lease_journal.specs.Reads.{ArePairRead, AreSeenStill, IsRead};
-ghost use Rattle.lease_journal.specs.Settled.{IsSettledBy};
-ghost use Rattle.lease_journal.specs.Shut.{hidden_text};
-ghost use Rattle.lease_journal.specs.Sides.{AreBatches, IsClosedSide};
-ghost use Rattle.lease_journal.specs.Verdicts.{AreBroken, AreFound, IsFoundBegun, IsFoundInReach, IsFoundReplaying, IsFoundWithNext};
-ghost use Rattle.lease_journal.specs.Views.{IsInReach};
-ghost use Rattle.lease_journal.specs.Writes.{AreDurable, ChangesSide, of_side, side_parity};
+ghost use Rattle.journal_sides.specs.Reads.{ArePairRead, AreSeenStill, IsRead};
+ghost use Rattle.journal_sides.specs.Settled.{IsSettledBy, IsInReach};
+ghost use Rattle.journal_sides.specs.Shut.{hidden_text};
+ghost use Rattle.journal_sides.specs.Sides.{AreBatches, IsClosedSide};
+ghost use Rattle.journal_sides.specs.Verdicts.{AreBroken, AreFound, IsFoundBegun, IsFoundInReach, IsFoundReplaying, IsFoundWithNext};
+ghost use Rattle.journal_sides.specs.Writes.{AreDurable, ChangesSide, of_side, side_parity};
 
-use crate::errors::{Found, JournalFault};
-use crate::formats::Format;
-use crate::frames::hidden_of;
-use crate::judging::{Verdict, judge};
-use crate::sides::Side;
-use crate::walks::{Judged, Standing, fill};
+use crate::errors::Found;
 use crate::writes::write_side;
+use journal_sides::{
+    Format, JournalFault, Judged, Side, Standing, Verdict, fill, hidden_of, judge,
+};
 use lease_disk::{DiskPair, LeaseDisk};
 use pcp_base::{Change, Failed, Moment, Record, Replay};
 use std::alloc::Global;

@@ -5,9 +5,9 @@ ghost use Rattle.lease_disk.specs.Contents.{after_write};
 ghost use Rattle.lease_disk.specs.Images.{CutOrNot, Only, Torn};
 ghost use Rattle.lease_disk.specs.Moments.{LeavesOnly};
 ghost use Rattle.lease_disk.specs.Pairs.{PairHasCause, PairLeavesOnly};
-ghost use Rattle.lease_journal.specs.Writes.{AreDurable, ChangesSide};
+ghost use Rattle.journal_sides.specs.Writes.{AreDurable, ChangesSide};
 
-use crate::sides::Side;
+use journal_sides::Side;
 use lease_disk::{DiskPair, LeaseDisk};
 use pcp_base::Failed;
 

@@ -9,9 +9,9 @@ use Rattle.pcp_base.specs.States.{State, empty_state}
 use Rattle.lease_store.specs.declared.terms.Terms.{Terms}
 use Rattle.lease_store.specs.LeaseTerms.{AreTerms}
 use Rattle.lease_disk.specs.Pairs.{HoldsNow}
-use Rattle.lease_journal.specs.declared.errors.JournalFault.{JournalFault}
-use Rattle.lease_journal.specs.declared.errors.JournalFault.TheVariants.{Disk, Memory}
-use Rattle.lease_journal.specs.Journals.{StandsForWithOrWithout}
+use Rattle.journal_sides.specs.declared.errors.JournalFault.{JournalFault}
+use Rattle.journal_sides.specs.declared.errors.JournalFault.TheVariants.{Disk, Memory}
+use Rattle.journal_sides.specs.Journals.{StandsForWithOrWithout}
 use Rattle.lease_journal.specs.Views.{JournalView}
 use Rattle.lease_journal.proofs.StandingLaws.{apply_all-append}
 use Rattle.shard_book.specs.Books.{BookView, IsBook, IsWritable}

@@ -4,7 +4,7 @@ use Rattle.std.specs.Prelude.{Result, Ok, Err, OnOk, IfOk, IfErr, ℕ}
 use Rattle.pcp_base.specs.declared.addresses.Address.{Address}
 use Rattle.pcp_base.specs.declared.records.Record.{Record}
 use Rattle.pcp_base.specs.States.{State}
-use Rattle.lease_journal.specs.declared.errors.JournalFault.{JournalFault}
+use Rattle.journal_sides.specs.declared.errors.JournalFault.{JournalFault}
 use Rattle.shard_book.specs.declared.standings.Standing.{Standing}
 use Rattle.shard_book.specs.declared.standings.Standing.TheVariants.{Clean, In, Out, Fresh}
 use Rattle.shard_book.specs.Settlings.{Refused, StandingMeans}

@@ -5,9 +5,9 @@ use Rattle.pcp_base.specs.Apply.{state_of}
 use Rattle.pcp_base.specs.States.{State}
 use Rattle.lease_store.specs.declared.terms.Terms.{Terms}
 use Rattle.lease_disk.specs.Pairs.{HoldsNow}
-use Rattle.lease_journal.specs.declared.errors.JournalFault.{JournalFault}
-use Rattle.lease_journal.specs.declared.errors.JournalFault.TheVariants.{Disk}
-use Rattle.lease_journal.specs.Journals.{StandsForWithOrWithout}
+use Rattle.journal_sides.specs.declared.errors.JournalFault.{JournalFault}
+use Rattle.journal_sides.specs.declared.errors.JournalFault.TheVariants.{Disk}
+use Rattle.journal_sides.specs.Journals.{StandsForWithOrWithout}
 use Rattle.lease_journal.specs.Views.{JournalView}
 use Rattle.shard_book.specs.Books.{BookView}
 use Rattle.shard_book.specs.Insides.{IsKeptBook}

@@ -6,12 +6,12 @@ use Rattle.pcp_base.specs.States.{State}
 use Rattle.lease_disk.specs.declared.disks.DiskPair.{DiskPair}
 use Rattle.lease_disk.specs.Pairs.{HoldsNow, PairLeavesOnly}
 use Rattle.lease_disk.proofs.PairLemmas.{pair_started, pair_weaker}
-use Rattle.lease_journal.specs.declared.formats.Format.{Format}
-use Rattle.lease_journal.specs.declared.formats.Format.TheVariants.{First, Second}
-use Rattle.lease_journal.specs.Formats.{HasNext, format_octet}
-use Rattle.lease_journal.specs.Frames.{frame_text}
-use Rattle.lease_journal.specs.Journals.{StandsFor, StandsForWithOrWithout}
-use Rattle.lease_journal.specs.Laws.{OneState}
+use Rattle.journal_sides.specs.declared.formats.Format.{Format}
+use Rattle.journal_sides.specs.declared.formats.Format.TheVariants.{First, Second}
+use Rattle.journal_sides.specs.Formats.{HasNext, format_octet}
+use Rattle.journal_sides.specs.Frames.{frame_text}
+use Rattle.journal_sides.specs.Journals.{StandsFor, StandsForWithOrWithout}
+use Rattle.journal_sides.specs.Laws.{OneState}
 use Rattle.lease_journal.specs.Views.{JournalView, IsSettled}
 use Rattle.lease_journal.proofs.StandingLaws.{settled_holds, stands_for}
 use Rattle.shard_book.specs.Books.{IsWritable}

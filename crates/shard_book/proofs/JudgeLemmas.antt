@@ -8,8 +8,8 @@ use Rattle.pcp_base.specs.Laws.{SnapshotsStand}
 use Rattle.pcp_base.specs.Reached.{IsReached}
 use Rattle.pcp_base.specs.Snapshots.{snapshot}
 use Rattle.pcp_base.specs.States.{State}
-use Rattle.lease_journal.specs.declared.errors.JournalFault.{JournalFault}
-use Rattle.lease_journal.specs.declared.errors.JournalFault.TheVariants.{Disk, Memory}
+use Rattle.journal_sides.specs.declared.errors.JournalFault.{JournalFault}
+use Rattle.journal_sides.specs.declared.errors.JournalFault.TheVariants.{Disk, Memory}
 use Rattle.shard_book.specs.declared.standings.Settled.{Settled}
 use Rattle.shard_book.specs.declared.standings.Standing.{Standing}
 use Rattle.shard_book.specs.declared.standings.Standing.TheVariants.{Clean, In, Out, Fresh}

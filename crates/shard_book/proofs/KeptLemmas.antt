@@ -2,7 +2,7 @@
 use Rattle.std.proofs.Common.{◌≡◌, ℕ, ◌≤◌, List, [], ◌++◌, length, take, drop, sym, ◌∙◌, ap, subst, arith, length-append, length-take, take-append-drop}
 use Rattle.std.proofs.lemmas.List.{append-nil, take_all, take-append-le, drop-append-le, drop_all}
 use Rattle.pcp_base.specs.declared.records.Record.{Record}
-use Rattle.lease_journal.specs.Frames.{records_text}
+use Rattle.journal_sides.specs.Frames.{records_text}
 use Rattle.shard_book.specs.KeptTexts.{AreTexts, AreKeptAt, KeptRecords, records_in}
 use Rattle.shard_book.proofs.TextLemmas.{no_texts, same_texts, texts_again, texts_append, texts_in}
 

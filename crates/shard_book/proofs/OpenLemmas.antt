@@ -12,11 +12,11 @@ use Rattle.pcp_base.specs.States.{State}
 use Rattle.pcp_base.proofs.Same.{same_address-Decides}
 use Rattle.lease_journal.specs.declared.errors.Found.{Found}
 use Rattle.lease_journal.specs.declared.errors.Found.TheVariants.{Recovered, Blank, Damaged}
-use Rattle.lease_journal.specs.declared.formats.Format.{Format}
-use Rattle.lease_journal.specs.declared.formats.Format.TheVariants.{First, Second}
-use Rattle.lease_journal.specs.Formats.{IsReplaying}
-use Rattle.lease_journal.specs.Journals.{IsBlank, IsDamaged, StandsFor, StandsForWithOrWithout}
-use Rattle.lease_journal.specs.Laws.{OneState, RecoveredAlone}
+use Rattle.journal_sides.specs.declared.formats.Format.{Format}
+use Rattle.journal_sides.specs.declared.formats.Format.TheVariants.{First, Second}
+use Rattle.journal_sides.specs.Formats.{IsReplaying}
+use Rattle.journal_sides.specs.Journals.{IsBlank, IsDamaged, StandsFor, StandsForWithOrWithout}
+use Rattle.journal_sides.specs.Laws.{OneState, RecoveredAlone}
 use Rattle.lease_journal.specs.Openings.{FoundMeans, MayOpen}
 use Rattle.shard_book.specs.Addresses.{is_named, renumber_at, renumbering}
 use Rattle.shard_book.specs.Openings.{MayOpenBook}

@@ -9,10 +9,10 @@ use Rattle.lease_disk.specs.Pairs.{HoldsNow, PairLeavesOnly}
 use Rattle.lease_disk.proofs.PairLemmas.{pair_goes_on, pair_weaker}
 use Rattle.lease_journal.specs.declared.errors.Found.{Found}
 use Rattle.lease_journal.specs.declared.errors.Found.TheVariants.{Recovered, Blank, Damaged}
-use Rattle.lease_journal.specs.declared.sides.Side.{Side}
-use Rattle.lease_journal.specs.declared.walks.Standing.{Standing}
-use Rattle.lease_journal.specs.Journals.{StandsFor, StandsForWithOrWithout}
-use Rattle.lease_journal.specs.Laws.{OneState, RecoveredAlone}
+use Rattle.journal_sides.specs.declared.sides.Side.{Side}
+use Rattle.journal_sides.specs.declared.walks.Standing.{Standing}
+use Rattle.journal_sides.specs.Journals.{StandsFor, StandsForWithOrWithout}
+use Rattle.journal_sides.specs.Laws.{OneState, RecoveredAlone}
 use Rattle.lease_journal.specs.Openings.{HasStarted, LeavesOld, MayOpen, Opens}
 use Rattle.shard_book.specs.Addresses.{renumbering}
 use Rattle.shard_book.specs.Openings.{IsStartUnless, MayOpenBook, OpensBook}

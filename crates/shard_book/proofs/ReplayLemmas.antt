@@ -6,7 +6,7 @@ use Rattle.pcp_base.specs.States.{State}
 use Rattle.pcp_base.specs.Apply.{apply, apply_all}
 use Rattle.pcp_base.specs.Fits.{AllFit, Fits}
 use Rattle.lease_records.specs.RecordTexts.{record_text}
-use Rattle.lease_journal.specs.Frames.{records_text}
+use Rattle.journal_sides.specs.Frames.{records_text}
 use Rattle.shard_book.specs.KeptTexts.{AreTexts}
 
 -- the octets from this place on are the texts of records that fit, with which the state becomes that

@@ -9,7 +9,7 @@ use Rattle.pcp_base.specs.States.{State}
 use Rattle.pcp_base.specs.Tables.{Table, empty_table, same_address}
 use Rattle.lease_journal.specs.declared.errors.Found.{Found}
 use Rattle.lease_journal.specs.declared.errors.Found.TheVariants.{Recovered, Blank, Damaged}
-use Rattle.lease_journal.specs.Journals.{fresh_state}
+use Rattle.journal_sides.specs.Journals.{fresh_state}
 use Rattle.shard_book.specs.Addresses.{renumber_at, state_anew}
 use Rattle.shard_book.specs.Openings.{IsStartUnless}
 use Rattle.shard_book.specs.Settlings.{BeginsAnew, IsEmptySince}

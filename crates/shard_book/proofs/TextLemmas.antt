@@ -8,7 +8,7 @@ use Rattle.lease_records.specs.RecordReading.{record_at}
 use Rattle.lease_records.specs.RecordTexts.{record_text, IsRecordText}
 use Rattle.lease_records.specs.Values.{IsValue}
 use Rattle.lease_records.proofs.RecordLaws.{record_again}
-use Rattle.lease_journal.specs.Frames.{records_text}
+use Rattle.journal_sides.specs.Frames.{records_text}
 use Rattle.shard_book.specs.KeptTexts.{AreTexts, records_at, records_in}
 
 nothing : record_at [] ≡ None

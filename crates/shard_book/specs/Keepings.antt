@@ -6,10 +6,10 @@ use Rattle.pcp_base.specs.declared.records.Record.{Record}
 use Rattle.pcp_base.specs.Apply.{apply_all}
 use Rattle.lease_store.specs.Lookups.{lease_count}
 use Rattle.lease_disk.specs.Pairs.{PairLeavesOnly}
-use Rattle.lease_journal.specs.declared.errors.JournalFault.{JournalFault}
-use Rattle.lease_journal.specs.declared.errors.JournalFault.TheVariants.{Disk, Memory}
-use Rattle.lease_journal.specs.Frames.{frame_text}
-use Rattle.lease_journal.specs.Journals.{StandsForWithOrWithout}
+use Rattle.journal_sides.specs.declared.errors.JournalFault.{JournalFault}
+use Rattle.journal_sides.specs.declared.errors.JournalFault.TheVariants.{Disk, Memory}
+use Rattle.journal_sides.specs.Frames.{frame_text}
+use Rattle.journal_sides.specs.Journals.{StandsForWithOrWithout}
 use Rattle.lease_journal.specs.Views.{JournalView}
 use Rattle.shard_book.specs.declared.batches.Answered.{Answered}
 use Rattle.shard_book.specs.declared.lengths.TheConstants.{LONGEST_SIDE}

@@ -5,7 +5,7 @@ use Rattle.pcp_base.specs.declared.records.Record.{Record}
 use Rattle.pcp_base.specs.Records.{IsWellFormedRecord}
 use Rattle.lease_records.specs.RecordReading.{record_at}
 use Rattle.lease_records.specs.Values.{IsValue}
-use Rattle.lease_journal.specs.Frames.{records_text}
+use Rattle.journal_sides.specs.Frames.{records_text}
 
 -- at most so many records, one after the other from the front of the octets
 abbrev pub records_at : ℕ → List ℕ → List Record

@@ -8,10 +8,10 @@ use Rattle.lease_disk.specs.declared.disks.DiskPair.{DiskPair}
 use Rattle.lease_disk.specs.Pairs.{PairLeavesOnly}
 use Rattle.lease_journal.specs.declared.errors.Found.{Found}
 use Rattle.lease_journal.specs.declared.errors.Found.TheVariants.{Recovered, Blank, Damaged}
-use Rattle.lease_journal.specs.Journals.{IsBlank, IsDamaged, StandsFor, fresh_state}
+use Rattle.journal_sides.specs.Journals.{IsBlank, IsDamaged, StandsFor, fresh_state}
 use Rattle.lease_journal.specs.Openings.{FoundMeans, LeavesOld, MayOpen}
-use Rattle.lease_journal.specs.Reads.{AreSeenStill}
-use Rattle.lease_journal.specs.Writes.{AreDurable}
+use Rattle.journal_sides.specs.Reads.{AreSeenStill}
+use Rattle.journal_sides.specs.Writes.{AreDurable}
 use Rattle.shard_book.specs.Addresses.{renumbering}
 use Rattle.shard_book.specs.Books.{BookView}
 

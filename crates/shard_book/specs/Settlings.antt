@@ -7,9 +7,9 @@ use Rattle.pcp_base.specs.Snapshots.{snapshot}
 use Rattle.pcp_base.specs.States.{State}
 use Rattle.pcp_base.specs.Tables.{empty_table}
 use Rattle.lease_disk.specs.Pairs.{PairLeavesOnly}
-use Rattle.lease_journal.specs.declared.errors.JournalFault.{JournalFault}
-use Rattle.lease_journal.specs.declared.errors.JournalFault.TheVariants.{Disk}
-use Rattle.lease_journal.specs.Journals.{StandsForWithOrWithout, fresh_state}
+use Rattle.journal_sides.specs.declared.errors.JournalFault.{JournalFault}
+use Rattle.journal_sides.specs.declared.errors.JournalFault.TheVariants.{Disk}
+use Rattle.journal_sides.specs.Journals.{StandsForWithOrWithout, fresh_state}
 use Rattle.shard_book.specs.declared.standings.Settled.{Settled}
 use Rattle.shard_book.specs.declared.standings.Standing.{Standing}
 use Rattle.shard_book.specs.declared.standings.Standing.TheVariants.{Clean, In, Out, Fresh}

@@ -68,8 +68,8 @@ impl<D: LeaseDisk, S: LeaseStore + Drop> LeaseBook<D, S> {
     ghost use Rattle.pcp_base.specs.Reached.{IsReached};
     ghost use Rattle.lease_store.specs.Lookups.{lease_count};
     ghost use Rattle.lease_disk.specs.Pairs.{PairHasCause};
-    ghost use Rattle.lease_journal.specs.declared.errors.JournalFault.TheVariants.{Disk};
-    ghost use Rattle.lease_journal.specs.declared.layout.TheConstants.{MOST_RECORDS};
+    ghost use Rattle.journal_sides.specs.declared.errors.JournalFault.TheVariants.{Disk};
+    ghost use Rattle.journal_sides.specs.declared.layout.TheConstants.{MOST_RECORDS};
     ghost use Rattle.shard_book.specs.Books.{IsBook};
     ghost use Rattle.shard_book.specs.Keepings.{Doubts, IsRefused, Journals, Keeps, Loses, Serves, batch_answers, batch_records, lose_records};
     ghost use Rattle.shard_book.specs.Settlings.{KeepsDoubt, Settles};

@@ -3,7 +3,7 @@ use Rattle.pcp_base.specs.States.{empty_state}
 use Rattle.pcp_base.specs.Apply.{state_of}
 use Rattle.pcp_base.specs.Fits.{AllFit}
 use Rattle.pcp_base.specs.Snapshots.{snapshot}
-use Rattle.lease_journal.proofs.SnapshotLaws.{all_formed}
+use Rattle.journal_sides.proofs.SnapshotLaws.{all_formed}
 use Rattle.lease_journal.proofs.StandingLaws.{stands_for}
 use Rattle.journal_rows.proofs.acts.compact.Goals as goal
 

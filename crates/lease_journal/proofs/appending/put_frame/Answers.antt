@@ -2,8 +2,8 @@ use Rattle.std.proofs.Common.{inl, subst, ℕ, List, ◌+◌, length, ◌≡◌,
 use Rattle.lease_disk.specs.Contents.{after_write}
 use Rattle.lease_disk.specs.Images.{Torn}
 use Rattle.lease_disk.proofs.PairLemmas.{pair_goes_on, pair_weaker}
-use Rattle.lease_journal.specs.Journals.{StandsForWithOrWithout}
-use Rattle.lease_journal.specs.Writes.{ChangesSide}
+use Rattle.journal_sides.specs.Journals.{StandsForWithOrWithout}
+use Rattle.journal_sides.specs.Writes.{ChangesSide}
 use Rattle.lease_journal.proofs.AppendLaws.{frame_torn, gate_torn_stands, appended}
 use Rattle.lease_journal.proofs.appending.put_frame.Goals as goal
 

@@ -1,6 +1,6 @@
 use Rattle.std.proofs.lemmas.Result.{on_ok_weaker}
 use Rattle.lease_disk.proofs.PairLemmas.{pair_goes_on, pair_weaker}
-use Rattle.lease_journal.specs.Journals.{StandsFor}
+use Rattle.journal_sides.specs.Journals.{StandsFor}
 use Rattle.lease_journal.proofs.CompactLaws.{cut_gate, retired_cut, retired_shut, retires_cut, retires_torn}
 use Rattle.lease_journal.proofs.OpeningLaws.{on_ok_both}
 use Rattle.lease_journal.proofs.PrepareLaws.{shut_written}

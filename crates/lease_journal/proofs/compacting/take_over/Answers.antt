@@ -1,8 +1,8 @@
 use Rattle.std.proofs.Common.{length}
-use Rattle.lease_journal.specs.declared.formats.Format.TheVariants.{Second}
-use Rattle.lease_journal.specs.declared.walks.Standing.{Standing}
+use Rattle.journal_sides.specs.declared.formats.Format.TheVariants.{Second}
+use Rattle.journal_sides.specs.declared.walks.Standing.{Standing}
 use Rattle.lease_disk.proofs.PairLemmas.{pair_goes_on, pair_weaker}
-use Rattle.lease_journal.specs.Journals.{StandsFor}
+use Rattle.journal_sides.specs.Journals.{StandsFor}
 use Rattle.lease_journal.proofs.CompactLaws.{are_over, begins_over, begun_gate, begun_over}
 use Rattle.lease_journal.proofs.compacting.take_over.Goals as goal
 

@@ -1,7 +1,7 @@
 use Rattle.std.proofs.Common.{length, rules}
 use Rattle.lease_disk.proofs.PairLemmas.{pair_goes_on, pair_weaker}
 use Rattle.lease_journal.specs.Beginnings.{MayBegin}
-use Rattle.lease_journal.specs.Writes.{ChangesSide, side_parity}
+use Rattle.journal_sides.specs.Writes.{ChangesSide, side_parity}
 use Rattle.lease_journal.proofs.BeginLaws.{begins_shut, begins_torn, begins_open, begun}
 use Rattle.lease_journal.proofs.openings.begin_side.Goals as goal
 

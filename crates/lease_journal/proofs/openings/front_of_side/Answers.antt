@@ -1,4 +1,4 @@
-use Rattle.lease_journal.proofs.FillLemmas.{read_none}
+use Rattle.journal_sides.proofs.FillLemmas.{read_none}
 use Rattle.lease_journal.proofs.openings.front_of_side.Goals as goal
 
 pub returns-in-A-clause-read : goal.returns-in-A-clause-read

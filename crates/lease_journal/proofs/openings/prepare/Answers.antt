@@ -1,7 +1,7 @@
 use Rattle.std.proofs.Common.{Bool, subst}
 use Rattle.lease_disk.proofs.PairLemmas.{pair_goes_on, pair_weaker}
 use Rattle.lease_journal.specs.Beginnings.{GateMeans, MayShut}
-use Rattle.lease_journal.specs.Writes.{ChangesSide, of_side}
+use Rattle.journal_sides.specs.Writes.{ChangesSide, of_side}
 use Rattle.lease_journal.proofs.PrepareLaws.{prepare_still, prepared_torn, durable_still}
 use Rattle.lease_journal.proofs.openings.prepare.Goals as goal
 

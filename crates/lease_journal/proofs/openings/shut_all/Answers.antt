@@ -1,8 +1,8 @@
 use Rattle.std.proofs.Common.{List, ℕ, sym, subst, rules}
 use Rattle.std.proofs.lemmas.Result.{on_ok_weaker}
 use Rattle.lease_disk.proofs.PairLemmas.{pair_goes_on, pair_weaker}
-use Rattle.lease_journal.specs.Judging.{IsSideJudged}
-use Rattle.lease_journal.specs.Sides.{IsBadSide, IsClosedSide}
+use Rattle.journal_sides.specs.Judging.{IsSideJudged}
+use Rattle.journal_sides.specs.Sides.{IsBadSide, IsClosedSide}
 use Rattle.lease_journal.proofs.ShutLaws.{IsShutting, bad_beside, bad_or_closed, cause_on, either_side, first_a, first_b, then_a, then_b}
 use Rattle.lease_journal.proofs.openings.shut_all.Goals as goal
 

@@ -2,7 +2,7 @@ use Rattle.std.proofs.Common.{inr, refl}
 use Rattle.std.proofs.lemmas.Result.{on_ok_weaker}
 use Rattle.lease_disk.proofs.PairLemmas.{pair_weaker}
 use Rattle.lease_journal.specs.Beginnings.{MayShut}
-use Rattle.lease_journal.specs.Writes.{ChangesSide, of_side, side_parity}
+use Rattle.journal_sides.specs.Writes.{ChangesSide, of_side, side_parity}
 use Rattle.lease_journal.proofs.PrepareLaws.{judged_gate, prepared_torn, shut_written}
 use Rattle.lease_journal.proofs.openings.shut_open.Goals as goal
 

@@ -1,6 +1,6 @@
 use Rattle.std.proofs.Common.{◌≡◌, ◌∙◌, ◌<◌, ◌^◌, ap, length, arith, rules}
 use Rattle.lease_disk.proofs.PairLemmas.{pair_started, pair_weaker}
-use Rattle.lease_journal.specs.Journals.{IsStarting}
+use Rattle.journal_sides.specs.Journals.{IsStarting}
 use Rattle.lease_journal.proofs.StartLaws.{blank_holds, replayed_start, start_batches, started_by, starts}
 use Rattle.lease_journal.proofs.openings.start.Goals as goal
 

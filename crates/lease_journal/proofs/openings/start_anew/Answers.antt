@@ -1,5 +1,5 @@
 use Rattle.lease_disk.proofs.PairLemmas.{pair_goes_on, pair_weaker}
-use Rattle.lease_journal.specs.Journals.{IsStartingAnew}
+use Rattle.journal_sides.specs.Journals.{IsStartingAnew}
 use Rattle.lease_journal.proofs.OpeningLaws.{shutting_starts, starting_anew}
 use Rattle.lease_journal.proofs.openings.start_anew.Goals as goal
 

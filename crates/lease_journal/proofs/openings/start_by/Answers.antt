@@ -1,8 +1,8 @@
 use Rattle.std.proofs.Common.{subst}
 use Rattle.lease_disk.proofs.PairLemmas.{pair_started, pair_weaker}
-use Rattle.lease_journal.specs.declared.judging.Verdict.{Verdict}
+use Rattle.journal_sides.specs.declared.judging.Verdict.{Verdict}
 use Rattle.lease_journal.specs.Openings.{MayOpen}
-use Rattle.lease_journal.specs.Verdicts.{AreFound}
+use Rattle.journal_sides.specs.Verdicts.{AreFound}
 use Rattle.lease_journal.proofs.OpeningLaws.{blank_may, damaged_may, may_open_now}
 use Rattle.lease_journal.proofs.StandingLaws.{stands_for}
 use Rattle.lease_journal.proofs.openings.start_by.Goals as goal

@@ -4,7 +4,7 @@ use Rattle.pcp_base.specs.Apply.{state_of}
 use Rattle.pcp_base.specs.Records.{IsWellFormedRecord}
 use Rattle.pcp_base.specs.Snapshots.{snapshot}
 use Rattle.pcp_base.specs.States.{empty_state}
-use Rattle.lease_journal.specs.declared.errors.JournalFault.TheVariants.{Memory}
+use Rattle.journal_sides.specs.declared.errors.JournalFault.TheVariants.{Memory}
 use Rattle.shard_book.proofs.JournalLemmas.{without}
 use Rattle.shard_book.proofs.ResultLemmas.{all_if}
 use Rattle.shard_book.proofs.StateLemmas.{formed_all}

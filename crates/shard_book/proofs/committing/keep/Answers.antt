@@ -7,7 +7,7 @@ use Rattle.pcp_base.specs.Records.{IsWellFormedRecord}
 use Rattle.pcp_base.specs.States.{State}
 use Rattle.std.specs.Prelude.{OnOk}
 use Rattle.lease_disk.specs.Pairs.{PairLeavesOnly}
-use Rattle.lease_journal.specs.Journals.{StandsForWithOrWithout}
+use Rattle.journal_sides.specs.Journals.{StandsForWithOrWithout}
 use Rattle.lease_journal.specs.Views.{IsSettled}
 use Rattle.shard_book.proofs.JournalLemmas.{one_settled, still_settled, without, writable_ok}
 use Rattle.shard_book.proofs.committing.keep.Goals as goal

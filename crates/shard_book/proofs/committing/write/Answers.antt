@@ -4,7 +4,7 @@ use Rattle.pcp_base.specs.Fits.{AllFit}
 use Rattle.pcp_base.specs.States.{State}
 use Rattle.lease_disk.specs.Pairs.{PairLeavesOnly}
 use Rattle.lease_disk.proofs.PairLemmas.{pair_goes_on}
-use Rattle.lease_journal.specs.Journals.{StandsFor, StandsForWithOrWithout}
+use Rattle.journal_sides.specs.Journals.{StandsFor, StandsForWithOrWithout}
 use Rattle.lease_journal.specs.Views.{JournalView}
 use Rattle.shard_book.specs.Keepings.{frame_octets}
 use Rattle.shard_book.proofs.JournalLemmas.{one_settled, without}

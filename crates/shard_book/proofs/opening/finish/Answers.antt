@@ -1,5 +1,5 @@
 use Rattle.lease_disk.proofs.PairLemmas.{pair_goes_on}
-use Rattle.lease_journal.specs.Journals.{StandsForWithOrWithout}
+use Rattle.journal_sides.specs.Journals.{StandsForWithOrWithout}
 use Rattle.shard_book.specs.Addresses.{renumbering}
 use Rattle.shard_book.proofs.JournalLemmas.{without}
 use Rattle.shard_book.proofs.opening.finish.Goals as goal

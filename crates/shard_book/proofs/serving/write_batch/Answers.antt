@@ -5,7 +5,7 @@ use Rattle.pcp_base.specs.Apply.{state_of}
 use Rattle.pcp_base.specs.Records.{IsWellFormedRecord}
 use Rattle.pcp_base.specs.States.{State}
 use Rattle.lease_disk.specs.Pairs.{PairLeavesOnly}
-use Rattle.lease_journal.specs.Journals.{StandsForWithOrWithout}
+use Rattle.journal_sides.specs.Journals.{StandsForWithOrWithout}
 use Rattle.shard_book.specs.Batches.{decide_all, records_kept}
 use Rattle.shard_book.specs.Insides.{StandAlone}
 use Rattle.shard_book.specs.Keepings.{unsure_after}

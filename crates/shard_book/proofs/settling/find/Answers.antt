@@ -4,7 +4,7 @@ use Rattle.pcp_base.specs.Apply.{apply_all, state_of}
 use Rattle.pcp_base.specs.Reached.{IsReached}
 use Rattle.pcp_base.specs.Snapshots.{snapshot}
 use Rattle.lease_disk.specs.Pairs.{PairLeavesOnly}
-use Rattle.lease_journal.specs.Journals.{StandsForWithOrWithout}
+use Rattle.journal_sides.specs.Journals.{StandsForWithOrWithout}
 use Rattle.lease_journal.specs.Views.{JournalView}
 use Rattle.shard_book.specs.KeptTexts.{KeptRecords}
 use Rattle.shard_book.specs.Settlings.{IsOneOf, StandsAs}

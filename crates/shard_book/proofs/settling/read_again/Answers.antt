@@ -1,5 +1,5 @@
 use Rattle.lease_disk.proofs.PairLemmas.{pair_goes_on}
-use Rattle.lease_journal.specs.Journals.{StandsForWithOrWithout}
+use Rattle.journal_sides.specs.Journals.{StandsForWithOrWithout}
 use Rattle.shard_book.proofs.OpenLemmas.{found_known, replay_reached}
 use Rattle.shard_book.proofs.ReadingRuns.{found_runs, reading_runs}
 use Rattle.shard_book.proofs.settling.read_again.Goals as goal

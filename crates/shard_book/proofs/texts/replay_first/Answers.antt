@@ -4,7 +4,7 @@ use Rattle.pcp_base.specs.declared.records.Record.{Record}
 use Rattle.pcp_base.specs.Apply.{apply}
 use Rattle.pcp_base.specs.Fits.{Fits}
 use Rattle.lease_records.specs.RecordTexts.{IsReadAgain, IsRecordText, record_text}
-use Rattle.lease_journal.specs.Frames.{records_text}
+use Rattle.journal_sides.specs.Frames.{records_text}
 use Rattle.shard_book.specs.KeptTexts.{AreTexts}
 use Rattle.shard_book.proofs.texts.replay_first.Goals as goal
 

@@ -1,11 +1,11 @@
 use Rattle.std.proofs.Common.{◌≡◌, ◌+◌, [], ◌∷◌, length, length-append, ◌∙◌, refl, sym, subst, ap, arith}
 use Rattle.pcp_base.specs.Apply.{apply_all}
-use Rattle.lease_journal.specs.declared.walks.Standing.{Standing}
+use Rattle.journal_sides.specs.declared.walks.Standing.{Standing}
 use Rattle.pcp_base.specs.States.{State}
-use Rattle.lease_journal.specs.declared.formats.Format.TheVariants.{Second}
-use Rattle.lease_journal.specs.Frames.{frame_text}
-use Rattle.lease_journal.specs.Settled.{IsSettledBy, with_frame}
-use Rattle.lease_journal.specs.Writes.{of_side, side_parity}
+use Rattle.journal_sides.specs.declared.formats.Format.TheVariants.{Second}
+use Rattle.journal_sides.specs.Frames.{frame_text}
+use Rattle.journal_sides.specs.Settled.{IsSettledBy, with_frame}
+use Rattle.journal_sides.specs.Writes.{of_side, side_parity}
 use Rattle.lease_journal.specs.Views.{JournalView, IsSettled}
 use Rattle.lease_journal.proofs.StandingLaws.{ends_within, settled_still}
 use Rattle.lease_journal.proofs.journals.Journal.append.Goals as goal

@@ -1,8 +1,8 @@
 use Rattle.std.proofs.Common.{◌≡◌, ◌+◌, ◌-◌, ◌^◌, ◌<◌, subst, ap, arith, length}
 use Rattle.pcp_base.specs.States.{State}
 use Rattle.lease_disk.proofs.PairLemmas.{pair_started}
-use Rattle.lease_journal.specs.Journals.{StandsFor}
-use Rattle.lease_journal.specs.Settled.{IsSettledBy}
+use Rattle.journal_sides.specs.Journals.{StandsFor}
+use Rattle.journal_sides.specs.Settled.{IsSettledBy}
 use Rattle.lease_journal.specs.Views.{JournalView, IsSettled}
 use Rattle.lease_journal.proofs.CompactLaws.{next_over, settled_at}
 use Rattle.lease_journal.proofs.StandingLaws.{settled_holds}

@@ -1,6 +1,6 @@
 use Rattle.std.proofs.Common.{subst}
-use Rattle.lease_journal.specs.declared.judging.Verdict.{Verdict}
-use Rattle.lease_journal.specs.Verdicts.{AreFound, IsFoundReplaying}
+use Rattle.journal_sides.specs.declared.judging.Verdict.{Verdict}
+use Rattle.journal_sides.specs.Verdicts.{AreFound, IsFoundReplaying}
 use Rattle.lease_journal.proofs.OpeningLaws.{replays_by}
 use Rattle.lease_journal.proofs.StandingLaws.{stands_for}
 use Rattle.lease_journal.proofs.journals.Journal.view.Goals as goal

@@ -6,7 +6,7 @@ use Rattle.pcp_base.specs.States.{State}
 use Rattle.pcp_base.proofs.SnapshotLaws.{snapshot-stands}
 use Rattle.lease_store.specs.declared.terms.Terms.{Terms}
 use Rattle.lease_store.specs.LeaseTerms.{AreTerms}
-use Rattle.lease_journal.specs.Journals.{StandsForWithOrWithout}
+use Rattle.journal_sides.specs.Journals.{StandsForWithOrWithout}
 use Rattle.shard_book.specs.Books.{BookView}
 use Rattle.shard_book.specs.Insides.{MayDecideAt, StandAlone}
 use Rattle.shard_book.specs.KeptTexts.{KeptRecords}

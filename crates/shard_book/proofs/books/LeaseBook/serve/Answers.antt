@@ -1,7 +1,7 @@
 use Rattle.std.proofs.Common.{◌≡◌, Option, Some, None, refl, sym, subst, ◌∙◌, ap}
 use Rattle.pcp_base.specs.States.{State}
-use Rattle.lease_journal.specs.declared.errors.JournalFault.{JournalFault}
-use Rattle.lease_journal.specs.Journals.{StandsForWithOrWithout}
+use Rattle.journal_sides.specs.declared.errors.JournalFault.{JournalFault}
+use Rattle.journal_sides.specs.Journals.{StandsForWithOrWithout}
 use Rattle.lease_store.specs.declared.terms.Terms.{Terms}
 use Rattle.shard_book.specs.Batches.{decide_all, records_kept}
 use Rattle.shard_book.specs.Books.{BookView, IsBook}

@@ -1,0 +1,64 @@
+-- Writing all that stands behind the gate of a side, batch by batch.
+use Rattle.std.proofs.Common.{◌≡◌, ℕ, ◌<◌, List, [], ◌∷◌, ◌++◌, length, drop, refl, sym, ◌∙◌, ap, subst, arith, append_assoc, append-nil}
+use Rattle.std.specs.List.{AllByRecursion}
+use Rattle.std.proofs.lemmas.List.{nil_from_length}
+use Rattle.pcp_base.specs.declared.records.Record.{Record}
+use Rattle.pcp_base.specs.Records.{IsWellFormedRecord}
+use Rattle.journal_sides.specs.declared.formats.Format.TheVariants.{Second}
+use Rattle.journal_sides.specs.Frames.{IsBatch, frame_text, records_of}
+use Rattle.journal_sides.specs.Shut.{IsHidden, hidden_text}
+use Rattle.journal_sides.specs.Sides.{head_text, side_text}
+use Rattle.journal_sides.proofs.FrameLaws.{records_of-push, each-push}
+use Rattle.journal_sides.proofs.SideLaws.{side_text-push}
+
+-- the records before the rest are written
+pub record HasHidden (generation : ℕ) (records rest : List Record) (text : List ℕ) : Type 0 where
+  pub batches : List (List Record)
+  pub each : AllByRecursion IsBatch batches
+  pub holds : records_of batches ++ rest ≡ records
+  pub begun : text ≡ hidden_text generation batches
+  pub formed : AllByRecursion IsWellFormedRecord rest
+
+pub hides_none : (generation : ℕ) (records : List Record) (text : List ℕ) → text ≡ drop 1 (head_text Second generation) → AllByRecursion IsWellFormedRecord records → HasHidden generation records records text
+hides_none generation records text is formed = record { batches = []; each = tt; holds = refl; begun = is; formed = formed }
+
+formed_front : (front back : List Record) → AllByRecursion IsWellFormedRecord (front ++ back) → AllByRecursion IsWellFormedRecord front
+formed_front [] back all = tt
+formed_front (r ∷ front) back all = (all.0, formed_front front back all.1)
+
+formed_back : (front back : List Record) → AllByRecursion IsWellFormedRecord (front ++ back) → AllByRecursion IsWellFormedRecord back
+formed_back [] back all = all
+formed_back (r ∷ front) back all = formed_back front back all.1
+
+pub batch_formed : (generation : ℕ) (records rest batch left : List Record) (text : List ℕ) → HasHidden generation records rest text → rest ≡ batch ++ left → AllByRecursion IsWellFormedRecord batch
+batch_formed generation records rest batch left text so_far parts = formed_front batch left (subst (AllByRecursion IsWellFormedRecord) parts so_far.formed)
+
+hidden_text-push : (generation : ℕ) (batches : List (List Record)) (batch : List Record) → hidden_text generation (batches ++ batch ∷ []) ≡ hidden_text generation batches ++ 1 ∷ frame_text batch
+hidden_text-push generation batches batch =
+    let whole : side_text Second generation (batches ++ batch ∷ []) ≡ side_text Second generation batches ++ 1 ∷ frame_text batch =
+    sym (append-nil (side_text Second generation (batches ++ batch ∷ []))) ∙ side_text-push generation batches batch [] ∙ ap (λ (l : List ℕ). side_text Second generation batches ++ 1 ∷ l) (append-nil (frame_text batch)) in
+    ap (λ (l : List ℕ). drop 1 l) whole
+
+pub hides_next : (generation : ℕ) (records rest batch left : List Record) (text new : List ℕ) → HasHidden generation records rest text → rest ≡ batch ++ left → IsBatch batch → new ≡ text ++ 1 ∷ frame_text batch → HasHidden generation records left new
+hides_next generation records rest batch left text new so_far parts is wrote = record {
+  batches = so_far.batches ++ batch ∷ [];
+  each = each-push so_far.batches batch so_far.each is;
+  holds = ap (λ (l : List Record). l ++ left) (records_of-push so_far.batches batch) ∙ append_assoc (records_of so_far.batches) batch left ∙ ap (λ (l : List Record). records_of so_far.batches ++ l) (sym parts) ∙ so_far.holds;
+  begun = wrote ∙ ap (λ (l : List ℕ). l ++ 1 ∷ frame_text batch) so_far.begun ∙ sym (hidden_text-push generation so_far.batches batch);
+  formed = formed_back batch left (subst (AllByRecursion IsWellFormedRecord) parts so_far.formed);
+}
+
+pub hides_all : (generation : ℕ) (records rest : List Record) (text new : List ℕ) → HasHidden generation records rest text → length rest ≡ 0 → 0 < length records → new ≡ text ++ 0 ∷ [] → IsHidden generation records new
+hides_all generation records rest text new so_far none some wrote =
+    let whole : records_of so_far.batches ≡ records = sym (append-nil (records_of so_far.batches)) ∙ ap (λ (l : List Record). records_of so_far.batches ++ l) (sym (nil_from_length rest none)) ∙ so_far.holds in
+    record {
+      batches = so_far.batches;
+      some = has_batch so_far.batches whole;
+      each = so_far.each;
+      holds = whole;
+      text = wrote ∙ ap (λ (l : List ℕ). l ++ 0 ∷ []) so_far.begun;
+    }
+  where
+    has_batch : (batches : List (List Record)) → records_of batches ≡ records → 0 < length batches
+    has_batch [] is = absurd (omega (arith, some, ap length is))
+    has_batch (b ∷ batches) is = omega arith

@@ -1,0 +1,15 @@
+pub mod BatchLemmas
+pub mod BegunLaws
+pub mod FillLemmas
+pub mod FrameLaws
+pub mod HiddenLaws
+pub mod JudgeLemmas
+pub mod SideLaws
+pub mod SideWalks
+pub mod SizeLemmas
+pub mod SnapshotLaws
+pub mod TextLemmas
+pub mod TurnLemmas
+pub mod UniqueLaws
+pub mod VerdictLemmas
+pub mod WalkLaws

@@ -1,0 +1,12 @@
+-- A batch that is appended to a side (our own).
+use Rattle.std.specs.Prelude.{List}
+use Rattle.pcp_base.specs.declared.records.Record.{Record}
+use Rattle.journal_sides.specs.declared.formats.Format.{Format}
+use Rattle.journal_sides.specs.Formats.{AllFitBy, state_by}
+use Rattle.journal_sides.specs.Frames.{IsBatch, records_of}
+
+-- a batch that may follow these
+pub record MayFollow (format : Format) (batches : List (List Record))
+    (batch : List Record) : Type 0 where
+  pub is : IsBatch batch
+  pub fit : AllFitBy format (state_by format (records_of batches)) batch

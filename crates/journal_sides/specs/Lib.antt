@@ -1,0 +1,14 @@
+pub mod Appending
+pub mod Formats
+pub mod Frames
+pub mod Heads
+pub mod Journals
+pub mod Judging
+pub mod Laws
+pub mod Reads
+pub mod Settled
+pub mod Shut
+pub mod Sides
+pub mod Verdicts
+pub mod Walks
+pub mod Writes

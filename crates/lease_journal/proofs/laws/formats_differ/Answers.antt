@@ -1,6 +1,0 @@
-use Rattle.lease_journal.proofs.SnapshotLaws.{first_reached}
-use Rattle.lease_journal.proofs.UniqueLaws.{format_is}
-use Rattle.lease_journal.proofs.laws.formats_differ.Goals as goal
-
-pub returns : goal.returns
-returns c = record { octet = format_is; next = λ parity octets g batches side. side.contents.next; first = first_reached c.first_states_are_sound.ensures.made }
