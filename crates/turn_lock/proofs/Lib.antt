@@ -2,6 +2,5 @@ mod Sums
 mod Fronts
 mod Moves
 mod Steps
-mod Growing
 mod Numbers
 mod LawLemmas

@@ -12,8 +12,6 @@ mod laws;
 mod layout;
 mod lends;
 mod plays;
-#[cfg(test)]
-mod tests;
 mod turn;
 mod views;
 

@@ -1,7 +1,7 @@
 use Rattle.std.proofs.Common.{◌≡◌, ℕ, List, [], ◌∷◌, ◌++◌, length, drop, Bool, MatchBool, refl, ap, ap₂, sym, ◌∙◌, subst}
-use Rattle.turn_lock.proofs.Growing.{all_noted, drop_front}
-use Rattle.turn_lock.proofs.tests.add_one.Goals as goal
-use Rattle.turn_lock.proofs.tests.add_one.Goals.{then-added, else-added}
+use Rattle.lock_rows.proofs.Growing.{all_noted, drop_front}
+use Rattle.lock_rows.proofs.turns.add_one.Goals as goal
+use Rattle.lock_rows.proofs.turns.add_one.Goals.{then-added, else-added}
 
 pub give-requires-clause-value : goal.give-requires-clause-value
 give-requires-clause-value g c =

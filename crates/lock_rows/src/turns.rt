@@ -1,13 +1,13 @@
-//! Numbers behind a turn: what one thread and two threads note, and how often a pass can be split.
+//! Numbers behind a turn.
 ghost use Rattle.std.specs.Prelude.{◌≡◌, ◌+◌, ◌≤◌, [], ◌∷◌, ◌++◌, false, length, drop, IfSome, MatchBool};
 ghost use Rattle.std.specs.Bool.{OnTrue};
 ghost use Rattle.turn_lock.specs.Places.{one_if};
 
-use crate::{Held, Kept, Pass, Turn};
 use std::alloc::Global;
 use std::sync::Wait;
 use std::test::Fail;
 use std::thread::{Threads, join};
+use turn_lock::{Held, Kept, Pass, Turn};
 
 // A list of numbers, of which the last may not be noted yet.
 #[derive(Drop)]
