@@ -4,13 +4,9 @@
 
 mod changes;
 mod disks;
-#[cfg(test)]
-mod fake_files;
 mod files;
 mod memory;
 mod replays;
-#[cfg(test)]
-mod tests;
 
 pub use disks::{DiskPair, LeaseDisk};
 pub use files::FileDisk;

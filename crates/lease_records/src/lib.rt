@@ -4,8 +4,6 @@
 mod laws;
 mod reading;
 mod terms;
-#[cfg(test)]
-mod tests;
 mod writing;
 
 pub use laws::one_text;

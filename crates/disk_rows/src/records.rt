@@ -1,14 +1,16 @@
-use super::*;
+//! Records octet by octet: what is written is read again, and what isn't well formed is refused.
+
+use lease_records::{NotRecord, read_record, write_record};
 use pcp_base::{
     Address, Change, Endpoint, Filter, Filters, MapLease, Moment, Nonce, PeerLease, Protocol,
 };
 use std::test::Fail;
 
 // Start at 1000.
-const START: [u8; 9] = [0x01, 0x00, 0x00, 0x00, 0x00, 0x00, 0x00, 0x03, 0xe8];
+static START: [u8; 9] = [0x01, 0x00, 0x00, 0x00, 0x00, 0x00, 0x00, 0x03, 0xe8];
 
 // 10.0.0.5, UDP, 5000 at 1024 from 1010 to 4610, without filters.
-const MAP: [u8; 61] = [
+static MAP: [u8; 61] = [
     0x02, 0x00, 0x00, 0x00, 0x00, 0x00, 0x00, 0x03, 0xf2, 0x00, 0x00, 0x00, 0x00, 0x00, 0x00, 0x00,
     0x00, 0x00, 0x00, 0xff, 0xff, 0x0a, 0x00, 0x00, 0x05, 0x11, 0x13, 0x88, 0x00, 0x01, 0x04, 0x00,
     0x00, 0x01, 0x02, 0x03, 0x04, 0x05, 0x06, 0x07, 0x08, 0x09, 0x0a, 0x0b, 0x00, 0x00, 0x00, 0x00,
@@ -16,7 +18,7 @@ const MAP: [u8; 61] = [
 ];
 
 // The same with two filters: 198.51.100.7 and every port, 203.0.113.0 under 120 bits and port 53.
-const FILTERED: [u8; 99] = [
+static FILTERED: [u8; 99] = [
     0x02, 0x00, 0x00, 0x00, 0x00, 0x00, 0x00, 0x03, 0xf2, 0x00, 0x00, 0x00, 0x00, 0x00, 0x00, 0x00,
     0x00, 0x00, 0x00, 0xff, 0xff, 0x0a, 0x00, 0x00, 0x05, 0x11, 0x13, 0x88, 0x00, 0x01, 0x04, 0x00,
     0x00, 0x01, 0x02, 0x03, 0x04, 0x05, 0x06, 0x07, 0x08, 0x09, 0x0a, 0x0b, 0x00, 0x00, 0x00, 0x00,
@@ -27,7 +29,7 @@ const FILTERED: [u8; 99] = [
 ];
 
 // 10.0.0.5, TCP, 5000 at 1024 for 198.51.100.7, 443 from 1010 to 4610.
-const PEER: [u8; 76] = [
+static PEER: [u8; 76] = [
     0x03, 0x00, 0x00, 0x00, 0x00, 0x00, 0x00, 0x03, 0xf2, 0x00, 0x00, 0x00, 0x00, 0x00, 0x00, 0x00,
     0x00, 0x00, 0x00, 0xff, 0xff, 0x0a, 0x00, 0x00, 0x05, 0x06, 0x13, 0x88, 0x04, 0x00, 0x00, 0x00,
     0x00, 0x00, 0x00, 0x00, 0x00, 0x00, 0x00, 0x00, 0xff, 0xff, 0xc6, 0x33, 0x64, 0x07, 0x01, 0xbb,
@@ -36,42 +38,38 @@ const PEER: [u8; 76] = [
 ];
 
 // The MAP lease of 10.0.0.5, UDP, 5000 at 1020.
-const DROP_MAP: [u8; 28] = [
+static DROP_MAP: [u8; 28] = [
     0x04, 0x00, 0x00, 0x00, 0x00, 0x00, 0x00, 0x03, 0xfc, 0x00, 0x00, 0x00, 0x00, 0x00, 0x00, 0x00,
     0x00, 0x00, 0x00, 0xff, 0xff, 0x0a, 0x00, 0x00, 0x05, 0x11, 0x13, 0x88,
 ];
 
 // The PEER lease of 10.0.0.5, TCP, 5000 and 198.51.100.7, 443 at 1020.
-const DROP_PEER: [u8; 46] = [
+static DROP_PEER: [u8; 46] = [
     0x05, 0x00, 0x00, 0x00, 0x00, 0x00, 0x00, 0x03, 0xfc, 0x00, 0x00, 0x00, 0x00, 0x00, 0x00, 0x00,
     0x00, 0x00, 0x00, 0xff, 0xff, 0x0a, 0x00, 0x00, 0x05, 0x06, 0x13, 0x88, 0x00, 0x00, 0x00, 0x00,
     0x00, 0x00, 0x00, 0x00, 0x00, 0x00, 0xff, 0xff, 0xc6, 0x33, 0x64, 0x07, 0x01, 0xbb,
 ];
 
 // Lose at 1024.
-const LOSE: [u8; 9] = [0x06, 0x00, 0x00, 0x00, 0x00, 0x00, 0x00, 0x04, 0x00];
+static LOSE: [u8; 9] = [0x06, 0x00, 0x00, 0x00, 0x00, 0x00, 0x00, 0x04, 0x00];
 
 // Mark at the last moment, 2^40 - 1.
-const MARK: [u8; 9] = [0x07, 0x00, 0x00, 0x00, 0xff, 0xff, 0xff, 0xff, 0xff];
+static MARK: [u8; 9] = [0x07, 0x00, 0x00, 0x00, 0xff, 0xff, 0xff, 0xff, 0xff];
 
 // Rest at 1030: 10.0.0.5, UDP, 5000 owned 1024 until 1020.
-const REST: [u8; 38] = [
+static REST: [u8; 38] = [
     0x08, 0x00, 0x00, 0x00, 0x00, 0x00, 0x00, 0x04, 0x06, 0x11, 0x04, 0x00, 0x00, 0x00, 0x00, 0x00,
     0x00, 0x00, 0x00, 0x00, 0x00, 0x00, 0xff, 0xff, 0x0a, 0x00, 0x00, 0x05, 0x13, 0x88, 0x00, 0x00,
     0x00, 0x00, 0x00, 0x00, 0x03, 0xfc,
 ];
 
 // Renumber at 1000 to 192.0.2.1.
-const RENUMBER: [u8; 25] = [
+static RENUMBER: [u8; 25] = [
     0x09, 0x00, 0x00, 0x00, 0x00, 0x00, 0x00, 0x03, 0xe8, 0x00, 0x00, 0x00, 0x00, 0x00, 0x00, 0x00,
     0x00, 0x00, 0x00, 0xff, 0xff, 0xc0, 0x00, 0x02, 0x01,
 ];
 
 const NONCE: Nonce = Nonce([0, 1, 2, 3, 4, 5, 6, 7, 8, 9, 10, 11]);
-
-fn moment(seconds: u64) -> Result<Moment, Fail> {
-    Ok(Moment::of(seconds).ok_or("no moment")?)
-}
 
 fn endpoint(protocol: Protocol) -> Endpoint {
     Endpoint {
@@ -81,8 +79,12 @@ fn endpoint(protocol: Protocol) -> Endpoint {
     }
 }
 
-fn map_lease(filters: Filters) -> Result<Change, Fail> {
-    let lease = MapLease {
+fn moment(seconds: u64) -> Result<Moment, Fail> {
+    Ok(Moment::of(seconds).ok_or("no moment")?)
+}
+
+fn map_change(filters: Filters) -> Result<Change, Fail> {
+    Ok(Change::Map(MapLease {
         address: Address::v4(10, 0, 0, 5),
         protocol: Protocol::Udp,
         internal: 5000,
@@ -92,12 +94,11 @@ fn map_lease(filters: Filters) -> Result<Change, Fail> {
         granted: moment(1010)?,
         expiry: 4610,
         filters,
-    };
-    Ok(Change::Map(lease))
+    }))
 }
 
-fn peer_lease() -> Result<Change, Fail> {
-    let lease = PeerLease {
+fn peer_change() -> Result<Change, Fail> {
+    Ok(Change::Peer(PeerLease {
         endpoint: endpoint(Protocol::Tcp),
         external: 1024,
         remote: Address::v4(198, 51, 100, 7),
@@ -105,8 +106,7 @@ fn peer_lease() -> Result<Change, Fail> {
         nonce: NONCE,
         granted: moment(1010)?,
         expiry: 4610,
-    };
-    Ok(Change::Peer(lease))
+    }))
 }
 
 fn two_filters() -> Filters {
@@ -124,21 +124,14 @@ fn two_filters() -> Filters {
     filters
 }
 
-fn is_refused_at_each_cut(text: &[u8]) -> bool {
-    (0..text.len()).all(|cut| read_record(&text[..cut]).is_err())
-}
-
 #[test]
-fn one_of_each_kind(rt: HostRuntime) -> Result<(), Fail> {
+fn records_of_each_kind(rt: HostRuntime) -> Result<(), Fail> {
     let remote = Address::v4(198, 51, 100, 7);
-    let map = map_lease(Filters::none())?;
-    let filtered = map_lease(two_filters())?;
-    let peer = peer_lease()?;
     let cases: [(&[u8], u64, Change); 10] = [
         (&START, 1000, Change::Start),
-        (&MAP, 1010, map),
-        (&FILTERED, 1010, filtered),
-        (&PEER, 1010, peer),
+        (&MAP, 1010, map_change(Filters::none())?),
+        (&FILTERED, 1010, map_change(two_filters())?),
+        (&PEER, 1010, peer_change()?),
         (&DROP_MAP, 1020, Change::DropMap(endpoint(Protocol::Udp))),
         (
             &DROP_PEER,
@@ -160,14 +153,13 @@ fn one_of_each_kind(rt: HostRuntime) -> Result<(), Fail> {
         assert!(rt; length == text.len());
         let mut out = Vec::new(rt.alloc());
         write_record(rt.alloc(), &mut out, &kept)?;
-        assert_eq!(rt; out.as_slice(), text);
-        assert!(rt; is_refused_at_each_cut(text));
+        assert!(rt; out.as_slice() == text);
     }
     Ok(())
 }
 
 #[test]
-fn not_well_formed(rt: HostRuntime) {
+fn records_not_well_formed(rt: HostRuntime) {
     // a text, the place of an octet in it, and what stands there instead
     let cases: [(&[u8], usize, u8); 16] = [
         // the kind
@@ -200,10 +192,7 @@ fn not_well_formed(rt: HostRuntime) {
         let mut changed = [0; 99];
         changed[..text.len()].copy_from_slice(text);
         changed[place] = octet;
-        assert_eq!(rt;
-            read_record(&changed[..text.len()]),
-            Err(NotRecord),
-            "{place}"
-        );
+        let read = read_record(&changed[..text.len()]);
+        assert!(rt; read == Err(NotRecord), "{place}");
     }
 }

@@ -2,7 +2,6 @@
 //! read, and a sync fails where it is told to.
 ghost use Rattle.std.specs.Prelude.{IsErr};
 
-use crate::replays::put;
 use std::alloc::{Allocator, Global};
 use std::cell::{Cell, RefCell};
 use std::fs::{Metadata, OpenFile, OpenOptions};
@@ -31,6 +30,18 @@ pub(crate) struct FakeFile {
     interrupted: Cell<bool>,
     syncs: Cell<u8>,
     failing_sync: u8,
+}
+
+/// Writes the piece over the octets at this place, with zeros before it where they are fewer.
+fn put(octets: &mut Vec<u8>, place: usize, piece: &[u8]) -> io::Result<()> {
+    let end = place.saturating_add(piece.len());
+    if octets.len() < end {
+        octets.resize(end, 0)?;
+    }
+    for (octet, new) in octets.iter_mut().skip(place).zip(piece) {
+        *octet = *new;
+    }
+    Ok(())
 }
 
 fn refused<T>() -> io::Result<T>
