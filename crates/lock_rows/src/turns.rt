@@ -22,9 +22,11 @@ impl Kept for Numbers {
 
     type Entry = u32;
 
+    type Key = ();
+
     type Lasting = ();
 
-    ghost stands = { λ n log. n.list.items ≡ log };
+    ghost stands = { λ key n log. n.list.items ≡ log };
 
     ghost added = { λ n. drop n.noted n.list.items };
 
@@ -68,7 +70,7 @@ fn add_one<R: Wait>(
     x: u32,
     own: bool,
 ) -> bool
-    requires { (pass.old.turn ≡ turn.now) × (pass.old.out ≡ false) }
+    requires { (pass.old.turn ≡ turn.now.id) × (pass.old.out ≡ false) }
     ensures pass { (pass.new.turn ≡ pass.old.turn) × (pass.new.out ≡ false) }
     ensures mine { OnTrue result (length pass.new.mine ≡ length pass.old.mine + one_if own) }
 {
@@ -88,9 +90,9 @@ fn add_many<R: Wait>(
     mut pass: Pass<Numbers>,
     count: u32,
 ) -> Option<Pass<Numbers>>
-    requires { (pass.turn ≡ turn.now) × (pass.out ≡ false) × (pass.mine ≡ []) }
+    requires { (pass.turn ≡ turn.now.id) × (pass.out ≡ false) × (pass.mine ≡ []) }
     ensures { IfSome result (λ p.
-        (p.turn ≡ turn.entry.now) × (p.out ≡ false) × (length p.mine ≡ count)) }
+        (p.turn ≡ turn.entry.now.id) × (p.out ≡ false) × (length p.mine ≡ count)) }
 {
     for i in 0..count {
         if !add_one(rt, turn, &mut pass, i, true) {
@@ -106,24 +108,24 @@ fn add_in_two<R: Threads + Wait + Sync>(
     alloc: Global,
     count: u32,
 ) -> Option<(Turn<Numbers>, Pass<Numbers>)>
-    ensures pass { IfSome result (λ t. (t.1.turn ≡ t.0) × (t.1.out ≡ false)) }
+    ensures pass { IfSome result (λ t. (t.1.turn ≡ t.0.id) × (t.1.out ≡ false)) }
     ensures mine { IfSome result (λ t. length t.1.mine ≡ count + count) }
     ensures seen { IfSome result (λ t. count + count ≤ length t.1.seen) }
 {
-    let (turn, mut pass) = Turn::new(alloc, Numbers::none(alloc)).ok()?;
+    let (turn, mut pass) = Turn::new(alloc, Numbers::none(alloc), &()).ok()?;
     let other = turn.split(alloc, &mut pass).ok()?;
     let shared = &turn;
     let (first, second) = join(
         rt,
         move || -> Option<Pass<Numbers>>
-            requires { (pass.turn ≡ shared.now) × (pass.out ≡ false) × (pass.mine ≡ []) }
+            requires { (pass.turn ≡ shared.now.id) × (pass.out ≡ false) × (pass.mine ≡ []) }
             ensures { IfSome result (λ p.
-                (p.turn ≡ shared.entry.now) × (p.out ≡ false) × (length p.mine ≡ count)) }
+                (p.turn ≡ shared.entry.now.id) × (p.out ≡ false) × (length p.mine ≡ count)) }
         { add_many(rt, shared, pass, count) },
         move || -> Option<Pass<Numbers>>
-            requires { (other.turn ≡ shared.now) × (other.out ≡ false) × (other.mine ≡ []) }
+            requires { (other.turn ≡ shared.now.id) × (other.out ≡ false) × (other.mine ≡ []) }
             ensures { IfSome result (λ p.
-                (p.turn ≡ shared.entry.now) × (p.out ≡ false) × (length p.mine ≡ count)) }
+                (p.turn ≡ shared.entry.now.id) × (p.out ≡ false) × (length p.mine ≡ count)) }
         { add_many(rt, shared, other, count) },
     );
     let mut first = first?;
@@ -150,8 +152,8 @@ fn two_threads_take_turns(rt: HostRuntime) -> Result<(), Fail> {
 
 // Splits a pass until it is refused, at most `most` times, and says how often it was split.
 fn split_often(alloc: Global, turn: &Turn<Numbers>, pass: &mut Pass<Numbers>, most: u32) -> u32
-    requires { (pass.old.turn ≡ turn.now) × (pass.old.out ≡ false) }
-    ensures { pass.new ≡ pass.old }
+    requires { (pass.old.turn ≡ turn.now.id) × (pass.old.out ≡ false) }
+    ensures { (pass.new.turn ≡ pass.old.turn) × (pass.new.out ≡ false) }
 {
     let mut splits = 0;
     for i in 0..most {
@@ -166,7 +168,7 @@ fn split_often(alloc: Global, turn: &Turn<Numbers>, pass: &mut Pass<Numbers>, mo
 #[test]
 fn settlings_are_noted_and_splits_are_refused(rt: HostRuntime) -> Result<(), Fail> {
     let alloc = rt.alloc();
-    let (turn, mut pass) = Turn::new(alloc, Numbers::none(alloc)).ok().ok_or("turn")?;
+    let (turn, mut pass) = Turn::new(alloc, Numbers::none(alloc), &()).ok().ok_or("turn")?;
     let mut other = turn.split(alloc, &mut pass)?;
     assert!(rt; add_one(&rt, &turn, &mut pass, 7, true));
     assert!(rt; add_one(&rt, &turn, &mut other, 8, false));

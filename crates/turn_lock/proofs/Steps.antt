@@ -7,7 +7,7 @@ use mathlib.Core.List.{IsPrefix}
 use native.Mathlib.Decide.{dec_le, ℕ_discrete}
 use lib.ListN.{get_elem?}
 use Rattle.std.proofs.Math.Nat.{mod-add-mod, div-le_self}
-use Rattle.std.specs.Prelude.{Option, Some}
+use Rattle.std.specs.Prelude.{Option, Some, IfSome}
 use Rattle.std.specs.List.{range_with_len}
 use Rattle.atomic_table.specs.Table.{State, Step, Act, keeps, takes, gives, stepped, Valid, carried_after, Allows, Splits, Joins, opening}
 use Rattle.atomic_table.proofs.Lists.{set_here, set_else, one_turn}
@@ -441,3 +441,8 @@ module _ {X E : Type 0} (stands : X → List E → Type 0) (added : X → List E
 
       apart : HaveOwnTickets views
       apart i j v w ei ej on _ _ = off v.waits (ap (λ (z : TurnView E). z.waits) (sym (is_first i v ei))) on
+
+-- 2, where the step names the key of the turn
+pub looks_named : {K X E : Type 0} (stands : K → X → List E → Type 0) (added : X → List E) (key : K) (named : Option K) (slots id : ℕ) (me : SeatState (Option X) E) (st : Step (Option X)) → named ≡ Some key → me.0.waits ≡ true → me.0.out ≡ false → Allows (IsRuled (stands key) added) slots id me 2 (λ n. n) (TellsLook (λ x log. IfSome named (λ k. stands k x log)) added st me)
+looks_named {K} {X} {E} stands added key named slots id me st is on home =
+    subst (λ (o : Option K). Allows (IsRuled (stands key) added) slots id me 2 (λ n. n) (TellsLook (λ x log. IfSome o (λ k. stands k x log)) added st me)) (sym is) (looks (stands key) added slots id me st on home)

@@ -1,18 +1,25 @@
 -- What a pass knows of its turn (our own).
-use Rattle.std.specs.Prelude.{◌≡◌, ℕ, ◌<◌, ◌%◌, ◌^◌, ◌∷◌, [], Bool, true, false, not, List, ◌++◌, length, Option, None}
+use Rattle.std.specs.Prelude.{◌≡◌, ℕ, ◌+◌, ◌-◌, ◌<◌, ◌%◌, ◌^◌, ◌∷◌, [], Bool, true, false, not, List, ◌++◌, length, Option, None}
 use Rattle.std.specs.List.{range_with_len}
 use mathlib.Core.List.{IsPrefix}
 use Rattle.atomic_table.specs.Seated.{TableId}
 use Rattle.turn_lock.specs.declared.layout.TheConstants.{VALUE}
 use Rattle.turn_lock.specs.declared.views.TurnView.{TurnView}
 use Rattle.turn_lock.specs.Places.{ArePlaces, behind_if}
-use Rattle.turn_lock.specs.Views.{SeatState, IsPlacedView, out_view}
+use Rattle.turn_lock.specs.Views.{SeatState, IsPlacedView, new_room, out_view}
 
--- a pass, as contracts see it: its turn, whether its held value is out, the entries that it has
--- seen, and the places of those that it noted, its own and those of settlings
+-- a turn, as contracts see it: its name, and what it was told when it was made
+pub record TurnName (K : Type 0) : Type 0 where
+  pub id : TableId
+  pub key : K
+
+-- a pass, as contracts see it: its turn, whether its held value is out, how many passes may come of
+-- it, itself among them, the entries that it has seen, and the places of those that it noted, its
+-- own and those of settlings
 pub record PassKnowledge (E : Type 0) : Type 0 where
   pub turn : TableId
   pub out : Bool
+  pub room : ℕ
   pub seen : List E
   pub mine : List ℕ
   pub settled : List ℕ
@@ -22,6 +29,7 @@ module _ {E : Type 0} where
   knowledge_of turn v = record {
     turn = turn;
     out = v.out;
+    room = v.room;
     seen = v.seen;
     mine = v.mine;
     settled = v.settled;
@@ -34,6 +42,7 @@ module _ {E : Type 0} where
   -- it has seen the same, and maybe more, and has noted the same
   pub record SeesMore (old new : PassKnowledge E) : Type 0 where
     pub turn : new.turn ≡ old.turn
+    pub room : new.room ≡ old.room
     pub seen : IsPrefix old.seen new.seen
     pub mine : new.mine ≡ old.mine
     pub settled : new.settled ≡ old.settled
@@ -45,6 +54,7 @@ module _ {E : Type 0} where
       record {
         turn = p.turn;
         out = p.out;
+        room = p.room;
         seen = p.seen ++ xs;
         mine = behind_if own p.mine new;
         settled = behind_if (not own) p.settled new;
@@ -55,14 +65,22 @@ module _ {E : Type 0} where
   after_give p = record {
     turn = p.turn;
     out = false;
+    room = p.room;
     seen = p.seen;
     mine = p.mine;
     settled = p.settled;
   }
 
   -- a pass that has noted nothing
-  abbrev pub new_pass : TableId → List E → PassKnowledge E
-  new_pass turn seen = record { turn = turn; out = false; seen = seen; mine = []; settled = [] }
+  abbrev pub new_pass : TableId → ℕ → List E → PassKnowledge E
+  new_pass turn room seen =
+      record { turn = turn; out = false; room = room; seen = seen; mine = []; settled = [] }
+
+  -- a pass was split in two, which have its room together; the new one has noted nothing
+  pub record AreSplit (old kept new : PassKnowledge E) : Type 0 where
+    pub kept_is : kept ≡ record old { room = old.room - new_room old.room }
+    pub new_is : new ≡ new_pass old.turn (new_room old.room) old.seen
+    pub whole : kept.room + new.room ≡ old.room
 
 -- the slots that a seat has taken
 abbrev pub carried_slots : {S : Type 0} → Bool → List (ℕ × Option S)

@@ -1,5 +1,5 @@
 //! What each step tells. These types are for the proofs alone.
-ghost use Rattle.std.specs.Prelude.{List, [], true, false};
+ghost use Rattle.std.specs.Prelude.{List, [], true, false, IfSome};
 ghost use Rattle.turn_lock.specs.Tellings.{TellsDraw, TellsLook, TellsNote, TellsGive, TellsLearn};
 ghost use Rattle.turn_lock.specs.Views.{keeper_view, newcomer_view, meeting_view, spent_view};
 
@@ -21,6 +21,19 @@ impl<E> Noting<E> for Brand {
     ghost entries = { [] };
 }
 
+/// Names the key of a turn, which no number of a step can tell either.
+pub trait Naming<K> {
+    ghost use Rattle.std.specs.Prelude.{Option};
+
+    ghost key: { Option K };
+}
+
+impl<K> Naming<K> for Brand {
+    ghost use Rattle.std.specs.Prelude.{None};
+
+    ghost key = { None };
+}
+
 /// A ticket is drawn.
 pub struct Draw;
 
@@ -29,12 +42,12 @@ impl<S, E> Play<S, TurnView<E>> for Draw {
 }
 
 /// The ticket that is served is looked at, and where it is the seat's own the value is taken.
-pub struct Look<V> {
-    of: PhantomData<V>,
+pub struct Look<V, B> {
+    of: PhantomData<(V, B)>,
 }
 
-impl<V: Kept> Play<Option<V>, TurnView<V::Entry>> for Look<V> {
-    ghost then = { TellsLook V.stands V.added };
+impl<V: Kept, B: Naming<V::Key>> Play<Option<V>, TurnView<V::Entry>> for Look<V, B> {
+    ghost then = { TellsLook (λ x log. IfSome B.key (λ key. V.stands key x log)) V.added };
 }
 
 /// Entries of the pass's own are noted.

@@ -1,14 +1,17 @@
 //! The lock.
-ghost use Rattle.std.specs.Prelude.{◌≡◌, ◌<◌, ◌≤◌, ◌+◌, ◌++◌, ◌%◌, ◌^◌, ℕ, [], List, length, true, false, IfOk, IfErr, IfSome, IfNone};
+ghost use Rattle.std.specs.Prelude.{◌≡◌, ◌<◌, ◌≤◌, ◌+◌, ◌++◌, ◌%◌, ◌^◌, ℕ, [], List, length, true, false, Some, IfOk, IfErr, IfSome, IfNone, OnErr};
 ghost use mathlib.Core.List.{IsPrefix};
+ghost use Rattle.turn_lock.specs.declared.layout.TheConstants.{FIRST_ROOM};
 ghost use Rattle.turn_lock.specs.Lengths.{longer};
-ghost use Rattle.turn_lock.specs.Passes.{IsPlaced, SeesMore, IsIdle, IsWaiting, TakesOut, after_note, after_give, new_pass};
+ghost use Rattle.turn_lock.specs.Passes.{AreSplit, IsPlaced, SeesMore, IsIdle, IsWaiting, TakesOut, after_note, after_give, new_pass};
 ghost use Rattle.turn_lock.specs.Views.{new_room, waiting_view};
 
 use crate::held::Held;
 use crate::kept::Kept;
 use crate::layout::{FIRST_ROOM, HISTORY, NEW_ROOM, SERVING, TICKET, VALUE};
-use crate::plays::{Draw, Give, Learn, Look, NoteOwn, NoteSettling, Noting, SplitAndMeet};
+use crate::plays::{
+    Draw, Give, Learn, Look, Naming, NoteOwn, NoteSettling, Noting, SplitAndMeet,
+};
 use crate::views::{TurnRule, TurnView};
 use atomic_table::{Refused, Seat, Table};
 use std::alloc::{AllocError, AllocFailed, Global};
@@ -16,21 +19,20 @@ use std::marker::{Brand, Model};
 use std::sync::Wait;
 use std::{hint, thread};
 
-/// A lock whose passes know the history of the value behind it. To contracts it is a name.
+/// A lock whose passes know the history of the value behind it. To contracts it is a name, with what
+/// it was told when it was made.
 #[derive(Drop)]
 pub struct Turn<V: Kept> {
-    table: Table<Option<V>, TurnView<V::Entry>, (), TurnRule<V>, Global>,
+    table: Table<Option<V>, TurnView<V::Entry>, V::Key, TurnRule<V>, Global>,
 }
 
 impl<V: Kept> Model for Turn<V> {
     ghost use Rattle.std.specs.Prelude.{◌≡◌};
-    ghost use Rattle.atomic_table.specs.Seated.{TableId, table_id_coded};
+    ghost use Rattle.turn_lock.specs.Passes.{TurnName};
 
-    ghost Value = { TableId };
+    ghost Value = { TurnName V.Key };
 
-    ghost coded = { table_id_coded };
-
-    ghost view = { λ t. t.table.shared.table_id };
+    ghost view = { λ t. record { id = t.table.shared.table_id; key = t.table.shared.key } };
 
     ghost invariant = { λ t.
         (t.table.shared.table_id.words ≡ 3) × (t.table.shared.table_id.slots ≡ 1) };
@@ -74,12 +76,14 @@ pub struct Unmade<V> {
 }
 
 impl<V: Kept> Turn<V> {
-    /// A turn whose history is empty, and the first pass. The value must stand for no entry and
-    /// have added none. The one error is want of memory.
-    pub fn new(alloc: Global, value: V) -> Result<(Turn<V>, Pass<V>), Unmade<V>>
-        requires stands { V.stands value [] }
+    /// A turn whose history is empty, and the first pass. The turn keeps in mind what it is told
+    /// of the value. The value must stand for no entry and have added none. The one error is want of
+    /// memory.
+    pub fn new(alloc: Global, value: V, key: &V::Key) -> Result<(Turn<V>, Pass<V>), Unmade<V>>
+        requires stands { V.stands key.now value [] }
         requires added { V.added value ≡ [] }
-        ensures made { IfOk result (λ t. t.1 ≡ new_pass t.0 []) }
+        ensures key { IfOk result (λ t. t.0.key ≡ key.now) }
+        ensures made { IfOk result (λ t. t.1 ≡ new_pass t.0.id FIRST_ROOM []) }
         ensures back { IfErr result (λ u. u.value ≡ value) }
     {
         let mut slots = Vec::new(alloc);
@@ -90,7 +94,7 @@ impl<V: Kept> Turn<V> {
                 value: value.unwrap(),
             });
         }
-        match Table::new(alloc, &[0, 0, 0], slots, &()) {
+        match Table::new(alloc, &[0, 0, 0], slots, key) {
             Ok((table, seat)) => Ok((
                 Turn { table },
                 Pass {
@@ -110,7 +114,7 @@ impl<V: Kept> Turn<V> {
 
     // Draws a ticket, and gives its number modulo 2^64.
     fn draw(&self, seat: &mut Seat<Option<V>, TurnView<V::Entry>>) -> u64
-        requires turn { seat.old.table_id ≡ self.now }
+        requires turn { seat.old.table_id ≡ self.now.id }
         requires idle { IsIdle seat.old.me }
         ensures turn { seat.new.table_id ≡ seat.old.table_id }
         ensures drawn { (t : ℕ) × (result ≡ t % 2 ^ 64)
@@ -120,14 +124,19 @@ impl<V: Kept> Turn<V> {
     }
 
     // Takes the value out where the seat's turn has come.
-    fn come(&self, seat: &mut Seat<Option<V>, TurnView<V::Entry>>, ticket: u64) -> Option<V>
-        requires turn { seat.old.table_id ≡ self.now }
+    fn come<B: Naming<V::Key>>(
+        &self,
+        seat: &mut Seat<Option<V>, TurnView<V::Entry>>,
+        ticket: u64,
+    ) -> Option<V>
+        requires key { B.key ≡ Some self.now.key }
+        requires turn { seat.old.table_id ≡ self.now.id }
         requires waiting { IsWaiting ticket seat.old.me }
         ensures turn { seat.new.table_id ≡ seat.old.table_id }
         ensures not_yet { IfNone result (seat.new.me ≡ seat.old.me) }
-        ensures came { IfSome result (TakesOut V.stands V.added seat.old.me seat.new.me) }
+        ensures came { IfSome result (TakesOut (V.stands self.now.key) V.added seat.old.me seat.new.me) }
     {
-        if self.table.shared.load::<Look<V>>(seat, SERVING) != ticket {
+        if self.table.shared.load::<Look<V, B>>(seat, SERVING) != ticket {
             return None;
         }
         let value = self.table.shared.exchange(seat, VALUE, None);
@@ -137,17 +146,17 @@ impl<V: Kept> Turn<V> {
     /// Waits for the turn, and takes the value out. The pass must be of this turn, and its value at
     /// home. Turns are handed out in the order of tickets, and nothing here waits but this call.
     pub fn take<R: Wait>(&self, rt: &R, pass: &mut Pass<V>) -> Held<V>
-        requires turn { pass.old.turn ≡ self.now }
+        requires turn { pass.old.turn ≡ self.now.id }
         requires idle { pass.old.out ≡ false }
         ensures pass { SeesMore pass.old pass.new }
         ensures out { pass.new.out ≡ true }
-        ensures value { V.stands result pass.new.seen }
+        ensures value { V.stands self.now.key result pass.new.seen }
         ensures added { V.added result ≡ [] }
     {
         let ticket = self.draw(&mut pass.seat);
         let mut rounds = 0;
         for _ in rt.forever() {
-            if let Some(value) = self.come(&mut pass.seat, ticket) {
+            if let Some(value) = self.come::<Brand>(&mut pass.seat, ticket) {
                 return Held { value };
             }
             rounds = pause(rounds);
@@ -157,7 +166,7 @@ impl<V: Kept> Turn<V> {
 
     // Notes entries of the pass's own. It doesn't read the value, which names them.
     fn note_own<B: Noting<V::Entry>>(&self, pass: &mut Pass<V>, value: &V, count: u32)
-        requires pass { (pass.old.turn ≡ self.now) × (pass.old.out ≡ true) }
+        requires pass { (pass.old.turn ≡ self.now.id) × (pass.old.out ≡ true) }
         requires entries { B.entries ≡ V.added value.now }
         requires count { length (V.added value.now) ≡ count }
         ensures { pass.new ≡ after_note true (V.added value.now) pass.old }
@@ -169,7 +178,7 @@ impl<V: Kept> Turn<V> {
 
     // Notes entries of a settling. It doesn't read the value, which names them.
     fn note_settling<B: Noting<V::Entry>>(&self, pass: &mut Pass<V>, value: &V, count: u32)
-        requires pass { (pass.old.turn ≡ self.now) × (pass.old.out ≡ true) }
+        requires pass { (pass.old.turn ≡ self.now.id) × (pass.old.out ≡ true) }
         requires entries { B.entries ≡ V.added value.now }
         requires count { length (V.added value.now) ≡ count }
         ensures { pass.new ≡ after_note false (V.added value.now) pass.old }
@@ -183,11 +192,12 @@ impl<V: Kept> Turn<V> {
     /// count as the pass's own where `own` is true, else as those of a settling. It takes no
     /// memory.
     pub fn note(&self, pass: &mut Pass<V>, held: &mut Held<V>, count: u32, own: bool)
-        requires pass { (pass.old.turn ≡ self.now) × (pass.old.out ≡ true) }
+        requires pass { (pass.old.turn ≡ self.now.id) × (pass.old.out ≡ true) }
         requires count { length (V.added held.old) ≡ count }
-        requires value { V.stands held.old (pass.old.seen ++ V.added held.old) }
+        requires value { V.stands self.now.key held.old (pass.old.seen ++ V.added held.old) }
         ensures pass { pass.new ≡ after_note own (V.added held.old) pass.old }
-        ensures stands { (log : List V.Entry) → V.stands held.old log → V.stands held.new log }
+        ensures stands { (key : V.Key) (log : List V.Entry) →
+            V.stands key held.old log → V.stands key held.new log }
         ensures added { V.added held.new ≡ [] }
         ensures lasts { V.lasts held.new ≡ V.lasts held.old }
     {
@@ -201,9 +211,9 @@ impl<V: Kept> Turn<V> {
 
     /// Gives the value back, which must have added nothing since the last note. It takes no memory.
     pub fn give(&self, pass: &mut Pass<V>, held: Held<V>)
-        requires pass { (pass.old.turn ≡ self.now) × (pass.old.out ≡ true) }
+        requires pass { (pass.old.turn ≡ self.now.id) × (pass.old.out ≡ true) }
         requires added { V.added held ≡ [] }
-        requires value { V.stands held pass.old.seen }
+        requires value { V.stands self.now.key held pass.old.seen }
         ensures { pass.new ≡ after_give pass.old }
     {
         let Held { value } = held;
@@ -224,9 +234,10 @@ impl<V: Kept> Turn<V> {
     /// for want of memory, where this pass's share of the 2^64 passes that a turn may have is used
     /// up: the first pass has all, and one that is split off gets 2^32, but at most a half.
     pub fn split(&self, _alloc: Global, pass: &mut Pass<V>) -> Result<Pass<V>, AllocError>
-        requires { (pass.old.turn ≡ self.now) × (pass.old.out ≡ false) }
-        ensures unchanged { pass.new ≡ pass.old }
-        ensures new { IfOk result (λ p. p ≡ new_pass pass.old.turn pass.old.seen) }
+        requires { (pass.old.turn ≡ self.now.id) × (pass.old.out ≡ false) }
+        ensures ok { IfOk result (AreSplit pass.old pass.new) }
+        ensures refused { OnErr result (pass.old.room < 2) }
+        ensures unchanged { OnErr result (pass.new ≡ pass.old) }
     {
         if pass.room < 2 {
             return Err(AllocError);
@@ -240,13 +251,14 @@ impl<V: Kept> Turn<V> {
     /// Takes another pass in: it has then seen the longer of the two lists, which the other begins,
     /// and has noted what both have. Both must be of this turn, with their values at home.
     pub fn meet(&self, pass: &mut Pass<V>, other: Pass<V>)
-        requires turn { (pass.old.turn ≡ self.now) × (other.turn ≡ self.now) }
+        requires turn { (pass.old.turn ≡ self.now.id) × (other.turn ≡ self.now.id) }
         requires idle { (pass.old.out ≡ false) × (other.out ≡ false) }
         ensures pass { (pass.new.turn ≡ pass.old.turn) × (pass.new.out ≡ false) }
         ensures seen { pass.new.seen ≡ longer pass.old.seen other.seen }
         ensures begins { IsPrefix pass.old.seen pass.new.seen × IsPrefix other.seen pass.new.seen }
         ensures mine { pass.new.mine ≡ pass.old.mine ++ other.mine }
         ensures settled { pass.new.settled ≡ pass.old.settled ++ other.settled }
+        ensures room { pass.new.room ≡ pass.old.room + other.room }
     {
         let Pass { seat, room } = other;
         self.table

@@ -32,16 +32,16 @@ pub struct TurnView<E> {
     pub settled: LinkedList<u64>,
 }
 
-/// The rule of the table.
+/// The rule of the table. Its key is that of the turn.
 pub struct TurnRule<V> {
     of: PhantomData<V>,
 }
 
-impl<V: Kept> TableRule<Option<V>, TurnView<V::Entry>, ()> for TurnRule<V> {
+impl<V: Kept> TableRule<Option<V>, TurnView<V::Entry>, V::Key> for TurnRule<V> {
     ghost use Rattle.turn_lock.specs.Rule.{IsRuled};
     ghost use Rattle.turn_lock.specs.Views.{founding_view};
 
-    ghost holds = { λ _. IsRuled V.stands V.added };
+    ghost holds = { λ key. IsRuled (V.stands key) V.added };
 
     ghost first = { λ _. founding_view };
 }

@@ -7,4 +7,4 @@ use Rattle.turn_lock.proofs.turn.Turn.draw.Goals as goal
 pub fetch_add-requires : goal.fetch_add-requires
 fetch_add-requires g c =
     let i = c.requires.idle in
-    (search rules, search rules, draws g.V.Kept.stands g.V.Kept.added _ _ _ (step 0 0 0 0 none) i.rests i.home i.room)
+    (search rules, search rules, draws (g.V.Kept.stands c.self.inside.table.shared.key) g.V.Kept.added _ _ _ (step 0 0 0 0 none) i.rests i.home i.room)

@@ -12,6 +12,6 @@ fetch_add-requires g c =
     let now = c.exchange-out.ensures.3 in (
       search rules,
       search rules,
-      gives_back g.V.Kept.stands g.V.Kept.added _ _ _ c.held.inside.value (step 0 0 0 0 none) (ap (λ m. m.1) now ∙ ap (λ l. (0, Some c.held.inside.value) ∷ rest l) (i.carries ∙ ap carried_slots out)) (ap (λ m. m.0.waits) now ∙ (i.rests ∙ out)) (ap (λ m. m.0.out) now ∙ out)
-          (subst (λ m. g.V.Kept.stands c.held.inside.value m.0.seen) (sym now) (search rules)) (search rules),
+      gives_back (g.V.Kept.stands c.self.inside.table.shared.key) g.V.Kept.added _ _ _ c.held.inside.value (step 0 0 0 0 none) (ap (λ m. m.1) now ∙ ap (λ l. (0, Some c.held.inside.value) ∷ rest l) (i.carries ∙ ap carried_slots out)) (ap (λ m. m.0.waits) now ∙ (i.rests ∙ out)) (ap (λ m. m.0.out) now ∙ out)
+          (subst (λ m. (g.V.Kept.stands c.self.inside.table.shared.key) c.held.inside.value m.0.seen) (sym now) (search rules)) (search rules),
     )

@@ -11,11 +11,11 @@ join_seat-requires g c =
     let k = c.other.invariant in
     let rests : c.pass.inside.seat.me.0.out ≡ false = search rules in
     let theirs : c.other.inside.seat.me.0.out ≡ false = search rules in
-    (search rules, search rules, k.carries ∙ ap carried_slots theirs, search rules, joins g.V.Kept.stands g.V.Kept.added _ _ _ _ (i.rests ∙ rests) rests (k.rests ∙ theirs) theirs)
+    (search rules, search rules, k.carries ∙ ap carried_slots theirs, search rules, joins (g.V.Kept.stands c.self.inside.table.shared.key) g.V.Kept.added _ _ _ _ (i.rests ∙ rests) rests (k.rests ∙ theirs) theirs)
 
 pub load-requires : goal.load-requires
 load-requires g c =
     let i = c.pass.invariant in
     let rests : c.pass.inside.seat.me.0.out ≡ false = search rules in
     let now = c.join_seat.ensures.2 in
-    (search rules, search rules, learns g.V.Kept.stands g.V.Kept.added _ _ _ (step 0 0 0 0 none) (ap (λ m. m.0.waits) now ∙ (i.rests ∙ rests)) (ap (λ m. m.0.out) now ∙ rests))
+    (search rules, search rules, learns (g.V.Kept.stands c.self.inside.table.shared.key) g.V.Kept.added _ _ _ (step 0 0 0 0 none) (ap (λ m. m.0.waits) now ∙ (i.rests ∙ rests)) (ap (λ m. m.0.out) now ∙ rests))

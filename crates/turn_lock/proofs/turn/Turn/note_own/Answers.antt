@@ -8,4 +8,4 @@ pub fetch_add-requires : goal.fetch_add-requires
 fetch_add-requires g c =
     let i = c.pass.invariant in
     let out : c.pass.inside.seat.me.0.out ≡ true = search rules in
-    (search rules, search rules, notes g.V.Kept.stands g.V.Kept.added _ _ _ _ true g.B.Noting.entries (step 0 0 0 0 none) (ap length c.requires.entries ∙ (c.requires.count ∙ search rules)) (i.rests ∙ out) out)
+    (search rules, search rules, notes (g.V.Kept.stands c.self.inside.table.shared.key) g.V.Kept.added _ _ _ _ true g.B.Noting.entries (step 0 0 0 0 none) (ap length c.requires.entries ∙ (c.requires.count ∙ search rules)) (i.rests ∙ out) out)
