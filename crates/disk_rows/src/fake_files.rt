@@ -1,7 +1,8 @@
 //! A file system for tests: its files take two octets a write, an interrupted call comes before each
-//! read, and a sync fails where it is told to.
+//! read, and syncs, reads and lengths fail where they are told to.
 ghost use Rattle.std.specs.Prelude.{IsErr};
 
+use lease_disk::Keepable;
 use std::alloc::{Allocator, Global};
 use std::cell::{Cell, RefCell};
 use std::fs::{Metadata, OpenFile, OpenOptions};
@@ -19,8 +20,14 @@ pub(crate) struct FakeFiles {
     pub(crate) alloc: Global,
     /// the number of the sync of the file that fails, from 1 on, or 0 for none
     pub(crate) failing_sync: u8,
-    /// the same of the folder
+    /// the number of the opening of the folder whose sync fails, from 1 on, or 0 for none
     pub(crate) failing_folder: u8,
+    /// how often the folder was opened
+    pub(crate) folders: Cell<u8>,
+    /// whether reads fail, and questions for the length of a file that has octets
+    pub(crate) fails_reads: bool,
+    /// whether another program keeps each file
+    pub(crate) is_kept: bool,
 }
 
 /// An opened file, or the folder.
@@ -30,6 +37,8 @@ pub(crate) struct FakeFile {
     interrupted: Cell<bool>,
     syncs: Cell<u8>,
     failing_sync: u8,
+    fails_reads: bool,
+    is_kept: bool,
 }
 
 /// Writes the piece over the octets at this place, with zeros before it where they are fewer.
@@ -56,6 +65,9 @@ impl FileExt for FakeFile {
         if self.interrupted.get() {
             return Err(io::Error::from(ErrorKind::Interrupted));
         }
+        if self.fails_reads {
+            return refused();
+        }
         if offset >= SYNCS_AT && !buf.is_empty() {
             buf[0] = self.syncs.get();
             return Ok(1);
@@ -72,6 +84,15 @@ impl FileExt for FakeFile {
         let count = buf.len().min(2);
         put(&mut octets, offset as usize, &buf[..count])?;
         Ok(count)
+    }
+}
+
+impl Keepable for FakeFile {
+    fn keep(&self) -> io::Result<()> {
+        if self.is_kept {
+            return Err(io::Error::from(ErrorKind::WouldBlock));
+        }
+        Ok(())
     }
 }
 
@@ -100,6 +121,9 @@ impl Seek for FakeFile {
 impl OpenFile for FakeFile {
     fn metadata(&self) -> io::Result<Metadata> {
         let octets = self.octets.try_borrow().or(refused())?;
+        if self.fails_reads && octets.len() > 0 {
+            return refused();
+        }
         Ok(Metadata::of_file(octets.len() as u64))
     }
 
@@ -127,12 +151,18 @@ impl Files for FakeFiles {
 
     fn open_file(&self, how: &OpenOptions, path: &str) -> io::Result<FakeFile> {
         how.check()?;
+        if path == "folder" {
+            self.folders.set(self.folders.get().wrapping_add(1));
+        }
+        let fails_folder = self.folders.get() == self.failing_folder;
         Ok(FakeFile {
+            fails_reads: self.fails_reads,
+            is_kept: self.is_kept,
             octets: RefCell::new(Vec::new(self.alloc)),
             interrupted: Cell::new(false),
             syncs: Cell::new(0),
             failing_sync: if path == "folder" {
-                self.failing_folder
+                u8::from(fails_folder)
             } else {
                 self.failing_sync
             },

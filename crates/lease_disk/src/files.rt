@@ -8,14 +8,17 @@ use std::fs::{File, OpenFile, OpenOptions};
 use std::io;
 use std::io::ErrorKind;
 use std::marker::Model;
-use std::os::unix::fs::{FileExt, OpenOptionsExt};
+use std::os::unix::fs::{FileExt, MetadataExt, OpenOptionsExt};
 use std::path::Path;
 use std::rt::Files;
 
-/// A disk over a regular file, which is made at the first call, a reading one too, and which only its
-/// owner may read and write. Each error of the file or of its folder is a fault that it counts, and
-/// so are a link or a device in the file's place, a length above 2^62, a write past that, and each
-/// sync after one that failed; nothing else is. A count that stands at 2^64 - 1 stands still.
+/// A disk over a regular file, which only its owner may read and write, and which it keeps for this
+/// process alone from the first call that opens it until it is dropped. The file is made at the first
+/// write, cut or sync; until then a file that is missing in a folder that is there is read as an empty
+/// one. Each error of the file or of its folder is a fault that it counts, and so are another process
+/// that keeps the file, a link or a device in its place, a file that has another name, a length above
+/// 2^62, a write past that, and each write, cut and sync after a sync that failed; nothing else is. A
+/// count that stands at 2^64 - 1 stands still.
 #[derive(Drop)]
 pub struct FileDisk<F: Files + Drop> {
     side: SideFile<F>,
@@ -44,25 +47,39 @@ impl<F: Files + Drop> FileDisk<F> {
             side: SideFile {
                 files,
                 path,
-                opened: None,
+                kept: None,
+                written: None,
+                was_missing: false,
                 lost: false,
+                last: None,
             },
             faults: 0,
         }
     }
 
-    /// Counts a fault.
-    fn fail(&mut self) -> Failed
+    /// The path of the file.
+    pub fn path(&self) -> &str {
+        self.side.path.as_str()
+    }
+
+    /// Why the last call that failed did, if one failed.
+    pub fn last_error(&self) -> Option<&io::Error> {
+        self.side.last.as_ref()
+    }
+
+    /// Counts a fault, and keeps why.
+    fn fail(&mut self, error: io::Error) -> Failed
         ensures { self.new ≡ one_more self.old }
     {
         self.faults = self.faults.saturating_add(1);
+        self.side.last = Some(error);
         Failed
     }
 }
 
 impl<F: Files + Drop> LeaseDisk for FileDisk<F>
 where
-    F::File: FileExt,
+    F::File: FileExt + Keepable,
 {
     ghost use Rattle.std.specs.Prelude.{[], OnOk};
     ghost use Rattle.pcp_io.specs.CallLogs.{one_more};
@@ -94,7 +111,7 @@ where
     {
         match self.side.len() {
             Ok(size) => Ok(size),
-            Err(_) => Err(self.fail()),
+            Err(error) => Err(self.fail(error)),
         }
     }
 
@@ -105,7 +122,7 @@ where
     {
         match self.side.read_at(place, piece) {
             Ok(count) => Ok(count),
-            Err(_) => Err(self.fail()),
+            Err(error) => Err(self.fail(error)),
         }
     }
 
@@ -116,7 +133,7 @@ where
     {
         match self.side.write_at(place, piece) {
             Ok(()) => Ok(()),
-            Err(_) => Err(self.fail()),
+            Err(error) => Err(self.fail(error)),
         }
     }
 
@@ -126,7 +143,7 @@ where
     {
         match self.side.cut(length) {
             Ok(()) => Ok(()),
-            Err(_) => Err(self.fail()),
+            Err(error) => Err(self.fail(error)),
         }
     }
 
@@ -136,38 +153,88 @@ where
     {
         match self.side.sync() {
             Ok(()) => Ok(()),
-            Err(_) => Err(self.fail()),
+            Err(error) => Err(self.fail(error)),
         }
     }
 }
 
-/// A file that is opened, and made where it isn't there, when it is first used.
+/// A file that one process at a time may keep. The system gives it back when the file is closed,
+/// also where its process ends without that.
+pub trait Keepable {
+    /// Keeps the file for this process alone, and fails at once where another one keeps it.
+    fn keep(&self) -> io::Result<()>;
+}
+
+impl Keepable for File {
+    fn keep(&self) -> io::Result<()> {
+        Ok(self.try_lock()?)
+    }
+}
+
+/// A file that is opened for reading at the first call, where it is there, and opened for writing, or
+/// made, at the first write, cut or sync.
 #[derive(Drop)]
 struct SideFile<F: Files + Drop> {
     files: F,
     path: String,
-    opened: Option<F::File>,
-    // Whether a sync failed. The system may then have lost what was written before it, and reports
-    // success for the next sync all the same.
+    // the file as it was first opened for reading, which keeps it
+    kept: Option<F::File>,
+    // the file as it was opened for writing, or made
+    written: Option<F::File>,
+    // Whether a reading call found no file. One that is there later was made by somebody else.
+    was_missing: bool,
+    // Whether a sync of the file or of its folder failed. The system may then have lost what was
+    // written before it, and reports success for the next sync all the same.
     lost: bool,
+    // why the last call that failed did
+    last: Option<io::Error>,
 }
 
 impl<F: Files + Drop> SideFile<F>
 where
-    F::File: FileExt,
+    F::File: FileExt + Keepable,
 {
-    fn file(&mut self) -> io::Result<&mut F::File> {
-        let file = match self.opened.take() {
+    /// The file as it is read, if there is one.
+    fn reader(&mut self) -> io::Result<Option<&F::File>> {
+        if self.written.is_some() {
+            return Ok(self.written.as_ref());
+        }
+        if self.kept.is_none() {
+            self.kept = open_to_read(&self.files, self.path.as_str(), self.was_missing)?;
+            self.was_missing = self.kept.is_none();
+        }
+        Ok(self.kept.as_ref())
+    }
+
+    /// The file as it is written.
+    fn writer(&mut self) -> io::Result<&mut F::File> {
+        if self.lost {
+            return Err(io::Error::from(ErrorKind::Other));
+        }
+        let file = match self.written.take() {
             Some(file) => file,
-            None => open_durably(&self.files, self.path.as_str())?,
+            None => self.open_to_write()?,
         };
-        Ok(self.opened.insert(file))
+        Ok(self.written.insert(file))
+    }
+
+    /// Opens the file for writing, or makes it, and makes its entry in the folder durable.
+    fn open_to_write(&mut self) -> io::Result<F::File> {
+        let is_there = self.reader()?.is_some();
+        let file = open_to_write(&self.files, self.path.as_str(), is_there)?;
+        let done = sync_folder(&self.files, self.path.as_str());
+        self.lost = done.is_err();
+        done?;
+        Ok(file)
     }
 
     fn len(&mut self) -> io::Result<u64>
         ensures most { IfOk result (λ size. size ≤ 2 ^ 62) }
     {
-        let size = self.file()?.metadata()?.len();
+        let Some(file) = self.reader()? else {
+            return Ok(0);
+        };
+        let size = file.metadata()?.len();
         if size > MOST_OCTETS {
             return Err(io::Error::from(ErrorKind::FileTooLarge));
         }
@@ -177,7 +244,10 @@ where
     fn read_at(&mut self, place: u64, piece: &mut [u8]) -> io::Result<usize>
         ensures bound { IfOk result (λ n. n ≤ length piece.new) }
     {
-        read_uninterrupted(self.file()?, place, piece)
+        match self.reader()? {
+            Some(file) => read_uninterrupted(file, place, piece),
+            None => Ok(0),
+        }
     }
 
     fn write_at(&mut self, place: u64, piece: &[u8]) -> io::Result<()>
@@ -186,21 +256,19 @@ where
         if place > MOST_OCTETS || piece.len() as u64 > MOST_OCTETS - place {
             return Err(io::Error::from(ErrorKind::FileTooLarge));
         }
-        self.file()?.write_all_at(piece, place)
+        self.writer()?.write_all_at(piece, place)
     }
 
     fn cut(&mut self, length: u64) -> io::Result<()> {
-        if self.len()? > length {
-            self.file()?.set_len(length)?;
+        let size = self.writer()?.metadata()?.len();
+        if size > length {
+            self.writer()?.set_len(length)?;
         }
         Ok(())
     }
 
     fn sync(&mut self) -> io::Result<()> {
-        if self.lost {
-            return Err(io::Error::from(ErrorKind::Other));
-        }
-        let done = self.file()?.sync_all();
+        let done = self.writer()?.sync_all();
         self.lost = done.is_err();
         done
     }
@@ -219,25 +287,62 @@ fn read_uninterrupted<R: FileExt>(file: &R, place: u64, piece: &mut [u8]) -> io:
     Err(io::Error::from(ErrorKind::Interrupted))
 }
 
-/// Opens the file, makes it where it isn't there, and makes its entry in the folder durable.
-fn open_durably<F: Files>(files: &F, path: &str) -> io::Result<F::File> {
-    if is_taken(files, path)? {
-        return Err(io::Error::from(ErrorKind::InvalidInput));
+/// Opens the file for reading, and keeps it, where it is there; a file that was missing before is
+/// refused. A missing folder is an error.
+fn open_to_read<F: Files>(files: &F, path: &str, was_missing: bool) -> io::Result<Option<F::File>>
+where
+    F::File: Keepable,
+{
+    if !is_there(files, path)? {
+        File::open(files, folder_of(path))?;
+        return Ok(None);
+    }
+    if was_missing {
+        return Err(io::Error::from(ErrorKind::AlreadyExists));
+    }
+    let file = OpenOptions::new().read(true).open(files, path)?;
+    keep(&file)?;
+    Ok(Some(file))
+}
+
+/// Opens a file for writing that is kept already, or makes one that isn't there, and keeps it.
+fn open_to_write<F: Files>(files: &F, path: &str, is_there: bool) -> io::Result<F::File>
+where
+    F::File: Keepable,
+{
+    if is_there {
+        return OpenOptions::new().read(true).write(true).open(files, path);
     }
     let file = OpenOptions::new()
         .read(true)
         .write(true)
-        .create(true)
+        .create_new(true)
         .mode(0o600)
         .open(files, path)?;
-    File::open(files, folder_of(path))?.sync_all()?;
+    keep(&file)?;
     Ok(file)
 }
 
-/// Whether the path names something that isn't a regular file, as a link, a folder or a device.
-fn is_taken<F: Files>(files: &F, path: &str) -> io::Result<bool> {
+/// Keeps a file that was opened, unless it isn't a regular one or has another name.
+fn keep<K: OpenFile + Keepable>(file: &K) -> io::Result<()> {
+    let found = file.metadata()?;
+    if !found.is_file() || found.nlink() > 1 {
+        return Err(io::Error::from(ErrorKind::InvalidInput));
+    }
+    file.keep()
+}
+
+/// Makes the entry of a file in its folder durable.
+fn sync_folder<F: Files>(files: &F, path: &str) -> io::Result<()> {
+    File::open(files, folder_of(path))?.sync_all()
+}
+
+/// Whether the path names a file. What isn't a regular one, as a link, a folder or a device, is an
+/// error.
+fn is_there<F: Files>(files: &F, path: &str) -> io::Result<bool> {
     match files.symlink_metadata(path) {
-        Ok(found) => Ok(!found.is_file()),
+        Ok(found) if found.is_file() => Ok(true),
+        Ok(_) => Err(io::Error::from(ErrorKind::InvalidInput)),
         Err(error) if error.kind() == ErrorKind::NotFound => Ok(false),
         Err(error) => Err(error),
     }

@@ -9,5 +9,5 @@ mod memory;
 mod replays;
 
 pub use disks::{DiskPair, LeaseDisk};
-pub use files::FileDisk;
+pub use files::{FileDisk, Keepable};
 pub use memory::MemoryDisk;
