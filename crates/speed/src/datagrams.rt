@@ -1,0 +1,93 @@
+//! Datagrams that are judged and replied to, beside a loop that copies their octets. The words are
+//! names, of `plain`, `options` and `copies`, and a count of datagrams. A line tells each name, the
+//! count and a checksum of the octets written.
+
+use crate::judging::{REQUEST, served};
+use anyhow::{Context, bail};
+use pcp_base::{Address, Answer, Config};
+use pcp_options::{Verdict, judge, write_reply};
+use std::alloc::Global;
+
+/// PREFER_FAILURE, FILTER 198.51.100.7 with prefix 128 and port 53, PORT_SET of 8 ports from 5000 on.
+static OPTIONS: [u8; 40] = [
+    2, 0, 0, 0, 3, 0, 0, 20, 0, 128, 0, 53, 0, 0, 0, 0, 0, 0, 0, 0, 0, 0, 0xff, 0xff, 198, 51, 100,
+    7, 130, 0, 0, 5, 0, 8, 0x13, 0x88, 0, 0, 0, 0,
+];
+
+/// Judges the request and puts its reply into `out`; leaves `out` as it is where it isn't asked.
+fn answer(
+    alloc: Global,
+    config: &Config,
+    message: &[u8],
+    epoch: u32,
+    out: &mut Vec<u8>,
+) -> anyhow::Result<()> {
+    if message.len() < 2 {
+        return Ok(());
+    }
+    let source = Address::v4(10, 0, 0, 5);
+    let Verdict::Asked { ask, items, .. } = judge(alloc, config, &source, message)? else {
+        return Ok(());
+    };
+    let answer = Answer::Mapped {
+        lifetime: 3600,
+        external: 1024,
+        address: Address::v4(192, 0, 2, 1),
+        set: None,
+    };
+    write_reply(alloc, out, message, &ask, &items, &answer, epoch)?;
+    Ok(())
+}
+
+/// Adds up octet 11 of each reply, the last of its epoch, and its length.
+fn replies(alloc: Global, options: &[u8], count: u32) -> anyhow::Result<u64> {
+    let config = served(alloc)?;
+    let mut message = REQUEST.to_vec(alloc)?;
+    message.extend_from_slice(options)?;
+    let mut out = Vec::new(alloc);
+    let mut sum = 0u64;
+    for epoch in 0..count {
+        out.clear();
+        answer(alloc, &config, &message, epoch, &mut out)?;
+        let last = out.get(11).copied().unwrap_or(0);
+        sum = sum
+            .wrapping_add(u64::from(last))
+            .wrapping_add(out.len() as u64);
+    }
+    Ok(sum)
+}
+
+/// The same over copies of the request.
+fn copies(alloc: Global, count: u32) -> anyhow::Result<u64> {
+    let mut out = Vec::new(alloc);
+    let mut sum = 0u64;
+    for _ in 0..count {
+        out.clear();
+        out.extend_from_slice(&REQUEST)?;
+        let last = out.get(11).copied().unwrap_or(0);
+        sum = sum
+            .wrapping_add(u64::from(last))
+            .wrapping_add(out.len() as u64);
+    }
+    Ok(sum)
+}
+
+/// Does what a name stands for.
+fn sum_of(alloc: Global, name: &str, count: u32) -> anyhow::Result<u64> {
+    match name {
+        "plain" => replies(alloc, &[], count),
+        "options" => replies(alloc, &OPTIONS, count),
+        "copies" => copies(alloc, count),
+        _ => bail!("{name:?} is not one of the names"),
+    }
+}
+
+/// Goes through the names.
+pub(crate) fn run(rt: &HostRuntime, words: &[String]) -> anyhow::Result<()> {
+    let (last, names) = words.split_last().context("a count is missing")?;
+    let count = last.parse::<u32>().context("reading the count")?;
+    for name in names {
+        println!(rt; "{name} {count} {}", sum_of(rt.alloc(), name, count)?)?;
+    }
+    Ok(())
+}

@@ -1,0 +1,51 @@
+//! `speed`: makes many calls of one kind, to be timed. The first word says of which, and a module each
+//! what the further words are.
+#![tactic(auto)]
+
+mod cores;
+mod datagrams;
+mod device;
+mod indexes;
+mod judging;
+mod requests;
+mod serving;
+mod timing;
+
+use std::process::ExitCode;
+
+const USAGE: &str = "usage: speed core [times] NAME LEASES ROUNDS ..
+       speed datagrams NAME .. COUNT
+       speed device PATH RECORDS OCTETS
+       speed indexes NAME .. COUNT
+
+core       Decisions on a core: NAME is core, chance, plain or judge. After the
+           word times the nanoseconds of a decision are told.
+datagrams  Requests that are judged and replied to: NAME is plain, options or
+           copies.
+device     The device calls of records that are appended to a journal.
+indexes    Calls of the indexes: NAME is runs, plain_runs, wheel or plain_wheel.
+";
+
+/// Makes the calls that the words ask for. Whether the first word is one of those known.
+fn run(rt: &HostRuntime, words: &[String]) -> anyhow::Result<bool> {
+    let Some((word, rest)) = words.split_first() else {
+        return Ok(false);
+    };
+    match word.as_str() {
+        "core" => cores::run(rt, rest)?,
+        "datagrams" => datagrams::run(rt, rest)?,
+        "device" => device::run(rt, rest)?,
+        "indexes" => indexes::run(rt, rest)?,
+        _ => return Ok(false),
+    }
+    Ok(true)
+}
+
+fn main(rt: HostRuntime) -> anyhow::Result<ExitCode> {
+    let words: Vec<String> = std::env::args(&rt)?.skip(1).collect(rt.alloc())?;
+    if run(&rt, &words)? {
+        return Ok(ExitCode::SUCCESS);
+    }
+    eprint!(rt; "{USAGE}")?;
+    Ok(ExitCode::from(2))
+}
