@@ -16,8 +16,6 @@ mod moments;
 mod numbers;
 mod records;
 mod replays;
-#[cfg(test)]
-mod tests;
 
 pub use addresses::{Address, Nonce, NotAddress, NotPrefix, Prefix};
 pub use asks::{Answer, Ask, MapAsk, PeerAsk, PortSet, Refusal};

@@ -15,6 +15,3 @@ pub use layout::{
 };
 pub use replies::{write_head, write_refusal};
 pub use requests::{Body, Common, Frame, Framed, read_body, read_common, read_request};
-
-#[cfg(test)]
-mod tests;

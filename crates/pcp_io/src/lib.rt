@@ -18,6 +18,3 @@ pub use readers::{FileSource, LazyFile, ReadSource, StdSource};
 pub use sinks::{Sink, write_all};
 pub use sources::Source;
 pub use writers::{StdSink, WriteSink};
-
-#[cfg(test)]
-mod tests;

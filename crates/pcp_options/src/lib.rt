@@ -22,6 +22,3 @@ pub use layout::{
 pub use options::{Item, Items, OptionsRefused, read_options};
 pub use replies::{write_reply, write_success};
 pub use verdicts::{Verdict, judge};
-
-#[cfg(test)]
-mod tests;

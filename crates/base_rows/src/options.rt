@@ -1,9 +1,10 @@
 //! That verdicts and replies mean these octets, and that calls succeed with ample memory.
-use super::*;
 use pcp_base::{
-    Address, Answer, Code, Config, Externals, PortSet, Prefix, Prefixes, Subscriber, Subscribers,
+    Address, Answer, Code, Config, Externals, Memory, PortSet, Prefix, Prefixes, Subscriber,
+    Subscribers,
 };
 use pcp_codec::{Framed, read_request};
+use pcp_options::{Verdict, judge, read_options, write_reply};
 use std::alloc::{AllocError, Global};
 use std::test::Fail;
 
@@ -31,31 +32,34 @@ static REPLY: [u8; 120] = [
     130, 0, 0, 5, 0, 5, 0x13, 0x86, 1, 0, 0, 0,
 ];
 
-static ITSELF: [u8; 20] = [
-    1, 0, 0, 16, 0, 0, 0, 0, 0, 0, 0, 0, 0, 0, 0xff, 0xff, 10, 0, 0, 5,
-];
-
-#[derive(Clone, Copy, Debug, PartialEq, Eq)]
+#[derive(Clone, Copy, PartialEq, Eq)]
 enum Outcome {
     Silent,
+    // the code, and whether the request could be read
     Refused(Code, bool),
-    Asked,
+    // the shard
+    Asked(u32),
 }
 
 fn outcome_of(verdict: &Verdict) -> Outcome {
     match verdict {
         Verdict::Silent => Outcome::Silent,
         Verdict::Refuse(refusal) => Outcome::Refused(refusal.code, refusal.parsed),
-        Verdict::Asked { .. } => Outcome::Asked,
+        Verdict::Asked { shard, .. } => Outcome::Asked(*shard),
     }
 }
 
-// 10.0.0.0/8 behind one external address; 10.0.0.5 may ask for others
-fn config(alloc: Global) -> Result<Config, AllocError> {
+// 10.0.0.5
+fn host(alloc: Global) -> Result<Vec<Prefix>, AllocError> {
     let host = Prefix {
         bits: 128,
         address: Address::v4(10, 0, 0, 5),
     };
+    Ok(vec![in alloc; host]?)
+}
+
+// 10.0.0.0/8 behind one external address; these may ask for others
+fn config(alloc: Global, third_party: Vec<Prefix>) -> Result<Config, AllocError> {
     let row = Subscriber {
         prefix: Prefix {
             bits: 104,
@@ -67,67 +71,126 @@ fn config(alloc: Global) -> Result<Config, AllocError> {
         quota: 64,
         lifetime_min: 120,
         lifetime_max: 86400,
-        third_party: Prefixes::of(vec![in alloc; host]?),
+        third_party: Prefixes::of(third_party),
         externals: Externals::of(Vec::new(alloc)),
         subscribers: Subscribers::of(vec![in alloc; row]?),
     })
 }
 
+// The verdict on a datagram from 10.0.0.H, of the number H.
+fn judged(alloc: Global, config: &Config, from: u8, message: &[u8]) -> Result<Outcome, Memory> {
+    let verdict = judge(alloc, config, &Address::v4(10, 0, 0, from), message)?;
+    Ok(outcome_of(&verdict))
+}
+
+// The request with these octets behind it.
+fn behind(alloc: Global, options: &[u8]) -> Result<Vec<u8>, AllocError> {
+    let mut message = REQUEST.to_vec(alloc)?;
+    message.extend_from_slice(options)?;
+    Ok(message)
+}
+
+// What stands behind the request, and the verdict; the last is THIRD_PARTY of the source.
+static BEHIND: [(&[u8], Outcome); 5] = [
+    (b"\x7f\0\0\0", Outcome::Refused(Code::UnsuppOption, false)),
+    (b"\xc8\0\0\0", Outcome::Asked(0)),
+    (
+        b"\xc8\0\0\x08",
+        Outcome::Refused(Code::MalformedOption, false),
+    ),
+    (
+        b"\x7f\0\0\x01",
+        Outcome::Refused(Code::MalformedOption, false),
+    ),
+    (
+        b"\x01\0\0\x10\0\0\0\0\0\0\0\0\0\0\xff\xff\x0a\0\0\x05",
+        Outcome::Refused(Code::MalformedRequest, true),
+    ),
+];
+
 #[test]
 fn verdicts(rt: HostRuntime) -> Result<(), Fail> {
     let alloc = rt.alloc();
-    let config = config(alloc)?;
-    let source = Address::v4(10, 0, 0, 5);
-    // what stands behind the request, and the verdict
-    let cases: [(&[u8], Outcome); 7] = [
-        (&[], Outcome::Asked),
-        (&[127, 0, 0, 0], Outcome::Refused(Code::UnsuppOption, false)),
-        (&[200, 0, 0, 0], Outcome::Asked),
-        (
-            &[200, 0, 0, 8],
-            Outcome::Refused(Code::MalformedOption, false),
-        ),
-        (
-            &[127, 0, 0, 1],
-            Outcome::Refused(Code::MalformedOption, false),
-        ),
-        (&ITSELF, Outcome::Refused(Code::MalformedRequest, true)),
-        (&OPTIONS, Outcome::Asked),
-    ];
-    for (options, want) in cases {
-        let mut message = REQUEST.to_vec(alloc)?;
-        message.extend_from_slice(options)?;
-        let verdict = judge(alloc, &config, &source, &message)?;
-        assert!(rt; outcome_of(&verdict) == want);
+    let config = config(alloc, host(alloc)?)?;
+    for (options, want) in &BEHIND {
+        let verdict = judged(alloc, &config, 5, &behind(alloc, options)?)?;
+        assert!(rt; verdict == *want, "{}", options.escape_ascii());
     }
     // 1040 octets of THIRD_PARTY's code, and a request of 1104 octets
     for (length, octet, code) in [
         (1100, 1, Code::MalformedOption),
         (1104, 0, Code::MalformedRequest),
     ] {
-        let mut message = REQUEST.to_vec(alloc)?;
+        let mut message = behind(alloc, b"")?;
         message.resize(length, octet)?;
-        let verdict = judge(alloc, &config, &source, &message)?;
-        assert!(rt; outcome_of(&verdict) == Outcome::Refused(code, false));
+        let verdict = judged(alloc, &config, 5, &message)?;
+        assert!(rt; verdict == Outcome::Refused(code, false), "{length}");
+    }
+    Ok(())
+}
+
+// Where whole options end in the request with options: behind 0, 20, 28, 52, 56 and 68 octets.
+#[test]
+fn cut_requests(rt: HostRuntime) -> Result<(), Fail> {
+    let alloc = rt.alloc();
+    let config = config(alloc, host(alloc)?)?;
+    let message = behind(alloc, &OPTIONS)?;
+    for n in 0..=128 {
+        let cut = message.get(..n).ok_or("short")?;
+        let verdict = judged(alloc, &config, 5, cut)?;
+        let want = match n {
+            0..=23 => Outcome::Silent,
+            60 | 80 | 88 | 112 | 116 | 128 => Outcome::Asked(0),
+            64.. if n % 4 == 0 => Outcome::Refused(Code::MalformedOption, false),
+            _ => Outcome::Refused(Code::MalformedRequest, false),
+        };
+        assert!(rt; verdict == want, "cut to {n}");
     }
     Ok(())
 }
 
 #[test]
+fn hosts(rt: HostRuntime) -> Result<(), Fail> {
+    let alloc = rt.alloc();
+    let stranger = config(alloc, Vec::new(alloc))?;
+    let old = judged(alloc, &stranger, 5, b"\x01\x01")?;
+    assert!(rt; old == Outcome::Refused(Code::UnsuppVersion, false));
+    let other = judged(alloc, &stranger, 6, &REQUEST)?;
+    assert!(rt; other == Outcome::Refused(Code::AddressMismatch, false));
+    let third = judged(alloc, &stranger, 5, &behind(alloc, &OPTIONS[..20])?)?;
+    assert!(rt; third == Outcome::Refused(Code::UnsuppOption, true));
+    Ok(())
+}
+
+#[test]
+fn four_options(rt: HostRuntime) -> Result<(), Fail> {
+    let alloc = rt.alloc();
+    let source = Address::v4(10, 0, 0, 5);
+    let message = behind(alloc, &OPTIONS)?;
+    let mut count = 0;
+    let octets = message.as_slice();
+    if let Framed::Whole(frame) = read_request(octets, &source) {
+        count = read_options(alloc, &frame, octets)?.items().len();
+    }
+    assert!(rt; count == 4);
+    Ok(())
+}
+
+fn reply_to(alloc: Global, message: &[u8], answer: &Answer) -> Result<Vec<u8>, Fail> {
+    let config = config(alloc, host(alloc)?)?;
+    let source = Address::v4(10, 0, 0, 5);
+    let mut out = Vec::new(alloc);
+    if let Verdict::Asked { ask, items, .. } = judge(alloc, &config, &source, message)? {
+        if message.len() >= 2 {
+            write_reply(alloc, &mut out, message, &ask, &items, answer, 10)?;
+        }
+    }
+    Ok(out)
+}
+
+#[test]
 fn replies(rt: HostRuntime) -> Result<(), Fail> {
     let alloc = rt.alloc();
-    let config = config(alloc)?;
-    let source = Address::v4(10, 0, 0, 5);
-    let mut message = REQUEST.to_vec(alloc)?;
-    message.extend_from_slice(&OPTIONS)?;
-    if let Framed::Whole(frame) = read_request(&message, &source) {
-        let items = read_options(alloc, &frame, &message)?;
-        assert!(rt; items.items().len() == 4);
-    }
-    let Verdict::Asked { shard, ask, items } = judge(alloc, &config, &source, &message)? else {
-        return Err("refused".into());
-    };
-    assert!(rt; shard == 0);
     let answer = Answer::Mapped {
         lifetime: 3600,
         external: 1024,
@@ -138,85 +201,9 @@ fn replies(rt: HostRuntime) -> Result<(), Fail> {
             parity: true,
         }),
     };
-    let mut out = Vec::new(alloc);
-    write_reply(alloc, &mut out, &message, &ask, &items, &answer, 10)?;
-    assert!(rt; out.as_slice() == REPLY.as_slice());
+    let message = behind(alloc, &OPTIONS)?;
+    assert!(rt; reply_to(alloc, &message, &answer)?.as_slice() == REPLY.as_slice());
     Ok(())
-}
-
-// Where whole options end in the request with options: behind 0, 20, 28, 52, 56 and 68 octets.
-#[test]
-fn cut_requests(rt: HostRuntime) -> Result<(), Fail> {
-    let alloc = rt.alloc();
-    let config = config(alloc)?;
-    let source = Address::v4(10, 0, 0, 5);
-    let mut message = REQUEST.to_vec(alloc)?;
-    message.extend_from_slice(&OPTIONS)?;
-    for n in 0..=128 {
-        let verdict = judge(alloc, &config, &source, &message[..n])?;
-        let want = match n {
-            0..=23 => Outcome::Silent,
-            60 | 80 | 88 | 112 | 116 | 128 => Outcome::Asked,
-            64.. if n % 4 == 0 => Outcome::Refused(Code::MalformedOption, false),
-            _ => Outcome::Refused(Code::MalformedRequest, false),
-        };
-        assert!(rt; outcome_of(&verdict) == want, "cut to {n}");
-    }
-    Ok(())
-}
-
-#[test]
-fn hosts(rt: HostRuntime) -> Result<(), Fail> {
-    let alloc = rt.alloc();
-    let stranger = Config {
-        third_party: Prefixes::of(Vec::new(alloc)),
-        ..config(alloc)?
-    };
-    let config = config(alloc)?;
-    let mut third = REQUEST.to_vec(alloc)?;
-    third.extend_from_slice(&OPTIONS[..20])?;
-    // who may name others, the last octet of the source, the datagram and the verdict
-    let cases: [(&Config, u8, &[u8], Outcome); 7] = [
-        (&config, 5, &[2], Outcome::Silent),
-        (&config, 5, &[2, 1], Outcome::Silent),
-        (
-            &config,
-            5,
-            &[1, 1],
-            Outcome::Refused(Code::UnsuppVersion, false),
-        ),
-        (
-            &config,
-            6,
-            &REQUEST,
-            Outcome::Refused(Code::AddressMismatch, false),
-        ),
-        (&config, 5, &REQUEST, Outcome::Asked),
-        (&config, 5, &third, Outcome::Asked),
-        (
-            &stranger,
-            5,
-            &third,
-            Outcome::Refused(Code::UnsuppOption, true),
-        ),
-    ];
-    for (config, host, message, want) in cases {
-        let verdict = judge(alloc, config, &Address::v4(10, 0, 0, host), message)?;
-        assert!(rt; outcome_of(&verdict) == want);
-    }
-    Ok(())
-}
-
-fn reply_to(alloc: Global, message: &[u8], answer: &Answer) -> Result<Vec<u8>, Fail> {
-    let config = config(alloc)?;
-    let source = Address::v4(10, 0, 0, 5);
-    let mut out = Vec::new(alloc);
-    if let Verdict::Asked { ask, items, .. } = judge(alloc, &config, &source, message)? {
-        if message.len() >= 2 {
-            write_reply(alloc, &mut out, message, &ask, &items, answer, 10)?;
-        }
-    }
-    Ok(out)
 }
 
 #[test]
