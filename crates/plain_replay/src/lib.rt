@@ -9,7 +9,5 @@ mod leases;
 mod owners;
 mod replay;
 mod table;
-#[cfg(test)]
-mod tests;
 
 pub use replay::PlainReplay;

@@ -10,7 +10,5 @@ mod owned;
 mod picks;
 mod rests;
 mod store;
-#[cfg(test)]
-mod tests;
 
 pub use store::PlainStore;

@@ -2,37 +2,19 @@
 ghost use Rattle.std.specs.Prelude.{OnOk};
 ghost use Rattle.pcp_base.specs.Reached.{IsReached, IsReachedFirst};
 
-use super::PlainReplay;
-use pcp_base::{
-    Address, Change, End, Endpoint, Filters, MapLease, Moment, Nonce, PeerLease, Protocol, Record,
-    Replay,
-};
+use crate::making::at;
+use crate::records::{Act, Ports, record};
+use pcp_base::Protocol::Udp;
+use pcp_base::{Address, End, Replay};
+use plain_replay::PlainReplay;
 use std::alloc::Global;
 use std::test::*;
 
-/// A change of the host 10.0.0.H, whose internal port is 5000, over UDP.
-#[derive(Clone, Copy, Debug)]
-enum Act {
-    Start,
-    /// Host, external port, moment granted, expiry.
-    Map(u8, u16, u64, u64),
-    /// The same for a peer at 198.51.100.7, port 443.
-    Peer(u8, u16, u64, u64),
-    DropMap(u8),
-    DropPeer(u8),
-    Lose,
-    Mark,
-    /// Host, external port, end.
-    Rest(u8, u16, u64),
-    /// 192.0.2.N
-    Renumber(u8),
-}
-
 /// A record at a moment, whether it fits, and what the state is after it: the number of MAP and of PEER
 /// leases, the ends (host, external port, end), the base, and the N of the address.
-#[derive(Clone, Copy, Debug)]
+#[derive(Clone, Copy)]
 struct Row(
-    u64,
+    u32,
     Act,
     bool,
     [usize; 2],
@@ -50,7 +32,7 @@ static ROWS: [Row; 26] = [
     // A lease of 120 seconds ends at 1130; its port rests for its host until 1250.
     Row(
         1010,
-        Act::Map(5, 1024, 1010, 1130),
+        Act::Map(Ports(Udp, 5, 5000, 1, 1024, 1010, 1130)),
         true,
         [1, 0],
         &[],
@@ -59,11 +41,19 @@ static ROWS: [Row; 26] = [
     ),
     Row(1009, Act::Mark, false, [1, 0], &[], 1000, Some(1)),
     Row(1129, Act::Mark, true, [1, 0], &[], 1000, Some(1)),
-    Row(1130, Act::DropMap(5), false, [1, 0], &[], 1000, Some(1)),
+    Row(
+        1130,
+        Act::DropMap(5, 5000),
+        false,
+        [1, 0],
+        &[],
+        1000,
+        Some(1),
+    ),
     Row(1130, Act::Mark, true, [0, 0], OVER, 1000, Some(1)),
     Row(
         1249,
-        Act::Map(6, 1024, 1249, 4849),
+        Act::Map(Ports(Udp, 6, 5000, 1, 1024, 1249, 4849)),
         false,
         [0, 0],
         OVER,
@@ -72,7 +62,7 @@ static ROWS: [Row; 26] = [
     ),
     Row(
         1249,
-        Act::Map(6, 1025, 1249, 4849),
+        Act::Map(Ports(Udp, 6, 5000, 1, 1025, 1249, 4849)),
         true,
         [1, 0],
         OVER,
@@ -81,7 +71,7 @@ static ROWS: [Row; 26] = [
     ),
     Row(
         1249,
-        Act::Map(5, 1024, 1249, 4849),
+        Act::Map(Ports(Udp, 5, 5000, 1, 1024, 1249, 4849)),
         true,
         [2, 0],
         &[],
@@ -91,7 +81,7 @@ static ROWS: [Row; 26] = [
     // An endpoint has one port for all its leases, and it is owned until the last of them goes.
     Row(
         1250,
-        Act::Peer(5, 1026, 1250, 4850),
+        Act::Peer(5, 5000, 1026, 7, 1250, 4850),
         false,
         [2, 0],
         &[],
@@ -100,17 +90,25 @@ static ROWS: [Row; 26] = [
     ),
     Row(
         1250,
-        Act::Peer(5, 1024, 1250, 4850),
+        Act::Peer(5, 5000, 1024, 7, 1250, 4850),
         true,
         [2, 1],
         &[],
         1000,
         Some(1),
     ),
-    Row(1260, Act::DropMap(5), true, [1, 1], &[], 1000, Some(1)),
+    Row(
+        1260,
+        Act::DropMap(5, 5000),
+        true,
+        [1, 1],
+        &[],
+        1000,
+        Some(1),
+    ),
     Row(
         1270,
-        Act::DropPeer(5),
+        Act::DropPeer(5, 5000),
         true,
         [1, 0],
         &[(5, 1024, 1270)],
@@ -119,7 +117,7 @@ static ROWS: [Row; 26] = [
     ),
     Row(
         1270,
-        Act::Rest(7, 1024, 1270),
+        Act::Rest(7, 5000, 1024, 1270),
         false,
         [1, 0],
         &[(5, 1024, 1270)],
@@ -128,7 +126,7 @@ static ROWS: [Row; 26] = [
     ),
     Row(
         1270,
-        Act::Rest(7, 1025, 1270),
+        Act::Rest(7, 5000, 1025, 1270),
         false,
         [1, 0],
         &[(5, 1024, 1270)],
@@ -147,7 +145,7 @@ static ROWS: [Row; 26] = [
     Row(1390, Act::Mark, true, [1, 0], &[], 1000, Some(1)),
     Row(
         1390,
-        Act::Rest(7, 1026, 1270),
+        Act::Rest(7, 5000, 1026, 1270),
         false,
         [1, 0],
         &[],
@@ -156,7 +154,7 @@ static ROWS: [Row; 26] = [
     ),
     Row(
         1390,
-        Act::Rest(7, 1026, 1271),
+        Act::Rest(7, 5000, 1026, 1271),
         true,
         [1, 0],
         &[(7, 1026, 1271)],
@@ -193,7 +191,7 @@ static ROWS: [Row; 26] = [
     // A lease with another expiry is renewed, and one on another port isn't.
     Row(
         1390,
-        Act::Map(6, 1027, 1249, 9000),
+        Act::Map(Ports(Udp, 6, 5000, 1, 1027, 1249, 9000)),
         false,
         [1, 0],
         &[(7, 1026, 1271)],
@@ -208,7 +206,7 @@ static FREED: [Row; 3] = [
     Row(1000, Act::Start, true, [0, 0], &[], 1000, None),
     Row(
         1010,
-        Act::Map(5, 1024, 1010, 1130),
+        Act::Map(Ports(Udp, 5, 5000, 1, 1024, 1010, 1130)),
         true,
         [1, 0],
         &[],
@@ -217,7 +215,7 @@ static FREED: [Row; 3] = [
     ),
     Row(
         1250,
-        Act::Map(6, 1024, 1250, 4850),
+        Act::Map(Ports(Udp, 6, 5000, 1, 1024, 1250, 4850)),
         true,
         [1, 0],
         &[],
@@ -232,7 +230,7 @@ static FIRST: [Row; 8] = [
     Row(1000, Act::Renumber(1), false, [0, 0], &[], 1000, None),
     Row(
         1010,
-        Act::Map(5, 1024, 1010, 1130),
+        Act::Map(Ports(Udp, 5, 5000, 1, 1024, 1010, 1130)),
         true,
         [1, 0],
         &[],
@@ -241,7 +239,7 @@ static FIRST: [Row; 8] = [
     ),
     Row(
         1010,
-        Act::Map(6, 1024, 1010, 1130),
+        Act::Map(Ports(Udp, 6, 5000, 1, 1024, 1010, 1130)),
         false,
         [1, 0],
         &[],
@@ -250,17 +248,17 @@ static FIRST: [Row; 8] = [
     ),
     Row(
         1130,
-        Act::Map(6, 1024, 1130, 1250),
+        Act::Map(Ports(Udp, 6, 5000, 1, 1024, 1130, 1250)),
         true,
         [1, 0],
         &[],
         1000,
         None,
     ),
-    Row(1140, Act::DropMap(6), true, [0, 0], &[], 1000, None),
+    Row(1140, Act::DropMap(6, 5000), true, [0, 0], &[], 1000, None),
     Row(
         1140,
-        Act::Rest(7, 1026, 1130),
+        Act::Rest(7, 5000, 1026, 1130),
         false,
         [0, 0],
         &[],
@@ -270,63 +268,8 @@ static FIRST: [Row; 8] = [
     Row(1141, Act::Lose, true, [0, 0], &[], 1141, None),
 ];
 
-fn endpoint(host: u8) -> Endpoint {
-    Endpoint {
-        address: Address::v4(10, 0, 0, host),
-        protocol: Protocol::Udp,
-        port: 5000,
-    }
-}
-
-fn moment(seconds: u64) -> Result<Moment, Fail> {
-    Ok(Moment::of(seconds).ok_or("no moment")?)
-}
-
-fn map(host: u8, external: u16, granted: Moment, expiry: u64) -> MapLease {
-    let first = endpoint(host);
-    MapLease {
-        address: first.address,
-        protocol: first.protocol,
-        internal: first.port,
-        count: 1,
-        external,
-        nonce: Nonce([7; 12]),
-        granted,
-        expiry,
-        filters: Filters::none(),
-    }
-}
-
-fn peer(host: u8, external: u16, granted: Moment, expiry: u64) -> PeerLease {
-    PeerLease {
-        endpoint: endpoint(host),
-        external,
-        remote: Address::v4(198, 51, 100, 7),
-        remote_port: 443,
-        nonce: Nonce([7; 12]),
-        granted,
-        expiry,
-    }
-}
-
-fn change(act: Act) -> Result<Change, Fail> {
-    Ok(match act {
-        Act::Start => Change::Start,
-        Act::Map(host, port, at, expiry) => Change::Map(map(host, port, moment(at)?, expiry)),
-        Act::Peer(host, port, at, expiry) => Change::Peer(peer(host, port, moment(at)?, expiry)),
-        Act::DropMap(host) => Change::DropMap(endpoint(host)),
-        Act::DropPeer(host) => {
-            Change::DropPeer(endpoint(host), Address::v4(198, 51, 100, 7), 443)
-        }
-        Act::Lose => Change::Lose,
-        Act::Mark => Change::Mark,
-        Act::Rest(host, external, end) => Change::Rest(endpoint(host), external, end),
-        Act::Renumber(n) => Change::Renumber(Address::v4(192, 0, 2, n)),
-    })
-}
-
 fn is_end(rest: &End, want: (u8, u16, u64)) -> bool {
-    rest.endpoint == endpoint(want.0) && rest.external == want.1 && rest.end == want.2
+    rest.endpoint == at(Udp, want.0, 5000) && rest.external == want.1 && rest.end == want.2
 }
 
 /// Whether the state is the row's.
@@ -349,10 +292,7 @@ fn admits(alloc: Global, replay: &mut PlainReplay, row: &Row) -> Result<bool, Fa
     requires { IsReached replay.old }
     ensures { OnOk result (IsReached replay.new) }
 {
-    let kept = Record {
-        moment: moment(row.0)?,
-        change: change(row.1)?,
-    };
+    let kept = record(row.0, row.1);
     Ok(replay.admit(alloc, &kept)?)
 }
 
@@ -361,15 +301,12 @@ fn admits_first(alloc: Global, replay: &mut PlainReplay, row: &Row) -> Result<bo
     requires { IsReachedFirst replay.old }
     ensures { OnOk result (IsReachedFirst replay.new) }
 {
-    let kept = Record {
-        moment: moment(row.0)?,
-        change: change(row.1)?,
-    };
+    let kept = record(row.0, row.1);
     Ok(replay.admit_first(alloc, &kept)?)
 }
 
 /// The moment of the first row that comes out otherwise.
-fn first_other(alloc: Global, rows: &[Row]) -> Result<Option<u64>, Fail> {
+fn first_other(alloc: Global, rows: &[Row]) -> Result<Option<u32>, Fail> {
     let mut replay = PlainReplay::new(alloc);
     for row in rows {
         let fits = admits(alloc, &mut replay, row)?;
@@ -381,7 +318,7 @@ fn first_other(alloc: Global, rows: &[Row]) -> Result<Option<u64>, Fail> {
 }
 
 /// The same by the rules of the first format, in a replay that was cleared.
-fn first_other_in_first(alloc: Global, rows: &[Row]) -> Result<Option<u64>, Fail> {
+fn first_other_in_first(alloc: Global, rows: &[Row]) -> Result<Option<u32>, Fail> {
     let mut replay = PlainReplay::new(alloc);
     admits(alloc, &mut replay, &ROWS[1])?;
     replay.clear();

@@ -1,5 +1,5 @@
 use Rattle.pcp_base.specs.Reached.{IsReached}
-use Rattle.plain_replay.proofs.tests.first_other.Given as goal
+use Rattle.table_rows.proofs.replays.first_other.Given as goal
 
 abbrev pub invariant-loop-row : goal.invariant-loop-row
 invariant-loop-row l = IsReached l.replay

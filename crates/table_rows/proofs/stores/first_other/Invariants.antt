@@ -1,6 +1,6 @@
 use Rattle.std.proofs.Common.{◌≡◌}
 use Rattle.pcp_base.specs.Reached.{IsReached}
-use Rattle.plain_store.proofs.tests.first_other.Given as goal
+use Rattle.table_rows.proofs.stores.first_other.Given as goal
 
 abbrev pub invariant-loop-i : goal.invariant-loop-i
 invariant-loop-i l = IsReached l.store.state × (l.store.reached ≡ l.now)

@@ -3,55 +3,43 @@ ghost use Rattle.std.specs.Prelude.{◌≡◌, OnOk, IfOk};
 ghost use Rattle.pcp_base.specs.Reached.{IsReached, IsReachedFirst};
 ghost use Rattle.lease_store.specs.LeaseTerms.{AreTerms};
 
-use super::PlainStore;
+use crate::making::{at, moment, remote};
+use crate::records::{Act, Ports, record};
 use PickRefused::{CannotProvide, Quota};
 use Protocol::{Tcp, Udp};
 use external_pool::{PickAsk, PickRefused, Picked};
 use lease_store::{LeaseStore, Terms};
-use pcp_base::{
-    Address, Change, Endpoint, External, Filter, Filters, MapLease, Moment, Nonce, PeerLease,
-    Protocol, Record,
-};
+use pcp_base::{Address, External, Protocol};
+use plain_store::PlainStore;
 use std::alloc::Global;
 use std::test::*;
 
-/// A change of the host 10.0.0.H.
-#[derive(Clone, Copy, Debug)]
-enum Act {
-    Start,
-    /// 192.0.2.1
-    Renumber,
-    /// Protocol, host, internal port, how many ports, external port, moment granted, expiry.
-    Map(Protocol, u8, u16, u16, u16, u64, u64),
-    /// The same, where 198.51.100.7 alone may send, from port 443.
-    Filtered(Protocol, u8, u16, u16, u16, u64, u64),
-    /// Host, internal port, external port, the last number of the remote address 198.51.100.N,
-    /// moment granted, expiry. The remote port is 443.
-    Peer(u8, u16, u16, u8, u64, u64),
-    /// Host, internal port.
-    DropMap(u8, u16),
-}
-
-static RECORDS: [(u64, Act); 10] = [
+static RECORDS: [(u32, Act); 10] = [
     (1000, Act::Start),
-    (1000, Act::Renumber),
-    (1010, Act::Filtered(Udp, 5, 5000, 2, 1024, 1010, 1130)),
+    (1000, Act::Renumber(1)),
+    (
+        1010,
+        Act::Filtered(Ports(Udp, 5, 5000, 2, 1024, 1010, 1130)),
+    ),
     // A second lease of an endpoint has its port.
     (1015, Act::Peer(5, 5000, 1024, 9, 1015, 1135)),
     (1020, Act::Peer(6, 6000, 1026, 7, 1020, 1200)),
     // A renewal changes the expiry.
-    (1030, Act::Filtered(Udp, 5, 5000, 2, 1024, 1010, 1140)),
-    (1040, Act::Map(Udp, 7, 7000, 1, 1028, 1040, 1500)),
-    (1045, Act::Map(Tcp, 10, 7000, 1, 1027, 1045, 1500)),
+    (
+        1030,
+        Act::Filtered(Ports(Udp, 5, 5000, 2, 1024, 1010, 1140)),
+    ),
+    (1040, Act::Map(Ports(Udp, 7, 7000, 1, 1028, 1040, 1500))),
+    (1045, Act::Map(Ports(Tcp, 10, 7000, 1, 1027, 1045, 1500))),
     (1050, Act::DropMap(7, 7000)),
     // This host owns its quota, outside the range.
-    (1055, Act::Map(Udp, 9, 9000, 4, 2000, 1055, 1300)),
+    (1055, Act::Map(Ports(Udp, 9, 9000, 4, 2000, 1055, 1300))),
 ];
 
 /// The moment, host, internal port, suggestion, room, parity, whether nothing else will do, and the
 /// answer. The range is 1024 to 1031, the quota 4.
 struct Ask(
-    u64,
+    u32,
     u8,
     u16,
     u16,
@@ -90,7 +78,7 @@ static ASKS: [Ask; 19] = [
 
 /// The moment, protocol, external port, the last number of the remote address, and the host and
 /// internal port.
-struct Sight(u64, Protocol, u16, u8, Option<(u8, u16)>);
+struct Sight(u32, Protocol, u16, u8, Option<(u8, u16)>);
 
 static SIGHTS: [Sight; 8] = [
     Sight(1060, Udp, 1024, 7, Some((5, 5000))),
@@ -132,92 +120,12 @@ fn terms() -> Terms
     }
 }
 
-fn moment(seconds: u64) -> Result<Moment, Fail> {
-    Ok(Moment::of(seconds).ok_or("no moment")?)
-}
-
-fn remote(number: u8) -> Address {
-    Address::v4(198, 51, 100, number)
-}
-
-fn endpoint(protocol: Protocol, host: u8, port: u16) -> Endpoint {
-    Endpoint {
-        address: Address::v4(10, 0, 0, host),
-        protocol,
-        port,
-    }
-}
-
-fn map(
-    first: Endpoint,
-    count: u16,
-    external: u16,
-    granted: Moment,
-    expiry: u64,
-    filters: Filters,
-) -> MapLease {
-    MapLease {
-        address: first.address,
-        protocol: first.protocol,
-        internal: first.port,
-        count,
-        external,
-        nonce: Nonce([7; 12]),
-        granted,
-        expiry,
-        filters,
-    }
-}
-
-fn one_filter() -> Filters {
-    let mut filters = Filters::none();
-    let _has_room = filters.push(Filter {
-        prefix: 128,
-        port: 443,
-        remote: remote(7),
-    });
-    filters
-}
-
-fn change(act: Act) -> Result<Change, Fail> {
-    Ok(match act {
-        Act::Start => Change::Start,
-        Act::Renumber => Change::Renumber(Address::v4(192, 0, 2, 1)),
-        Act::Map(protocol, host, port, count, external, at, expiry) => Change::Map(map(
-            endpoint(protocol, host, port),
-            count,
-            external,
-            moment(at)?,
-            expiry,
-            Filters::none(),
-        )),
-        Act::Filtered(protocol, host, port, count, external, at, expiry) => Change::Map(map(
-            endpoint(protocol, host, port),
-            count,
-            external,
-            moment(at)?,
-            expiry,
-            one_filter(),
-        )),
-        Act::Peer(host, port, external, number, at, expiry) => Change::Peer(PeerLease {
-            endpoint: endpoint(Udp, host, port),
-            external,
-            remote: remote(number),
-            remote_port: 443,
-            nonce: Nonce([7; 12]),
-            granted: moment(at)?,
-            expiry,
-        }),
-        Act::DropMap(host, port) => Change::DropMap(endpoint(Udp, host, port)),
-    })
-}
-
 /// Applies a record, where the other store, which stands for the same, admits it.
 fn applies(
     alloc: Global,
     store: &mut PlainStore,
     other: &mut PlainStore,
-    row: &(u64, Act),
+    row: &(u32, Act),
 ) -> Result<bool, Fail>
     requires reached { IsReached store.old.state }
     requires same { other.old.state ≡ store.old.state }
@@ -226,10 +134,7 @@ fn applies(
     ensures same { OnOk result (other.new.state ≡ store.new.state) }
     ensures moment { OnOk result (store.new.reached ≡ store.new.state.last) }
 {
-    let kept = Record {
-        moment: moment(row.0)?,
-        change: change(row.1)?,
-    };
+    let kept = record(row.0, row.1);
     if kept.moment.get() < store.last().get() {
         return Ok(false);
     }
@@ -241,19 +146,16 @@ fn applies(
 }
 
 /// Whether the record is admitted by the rules of the first format.
-fn admits_first(alloc: Global, store: &mut PlainStore, row: &(u64, Act)) -> Result<bool, Fail>
+fn admits_first(alloc: Global, store: &mut PlainStore, row: &(u32, Act)) -> Result<bool, Fail>
     requires { IsReachedFirst store.old.state }
     ensures { OnOk result (IsReachedFirst store.new.state) }
 {
-    let kept = Record {
-        moment: moment(row.0)?,
-        change: change(row.1)?,
-    };
+    let kept = record(row.0, row.1);
     Ok(store.admit_first(alloc, &kept)?)
 }
 
 /// The store that these records made.
-fn made(alloc: Global, rows: &[(u64, Act)]) -> Result<PlainStore, Fail>
+fn made(alloc: Global, rows: &[(u32, Act)]) -> Result<PlainStore, Fail>
     ensures reached { IfOk result (λ s. IsReached s.state) }
     ensures moment { IfOk result (λ s. s.reached ≡ s.state.last) }
 {
@@ -274,7 +176,7 @@ fn is_answered(store: &PlainStore, ask: &Ask) -> bool
     if ask.4 == 0 {
         return false;
     }
-    let first = endpoint(Udp, ask.1, ask.2);
+    let first = at(Udp, ask.1, ask.2);
     let picked = store.pick(
         &first,
         &PickAsk {
@@ -298,7 +200,7 @@ fn first_other(store: &mut PlainStore, asks: &[Ask]) -> Result<Option<usize>, Fa
 {
     let mut now = store.last();
     for (i, ask) in asks.iter().enumerate() {
-        let m = moment(ask.0)?;
+        let m = moment(ask.0);
         if m.get() < now.get() {
             return Ok(Some(i));
         }
@@ -316,9 +218,9 @@ fn first_unseen(store: &PlainStore, sights: &[Sight]) -> Result<Option<usize>, F
     requires { IsReached store.now.state }
 {
     for (i, sight) in sights.iter().enumerate() {
-        let m = moment(sight.0)?;
+        let m = moment(sight.0);
         let seen = store.look(sight.1, sight.2, &remote(sight.3), 443, m);
-        if seen != sight.4.map(|(host, port)| endpoint(Udp, host, port)) {
+        if seen != sight.4.map(|(host, port)| at(Udp, host, port)) {
             return Ok(Some(i));
         }
     }
@@ -329,10 +231,10 @@ fn first_unseen(store: &PlainStore, sights: &[Sight]) -> Result<Option<usize>, F
 fn finds_leases(store: &PlainStore) -> bool
     requires { IsReached store.now.state }
 {
-    let (first, second) = (endpoint(Udp, 5, 5000), endpoint(Udp, 5, 5001));
-    let other = endpoint(Udp, 6, 6000);
+    let (first, second) = (at(Udp, 5, 5000), at(Udp, 5, 5001));
+    let other = at(Udp, 6, 6000);
     store.covering(&second).map(|lease| lease.external) == Some(1024)
-        && store.covering(&endpoint(Udp, 5, 5002)) == None
+        && store.covering(&at(Udp, 5, 5002)) == None
         && store
             .peering(&other, &remote(7), 443)
             .map(|lease| lease.external)
@@ -348,12 +250,12 @@ fn finds_leases(store: &PlainStore) -> bool
 fn tells_leases(store: &PlainStore) -> Result<bool, Fail>
     requires { IsReached store.now.state }
 {
-    let first = endpoint(Udp, 5, 5000);
-    let (live, over) = (moment(1139)?, moment(1140)?);
+    let first = at(Udp, 5, 5000);
+    let (live, over) = (moment(1139), moment(1140));
     Ok(
-        store.next_inside(&endpoint(Udp, 5, 4000)) == Some(5000)
+        store.next_inside(&at(Udp, 5, 4000)) == Some(5000)
             && store.next_inside(&first) == Some(5001)
-            && store.next_inside(&endpoint(Udp, 5, 5001)) == None
+            && store.next_inside(&at(Udp, 5, 5001)) == None
             && store.covered(&first, live)
             && !store.covered(&first, over)
             && store.lease_count() == 5
@@ -365,7 +267,7 @@ fn tells_leases(store: &PlainStore) -> Result<bool, Fail>
 fn tells_lists(alloc: Global, store: &PlainStore) -> Result<bool, Fail>
     requires { IsReached store.now.state }
 {
-    let over = moment(1140)?;
+    let over = moment(1140);
     let maps = store.maps(alloc, over)?;
     let peers = store.peers(alloc, over)?;
     let ends = store.ends(alloc)?;
@@ -380,13 +282,13 @@ fn tells_lists(alloc: Global, store: &PlainStore) -> Result<bool, Fail>
 fn tells_owners(alloc: Global, store: &PlainStore) -> Result<bool, Fail>
     requires { IsReached store.now.state }
 {
-    let owners = store.owners(alloc, moment(1060)?)?;
+    let owners = store.owners(alloc, moment(1060))?;
     Ok(
         owners.len() == OWNERS.len()
             && owners.iter().zip(&OWNERS).all(|(owner, want)| {
                 owner.protocol == want.0
                     && owner.external == want.1
-                    && owner.endpoint == endpoint(want.0, want.2, want.3)
+                    && owner.endpoint == at(want.0, want.2, want.3)
             }),
     )
 }
@@ -402,7 +304,7 @@ fn tells_the_state(rt: HostRuntime) -> Result<(), Fail> {
     assert!(rt; store.lease_count() == 0 && store.last().get() == 0);
     let fits = admits_first(rt.alloc(), &mut store, &(5, Act::Start))?;
     assert!(rt; fits && store.base().get() == 5);
-    let fits = admits_first(rt.alloc(), &mut store, &(5, Act::Renumber))?;
+    let fits = admits_first(rt.alloc(), &mut store, &(5, Act::Renumber(1)))?;
     assert!(rt; !fits && store.address() == None);
     Ok(())
 }

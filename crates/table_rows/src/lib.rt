@@ -1,0 +1,12 @@
+//! Tests of the tables of an external address by rows of calls, worked out by hand, and of the plain
+//! bodies that stand for the state that records made.
+#![tactic(auto)]
+
+#[cfg(test)]
+mod making;
+#[cfg(test)]
+mod records;
+#[cfg(test)]
+mod replays;
+#[cfg(test)]
+mod stores;
