@@ -18,6 +18,3 @@ pub const MOST_PAIRS: usize = 262_144;
 
 /// Ids from this number on are refused, as for want of memory.
 pub const IDS: u32 = 1_048_576;
-
-#[cfg(test)]
-mod tests;

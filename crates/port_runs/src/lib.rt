@@ -7,6 +7,3 @@ mod runs;
 mod tree;
 
 pub use runs::Runs;
-
-#[cfg(test)]
-mod tests;

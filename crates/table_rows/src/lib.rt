@@ -9,4 +9,8 @@ mod records;
 #[cfg(test)]
 mod replays;
 #[cfg(test)]
+mod runs;
+#[cfg(test)]
 mod stores;
+#[cfg(test)]
+mod wheels;

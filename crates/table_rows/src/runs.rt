@@ -1,0 +1,214 @@
+//! Calls of both bodies of free runs, with answers that are worked out by hand.
+
+ghost use Rattle.std.specs.Prelude.{◌≡◌, ◌≤◌, ◌<◌};
+
+use Call::{FirstRun, Give, LongestRun, RunAt, Take};
+use pcp_base::Memory;
+use port_runs::Runs;
+use port_runs::plain::PlainRuns;
+use std::alloc::Global;
+use std::marker::Brand;
+use std::process::Abort;
+use std::sync::ledger::{Blank, Ledger};
+use step_count::Steps;
+
+/// A call and the answer that is wanted.
+#[derive(Clone, Copy)]
+enum Call {
+    Take(u16, u32, bool),
+    Give(u16, u32),
+    RunAt(u16, u32, u32),
+    FirstRun(u32, Option<u8>, Option<u16>),
+    LongestRun(Option<u8>, u32),
+}
+
+// Of the ports 10 to 14.
+static FIVE: [Call; 47] = [
+    FirstRun(1, None, Some(10)),
+    FirstRun(5, None, Some(10)),
+    FirstRun(6, None, None),
+    FirstRun(1, Some(1), Some(11)),
+    FirstRun(4, Some(1), Some(11)),
+    FirstRun(5, Some(1), None),
+    FirstRun(3, Some(0), Some(10)),
+    FirstRun(1, Some(2), None),
+    LongestRun(None, 5),
+    LongestRun(Some(0), 5),
+    LongestRun(Some(1), 4),
+    LongestRun(Some(2), 0),
+    RunAt(10, 9, 5),
+    RunAt(12, 2, 2),
+    RunAt(14, 5, 1),
+    RunAt(15, 1, 0),
+    RunAt(9, 1, 0),
+    Take(12, 1, true),
+    FirstRun(2, None, Some(10)),
+    FirstRun(3, None, None),
+    LongestRun(Some(0), 2),
+    LongestRun(Some(1), 2),
+    FirstRun(2, Some(1), Some(13)),
+    FirstRun(1, Some(1), Some(11)),
+    RunAt(10, 5, 2),
+    RunAt(12, 1, 0),
+    Take(11, 2, false),
+    RunAt(11, 1, 1),
+    Take(10, 2, true),
+    FirstRun(1, None, Some(13)),
+    FirstRun(1, Some(0), Some(14)),
+    FirstRun(2, Some(0), None),
+    Take(13, 2, true),
+    FirstRun(1, None, None),
+    LongestRun(None, 0),
+    Give(11, 3),
+    FirstRun(3, None, Some(11)),
+    FirstRun(3, Some(0), None),
+    FirstRun(2, Some(0), Some(12)),
+    RunAt(11, 9, 3),
+    Take(10, 1, false),
+    Give(10, 5),
+    FirstRun(5, None, Some(10)),
+    Take(10, 5, true),
+    FirstRun(1, None, None),
+    Give(14, 1),
+    FirstRun(1, None, Some(14)),
+];
+
+// Of the port 65535 alone.
+static LAST: [Call; 9] = [
+    FirstRun(1, None, Some(65535)),
+    FirstRun(1, Some(0), None),
+    FirstRun(2, None, None),
+    RunAt(65535, 2, 1),
+    Take(65535, 1, true),
+    FirstRun(1, Some(1), None),
+    Take(65535, 1, false),
+    Give(65535, 1),
+    FirstRun(1, Some(1), Some(65535)),
+];
+
+// Of the port 1 alone.
+static FIRST: [Call; 4] = [
+    FirstRun(1, None, Some(1)),
+    FirstRun(1, Some(0), None),
+    Take(1, 1, true),
+    FirstRun(1, None, None),
+];
+
+// Of all ports.
+static ALL: [Call; 19] = [
+    FirstRun(65535, None, Some(1)),
+    LongestRun(None, 65535),
+    LongestRun(Some(0), 65534),
+    FirstRun(65535, Some(0), None),
+    FirstRun(65534, Some(0), Some(2)),
+    FirstRun(65536, None, None),
+    RunAt(1, 70000, 65535),
+    Take(1, 65535, true),
+    FirstRun(1, None, None),
+    Give(1, 65535),
+    FirstRun(65535, Some(1), Some(1)),
+    Take(32768, 1, true),
+    FirstRun(32767, None, Some(1)),
+    FirstRun(32767, Some(0), None),
+    FirstRun(32766, Some(0), Some(2)),
+    FirstRun(32767, Some(1), Some(1)),
+    Take(1, 1, true),
+    FirstRun(32767, None, Some(32769)),
+    FirstRun(32768, None, None),
+];
+
+/// Makes a call of both bodies and compares their answers. In a wide range the plain body searches
+/// for long, and isn't asked.
+fn check<L: Ledger>(
+    rt: &impl Abort,
+    runs: &mut Runs,
+    plain: &mut PlainRuns,
+    call: &Call,
+    steps: &mut Steps<L>,
+    low: u16,
+    high: u16,
+)
+    requires low { runs.old.low ≡ low }
+    requires high { runs.old.high ≡ high }
+    requires plain_low { plain.old.low ≡ low }
+    requires plain_high { plain.old.high ≡ high }
+    ensures low { runs.new.low ≡ low }
+    ensures high { runs.new.high ≡ high }
+    ensures plain_low { plain.new.low ≡ low }
+    ensures plain_high { plain.new.high ≡ high }
+{
+    let is_wide = high.saturating_sub(low) > 100;
+    match *call {
+        Take(start, n, wanted) => {
+            assert!(rt; n >= 1 && low <= start && start as u64 + n as u64 <= high as u64 + 1);
+            assert!(rt; runs.take(start, n) == wanted, "take {start} {n}");
+            assert!(rt; plain.take(start, n) == wanted, "plain take {start} {n}");
+        }
+        Give(start, n) => {
+            assert!(rt; n >= 1 && low <= start && start as u64 + n as u64 <= high as u64 + 1);
+            runs.give(start, n);
+            plain.give(start, n);
+        }
+        RunAt(start, most, wanted) => {
+            assert!(rt; runs.run_at(start, most) == wanted, "run_at {start} {most}");
+            assert!(rt;
+                plain.run_at(start, most) == wanted,
+                "plain run_at {start} {most}"
+            );
+        }
+        FirstRun(n, parity, wanted) => {
+            assert!(rt; n >= 1);
+            assert!(rt; runs.first_run(n, parity, steps) == wanted, "first_run {n}");
+            assert!(rt;
+                is_wide || plain.first_run(n, parity) == wanted,
+                "plain first_run {n}"
+            );
+        }
+        LongestRun(parity, wanted) => {
+            assert!(rt;
+                runs.longest_run(parity, steps) == wanted,
+                "longest_run {wanted}"
+            );
+            assert!(rt;
+                is_wide || plain.longest_run(parity) == wanted,
+                "plain longest_run {wanted}"
+            );
+        }
+    }
+}
+
+/// Makes a table's calls, one after another.
+fn check_all<L: Ledger>(
+    rt: &impl Abort,
+    alloc: Global,
+    blank: Blank,
+    low: u16,
+    high: u16,
+    calls: &[Call],
+) -> Result<(), Memory>
+    requires name { blank.name ≡ L.name }
+    requires parts { blank.parts ≡ L.parts }
+    requires part { 0 < L.parts }
+    requires some { 1 ≤ low }
+    requires ordered { low ≤ high }
+{
+    let mut steps = Steps::<L>::begin(blank);
+    let mut runs = Runs::new(alloc, low, high)?;
+    let mut plain = PlainRuns::new(alloc, low, high)?;
+    for call in calls {
+        check(rt, &mut runs, &mut plain, call, &mut steps, low, high);
+    }
+    Ok(())
+}
+
+#[test]
+fn runs_are_found_among_five_ports(rt: HostRuntime) -> Result<(), Memory> {
+    check_all::<Brand>(&rt, rt.alloc(), Blank::new(1), 10, 14, &FIVE)
+}
+
+#[test]
+fn runs_are_found_at_the_ends_of_the_numbers(rt: HostRuntime) -> Result<(), Memory> {
+    check_all::<Brand>(&rt, rt.alloc(), Blank::new(1), 65535, 65535, &LAST)?;
+    check_all::<Brand>(&rt, rt.alloc(), Blank::new(1), 1, 1, &FIRST)?;
+    check_all::<Brand>(&rt, rt.alloc(), Blank::new(1), 1, 65535, &ALL)
+}

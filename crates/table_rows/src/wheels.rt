@@ -1,0 +1,204 @@
+//! Calls of both bodies of a wheel, with answers that are worked out by hand, and a wheel that grows.
+
+ghost use Rattle.std.specs.Prelude.{◌≡◌, ◌+◌, ◌<◌, ◌≤◌};
+ghost use Rattle.std.specs.FinMap as map;
+
+use expiry_wheel::plain::PlainWheel;
+use expiry_wheel::{IDS, MOST_PAIRS, Wheel};
+use pcp_base::Memory;
+use std::alloc::Global;
+use std::marker::Brand;
+use std::process::Abort;
+use std::sync::ledger::{Blank, Ledger};
+use std::test::*;
+use step_count::Steps;
+
+/// A call with the answer that is wanted.
+#[derive(Clone, Copy)]
+enum Call {
+    Put(u32, u64),
+    Remove(u32, bool),
+    Due(u64, Option<u32>),
+}
+
+static CALLS: [Call; 32] = [
+    // An empty wheel.
+    Call::Due(u64::MAX, None),
+    Call::Remove(7, false),
+    // A lease that expires at 1130.
+    Call::Put(7, 1130),
+    Call::Due(1129, None),
+    Call::Due(1130, Some(7)),
+    Call::Due(1130, None),
+    Call::Remove(7, false),
+    // The least expiry first, and among equal ones the least id.
+    Call::Put(9, 50),
+    Call::Put(3, 50),
+    Call::Put(8, 40),
+    Call::Put(4, 50),
+    Call::Due(60, Some(8)),
+    Call::Due(60, Some(3)),
+    Call::Due(60, Some(4)),
+    Call::Due(60, Some(9)),
+    Call::Due(60, None),
+    // A second put of an id replaces its expiry, to a later and to an earlier one.
+    Call::Put(1, 10),
+    Call::Put(2, 30),
+    Call::Put(1, 20),
+    Call::Due(19, None),
+    Call::Put(2, 15),
+    Call::Due(30, Some(2)),
+    Call::Due(30, Some(1)),
+    // What is removed doesn't fall due.
+    Call::Put(5, 1),
+    Call::Put(6, 2),
+    Call::Remove(5, true),
+    Call::Remove(5, false),
+    Call::Due(9, Some(6)),
+    // The ends of both ranges.
+    Call::Put(IDS - 1, u64::MAX),
+    Call::Put(0, 0),
+    Call::Due(0, Some(0)),
+    Call::Due(u64::MAX, Some(IDS - 1)),
+];
+
+/// Puts a pair into both.
+fn put_both(
+    wheel: &mut Wheel,
+    plain: &mut PlainWheel,
+    alloc: Global,
+    id: u32,
+    expiry: u64,
+) -> Result<(), Memory>
+    requires wheel { map.len wheel.old < MOST_PAIRS }
+    requires plain { map.len plain.old < MOST_PAIRS }
+    ensures wheel { map.len wheel.new ≤ map.len wheel.old + 1 }
+    ensures plain { map.len plain.new ≤ map.len plain.old + 1 }
+{
+    wheel.put(alloc, id, expiry)?;
+    plain.put(alloc, id, expiry)?;
+    Ok(())
+}
+
+/// Removes an id from both, which are to answer alike.
+fn remove_both<R: Abort>(rt: &R, wheel: &mut Wheel, plain: &mut PlainWheel, id: u32) -> bool
+    ensures wheel { map.len wheel.new ≤ map.len wheel.old }
+    ensures plain { map.len plain.new ≤ map.len plain.old }
+{
+    let removed = wheel.remove(id);
+    let expected = plain.remove(id);
+    assert!(rt; removed == expected, "remove {id}");
+    removed
+}
+
+/// What falls due next in both, which are to answer alike.
+fn due_both<L: Ledger, R: Abort>(
+    rt: &R,
+    wheel: &mut Wheel,
+    plain: &mut PlainWheel,
+    m: u64,
+    steps: &mut Steps<L>,
+) -> Option<u32>
+    ensures wheel { map.len wheel.new ≤ map.len wheel.old }
+    ensures plain { map.len plain.new ≤ map.len plain.old }
+{
+    let found = wheel.due(m, steps);
+    let expected = plain.due(m);
+    assert!(rt; found == expected, "due at {m}");
+    found
+}
+
+/// One call on both.
+fn answer<L: Ledger, R: Abort>(
+    rt: &R,
+    alloc: Global,
+    wheel: &mut Wheel,
+    plain: &mut PlainWheel,
+    steps: &mut Steps<L>,
+    call: Call,
+) -> Result<(), Fail>
+    requires wheel { map.len wheel.old < MOST_PAIRS }
+    requires plain { map.len plain.old < MOST_PAIRS }
+    ensures wheel { map.len wheel.new ≤ map.len wheel.old + 1 }
+    ensures plain { map.len plain.new ≤ map.len plain.old + 1 }
+{
+    match call {
+        Call::Put(id, expiry) => {
+            put_both(wheel, plain, alloc, id, expiry)?;
+            Ok(())
+        }
+        Call::Remove(id, want) => {
+            let removed = remove_both(rt, wheel, plain, id);
+            assert!(rt; removed == want, "remove {id}");
+            Ok(())
+        }
+        Call::Due(m, want) => {
+            let found = due_both(rt, wheel, plain, m, steps);
+            assert!(rt; found == want, "due at {m}");
+            Ok(())
+        }
+    }
+}
+
+fn answer_all<L: Ledger, R: Abort>(rt: &R, alloc: Global, blank: Blank) -> Result<(), Fail>
+    requires name { blank.name ≡ L.name }
+    requires parts { blank.parts ≡ L.parts }
+    requires some { 0 < L.parts }
+{
+    let mut wheel = Wheel::new(alloc)?;
+    let mut plain = PlainWheel::new(alloc)?;
+    let mut steps = Steps::<L>::begin(blank);
+    for call in &CALLS {
+        answer(rt, alloc, &mut wheel, &mut plain, &mut steps, *call)?;
+    }
+    Ok(())
+}
+
+#[test]
+fn calls_have_these_answers(rt: HostRuntime) -> Result<(), Fail> {
+    answer_all::<Brand, HostRuntime>(&rt, rt.alloc(), Blank::new(1))
+}
+
+/// Whether a wheel with no pair refuses one.
+fn refuses(wheel: &mut Wheel, alloc: Global, id: u32) -> bool
+    requires { map.len wheel.old < MOST_PAIRS }
+{
+    wheel.put(alloc, id, 1).is_err()
+}
+
+#[test]
+fn ids_are_below_a_bound(rt: HostRuntime) -> Result<(), Fail> {
+    let mut wheel = Wheel::new(rt.alloc())?;
+    assert!(rt; refuses(&mut wheel, rt.alloc(), IDS));
+    Ok(())
+}
+
+/// Puts many pairs into both, and takes them out again.
+fn fill_both<L: Ledger, R: Abort>(rt: &R, alloc: Global, blank: Blank) -> Result<(), Fail>
+    requires name { blank.name ≡ L.name }
+    requires parts { blank.parts ≡ L.parts }
+    requires some { 0 < L.parts }
+{
+    let mut wheel = Wheel::new(alloc)?;
+    let mut plain = PlainWheel::new(alloc)?;
+    let mut steps = Steps::<L>::begin(blank);
+    for i in 0..1000u32 {
+        put_both(
+            &mut wheel,
+            &mut plain,
+            alloc,
+            i * 7 % 600,
+            u64::from(i * 317 % 211),
+        )?;
+    }
+    for _ in 0..600u32 {
+        due_both(rt, &mut wheel, &mut plain, u64::MAX, &mut steps);
+    }
+    assert!(rt; wheel.due(u64::MAX, &mut steps) == None);
+    Ok(())
+}
+
+#[test]
+fn many_ids_fall_due_in_order(rt: HostRuntime) -> Result<(), Fail> {
+    fill_both::<Brand, HostRuntime>(&rt, rt.alloc(), Blank::new(1))
+}
