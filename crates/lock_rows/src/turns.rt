@@ -168,7 +168,9 @@ fn split_often(alloc: Global, turn: &Turn<Numbers>, pass: &mut Pass<Numbers>, mo
 #[test]
 fn settlings_are_noted_and_splits_are_refused(rt: HostRuntime) -> Result<(), Fail> {
     let alloc = rt.alloc();
-    let (turn, mut pass) = Turn::new(alloc, Numbers::none(alloc), &()).ok().ok_or("turn")?;
+    let (turn, mut pass) = Turn::new(alloc, Numbers::none(alloc), &())
+        .ok()
+        .ok_or("turn")?;
     let mut other = turn.split(alloc, &mut pass)?;
     assert!(rt; add_one(&rt, &turn, &mut pass, 7, true));
     assert!(rt; add_one(&rt, &turn, &mut other, 8, false));

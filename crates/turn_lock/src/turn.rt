@@ -9,9 +9,7 @@ ghost use Rattle.turn_lock.specs.Views.{new_room, waiting_view};
 use crate::held::Held;
 use crate::kept::Kept;
 use crate::layout::{FIRST_ROOM, HISTORY, NEW_ROOM, SERVING, TICKET, VALUE};
-use crate::plays::{
-    Draw, Give, Learn, Look, Naming, NoteOwn, NoteSettling, Noting, SplitAndMeet,
-};
+use crate::plays::{Draw, Give, Learn, Look, Naming, NoteOwn, NoteSettling, Noting, SplitAndMeet};
 use crate::views::{TurnRule, TurnView};
 use atomic_table::{Refused, Seat, Table};
 use std::alloc::{AllocError, AllocFailed, Global};
