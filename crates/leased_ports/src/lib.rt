@@ -7,8 +7,6 @@ mod falls;
 pub mod laws;
 mod ports;
 mod schedule;
-#[cfg(test)]
-mod tests;
 mod uses;
 
 pub use ports::LeasedPorts;

@@ -3,7 +3,11 @@
 #![tactic(auto)]
 
 #[cfg(test)]
+mod leased;
+#[cfg(test)]
 mod making;
+#[cfg(test)]
+mod pools;
 #[cfg(test)]
 mod records;
 #[cfg(test)]

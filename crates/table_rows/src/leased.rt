@@ -1,0 +1,337 @@
+//! Calls of the ports of an address, with answers that are worked out by hand: which are picked where
+//! others are held or rest.
+
+ghost use Rattle.std.specs.Prelude.{◌≡◌, ◌≤◌, OnOk, IfOk};
+ghost use Rattle.std.specs.Bool.{OnTrue};
+ghost use Rattle.external_pool.specs.Calls.{IsAsk};
+ghost use Rattle.leased_ports.specs.Leased.{IsLastEnd};
+
+use crate::making::{at, moment};
+use Call::{LastEnd, Pick, Put, Reach};
+use PickRefused::{CannotProvide, NoPort, Quota};
+use Protocol::{Tcp, Udp};
+use Wish::{Any, Away, First, Must};
+use external_pool::{PickAsk, PickRefused};
+use leased_ports::LeasedPorts;
+use pcp_base::{End, Endpoint, Memory, Protocol, REST_SECONDS};
+use std::alloc::Global;
+use std::process::Abort;
+
+/// What is wished of the ports that are asked for.
+#[derive(Clone, Copy)]
+enum Wish {
+    Any,
+    /// The remainder by 2 of the first one.
+    First(u8),
+    /// All of what is asked for, or nothing.
+    Must,
+    /// The same, of another external address.
+    Away,
+}
+
+/// A call of the host 10.0.0.H, and the answer that is wanted.
+#[derive(Clone, Copy)]
+enum Call {
+    /// Host, protocol, internal port, external port, how many from both on, and their end.
+    Put(u8, Protocol, u16, u16, u16, u32),
+    Reach(u32),
+    /// Host, protocol, internal port, suggestion, how many, and the first and the number of those
+    /// picked.
+    Pick(u8, Protocol, u16, u16, u32, Wish, Result<(u16, u32), PickRefused>),
+    /// An external port over UDP, and host, internal port and end.
+    LastEnd(u16, Option<(u8, u16, u64)>),
+}
+
+static SUGGESTED: [Call; 11] = [
+    Pick(5, Udp, 5000, 0, 1, Any, Ok((1024, 1))),
+    Put(5, Udp, 5000, 1024, 1, 1000),
+    Pick(6, Udp, 5000, 1024, 1, Any, Ok((1025, 1))),
+    Pick(6, Udp, 5000, 2000, 1, Any, Ok((2000, 1))),
+    Pick(6, Tcp, 5000, 1024, 1, Any, Ok((1024, 1))),
+    Pick(6, Udp, 5000, 80, 1, Any, Ok((1025, 1))),
+    Pick(7, Udp, 5000, 1024, 1, Must, Err(CannotProvide)),
+    Pick(7, Udp, 5000, 1025, 1, Must, Ok((1025, 1))),
+    Pick(7, Udp, 5000, 1025, 1, Away, Err(CannotProvide)),
+    Pick(7, Udp, 5000, 0, 1, Must, Ok((1025, 1))),
+    // A port changes its owner.
+    Put(6, Udp, 5000, 1024, 1, 1000),
+];
+
+// Of the ports 10 to 20.
+static LONGEST: [Call; 26] = [
+    Pick(1, Udp, 6000, 0, 8, Any, Ok((10, 8))),
+    Pick(1, Udp, 6000, 0, 12, Any, Ok((10, 11))),
+    Put(1, Udp, 6000, 13, 1, 500),
+    Pick(1, Udp, 6000, 0, 3, Any, Ok((10, 3))),
+    Pick(1, Udp, 6000, 0, 4, Any, Ok((14, 4))),
+    Pick(1, Udp, 6000, 0, 8, Any, Ok((14, 7))),
+    Pick(1, Udp, 6000, 0, 4, First(0), Ok((14, 4))),
+    Pick(1, Udp, 6000, 0, 4, First(1), Ok((15, 4))),
+    Pick(1, Udp, 6000, 0, 2, First(1), Ok((11, 2))),
+    Pick(1, Udp, 6000, 11, 2, First(0), Ok((10, 2))),
+    Pick(1, Udp, 6000, 11, 2, First(1), Ok((11, 2))),
+    Pick(1, Udp, 6000, 0, 8, Must, Err(CannotProvide)),
+    Pick(1, Udp, 6000, 0, 7, Must, Ok((14, 7))),
+    Put(1, Udp, 6001, 14, 1, 500),
+    Put(1, Udp, 6002, 15, 6, 2000),
+    Pick(1, Udp, 6000, 0, 8, Any, Ok((10, 3))),
+    Put(1, Udp, 7000, 10, 1, 2000),
+    Put(1, Udp, 7002, 12, 1, 2000),
+    Pick(1, Udp, 6000, 0, 8, Any, Ok((11, 1))),
+    Pick(1, Udp, 6000, 0, 8, First(0), Err(NoPort)),
+    Put(2, Udp, 7000, 11, 1, 2000),
+    Pick(1, Udp, 6000, 0, 1, Any, Err(NoPort)),
+    Pick(1, Udp, 6000, 0, 1, Must, Err(CannotProvide)),
+    Pick(1, Tcp, 6000, 0, 8, Any, Ok((10, 8))),
+    Reach(620),
+    Pick(1, Udp, 6000, 0, 8, Any, Ok((13, 2))),
+];
+
+// Of a quota of 4.
+static QUOTA: [Call; 19] = [
+    Pick(1, Udp, 5000, 0, 4, Any, Ok((1024, 4))),
+    Pick(1, Udp, 5000, 0, 5, Any, Ok((1024, 4))),
+    Put(1, Udp, 5000, 1024, 2, 300),
+    Put(1, Tcp, 5000, 1024, 1, 2000),
+    Pick(1, Udp, 7000, 0, 4, Any, Ok((1026, 1))),
+    Pick(1, Udp, 7000, 0, 2, Must, Err(CannotProvide)),
+    // Outside the range.
+    Put(1, Tcp, 5080, 80, 1, 100),
+    Pick(1, Udp, 7000, 0, 1, Any, Err(Quota(4))),
+    Pick(1, Udp, 7000, 0, 1, Away, Err(Quota(4))),
+    Pick(2, Udp, 7000, 0, 1, Any, Ok((1026, 1))),
+    Reach(100),
+    Pick(1, Tcp, 7000, 80, 1, Any, Ok((1025, 1))),
+    Put(1, Udp, 5030, 1030, 2, 300),
+    Put(1, Udp, 5032, 1032, 1, 2000),
+    Pick(1, Udp, 7000, 0, 1, Any, Err(Quota(6))),
+    // Ports that rest aren't owned.
+    Reach(300),
+    Pick(1, Udp, 7000, 0, 9, Any, Ok((1026, 2))),
+    Reach(420),
+    Pick(1, Udp, 7000, 0, 9, Any, Ok((1024, 2))),
+];
+
+static RESTS: [Call; 26] = [
+    Put(5, Udp, 5000, 1024, 1, 10),
+    Put(5, Udp, 5001, 1025, 1, 20),
+    LastEnd(1024, Some((5, 5000, 10))),
+    Pick(5, Udp, 5000, 1024, 1, Any, Ok((1026, 1))),
+    Reach(20),
+    Pick(6, Udp, 5000, 1024, 1, Any, Ok((1026, 1))),
+    Pick(6, Udp, 5000, 0, 1, Any, Ok((1026, 1))),
+    Pick(5, Udp, 5000, 0, 1, Any, Ok((1026, 1))),
+    Pick(5, Udp, 5000, 1024, 1, Any, Ok((1024, 1))),
+    Pick(5, Udp, 5001, 1024, 1, Any, Ok((1026, 1))),
+    Pick(5, Tcp, 5001, 1024, 1, Any, Ok((1024, 1))),
+    Pick(5, Udp, 5000, 1024, 2, Any, Ok((1024, 2))),
+    Pick(5, Udp, 5000, 1024, 3, Any, Ok((1024, 3))),
+    Pick(5, Udp, 4999, 1023, 2, Any, Ok((1026, 2))),
+    Pick(5, Udp, 5000, 1024, 2, First(1), Ok((1027, 2))),
+    Pick(5, Udp, 5001, 1025, 2, First(1), Ok((1025, 2))),
+    Reach(129),
+    LastEnd(1024, Some((5, 5000, 10))),
+    Pick(6, Udp, 5000, 1024, 1, Any, Ok((1026, 1))),
+    Reach(130),
+    LastEnd(1024, None),
+    Pick(6, Udp, 5000, 1024, 1, Any, Ok((1024, 1))),
+    // A lease ends the rest.
+    Put(6, Udp, 5000, 1025, 1, 1000),
+    Pick(5, Udp, 5001, 1025, 1, Any, Ok((1024, 1))),
+    // Outside the range.
+    Put(5, Udp, 5000, 80, 1, 130),
+    Pick(5, Udp, 5000, 80, 1, Any, Ok((1024, 1))),
+];
+
+static SETS: [Call; 12] = [
+    Pick(1, Tcp, 1, 0, 4096, First(1), Ok((1025, 4096))),
+    Put(1, Tcp, 1, 5121, 1, 10),
+    Pick(1, Tcp, 1, 0, 4096, First(0), Ok((1024, 4096))),
+    Pick(1, Tcp, 1, 0, 4096, First(1), Ok((1025, 4096))),
+    Put(1, Tcp, 1, 5120, 1, 10),
+    Pick(1, Tcp, 1, 0, 4096, First(0), Ok((1024, 4096))),
+    Pick(1, Tcp, 1, 0, 4096, First(1), Ok((5123, 4096))),
+    Put(1, Tcp, 1, 5122, 60414, 10),
+    Pick(1, Tcp, 1, 0, 4096, First(1), Ok((1025, 4095))),
+    Reach(130),
+    Put(1, Tcp, 1, 1024, 64512, 200),
+    Pick(2, Tcp, 1, 0, 1, Any, Err(NoPort)),
+];
+
+// Of all ports, and a quota as large.
+static WHOLE: [Call; 5] = [
+    Put(1, Udp, 1, 1, 65535, 10),
+    Pick(1, Udp, 1, 0, 1, Any, Err(Quota(65535))),
+    Pick(2, Udp, 1, 0, 1, Any, Err(NoPort)),
+    Reach(130),
+    Pick(1, Udp, 1, 0, 4096, Any, Ok((1, 4096))),
+];
+
+// Of the ports 65533 to 65535.
+static LAST: [Call; 9] = [
+    Put(1, Udp, 7, 65533, 3, 10),
+    Reach(10),
+    Pick(2, Udp, 7, 0, 3, Any, Err(NoPort)),
+    Pick(1, Udp, 7, 0, 3, Any, Err(NoPort)),
+    Pick(1, Udp, 7, 65533, 3, Any, Ok((65533, 3))),
+    Pick(1, Udp, 7, 65533, 4, Any, Err(NoPort)),
+    Pick(1, Udp, 9, 65535, 1, Any, Ok((65535, 1))),
+    Reach(130),
+    Pick(2, Udp, 7, 0, 4, Any, Ok((65533, 3))),
+];
+
+/// Whether a port may have this last end at `now`.
+fn is_last_end(now: u32, last: &End) -> bool
+    ensures { OnTrue result (IsLastEnd now last.now) }
+{
+    last.external >= 1 && last.end < 1 << 41 && u64::from(now) < last.end + REST_SECONDS
+}
+
+/// Gives `n` ports, from this one on, the last end of it.
+fn put_all(
+    alloc: Global,
+    ports: &mut LeasedPorts,
+    now: u32,
+    first: &End,
+    n: u16,
+) -> Result<bool, Memory>
+    requires { ports.old.reached ≡ now }
+    ensures { OnOk result (ports.new.reached ≡ now) }
+{
+    for i in 0..n {
+        let mut last = *first;
+        last.external = first.external.wrapping_add(i);
+        last.endpoint.port = first.endpoint.port.wrapping_add(i);
+        if !is_last_end(now, &last) {
+            return Ok(false);
+        }
+        ports.put(alloc, &last)?;
+    }
+    Ok(true)
+}
+
+/// What is picked for the endpoint, with room for as many ports as are asked for.
+fn pick(
+    ports: &LeasedPorts,
+    endpoint: &Endpoint,
+    suggested: u16,
+    asked: u32,
+    wish: Wish,
+) -> Result<(u16, u32), PickRefused>
+    requires { 1 ≤ asked }
+{
+    let ask = PickAsk {
+        internal: endpoint.port,
+        suggested,
+        asked,
+        room: asked,
+        parity: if let First(remainder) = wish {
+            Some(remainder)
+        } else {
+            None
+        },
+        must: matches!(wish, Must | Away),
+        here: !matches!(wish, Away),
+    };
+    ports
+        .pick(endpoint, &ask)
+        .map(|picked| (picked.start, picked.count))
+}
+
+/// Makes a call at `now`, compares its answer, and tells the moment after it.
+fn make(
+    rt: &impl Abort,
+    alloc: Global,
+    ports: &mut LeasedPorts,
+    now: u32,
+    call: &Call,
+) -> Result<u32, Memory>
+    requires { ports.old.reached ≡ now }
+    ensures { IfOk result (λ m. ports.new.reached ≡ m) }
+{
+    match *call {
+        Put(host, protocol, internal, external, n, end) => {
+            let first = End {
+                endpoint: at(protocol, host, internal),
+                external,
+                end: u64::from(end),
+            };
+            let put = put_all(alloc, ports, now, &first, n)?;
+            assert!(rt; put);
+            Ok(now)
+        }
+        Reach(m) => {
+            assert!(rt; now <= m);
+            ports.reach(moment(m));
+            Ok(m)
+        }
+        Pick(host, protocol, internal, suggested, asked, wish, wanted) => {
+            assert!(rt; asked >= 1);
+            let endpoint = at(protocol, host, internal);
+            assert!(rt; pick(ports, &endpoint, suggested, asked, wish) == wanted);
+            Ok(now)
+        }
+        LastEnd(port, wanted) => {
+            let last = wanted.map(|(host, internal, end)| End {
+                endpoint: at(Udp, host, internal),
+                external: port,
+                end,
+            });
+            assert!(rt; ports.last_end(Udp, port) == last);
+            Ok(now)
+        }
+    }
+}
+
+/// Makes calls, one after the other, of the ports from `low` to `high`, from the moment 0 on.
+fn call_all(
+    rt: &impl Abort,
+    alloc: Global,
+    low: u16,
+    high: u16,
+    quota: u32,
+    calls: &[Call],
+) -> Result<(), Memory>
+    requires some { 1 ≤ low }
+    requires ordered { low ≤ high }
+{
+    let mut ports = LeasedPorts::new(alloc, low, high, quota)?;
+    let mut now = 0;
+    for call in calls {
+        now = make(rt, alloc, &mut ports, now, call)?;
+    }
+    ports.clear();
+    assert!(rt; pick(&ports, &at(Udp, 1, 1), 0, 1, Any) == Ok((low, 1)));
+    Ok(())
+}
+
+#[test]
+fn a_taken_suggestion_gives_the_least_vacant_port(rt: HostRuntime) -> Result<(), Memory> {
+    call_all(&rt, rt.alloc(), 1024, 65535, 100, &SUGGESTED)
+}
+
+#[test]
+fn the_longest_run_is_picked(rt: HostRuntime) -> Result<(), Memory> {
+    call_all(&rt, rt.alloc(), 10, 20, 100, &LONGEST)
+}
+
+#[test]
+fn the_quota_counts_ports(rt: HostRuntime) -> Result<(), Memory> {
+    call_all(&rt, rt.alloc(), 1024, 65535, 4, &QUOTA)
+}
+
+#[test]
+fn a_port_is_held_and_rests_for_its_endpoint(rt: HostRuntime) -> Result<(), Memory> {
+    call_all(&rt, rt.alloc(), 1024, 65535, 100, &RESTS)
+}
+
+#[test]
+fn sets_of_4096_ports_with_parity(rt: HostRuntime) -> Result<(), Memory> {
+    call_all(&rt, rt.alloc(), 1024, 65535, u32::MAX, &SETS)
+}
+
+#[test]
+fn a_whole_range_is_held_and_rests(rt: HostRuntime) -> Result<(), Memory> {
+    call_all(&rt, rt.alloc(), 1, 65535, 65535, &WHOLE)?;
+    call_all(&rt, rt.alloc(), 65533, 65535, 5, &LAST)
+}
