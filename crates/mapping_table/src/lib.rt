@@ -2,13 +2,9 @@
 #![tactic(auto)]
 
 mod changes;
-#[cfg(test)]
-mod judging;
 pub mod laws;
 mod owning;
 pub mod plain;
 mod table;
-#[cfg(test)]
-mod tests;
 
 pub use table::MapTable;

@@ -7,6 +7,8 @@ mod leased;
 #[cfg(test)]
 mod making;
 #[cfg(test)]
+mod maps;
+#[cfg(test)]
 mod pools;
 #[cfg(test)]
 mod records;
@@ -14,6 +16,8 @@ mod records;
 mod replays;
 #[cfg(test)]
 mod runs;
+#[cfg(test)]
+mod sound_maps;
 #[cfg(test)]
 mod stores;
 #[cfg(test)]

@@ -1,11 +1,12 @@
-//! Whether leases may stand in a table together.
-ghost use Rattle.std.specs.Prelude.{◌≡◌, ◌+◌, ◌<◌, ◌≤◌, IsTrue, false};
+//! Whether MAP leases may stand in a table together, and the leases with one more.
+ghost use Rattle.std.specs.Prelude.{◌≡◌, ◌+◌, ◌<◌, ◌≤◌, IsTrue, false, position, IfOk, OnOk, OnErr};
 ghost use Rattle.std.specs.Bool.{OnTrue};
 ghost use Rattle.std.specs.List.{AllByRecursion};
-ghost use Rattle.pcp_base.specs.Tables.{EachTwo, HasPorts, IsMapLease};
-ghost use Rattle.mapping_table.specs.MapLists.{runs_meet, AreSeparate, AreSoundMaps};
+ghost use Rattle.pcp_base.specs.Tables.{EachTwo, HasPorts, IsMapLease, is_map_of};
+ghost use Rattle.mapping_table.specs.MapLists.{runs_meet, AreSeparate, AreSoundMaps, with_map};
 
-use pcp_base::{MOST_LEASES, MOST_PORTS, MapLease};
+use pcp_base::{Endpoint, MOST_LEASES, MOST_PORTS, MapLease};
+use std::alloc::{AllocError, Global};
 
 /// Whether these leases, without filters, may be the MAP leases of a sound table.
 pub(crate) fn are_sound(leases: &[MapLease]) -> bool
@@ -75,4 +76,38 @@ fn runs_meet(a: u16, n: u16, b: u16, k: u16) -> bool
     ensures { result ≡ runs_meet a n b k }
 {
     u32::from(a) < u32::from(b) + u32::from(k) && u32::from(b) < u32::from(a) + u32::from(n)
+}
+
+/// The place of the lease with this key.
+fn place_of(leases: &[MapLease], key: &Endpoint) -> Option<usize>
+    ensures { result ≡ position (is_map_of key.now) leases.now }
+{
+    leases
+        .iter()
+        .position(|lease| lease.first_endpoint() == *key)
+}
+
+/// Puts a lease in the place of the one with its key, or at the end.
+fn put_into(leases: &mut Vec<MapLease>, lease: MapLease) -> Result<(), AllocError>
+    ensures ok { OnOk result (leases.new.items ≡ with_map lease leases.old.items) }
+    ensures err { OnErr result (leases.new.items ≡ leases.old.items) }
+{
+    match place_of(leases, &lease.first_endpoint()) {
+        Some(place) => leases[place] = lease,
+        None => leases.push(lease)?,
+    }
+    Ok(())
+}
+
+/// The leases with one more.
+pub(crate) fn after_put(
+    alloc: Global,
+    leases: &[MapLease],
+    lease: &MapLease,
+) -> Result<Vec<MapLease>, AllocError>
+    ensures { IfOk result (λ after. after.items ≡ with_map lease.now leases.now) }
+{
+    let mut after = leases.to_vec(alloc)?;
+    put_into(&mut after, *lease)?;
+    Ok(after)
 }
