@@ -3,15 +3,11 @@
 
 mod changes;
 mod endpoints;
-#[cfg(test)]
-mod judging;
 mod keys;
 pub mod laws;
 pub mod plain;
 mod ports;
 mod table;
-#[cfg(test)]
-mod tests;
 mod uses;
 
 pub use table::PeerTable;

@@ -9,6 +9,8 @@ mod making;
 #[cfg(test)]
 mod maps;
 #[cfg(test)]
+mod peers;
+#[cfg(test)]
 mod pools;
 #[cfg(test)]
 mod records;
@@ -18,6 +20,8 @@ mod replays;
 mod runs;
 #[cfg(test)]
 mod sound_maps;
+#[cfg(test)]
+mod sound_peers;
 #[cfg(test)]
 mod stores;
 #[cfg(test)]

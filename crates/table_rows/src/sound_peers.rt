@@ -1,13 +1,14 @@
-//! Whether leases may stand in a table together.
-ghost use Rattle.std.specs.Prelude.{◌≡◌, ◌≤◌, length, count_by};
+//! Whether PEER leases may stand in a table together, and the leases with one more.
+ghost use Rattle.std.specs.Prelude.{◌≡◌, ◌≤◌, length, count_by, position, IfOk, OnOk, OnErr};
 ghost use Rattle.std.specs.Bool.{OnTrue};
 ghost use Rattle.std.specs.List.{AllByRecursion};
 ghost use Rattle.pcp_base.specs.declared.leases.TheConstants.{MOST_PEERS};
 ghost use Rattle.pcp_base.specs.declared.leases.Endpoint.{Endpoint};
-ghost use Rattle.pcp_base.specs.Tables.{EachTwo, IsPeerLease, names};
-ghost use Rattle.peer_table.specs.PeerLists.{AreFellows, AreSoundPeers};
+ghost use Rattle.pcp_base.specs.Tables.{EachTwo, IsPeerLease, is_peer_of, names};
+ghost use Rattle.peer_table.specs.PeerLists.{AreFellows, AreSoundPeers, with_peer};
 
 use pcp_base::{MOST_LEASES, MOST_PEERS, PeerLease};
+use std::alloc::{AllocError, Global};
 
 /// Whether these leases may be the PEER leases of a sound table.
 pub(crate) fn are_sound(leases: &[PeerLease]) -> bool
@@ -62,4 +63,37 @@ fn are_few(leases: &[PeerLease]) -> bool
     ensures { OnTrue result ((e : Endpoint) → count_by (λ l. names l e) leases.now ≤ MOST_PEERS) }
 {
     leases.len() <= MOST_PEERS
+}
+
+/// The place of the lease with the key of this one.
+fn place_of(leases: &[PeerLease], new: &PeerLease) -> Option<usize>
+    ensures { result ≡
+        position (is_peer_of new.now.endpoint new.now.remote new.now.remote_port) leases.now }
+{
+    leases.iter().position(|lease| lease.is_of(&new.endpoint, &new.remote, new.remote_port))
+}
+
+/// Puts a lease in the place of the one with its key, or at the end.
+fn put_into(leases: &mut Vec<PeerLease>, lease: PeerLease) -> Result<(), AllocError>
+    ensures ok { OnOk result (leases.new.items ≡ with_peer lease leases.old.items) }
+    ensures err { OnErr result (leases.new.items ≡ leases.old.items) }
+{
+    match place_of(leases, &lease) {
+        Some(place) => leases[place] = lease,
+        None => leases.push(lease)?,
+    }
+    Ok(())
+}
+
+/// The leases with one more.
+pub(crate) fn after_put(
+    alloc: Global,
+    leases: &[PeerLease],
+    lease: &PeerLease,
+) -> Result<Vec<PeerLease>, AllocError>
+    ensures { IfOk result (λ after. after.items ≡ with_peer lease.now leases.now) }
+{
+    let mut after = leases.to_vec(alloc)?;
+    put_into(&mut after, *lease)?;
+    Ok(after)
 }

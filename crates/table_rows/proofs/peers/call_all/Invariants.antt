@@ -1,5 +1,5 @@
 use Rattle.std.proofs.Common.{◌≡◌}
-use Rattle.peer_table.proofs.tests.call_all.Given as goal
+use Rattle.table_rows.proofs.peers.call_all.Given as goal
 
 abbrev pub invariant-loop-one : goal.invariant-loop-one
 invariant-loop-one g l = l.table ≡ l.plain

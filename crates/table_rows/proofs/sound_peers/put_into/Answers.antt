@@ -1,0 +1,15 @@
+use Rattle.std.proofs.Common.{◌∙◌, ap}
+use Rattle.std.specs.List.{position}
+use Rattle.pcp_base.specs.Tables.{is_peer_of}
+use Rattle.ordered_index.proofs.Puts.{put_at, put_behind}
+use Rattle.table_rows.proofs.sound_peers.put_into.Goals as goal
+
+pub returns-in-Some-clause-ok : goal.returns-in-Some-clause-ok
+returns-in-Some-clause-ok c =
+    let test = is_peer_of c.args.lease.endpoint c.args.lease.remote c.args.lease.remote_port in
+    put_at test c.args.lease c.args.leases.now.items c.in-Some.place (c.in-Some.ensures ∙ ap (position test) c.deref.ensures.value)
+
+pub returns-in_ok-push-in-None-clause-ok : goal.returns-in_ok-push-in-None-clause-ok
+returns-in_ok-push-in-None-clause-ok c =
+    let test = is_peer_of c.args.lease.endpoint c.args.lease.remote c.args.lease.remote_port in
+    c.in_ok-push-in-None.ensures.items ∙ put_behind test c.args.lease c.args.leases.now.items (c.in-None.ensures ∙ ap (position test) c.deref.ensures.value)
