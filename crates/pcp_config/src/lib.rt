@@ -5,8 +5,6 @@ mod explanations;
 mod faults;
 mod lists;
 mod tables;
-#[cfg(test)]
-mod tests;
 mod texts;
 mod values;
 

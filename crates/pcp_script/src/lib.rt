@@ -5,8 +5,6 @@ mod fields;
 mod lines;
 mod load;
 mod results;
-#[cfg(test)]
-mod tests;
 
 pub use lines::{LONGEST_LINE, Line, LineRefused, read_line};
 pub use load::{LOAD_PORT, Load};

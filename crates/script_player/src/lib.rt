@@ -7,8 +7,6 @@ mod answerers;
 mod faults;
 mod player;
 mod readers;
-#[cfg(test)]
-mod tests;
 mod wholes;
 
 pub use answerers::{AnswerFault, LineAnswerer};

@@ -1,12 +1,12 @@
-//! What texts stand for, what is told of those that are refused, and that calls succeed with ample
-//! memory.
-use super::*;
+//! What texts of configurations stand for, what is told of those that are refused, and that calls
+//! succeed with ample memory.
 use pcp_base::{Address, Config, External, Memory, Prefix, Subscriber};
+use pcp_config::{ConfigRefused, LONGEST_CONFIG, explain, read_config};
 use std::alloc::{AllocError, Global};
 use std::test::Fail;
 
 // What a text stands for, as far as its numbers go.
-#[derive(Clone, Copy, Debug, PartialEq, Eq)]
+#[derive(Clone, Copy, PartialEq, Eq)]
 enum Shown {
     NotToml,
     NotConfig,
@@ -188,9 +188,26 @@ fn external_addresses(rt: HostRuntime) -> Result<(), Fail> {
     Ok(())
 }
 
-// Whole texts without one external address at least, one that has it in another form, and those with
-// a key of a table twice.
-static WHOLE: [(&[u8], Shown); 11] = [
+// Whole texts: one with each key, those without one external address at least, one that has it in
+// another form, and those with a key of a table twice.
+static WHOLE: [(&[u8], Shown); 12] = [
+    (
+        b"quota = 64
+lifetime_min = 120
+lifetime_max = 86400
+third_party = []
+
+[[external]]
+address = \"192.0.2.1\"
+low = 1024
+high = 65535
+
+[[subscriber]]
+prefix = \"10.0.0.0/8\"
+external = \"192.0.2.1\"
+",
+        Shown::Config(64, 120, 86_400),
+    ),
     (b"", Shown::NotConfig),
     (b"external = []", Shown::NotConfig),
     (b"external = \"192.0.2.1\"", Shown::NotConfig),
@@ -364,28 +381,6 @@ fn longest_text(rt: HostRuntime) -> Result<(), Fail> {
     Ok(())
 }
 
-static FIRST: &[u8] = b"quota = 64
-lifetime_min = 120
-lifetime_max = 86400
-third_party = []
-
-[[external]]
-address = \"192.0.2.1\"
-low = 1024
-high = 65535
-
-[[subscriber]]
-prefix = \"10.0.0.0/8\"
-external = \"192.0.2.1\"
-";
-
-#[test]
-fn first_example(rt: HostRuntime) -> Result<(), Fail> {
-    let read = read_config(rt.alloc(), FIRST);
-    assert!(rt; summary_of(&read) == Some(Shown::Config(64, 120, 86_400)));
-    Ok(())
-}
-
 static EXAMPLE: &[u8] = b"quota = 64
 lifetime_min = 120
 lifetime_max = 86400
@@ -406,40 +401,47 @@ prefix = \"10.0.0.0/8\"
 external = \"192.0.2.2\"
 ";
 
-#[test]
-fn every_field(rt: HostRuntime) -> Result<(), Fail> {
-    let Ok(config) = read_config(rt.alloc(), EXAMPLE) else {
-        assert!(rt; false);
-        return Ok(());
-    };
-    let host = Prefix {
-        bits: 128,
-        address: Address::v4(10, 0, 0, 1),
-    };
-    let first = External {
-        address: Address::v4(192, 0, 2, 1),
+static HOSTS: [Prefix; 1] = [Prefix {
+    bits: 128,
+    address: Address([0, 0, 0, 0, 0, 0, 0, 0, 0, 0, 0xff, 0xff, 10, 0, 0, 1]),
+}];
+
+static BOTH: [External; 2] = [
+    External {
+        address: Address([0, 0, 0, 0, 0, 0, 0, 0, 0, 0, 0xff, 0xff, 192, 0, 2, 1]),
         low: 1024,
         high: 65_535,
-    };
-    let second = External {
-        address: Address::v4(192, 0, 2, 2),
+    },
+    External {
+        address: Address([0, 0, 0, 0, 0, 0, 0, 0, 0, 0, 0xff, 0xff, 192, 0, 2, 2]),
         low: 1,
         high: 2,
+    },
+];
+
+static ROWS: [Subscriber; 1] = [Subscriber {
+    prefix: Prefix {
+        bits: 104,
+        address: Address([0, 0, 0, 0, 0, 0, 0, 0, 0, 0, 0xff, 0xff, 10, 0, 0, 0]),
+    },
+    external: 1,
+}];
+
+fn has_example_lists(config: &Config) -> bool {
+    config.third_party.items() == HOSTS.as_slice()
+        && config.externals.items() == BOTH.as_slice()
+        && config.subscribers.items() == ROWS.as_slice()
+}
+
+#[test]
+fn every_field(rt: HostRuntime) {
+    let read = read_config(rt.alloc(), EXAMPLE);
+    assert!(rt; summary_of(&read) == Some(Shown::Config(64, 120, 86_400)));
+    let same = match &read {
+        Ok(config) => has_example_lists(config),
+        Err(_) => false,
     };
-    let row = Subscriber {
-        prefix: Prefix {
-            bits: 104,
-            address: Address::v4(10, 0, 0, 0),
-        },
-        external: 1,
-    };
-    assert!(rt; config.quota == 64);
-    assert!(rt; config.lifetime_min == 120);
-    assert!(rt; config.lifetime_max == 86_400);
-    assert!(rt; config.third_party.items() == [host].as_slice());
-    assert!(rt; config.externals.items() == [first, second].as_slice());
-    assert!(rt; config.subscribers.items() == [row].as_slice());
-    Ok(())
+    assert!(rt; same);
 }
 
 // Texts, and the lines that a person is told of them.

@@ -5,14 +5,11 @@ ghost use Rattle.script_player.specs.Logs.{letter_of, told_after};
 ghost use Rattle.script_player.specs.Played.{IsOver};
 ghost use Rattle.script_player.specs.Ways.{course_of};
 
-use super::*;
-use crate::faults::LineFault;
-use crate::readers::{Ending, Limits, LineReader};
-use pcp_base::{
-    Address, Config, External, Externals, Memory, Octets, OwnerList, Prefixes, Subscribers,
-};
+use crate::lines::config;
+use pcp_base::{Config, Externals, Memory, Octets, OwnerList};
 use pcp_io::{Calls, MemorySink, MemorySource};
 use pcp_script::{Line, LineResult};
+use script_player::{AnswerFault, LineAnswerer, PlayStatus, WholeFault, play, read_whole};
 use std::alloc::Global;
 use std::test::Fail;
 
@@ -100,27 +97,8 @@ fn push_letter(letters: &mut Vec<u8>, line: &Line) -> Result<(), Memory>
     Ok(())
 }
 
-// 192.0.2.1 is external
-fn config_of(alloc: Global) -> Result<Config, Memory> {
-    let externals = vec![in alloc;
-        External {
-            address: Address::v4(192, 0, 2, 1),
-            low: 1024,
-            high: 65535,
-        },
-    ]?;
-    Ok(Config {
-        quota: 64,
-        lifetime_min: 120,
-        lifetime_max: 86_400,
-        third_party: Prefixes::of(Vec::new(alloc)),
-        externals: Externals::of(externals),
-        subscribers: Subscribers::of(Vec::new(alloc)),
-    })
-}
-
 // Which calls fail, by their numbers, and how many octets the sink may hold.
-#[derive(Clone, Copy, Debug)]
+#[derive(Clone, Copy)]
 struct Failing {
     read: u64,
     write: u64,
@@ -152,7 +130,7 @@ fn answerer_of(alloc: Global, failing: &Failing) -> Result<Logger, Memory> {
     let mut starving = Calls::new(alloc);
     starving.fail_at(failing.starving)?;
     Ok(Logger {
-        config: config_of(alloc)?,
+        config: config(alloc)?,
         letters: Vec::new(alloc),
         disk,
         starving,
@@ -309,10 +287,10 @@ fn faults(rt: HostRuntime) -> Result<(), Fail> {
     for (failing, want, output, letters) in &FAULTS {
         let run = played(rt.alloc(), script.as_bytes(), failing)?;
         let same = run.status == *want && run.out.held() == output.as_bytes();
-        assert!(rt; same, "{failing:?}");
+        assert!(rt; same, "{want:?}, {output}");
         assert!(rt;
             run.answerer.letters.as_slice() == letters.as_bytes(),
-            "{failing:?}"
+            "{want:?}, {letters}"
         );
     }
     Ok(())
@@ -347,49 +325,6 @@ fn pieces(rt: HostRuntime) -> Result<(), Fail> {
             run.answerer.letters.len() == count,
             "{text}, {times}, {read}"
         );
-    }
-    Ok(())
-}
-
-// How the lines of a text end where they may have 4 octets, and 10 together; nothing behind a
-// fault.
-fn endings(alloc: Global, text: &[u8]) -> Result<Vec<Result<Ending, LineFault>>, Memory> {
-    let mut input = MemorySource::new(alloc, text.to_vec(alloc)?)?;
-    let mut reader = LineReader::new(Limits {
-        longest: 4,
-        most: 10,
-    });
-    let mut all = Vec::new(alloc);
-    for _ in 0..4 {
-        let mut line = Vec::new(alloc);
-        let ending = reader.next_line(&mut input, &mut line);
-        let over = ending.is_err();
-        all.push(ending)?;
-        if over {
-            break;
-        }
-    }
-    Ok(all)
-}
-
-#[test]
-fn limits(rt: HostRuntime) -> Result<(), Fail> {
-    let feed = Ok(Ending::Feed);
-    let end = Ok(Ending::End);
-    let refused = Err(LineFault::NotLine);
-    for (text, want) in [
-        ("abcd\nabcd\n", [feed, feed, end, end].as_slice()),
-        ("abcd\nabcde", [feed, refused].as_slice()),
-        (
-            "abcd\nab\ncd",
-            [feed, feed, Ok(Ending::Last), end].as_slice(),
-        ),
-        ("abcd\nab\ncd\n", [feed, feed, refused].as_slice()),
-        ("abcd\nabcd\nx", [feed, feed, refused].as_slice()),
-        ("abcd\nabcd\n\n", [feed, feed, refused].as_slice()),
-    ] {
-        let seen = endings(rt.alloc(), text.as_bytes())?;
-        assert!(rt; seen.as_slice() == want, "{text}");
     }
     Ok(())
 }

@@ -1,14 +1,14 @@
-//! What lines mean and put out, and that calls succeed with ample memory.
-use super::*;
+//! What lines of scripts mean and put out, and that calls succeed with ample memory.
 use pcp_base::{
-    Address, Config, Datagram, Endpoint, External, Externals, Octets, Owner, OwnerList, Prefixes,
-    Protocol, Subscribers,
+    Address, Config, Datagram, Endpoint, External, Externals, Memory, Octets, Owner, OwnerList,
+    Prefixes, Protocol, Subscribers,
 };
+use pcp_script::{LONGEST_LINE, Line, LineRefused, LineResult, Load, read_line, write_result};
 use std::alloc::{AllocError, Global};
 use std::test::Fail;
 
 // What a line stands for, without the octets of its datagram.
-#[derive(Clone, Copy, Debug, PartialEq, Eq)]
+#[derive(Clone, Copy, PartialEq, Eq)]
 enum Shown {
     Refused,
     Skip,
@@ -52,11 +52,17 @@ fn summary_of(line: &Result<Line, LineRefused>) -> Shown {
     }
 }
 
+// What the text of a line stands for.
+fn shown_of(alloc: Global, config: &Config, text: &[u8]) -> Shown {
+    let line = read_line(alloc, config, text);
+    summary_of(&line)
+}
+
 // 10.0.0.5
 const HOST: Address = Address([0, 0, 0, 0, 0, 0, 0, 0, 0, 0, 0xff, 0xff, 10, 0, 0, 5]);
 
-// 192.0.2.1 and 2001:db8::1 are external
-fn config(alloc: Global) -> Result<Config, AllocError> {
+/// 192.0.2.1 and 2001:db8::1 are external.
+pub(crate) fn config(alloc: Global) -> Result<Config, AllocError> {
     let externals = vec![in alloc;
         External {
             address: Address::v4(192, 0, 2, 1),
@@ -154,98 +160,134 @@ static CASES: [(&[u8], Shown); 47] = [
 fn lines_of_a_script(rt: HostRuntime) -> Result<(), Fail> {
     let config = config(rt.alloc())?;
     for (text, want) in &CASES {
-        let line = summary_of(&read_line(rt.alloc(), &config, text));
+        let line = shown_of(rt.alloc(), &config, text);
         assert!(rt; line == *want, "{}", text.escape_ascii());
     }
     Ok(())
 }
 
+// What a line begins with, the octet that fills it, how many octets it has then, and what it stands
+// for.
+static LONG_LINES: [(&[u8], u8, usize, Shown); 4] = [
+    (b"", b'#', LONGEST_LINE, Shown::Skip),
+    (b"", b'#', LONGEST_LINE + 1, Shown::Refused),
+    (
+        b"packet 7 10.0.0.5 9 ",
+        b'0',
+        4_116,
+        Shown::Packet(7, HOST, 9, 2_048),
+    ),
+    (b"packet 7 10.0.0.5 9 ", b'0', 4_118, Shown::Refused),
+];
+
 #[test]
 fn longest_lines(rt: HostRuntime) -> Result<(), Fail> {
     let config = config(rt.alloc())?;
-    let mut comment = Vec::new(rt.alloc());
-    comment.resize(LONGEST_LINE, b'#')?;
-    assert!(rt; summary_of(&read_line(rt.alloc(), &config, &comment)) == Shown::Skip);
-    comment.push(b'#')?;
-    assert!(rt; summary_of(&read_line(rt.alloc(), &config, &comment)) == Shown::Refused);
-    let cases = [
-        (20 + 4_096, Shown::Packet(7, HOST, 9, 2_048)),
-        (20 + 4_098, Shown::Refused),
-    ];
-    for (octets, want) in cases {
-        let mut text = Vec::new(rt.alloc());
-        text.extend_from_slice(b"packet 7 10.0.0.5 9 ")?;
-        text.resize(octets, b'0')?;
-        assert!(rt;
-            summary_of(&read_line(rt.alloc(), &config, &text)) == want,
-            "{octets}"
-        );
+    for (front, octet, length, want) in &LONG_LINES {
+        let mut text = front.to_vec(rt.alloc())?;
+        text.resize(*length, *octet)?;
+        assert!(rt; shown_of(rt.alloc(), &config, &text) == *want, "{length}");
     }
     Ok(())
 }
 
-static RESULTS: &[u8] = b"silent
-reply 10.0.0.5 40000 0281ff
-reply 20010db8000000000000000000000001 0 -
-none
-owner 10.0.0.5 17 5000
-lost 0
-lost 4294967295
-owners 0
-own 6 1024 10.0.0.5 5000
-own 17 65535 10.0.0.5 1
-owners 2
-";
+// What a line is told, as a value that takes no memory.
+#[derive(Clone, Copy)]
+enum Told {
+    Silent,
+    // the peer, its port and the octets
+    Reply(Address, u16, &'static [u8]),
+    Owner(Option<Endpoint>),
+    Lost(u32),
+    // so many first ones of the owners below
+    Owners(usize),
+}
+
+// UDP port 5000 of 10.0.0.5
+const UDP: Endpoint = Endpoint {
+    address: HOST,
+    protocol: Protocol::Udp,
+    port: 5000,
+};
+
+static OWNERS: [Owner; 2] = [
+    Owner {
+        protocol: Protocol::Tcp,
+        external: 1024,
+        endpoint: Endpoint {
+            protocol: Protocol::Tcp,
+            ..UDP
+        },
+    },
+    Owner {
+        protocol: Protocol::Udp,
+        external: 65_535,
+        endpoint: Endpoint { port: 1, ..UDP },
+    },
+];
+
+fn result_of(alloc: Global, told: &Told) -> Result<LineResult, AllocError> {
+    Ok(match told {
+        Told::Silent => LineResult::Silent,
+        Told::Reply(peer, port, octets) => {
+            let octets = octets.to_vec(alloc)?;
+            LineResult::Reply(Datagram {
+                peer: *peer,
+                port: *port,
+                octets: Octets::of(octets),
+            })
+        }
+        Told::Owner(endpoint) => LineResult::Owner(*endpoint),
+        Told::Lost(count) => LineResult::Lost(*count),
+        Told::Owners(count) => {
+            let count = OWNERS.len().min(*count);
+            LineResult::Owners(OwnerList::of(OWNERS[..count].to_vec(alloc)?))
+        }
+    })
+}
+
+// What a line is told, and what that puts out.
+static RESULTS: [(Told, &[u8]); 9] = [
+    (Told::Silent, b"silent\n"),
+    (
+        Told::Reply(HOST, 40_000, b"\x02\x81\xff"),
+        b"reply 10.0.0.5 40000 0281ff\n",
+    ),
+    (
+        Told::Reply(
+            Address([0x20, 1, 0x0d, 0xb8, 0, 0, 0, 0, 0, 0, 0, 0, 0, 0, 0, 1]),
+            0,
+            b"",
+        ),
+        b"reply 20010db8000000000000000000000001 0 -\n",
+    ),
+    (Told::Owner(None), b"none\n"),
+    (Told::Owner(Some(UDP)), b"owner 10.0.0.5 17 5000\n"),
+    (Told::Lost(0), b"lost 0\n"),
+    (Told::Lost(4_294_967_295), b"lost 4294967295\n"),
+    (Told::Owners(0), b"owners 0\n"),
+    (
+        Told::Owners(2),
+        b"own 6 1024 10.0.0.5 5000\nown 17 65535 10.0.0.5 1\nowners 2\n",
+    ),
+];
+
+fn put_out(alloc: Global, told: &Told) -> Result<Vec<u8>, Memory> {
+    let result = result_of(alloc, told)?;
+    // what was there stays in front
+    let mut out = Vec::new(alloc);
+    out.push(b'>')?;
+    write_result(alloc, &mut out, &result)?;
+    Ok(out)
+}
 
 #[test]
 fn results_of_lines(rt: HostRuntime) -> Result<(), Fail> {
-    let alloc = rt.alloc();
-    let udp = Endpoint {
-        address: HOST,
-        protocol: Protocol::Udp,
-        port: 5000,
-    };
-    let tcp = Endpoint {
-        address: HOST,
-        protocol: Protocol::Tcp,
-        port: 5000,
-    };
-    let owners = vec![in alloc;
-        Owner {
-            protocol: Protocol::Tcp,
-            external: 1024,
-            endpoint: tcp,
-        },
-        Owner {
-            protocol: Protocol::Udp,
-            external: 65_535,
-            endpoint: Endpoint { port: 1, ..udp },
-        },
-    ]?;
-    let results = vec![in alloc;
-        LineResult::Silent,
-        LineResult::Reply(Datagram {
-            peer: HOST,
-            port: 40_000,
-            octets: Octets::of(vec![in alloc; 2, 0x81, 0xff]?),
-        }),
-        LineResult::Reply(Datagram {
-            peer: Address([0x20, 1, 0x0d, 0xb8, 0, 0, 0, 0, 0, 0, 0, 0, 0, 0, 0, 1]),
-            port: 0,
-            octets: Octets::of(Vec::new(alloc)),
-        }),
-        LineResult::Owner(None),
-        LineResult::Owner(Some(udp)),
-        LineResult::Lost(0),
-        LineResult::Lost(u32::MAX),
-        LineResult::Owners(OwnerList::of(Vec::new(alloc))),
-        LineResult::Owners(OwnerList::of(owners)),
-    ]?;
-    let mut out = Vec::new(alloc);
-    for result in &results {
-        write_result(alloc, &mut out, result)?;
+    for (told, want) in &RESULTS {
+        let out = put_out(rt.alloc(), told)?;
+        let same = out.first() == Some(&b'>') && out.get(1..) == Some(*want);
+        assert!(rt; same, "{}", want.escape_ascii());
     }
-    assert!(rt; out.as_slice() == RESULTS);
     Ok(())
 }
 
