@@ -21,7 +21,13 @@ pub(crate) enum Deed {
 /// What stands after an opening: how it began, and of the state the base, the last moment, and how
 /// many leases and ends there are.
 #[derive(Clone, Copy, Debug, PartialEq, Eq)]
-pub(crate) struct Seen(Found, u64, u64, usize, usize);
+pub(crate) struct Seen(
+    pub(crate) Found,
+    pub(crate) u64,
+    pub(crate) u64,
+    pub(crate) usize,
+    pub(crate) usize,
+);
 
 /// What stands in the replay after an opening that found this.
 pub(crate) fn standing(found: Found, replay: &PlainReplay) -> Seen {

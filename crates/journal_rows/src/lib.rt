@@ -1,5 +1,5 @@
-//! Tests of journals by whole runs: their octets, and what stands after a stop or a fault of any
-//! device call.
+//! Tests of journals: what is found on sides of octets, and what whole runs write and leave after a
+//! stop or a fault of any device call.
 #![tactic(auto)]
 
 #[cfg(test)]
@@ -10,6 +10,8 @@ mod deeds;
 mod gates;
 #[cfg(test)]
 mod octets;
+#[cfg(test)]
+mod sides;
 #[cfg(test)]
 mod snapshots;
 #[cfg(test)]

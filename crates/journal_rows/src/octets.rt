@@ -36,11 +36,22 @@ pub(crate) static LEASING: [(u64, Deed); 2] = [
     (1010, Deed::Leased(5000, 1024, 1010, 4610)),
 ];
 
+/// The octets of a disk, at most so many.
+fn octets_within(alloc: Global, disk: &mut MemoryDisk, most: usize) -> Result<Vec<u8>, Fail> {
+    let mut piece = vec![in alloc; 0u8; most]?;
+    let count = disk.read_at(0, &mut piece)?;
+    piece.truncate(count);
+    Ok(piece)
+}
+
 /// The octets of a disk, at most 200.
 pub(crate) fn octets(alloc: Global, disk: &mut MemoryDisk) -> Result<Vec<u8>, Fail> {
-    let mut piece = [0; 200];
-    let count = disk.read_at(0, &mut piece)?;
-    Ok(piece[..count].to_vec(alloc)?)
+    octets_within(alloc, disk, 200)
+}
+
+/// Whether the disk holds these octets.
+fn holds(alloc: Global, disk: &mut MemoryDisk, wanted: &[u8]) -> Result<bool, Fail> {
+    Ok(octets(alloc, disk)?.as_slice() == wanted)
 }
 
 /// Opens a journal at `m` and does these deeds. The pair, where all went well.
@@ -61,12 +72,12 @@ fn after(
 fn written(rt: HostRuntime) -> Result<(), Fail> {
     let alloc = rt.alloc();
     let mut leased = after(alloc, blank(alloc)?, 1000, &LEASING)?.ok_or("not leased")?;
-    assert!(rt; octets(alloc, &mut leased.a)?.as_slice() == LEASED.as_slice());
-    assert!(rt; octets(alloc, &mut leased.b)?.is_empty());
+    assert!(rt; holds(alloc, &mut leased.a, &LEASED)?);
+    assert!(rt; holds(alloc, &mut leased.b, &[])?);
     let mut compacted = after(alloc, leased, 1500, &[(1010, Deed::Compacted)])?.ok_or(
         "not compacted",
     )?;
-    assert!(rt; octets(alloc, &mut compacted.a)?.as_slice() == b"\0".as_slice());
-    assert!(rt; octets(alloc, &mut compacted.b)?.as_slice() == COMPACTED.as_slice());
+    assert!(rt; holds(alloc, &mut compacted.a, b"\0")?);
+    assert!(rt; holds(alloc, &mut compacted.b, &COMPACTED)?);
     Ok(())
 }

@@ -138,14 +138,18 @@ fn stops(rt: HostRuntime) -> Result<(), Fail> {
     Ok(())
 }
 
-/// The deeds to go on with, where this was read after so many deeds went well.
-fn rest_after(done: usize, left: &Seen) -> &'static [(u64, Deed)] {
-    let next = if is_at(done.saturating_add(2), left) {
+/// How many deeds are done, where this was read after so many went well.
+fn done_after(done: usize, left: &Seen) -> usize {
+    if is_at(done.saturating_add(2), left) {
         done.saturating_add(1)
     } else {
         done
-    };
-    RUN.get(next..).unwrap_or(&[])
+    }
+}
+
+/// The deeds from this number on.
+fn rest_from(deeds: &'static [(u64, Deed)], number: usize) -> &'static [(u64, Deed)] {
+    &deeds[number.min(deeds.len())..]
 }
 
 /// Does the run, where one device call fails; reads the journal again, and does the rest. Whether
@@ -161,7 +165,7 @@ fn is_mended(alloc: Global, pair: DiskPair<MemoryDisk>) -> Result<bool, Fail> {
             if !is_at(done.saturating_add(1), &left) {
                 return Ok(false);
             }
-            let rest = rest_after(done, &left);
+            let rest = rest_from(&RUN, done_after(done, &left));
             Ok(act_all(alloc, &mut journal, &mut replay, rest)? == rest.len())
         }
         Err(unopened) => {
