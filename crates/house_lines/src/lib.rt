@@ -7,8 +7,6 @@ mod laws;
 mod lines;
 mod loads;
 mod seen;
-#[cfg(test)]
-mod tests;
 
 pub use laws::lines_make_histories;
 pub use lines::HouseLines;

@@ -4,8 +4,6 @@
 mod dumps;
 mod faults;
 mod readings;
-#[cfg(test)]
-mod tests;
 
 pub use dumps::dump;
 pub use faults::DumpFault;

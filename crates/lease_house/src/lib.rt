@@ -6,12 +6,8 @@ mod faults;
 mod moments;
 mod opening;
 mod opening_laws;
-#[cfg(test)]
-mod opening_tests;
 mod replying;
 mod routes;
-#[cfg(test)]
-mod serving_tests;
 mod solo;
 mod updates;
 

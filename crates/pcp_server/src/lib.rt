@@ -8,8 +8,6 @@ mod loading;
 mod playing;
 mod run;
 mod statuses;
-#[cfg(test)]
-mod tests;
 mod updating;
 
 pub use laws::histories_keep_promises;

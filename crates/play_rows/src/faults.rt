@@ -34,7 +34,15 @@ struct Fault {
 }
 
 // The first device call is a sync. A start has 59 octets, and with the lease 125.
-static FAULTS: [Fault; 7] = [
+static FAULTS: [Fault; 8] = [
+    Fault {
+        read: 0,
+        write: NEVER,
+        call: NEVER,
+        room: 4_096,
+        status: Status::ReadFault,
+        replied: false,
+    },
     Fault {
         read: 1,
         write: NEVER,

@@ -1,4 +1,5 @@
 //! Rows: commands over the same journals, with their texts and octets.
+use crate::commands::COMMANDS;
 use crate::granting::{OTHER_GRANTS, PLAIN_GRANTS};
 use crate::journals::JOURNALS;
 use crate::loads::LOADS;
@@ -109,6 +110,13 @@ fn kept_journals(rt: HostRuntime) -> Result<(), Fail> {
 #[test]
 fn loads(rt: HostRuntime) -> Result<(), Fail> {
     let other = other_among(rt.alloc(), &LOADS)?;
+    assert!(rt; other.is_none(), "{other:?}");
+    Ok(())
+}
+
+#[test]
+fn commands(rt: HostRuntime) -> Result<(), Fail> {
+    let other = other_among(rt.alloc(), &COMMANDS)?;
     assert!(rt; other.is_none(), "{other:?}");
     Ok(())
 }

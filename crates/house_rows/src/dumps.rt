@@ -1,5 +1,6 @@
-//! Tests: dumps of pairs in memory. Octets are written as hexadecimal digits.
-use crate::{DumpFault, dump};
+//! Dumps of journals in memory. Octets are written as hexadecimal digits.
+
+use journal_dump::{DumpFault, dump};
 use lease_disk::{DiskPair, LeaseDisk, MemoryDisk};
 use pcp_base::{Address, External};
 use pcp_io::MemorySink;

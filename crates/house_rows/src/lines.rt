@@ -1,52 +1,18 @@
-//! What no clause says: that lines over journals succeed with ample memory, and that the premises of
-//! a player of lines are met.
-ghost use Rattle.std.specs.Prelude.{◌≡◌, length, IfOk, IfSome};
-ghost use Rattle.pcp_base.specs.Configs.{IsConfig};
+//! Scripts and loads over the journals of a house, with what they put out.
+ghost use Rattle.std.specs.Prelude.{IfOk, IfSome};
 ghost use Rattle.house_lines.specs.Rests.{IsAtRest};
 
-use super::HouseLines;
+use crate::configs::one_address;
+use house_lines::HouseLines;
 use lease_disk::{DiskPair, LeaseDisk, MemoryDisk};
 use lease_house::{SoloHouse, opened_houses_begin};
 use load_player::{LoadStatus, play_load};
-use pcp_base::{
-    Address, Config, External, Externals, Memory, Moment, Prefix, Prefixes, Subscriber, Subscribers,
-};
+use pcp_base::{Memory, Moment};
 use pcp_io::{MemorySink, MemorySource};
 use script_player::{PlayStatus, play};
 use server_commands::LoadPlan;
 use std::alloc::Global;
 use std::test::Fail;
-
-// 192.0.2.1 is external, and 10.0.0.0/8 its subscribers.
-fn config_of(alloc: Global) -> Result<Config, Memory>
-    ensures config { IfOk result IsConfig }
-    ensures one { IfOk result (λ config. length config.externals ≡ 1) }
-{
-    let externals = vec![in alloc;
-        External {
-            address: Address::v4(192, 0, 2, 1),
-            low: 1024,
-            high: 65535,
-        },
-    ]?;
-    let subscribers = vec![in alloc;
-        Subscriber {
-            prefix: Prefix {
-                address: Address::v4(10, 0, 0, 0),
-                bits: 104,
-            },
-            external: 0,
-        },
-    ]?;
-    Ok(Config {
-        quota: 64,
-        lifetime_min: 120,
-        lifetime_max: 86_400,
-        third_party: Prefixes::of(Vec::new(alloc)),
-        externals: Externals::of(externals),
-        subscribers: Subscribers::of(subscribers),
-    })
-}
 
 // A script over one journal that begins at 1000: a grant, look-ups, a loss and an announcement.
 static SCRIPT: &str = "packet 1010 10.0.0.5 40000 \
@@ -80,7 +46,7 @@ fn opened(alloc: Global, room: u64) -> Result<Option<HouseLines<MemoryDisk>>, Me
         ⟦<MemoryDisk as LeaseDisk>⟧.seen ⟦<MemoryDisk as LeaseDisk>⟧.may_leave)) }
 {
     opened_houses_begin::<MemoryDisk>();
-    let config = config_of(alloc)?;
+    let config = one_address(alloc)?;
     let pair = DiskPair {
         a: MemoryDisk::new(alloc, room)?,
         b: MemoryDisk::new(alloc, 4_096)?,

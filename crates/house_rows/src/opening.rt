@@ -2,8 +2,8 @@
 ghost use Rattle.std.specs.Prelude.{◌≡◌, ◌≤◌, length, IfOk};
 ghost use Rattle.pcp_base.specs.Configs.{IsConfig, IsExternal};
 
-use crate::{HouseFault, SoloHouse, opened_houses_begin};
 use lease_disk::{DiskPair, LeaseDisk, MemoryDisk};
+use lease_house::{HouseFault, SoloHouse, opened_houses_begin};
 use pcp_base::{Address, Config, Datagram, External, Externals, Moment, Prefixes, Subscribers};
 use std::alloc::Global;
 use std::test::Fail;

@@ -1,14 +1,9 @@
-//! Tests: a house of one external address over disks in memory, with the octets of its replies.
-ghost use Rattle.std.specs.Prelude.{◌≡◌, ◌≤◌, length, None, Ok, IfOk, OnOk};
-ghost use Rattle.std.specs.List.{AllByRecursion};
-ghost use Rattle.pcp_base.specs.Configs.{IsConfig};
+//! A house of one external address over disks in memory, with the octets of its replies.
 
-use crate::{HouseFault, SoloHouse};
+use crate::configs::one_address;
 use lease_disk::{DiskPair, MemoryDisk};
-use pcp_base::{
-    Address, Config, Datagram, Endpoint, External, Externals, Moment, Octets, Owner, Prefix,
-    Prefixes, Protocol, Subscriber, Subscribers,
-};
+use lease_house::{HouseFault, SoloHouse};
+use pcp_base::{Address, Datagram, Moment, Octets};
 use std::alloc::Global;
 use std::test::Fail;
 
@@ -68,33 +63,6 @@ fn moment(seconds: u64) -> Result<Moment, Fail> {
     Ok(Moment::of(seconds).ok_or("no moment")?)
 }
 
-/// 192.0.2.1 serves the hosts of 10.0.0.0/8.
-fn config(alloc: Global) -> Result<Config, Fail>
-    ensures config { IfOk result IsConfig }
-    ensures one { IfOk result (λ config. length config.externals ≡ 1) }
-{
-    let external = External {
-        address: Address::v4(192, 0, 2, 1),
-        low: 1_024,
-        high: 65_535,
-    };
-    let subscriber = Subscriber {
-        prefix: Prefix {
-            bits: 104,
-            address: Address::v4(10, 0, 0, 0),
-        },
-        external: 0,
-    };
-    Ok(Config {
-        quota: 64,
-        lifetime_min: 120,
-        lifetime_max: 86_400,
-        third_party: Prefixes::of(Vec::new(alloc)),
-        externals: Externals::of(Vec::from_array(alloc, [external])?),
-        subscribers: Subscribers::of(Vec::from_array(alloc, [subscriber])?),
-    })
-}
-
 /// A house over a blank pair, of which disk a fails at a call, at 1000; none where that call is one
 /// of the opening.
 fn house(alloc: Global, failing: u64) -> Result<Option<SoloHouse<MemoryDisk>>, Fail> {
@@ -103,7 +71,7 @@ fn house(alloc: Global, failing: u64) -> Result<Option<SoloHouse<MemoryDisk>>, F
         b: MemoryDisk::new(alloc, 4_096)?,
     };
     pair.a.fail_at(alloc, failing)?;
-    let config = config(alloc)?;
+    let config = one_address(alloc)?;
     let disks = Vec::from_array(alloc, [pair])?;
     match SoloHouse::begin(alloc, &config, disks, moment(1_000)?) {
         Ok(house) => Ok(Some(house)),
@@ -197,7 +165,7 @@ fn settles(alloc: Global, failing: u64) -> Result<bool, Fail> {
 #[test]
 fn settles_after_a_fault(rt: HostRuntime) -> Result<(), Fail> {
     let mut settled = 0_u32;
-    for failing in 0..64 {
+    for failing in 0..32 {
         if settles(rt.alloc(), failing)? {
             settled = settled.saturating_add(1);
         }

@@ -1,4 +1,4 @@
-use Rattle.lease_house.proofs.opening_tests.updates.Goals as goal
+use Rattle.house_rows.proofs.opening.updates.Goals as goal
 
 pub updates-requires : goal.updates-requires
 updates-requires g c = record {
