@@ -38,15 +38,16 @@ pub record IsHost (config : Config) (source : Address) (shard : ℕ) : Type 0 wh
   pub place : place_of config.subscribers source ≡ Some shard
 
 -- a host asks for this mapping, of its own address (section 3.3) and of a port that isn't 0
-pub record IsMapAsked (config : Config) (source : Address) (message : List ℕ) (shard : ℕ) (a : MapAsk)
-    : Type 0 where
+pub record IsMapAsked (config : Config) (source : Address) (message : List ℕ) (shard : ℕ)
+    (a : MapAsk) : Type 0 where
   pub host : IsHost config source shard
   pub request : IsMapRequest message a.endpoint.protocol a.endpoint.port a.port a.lifetime
   pub port : 0 < a.endpoint.port
   pub plain : a ≡ map_ask source a.endpoint.protocol a.endpoint.port a.port a.lifetime
 
 -- a host asks for its external address, which is an IPv4 address
-pub record IsAddressAsked (config : Config) (source : Address) (message : List ℕ) (shard : ℕ) : Type 0 where
+pub record IsAddressAsked (config : Config) (source : Address) (message : List ℕ)
+    (shard : ℕ) : Type 0 where
   pub host : IsHost config source shard
   pub request : IsAddressRequest message
   pub external : has_v4_external config (Some shard) ≡ true

@@ -21,7 +21,8 @@ operation_of message = octet message 1 % REPLY_BIT
 
 -- whether the operation asks for a mapping (section 3.3)
 abbrev pub is_of_map : List ℕ → Bool
-is_of_map message = operation_of message == MAP_UDP_OPERATION || operation_of message == MAP_TCP_OPERATION
+is_of_map message =
+    operation_of message == MAP_UDP_OPERATION || operation_of message == MAP_TCP_OPERATION
 
 -- A datagram that gets no reply: it is a reply (section 3), or a request for a mapping that isn't whole (our own).
 abbrev pub is_silent : List ℕ → Bool
@@ -53,6 +54,7 @@ map_ask source protocol internal suggested lifetime = record {
 -- what a request that isn't refused asks for; the lifetime 0 asks for deletion (section 3.4)
 abbrev pub asked : Address → List ℕ → Ask
 asked source message =
-    if is_of_map message then Map (map_ask source (protocol_asked message) (u16_at message INTERNAL_PLACE)
+    if is_of_map message then
+    Map (map_ask source (protocol_asked message) (u16_at message INTERNAL_PLACE)
     (u16_at message SUGGESTED_PLACE) (u32_at message LIFETIME_PLACE))
     else Announce

@@ -30,7 +30,10 @@ has_v4_external config (Some place) = is_v4_external (slice_get config.externals
 -- isn't known, a source that is no subscriber's or has no IPv4 address, no IPv4 address to tell, internal port 0
 abbrev pub refusal_steps : Config → Address → Option ℕ → List ℕ → List (Case Refusal)
 refusal_steps config source place message =
-    (record { applies = nat_lt MAP_TCP_OPERATION (operation_of message); result = parsed UnsuppOpcode })
+    (record {
+      applies = nat_lt MAP_TCP_OPERATION (operation_of message);
+      result = parsed UnsuppOpcode;
+    })
     ∷ (record { applies = is_none place || not (is_v4 source); result = parsed NotAuthorized })
     ∷ (record {
       applies = operation_of message == ADDRESS_OPERATION && not (has_v4_external config place);
@@ -50,7 +53,8 @@ ask_by source message None = asked source message
 -- a request to the lease table of this index, or of the first where there is none
 abbrev pub front_by : Config → Address → Option ℕ → List ℕ → Front
 front_by config source place message =
-    Asked (unwrap_or place 0) (ask_by source message (first_case (refusal_steps config source place message)))
+    Asked (unwrap_or place 0)
+    (ask_by source message (first_case (refusal_steps config source place message)))
 
 -- what a datagram is
 abbrev pub front_of : Config → Address → List ℕ → Front
