@@ -11,18 +11,12 @@ mod maps;
 #[cfg(test)]
 mod peers;
 #[cfg(test)]
-mod pools;
-#[cfg(test)]
 mod records;
 #[cfg(test)]
 mod replays;
-#[cfg(test)]
-mod runs;
 #[cfg(test)]
 mod sound_maps;
 #[cfg(test)]
 mod sound_peers;
 #[cfg(test)]
 mod stores;
-#[cfg(test)]
-mod wheels;

@@ -1,7 +1,7 @@
 use Rattle.std.proofs.Common.{◌∙◌, ap}
 use Rattle.std.specs.List.{position}
 use Rattle.pcp_base.specs.Tables.{is_peer_of}
-use Rattle.ordered_index.proofs.Puts.{put_at, put_behind}
+use Rattle.pcp_base.proofs.Puts.{put_at, put_behind}
 use Rattle.table_rows.proofs.sound_peers.put_into.Goals as goal
 
 pub returns-in-Some-clause-ok : goal.returns-in-Some-clause-ok

@@ -1,0 +1,10 @@
+//! Tests of the indexes and of the pool of an external address by rows of calls, each beside its plain
+//! twin.
+#![tactic(auto)]
+
+#[cfg(test)]
+mod pools;
+#[cfg(test)]
+mod runs;
+#[cfg(test)]
+mod wheels;

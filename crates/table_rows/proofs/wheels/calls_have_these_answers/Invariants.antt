@@ -1,5 +1,0 @@
-use Rattle.table_rows.proofs.wheels.calls_have_these_answers.Given as goal
-
--- the ledger of the test's steps
-abbrev pub ghosts-answer_all : goal.ghosts-answer_all
-ghosts-answer_all g a = record { name = a.blank.name; parts = a.blank.parts }
