@@ -77,7 +77,7 @@ module _ {E : Type 0} where
       record { turn = turn; out = false; room = room; seen = seen; mine = []; settled = [] }
 
   -- a pass was split in two, which have its room together; the new one has noted nothing
-  pub record AreSplit (old kept new : PassKnowledge E) : Type 0 where
+  pub record SplitsPass (old kept new : PassKnowledge E) : Type 0 where
     pub kept_is : kept ≡ record old { room = old.room - new_room old.room }
     pub new_is : new ≡ new_pass old.turn (new_room old.room) old.seen
     pub whole : kept.room + new.room ≡ old.room

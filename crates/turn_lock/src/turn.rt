@@ -3,7 +3,7 @@ ghost use Rattle.std.specs.Prelude.{◌≡◌, ◌<◌, ◌≤◌, ◌+◌, ◌+
 ghost use mathlib.Core.List.{IsPrefix};
 ghost use Rattle.turn_lock.specs.declared.layout.TheConstants.{FIRST_ROOM};
 ghost use Rattle.turn_lock.specs.Lengths.{longer};
-ghost use Rattle.turn_lock.specs.Passes.{AreSplit, IsPlaced, SeesMore, IsIdle, IsWaiting, TakesOut, after_note, after_give, new_pass};
+ghost use Rattle.turn_lock.specs.Passes.{SplitsPass, IsPlaced, SeesMore, IsIdle, IsWaiting, TakesOut, after_note, after_give, new_pass};
 ghost use Rattle.turn_lock.specs.Views.{new_room, waiting_view};
 
 use crate::held::Held;
@@ -132,7 +132,8 @@ impl<V: Kept> Turn<V> {
         requires waiting { IsWaiting ticket seat.old.me }
         ensures turn { seat.new.table_id ≡ seat.old.table_id }
         ensures not_yet { IfNone result (seat.new.me ≡ seat.old.me) }
-        ensures came { IfSome result (TakesOut (V.stands self.now.key) V.added seat.old.me seat.new.me) }
+        ensures came { IfSome result
+            (TakesOut (V.stands self.now.key) V.added seat.old.me seat.new.me) }
     {
         if self.table.shared.load::<Look<V, B>>(seat, SERVING) != ticket {
             return None;
@@ -233,7 +234,7 @@ impl<V: Kept> Turn<V> {
     /// up: the first pass has all, and one that is split off gets 2^32, but at most a half.
     pub fn split(&self, _alloc: Global, pass: &mut Pass<V>) -> Result<Pass<V>, AllocError>
         requires { (pass.old.turn ≡ self.now.id) × (pass.old.out ≡ false) }
-        ensures ok { IfOk result (AreSplit pass.old pass.new) }
+        ensures ok { IfOk result (SplitsPass pass.old pass.new) }
         ensures refused { OnErr result (pass.old.room < 2) }
         ensures unchanged { OnErr result (pass.new ≡ pass.old) }
     {
