@@ -116,14 +116,26 @@ fn verdicts(rt: HostRuntime) -> Result<(), Fail> {
         let verdict = judged(alloc, &config, 5, &behind(alloc, options)?)?;
         assert!(rt; verdict == *want, "{}", options.escape_ascii());
     }
-    // 1040 octets of THIRD_PARTY's code, and a request of 1104 octets
+    Ok(())
+}
+
+// The request with this octet behind it up to a length.
+fn filled(alloc: Global, length: usize, octet: u8) -> Result<Vec<u8>, AllocError> {
+    let mut message = behind(alloc, b"")?;
+    message.resize(length, octet)?;
+    Ok(message)
+}
+
+// 1040 octets of THIRD_PARTY's code, and a request of 1104 octets
+#[test]
+fn verdicts_on_long_requests(rt: HostRuntime) -> Result<(), Fail> {
+    let alloc = rt.alloc();
+    let config = config(alloc, host(alloc)?)?;
     for (length, octet, code) in [
         (1100, 1, Code::MalformedOption),
         (1104, 0, Code::MalformedRequest),
     ] {
-        let mut message = behind(alloc, b"")?;
-        message.resize(length, octet)?;
-        let verdict = judged(alloc, &config, 5, &message)?;
+        let verdict = judged(alloc, &config, 5, &filled(alloc, length, octet)?)?;
         assert!(rt; verdict == Outcome::Refused(code, false), "{length}");
     }
     Ok(())
@@ -149,16 +161,21 @@ fn cut_requests(rt: HostRuntime) -> Result<(), Fail> {
     Ok(())
 }
 
+// Nobody may ask for others.
 #[test]
 fn hosts(rt: HostRuntime) -> Result<(), Fail> {
     let alloc = rt.alloc();
-    let stranger = config(alloc, Vec::new(alloc))?;
-    let old = judged(alloc, &stranger, 5, b"\x01\x01")?;
-    assert!(rt; old == Outcome::Refused(Code::UnsuppVersion, false));
-    let other = judged(alloc, &stranger, 6, &REQUEST)?;
-    assert!(rt; other == Outcome::Refused(Code::AddressMismatch, false));
-    let third = judged(alloc, &stranger, 5, &behind(alloc, &OPTIONS[..20])?)?;
-    assert!(rt; third == Outcome::Refused(Code::UnsuppOption, true));
+    let config = config(alloc, Vec::new(alloc))?;
+    for (from, message, code) in [
+        (5, b"\x01\x01".as_slice(), Code::UnsuppVersion),
+        (6, REQUEST.as_slice(), Code::AddressMismatch),
+    ] {
+        let verdict = judged(alloc, &config, from, message)?;
+        assert!(rt; verdict == Outcome::Refused(code, false), "{from}");
+    }
+    let third = behind(alloc, &OPTIONS[..20])?;
+    let verdict = judged(alloc, &config, 5, &third)?;
+    assert!(rt; verdict == Outcome::Refused(Code::UnsuppOption, true));
     Ok(())
 }
 
@@ -206,30 +223,39 @@ fn replies(rt: HostRuntime) -> Result<(), Fail> {
     Ok(())
 }
 
-#[test]
-fn replies_to_others(rt: HostRuntime) -> Result<(), Fail> {
-    let alloc = rt.alloc();
-    // PEER towards 198.51.100.7, port 53: its data is that of MAP with the remote behind it
-    let mut peer = REQUEST.to_vec(alloc)?;
+// PEER towards 198.51.100.7, port 53: the octets of MAP with this opcode, and the remote behind them.
+fn of_peer(alloc: Global, map: &[u8; 60], opcode: u8) -> Result<Vec<u8>, AllocError> {
+    let mut peer = map.to_vec(alloc)?;
     peer.extend_from_slice(&[0, 53, 0, 0])?;
     peer.extend_from_slice(&OPTIONS[36..52])?;
-    peer[1] = 2;
+    peer[1] = opcode;
+    Ok(peer)
+}
+
+#[test]
+fn replies_to_peer(rt: HostRuntime) -> Result<(), Fail> {
+    let alloc = rt.alloc();
     let answer = Answer::Peered {
         lifetime: 3600,
         external: 1024,
         address: Address::v4(192, 0, 2, 1),
     };
-    let mut want = REPLY[..60].to_vec(alloc)?;
-    want.extend_from_slice(&[0, 53, 0, 0])?;
-    want.extend_from_slice(&OPTIONS[36..52])?;
-    want[1] = 0x82;
-    assert!(rt; reply_to(alloc, &peer, &answer)? == want);
+    let mut front = [0; 60];
+    front.copy_from_slice(&REPLY[..60]);
+    let reply = reply_to(alloc, &of_peer(alloc, &REQUEST, 2)?, &answer)?;
+    assert!(rt; reply == of_peer(alloc, &front, 0x82)?);
+    Ok(())
+}
 
-    let mut announce = REQUEST[..24].to_vec(alloc)?;
+#[test]
+fn replies_to_announce(rt: HostRuntime) -> Result<(), Fail> {
+    let mut announce = [0; 24];
+    announce.copy_from_slice(&REQUEST[..24]);
     announce[1] = 0;
     let head = [
         2, 0x80, 0, 0, 0, 0, 0, 0, 0, 0, 0, 10, 0, 0, 0, 0, 0, 0, 0, 0, 0, 0, 0, 0,
     ];
-    assert!(rt; reply_to(alloc, &announce, &Answer::Announced)?.as_slice() == head.as_slice());
+    let reply = reply_to(rt.alloc(), &announce, &Answer::Announced)?;
+    assert!(rt; reply.as_slice() == head.as_slice());
     Ok(())
 }

@@ -3,6 +3,7 @@ use pcp_base::{Address, Code, Nonce, Refusal};
 use pcp_codec::{
     Body, Common, Frame, Framed, read_common, read_request, write_head, write_refusal,
 };
+use std::alloc::Global;
 use std::test::Fail;
 
 // A MAP request of 10.0.0.5 for UDP port 5000, for an hour.
@@ -84,34 +85,45 @@ fn heads(rt: HostRuntime) {
     assert!(rt; head == want);
 }
 
-#[test]
-fn refusals(rt: HostRuntime) -> Result<(), Fail> {
-    let alloc = rt.alloc();
+fn refusal_of(alloc: Global, request: &[u8]) -> Result<Vec<u8>, Fail> {
+    let mut out = Vec::new(alloc);
     let refusal = unparsed(Code::UnsuppVersion);
-    // a request of 2 octets of version 1
-    let short = [
+    write_refusal(alloc, &mut out, request, refusal, 10)?;
+    Ok(out)
+}
+
+// of a request of 2 octets of version 1
+#[test]
+fn refusal_of_a_short_request(rt: HostRuntime) -> Result<(), Fail> {
+    let want = [
         2, 0x81, 0, 1, 0, 0, 7, 8, 0, 0, 0, 10, 0, 0, 0, 0, 0, 0, 0, 0, 0, 0, 0, 0,
     ];
-    let mut out = Vec::new(alloc);
-    write_refusal(alloc, &mut out, &[1, 1], refusal, 10)?;
-    assert!(rt; out.as_slice() == short.as_slice());
-    // a whole request of version 1, behind what was there
+    assert!(rt; refusal_of(rt.alloc(), &[1, 1])?.as_slice() == want.as_slice());
+    Ok(())
+}
+
+// of a whole request of version 1, behind what was there
+#[test]
+fn refusal_of_a_whole_request(rt: HostRuntime) -> Result<(), Fail> {
+    let alloc = rt.alloc();
     let mut old = REQUEST;
     old[0] = 1;
-    write_refusal(alloc, &mut out, &old, refusal, 10)?;
+    let mut out = b"front".to_vec(alloc)?;
+    write_refusal(alloc, &mut out, &old, unparsed(Code::UnsuppVersion), 10)?;
     let head = [
-        2, 0x81, 0, 1, 0, 0, 7, 8, 0, 0, 0, 10, 0, 0, 0, 0, 0, 0, 0xff, 0xff, 10, 0, 0, 5,
+        b'f', b'r', b'o', b'n', b't', 2, 0x81, 0, 1, 0, 0, 7, 8, 0, 0, 0, 10, 0, 0, 0, 0, 0, 0,
+        0xff, 0xff, 10, 0, 0, 5,
     ];
-    let mut want = short.to_vec(alloc)?;
-    want.extend_from_slice(&head)?;
-    want.extend_from_slice(&REQUEST[24..])?;
-    assert!(rt; out.as_slice() == want.as_slice());
+    assert!(rt; out.starts_with(&head) && out.ends_with(&REQUEST[24..]) && out.len() == 65);
+    Ok(())
+}
+
+#[test]
+fn refusals_are_padded_and_cut(rt: HostRuntime) -> Result<(), Fail> {
+    let alloc = rt.alloc();
     for (length, want) in [(26, 28), (1102, 1100)] {
-        let mut request = Vec::new(alloc);
-        request.resize(length, 1)?;
-        let mut out = Vec::new(alloc);
-        write_refusal(alloc, &mut out, &request, refusal, 10)?;
-        assert!(rt; out.len() == want, "for {length} octets");
+        let request = vec![in alloc; 1u8; length]?;
+        assert!(rt; refusal_of(alloc, &request)?.len() == want, "for {length} octets");
     }
     Ok(())
 }

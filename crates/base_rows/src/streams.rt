@@ -30,10 +30,9 @@ fn sources_in_memory(rt: HostRuntime) -> Result<(), Fail> {
     let alloc = rt.alloc();
     let mut source = MemorySource::new(alloc, b"abcdefgh".to_vec(alloc)?)?;
     source.fail_at(alloc, 1)?;
-    let seen = four_reads(alloc, &mut source)?;
-    assert!(rt; seen.as_slice() == b"abc|!|def|gh|".as_slice());
-    let nothing = four_reads(alloc, &mut source)?;
-    assert!(rt; nothing.as_slice() == b"||||".as_slice());
+    for want in [b"abc|!|def|gh|".as_slice(), b"||||"] {
+        assert!(rt; four_reads(alloc, &mut source)?.as_slice() == want);
+    }
     assert!(rt; source.starved() == 0);
     Ok(())
 }
@@ -113,22 +112,27 @@ fn writer_that_fails(rt: HostRuntime) -> Result<(), Fail> {
     Ok(())
 }
 
+fn script(rt: &HostRuntime, path: &str) -> Result<FileSource<HostRuntime>, Fail> {
+    Ok(FileSource::new(rt.clone()?, String::from_str(rt.alloc(), path)?))
+}
+
+// A folder can be opened, and not be read.
 #[test]
-fn files(rt: HostRuntime) -> Result<(), Fail> {
-    let alloc = rt.alloc();
-    // a folder can be opened, and not be read
-    let folder = String::from_str(alloc, ".")?;
-    let seen = four_reads(alloc, &mut FileSource::new(rt.clone()?, folder))?;
+fn a_folder_is_no_file(rt: HostRuntime) -> Result<(), Fail> {
+    let seen = four_reads(rt.alloc(), &mut script(&rt, ".")?)?;
     assert!(rt; seen.as_slice() == b"!|!|!|!|".as_slice());
-    let path = String::from_str(alloc, "script")?;
-    let mut source = FileSource::new(rt.clone()?, path);
+    Ok(())
+}
+
+// A file that isn't there when it is read first may be there later.
+#[test]
+fn a_file_is_opened_when_it_is_read(rt: HostRuntime) -> Result<(), Fail> {
+    let mut source = script(&rt, "script")?;
     let mut piece = [b'.'; 3];
-    assert!(rt; source.read(&mut piece).is_err());
-    assert!(rt; piece == *b"...");
+    assert!(rt; source.read(&mut piece).is_err() && piece == *b"...");
     fs::write(&rt, "script", "abcde")?;
-    let seen = four_reads(alloc, &mut source)?;
+    let seen = four_reads(rt.alloc(), &mut source)?;
     assert!(rt; seen.as_slice() == b"abc|de|||".as_slice());
-    fs::remove_file(&rt, "script")?;
     Ok(())
 }
 
@@ -161,6 +165,9 @@ impl Sink for SlowSink {
     }
 }
 
+// Pieces, and whether each is written whole where the second write fails.
+static PIECES: [(&[u8], bool); 2] = [(b"abcde", false), (b"fghij", true)];
+
 #[test]
 fn writing_in_parts(rt: HostRuntime) -> Result<(), Fail> {
     let alloc = rt.alloc();
@@ -168,22 +175,23 @@ fn writing_in_parts(rt: HostRuntime) -> Result<(), Fail> {
         sink: MemorySink::new(alloc, 100)?,
     };
     slow.sink.fail_at(alloc, 1)?;
-    assert!(rt; write_all(&mut slow, b"abcde").is_err());
-    assert!(rt; slow.sink.held() == b"ab".as_slice());
-    assert!(rt; write_all(&mut slow, b"fghij").is_ok());
+    for (piece, whole) in PIECES {
+        assert!(rt; write_all(&mut slow, piece).is_ok() == whole);
+    }
     assert!(rt; slow.sink.held() == b"abfghij".as_slice());
     Ok(())
 }
 
+// Pieces that are written into a sink of eight octets, and how many of each are taken.
+static TAKEN: [(&[u8], Option<usize>); 3] =
+    [(b"abcde", Some(5)), (b"fghi", None), (b"fgh", Some(3))];
+
 #[test]
 fn sinks_in_memory(rt: HostRuntime) -> Result<(), Fail> {
-    let alloc = rt.alloc();
-    let mut sink = MemorySink::new(alloc, 8)?;
-    assert!(rt; sink.write(b"abcde").ok() == Some(5));
-    assert!(rt; sink.write(b"fghi").is_err());
-    assert!(rt; sink.held() == b"abcde".as_slice());
-    assert!(rt; sink.write(b"fgh").ok() == Some(3));
-    assert!(rt; sink.held() == b"abcdefgh".as_slice());
-    assert!(rt; sink.starved() == 0);
+    let mut sink = MemorySink::new(rt.alloc(), 8)?;
+    for (piece, count) in TAKEN {
+        assert!(rt; sink.write(piece).ok() == count);
+    }
+    assert!(rt; sink.held() == b"abcdefgh".as_slice() && sink.starved() == 0);
     Ok(())
 }

@@ -11,22 +11,30 @@ const LONG: Address = Address([
 ]);
 
 #[test]
-fn moments_and_epochs(rt: HostRuntime) -> Result<(), Fail> {
+fn moments_are_below_2_to_the_40(rt: HostRuntime) -> Result<(), Fail> {
     assert!(rt; Moment::of(1_099_511_627_776).is_none());
     let last = Moment::of(1_099_511_627_775).ok_or("last")?;
     assert!(rt; last.get() == 1_099_511_627_775);
+    Ok(())
+}
+
+// A moment, and the epoch that is told there where the base is 5.
+static EPOCHS: [(u64, u32); 6] = [
+    (5, 0),
+    (15, 10),
+    (0, 0),
+    (4_294_967_300, 4_294_967_295),
+    (4_294_967_301, 4_294_967_295),
+    (1_099_511_627_775, 4_294_967_295),
+];
+
+#[test]
+fn epochs(rt: HostRuntime) -> Result<(), Fail> {
     let base = Moment::of(5).ok_or("base")?;
-    for (seconds, told) in [
-        (5, 0),
-        (15, 10),
-        (0, 0),
-        (4_294_967_300, 4_294_967_295),
-        (4_294_967_301, 4_294_967_295),
-    ] {
+    for (seconds, told) in EPOCHS {
         let m = Moment::of(seconds).ok_or("seconds")?;
         assert!(rt; epoch(m, base) == told, "at {seconds}");
     }
-    assert!(rt; epoch(last, base) == 4_294_967_295);
     Ok(())
 }
 
@@ -102,16 +110,21 @@ fn pairs_by_the_first_row(rt: HostRuntime) -> Result<(), Fail> {
     Ok(())
 }
 
-#[test]
-fn leases_and_their_keys(rt: HostRuntime) -> Result<(), Fail> {
-    let host = Address::v4(10, 0, 0, 5);
-    let endpoint_of = |port| Endpoint {
-        address: host,
+// 10.0.0.5
+const HOST: Address = Address([0, 0, 0, 0, 0, 0, 0, 0, 0, 0, 0xff, 0xff, 10, 0, 0, 5]);
+
+fn endpoint_of(port: u16) -> Endpoint {
+    Endpoint {
+        address: HOST,
         protocol: Protocol::Udp,
         port,
-    };
-    let map = MapLease {
-        address: host,
+    }
+}
+
+// Of the ports 65534 and 65535, from 10 to 130.
+fn map_lease() -> Result<MapLease, Fail> {
+    Ok(MapLease {
+        address: HOST,
         protocol: Protocol::Udp,
         internal: 65534,
         count: 2,
@@ -120,35 +133,67 @@ fn leases_and_their_keys(rt: HostRuntime) -> Result<(), Fail> {
         granted: Moment::of(10).ok_or("granted")?,
         expiry: 130,
         filters: Filters::none(),
-    };
-    assert!(rt; map.first_endpoint() == endpoint_of(65534));
-    for (port, covered) in [(65533, false), (65534, true), (65535, true)] {
-        assert!(rt; map.covers(&endpoint_of(port)) == covered);
-    }
-    let peer = PeerLease {
+    })
+}
+
+// Of the port 5000 towards port 53, from 10 to 130.
+fn peer_lease() -> Result<PeerLease, Fail> {
+    Ok(PeerLease {
         endpoint: endpoint_of(5000),
         external: 1024,
         remote: LONG,
         remote_port: 53,
-        nonce: map.nonce,
-        granted: map.granted,
-        expiry: map.expiry,
-    };
+        nonce: Nonce([7; 12]),
+        granted: Moment::of(10).ok_or("granted")?,
+        expiry: 130,
+    })
+}
+
+#[test]
+fn ports_of_a_lease(rt: HostRuntime) -> Result<(), Fail> {
+    let map = map_lease()?;
+    assert!(rt; map.first_endpoint() == endpoint_of(65534));
+    for (port, covered) in [(65533, false), (65534, true), (65535, true)] {
+        assert!(rt; map.covers(&endpoint_of(port)) == covered);
+    }
+    Ok(())
+}
+
+#[test]
+fn keys_of_a_peer_lease(rt: HostRuntime) -> Result<(), Fail> {
+    let peer = peer_lease()?;
     for (port, remote_port, same) in [(5000, 53, true), (5001, 53, false), (5000, 54, false)] {
         assert!(rt; peer.is_of(&endpoint_of(port), &LONG, remote_port) == same);
     }
+    Ok(())
+}
+
+#[test]
+fn leases_are_live_until_their_expiry(rt: HostRuntime) -> Result<(), Fail> {
+    let (map, peer) = (map_lease()?, peer_lease()?);
     for (seconds, live) in [(129, true), (130, false)] {
         let m = Moment::of(seconds).ok_or("seconds")?;
         assert!(rt; map.is_live(m) == live && peer.is_live(m) == live);
     }
-    let mut record = Record {
-        moment: map.granted,
-        change: Change::Map(map),
-    };
-    assert!(rt; record.is_well_formed());
-    record.change = Change::DropMap(endpoint_of(0));
-    assert!(rt; !record.is_well_formed());
+    Ok(())
+}
+
+#[test]
+fn well_formed_records(rt: HostRuntime) -> Result<(), Fail> {
+    let map = map_lease()?;
+    let changes = [
+        (Change::Map(map), true),
+        (Change::DropMap(endpoint_of(0)), false),
+    ];
+    for (change, well) in changes {
+        let moment = map.granted;
+        assert!(rt; Record { moment, change }.is_well_formed() == well);
+    }
+    Ok(())
+}
+
+#[test]
+fn protocols_by_their_numbers(rt: HostRuntime) {
     assert!(rt; Protocol::of(Protocol::Tcp.number()) == Some(Protocol::Tcp));
     assert!(rt; Protocol::of(0).is_none());
-    Ok(())
 }

@@ -18,7 +18,6 @@ use pcp_base::{
     Protocol, Record, Replay,
 };
 use std::alloc::Global;
-use std::process::Abort;
 use std::test::Fail;
 
 static STEPS: [Step; 4] = [
@@ -86,76 +85,117 @@ fn served<S: LeaseStore + Drop>(
     Ok(core)
 }
 
-/// The leases, their owner and an end, after the steps.
-fn has_leases<S: LeaseStore + Drop, R: Abort>(
-    rt: &R,
-    alloc: Global,
-    made: Result<LeaseCore<S>, Fail>,
-) -> Result<(), Fail>
-    requires { IfOk made (λ core. AreTerms (S.terms core)) }
+/// The core's leases after the steps are these two.
+fn has_leases<S: LeaseStore>(alloc: Global, core: &LeaseCore<S>, m: Moment) -> Result<bool, Fail>
+    requires { MayServe (S.state core.now) (S.terms core.now) }
 {
-    let core = served(alloc, made)?;
-    let (granted, m) = (moment(1010)?, moment(1020)?);
-    assert!(rt; core.leases(m) == 2);
-    assert!(rt; core.maps(alloc, m)?.as_slice() == [map_lease(granted)].as_slice());
-    assert!(rt; core.peers(alloc, m)?.as_slice() == [peer_lease(granted)].as_slice());
+    let granted = moment(1010)?;
+    let maps = core.maps(alloc, m)?;
+    let peers = core.peers(alloc, m)?;
+    Ok(core.leases(m) == 2
+        && maps.as_slice() == [map_lease(granted)].as_slice()
+        && peers.as_slice() == [peer_lease(granted)].as_slice())
+}
+
+/// Their port is owned by the endpoint of both, and that of the deleted lease has an end.
+fn has_owner_and_end<S: LeaseStore>(
+    alloc: Global,
+    core: &LeaseCore<S>,
+    m: Moment,
+) -> Result<bool, Fail>
+    requires { MayServe (S.state core.now) (S.terms core.now) }
+{
     let owner = Owner {
         protocol: Udp,
         external: 1024,
         endpoint: endpoint(5000),
     };
-    assert!(rt; core.owners(alloc, m)?.as_slice() == [owner].as_slice());
     let end = End {
         endpoint: endpoint(6000),
         external: 1025,
         end: 1020,
     };
-    assert!(rt; core.ends(alloc)?.as_slice() == [end].as_slice());
-    assert!(rt; core.covered(&endpoint(5000), m));
-    assert!(rt; !core.covered(&endpoint(6000), m));
-    Ok(())
+    let owners = core.owners(alloc, m)?;
+    let ends = core.ends(alloc)?;
+    Ok(owners.as_slice() == [owner].as_slice() && ends.as_slice() == [end].as_slice())
+}
+
+/// Whether a core has these after the steps.
+fn is_served<S: LeaseStore + Drop>(
+    alloc: Global,
+    made: Result<LeaseCore<S>, Fail>,
+) -> Result<bool, Fail>
+    requires { IfOk made (λ core. AreTerms (S.terms core)) }
+{
+    let core = served(alloc, made)?;
+    let m = moment(1020)?;
+    Ok(has_leases(alloc, &core, m)?
+        && has_owner_and_end(alloc, &core, m)?
+        && core.covered(&endpoint(5000), m)
+        && !core.covered(&endpoint(6000), m))
 }
 
 #[test]
 fn leases_and_owners(rt: HostRuntime) -> Result<(), Fail> {
     let alloc = rt.alloc();
-    has_leases(&rt, alloc, indexed(alloc, WIDE))?;
-    has_leases(&rt, alloc, plain(alloc, WIDE))
+    assert!(rt; is_served(alloc, indexed(alloc, WIDE))?);
+    assert!(rt; is_served(alloc, plain(alloc, WIDE))?);
+    Ok(())
 }
 
-/// What a core tells of its state after the steps, and after a Start by the first format.
-fn has_state<S: LeaseStore + Drop, R: Abort>(
-    rt: &R,
+/// Whether a core tells its base, last moment and external address after the steps, and forgets them.
+fn tells_and_forgets<S: LeaseStore + Drop>(
     alloc: Global,
     made: Result<LeaseCore<S>, Fail>,
-) -> Result<(), Fail>
+) -> Result<bool, Fail>
     requires { IfOk made (λ core. AreTerms (S.terms core)) }
 {
     let mut core = served(alloc, made)?;
-    assert!(rt; core.base().get() == 1000);
-    assert!(rt; core.last().get() == 1020);
-    assert!(rt; core.address() == Some(Address::v4(192, 0, 2, 1)));
+    let told = (core.base().get(), core.last().get());
+    let address = core.address();
     core.clear();
-    assert!(rt; core.last().get() == 0 && core.address() == None);
-    let start = Record {
-        moment: moment(1500)?,
-        change: Change::Start,
-    };
-    assert!(rt; core.admit_first(alloc, &start)?);
-    assert!(rt; core.base().get() == 1500);
-    let told = Record {
-        moment: moment(1500)?,
-        change: Change::Renumber(Address::v4(192, 0, 2, 1)),
-    };
-    assert!(rt; !core.admit_first(alloc, &told)?);
-    Ok(())
+    Ok(told == (1000, 1020)
+        && address == Some(Address::v4(192, 0, 2, 1))
+        && core.last().get() == 0
+        && core.address() == None)
 }
 
 #[test]
 fn base_last_and_address(rt: HostRuntime) -> Result<(), Fail> {
     let alloc = rt.alloc();
-    has_state(&rt, alloc, indexed(alloc, WIDE))?;
-    has_state(&rt, alloc, plain(alloc, WIDE))
+    assert!(rt; tells_and_forgets(alloc, indexed(alloc, WIDE))?);
+    assert!(rt; tells_and_forgets(alloc, plain(alloc, WIDE))?);
+    Ok(())
+}
+
+/// Whether a core that was cleared admits a Start by the first format, and no Renumber behind it.
+fn begins_in_first<S: LeaseStore + Drop>(
+    alloc: Global,
+    made: Result<LeaseCore<S>, Fail>,
+) -> Result<bool, Fail>
+    requires { IfOk made (λ core. AreTerms (S.terms core)) }
+{
+    let mut core = made?;
+    core.clear();
+    let moment = moment(1500)?;
+    let start = Record {
+        moment,
+        change: Change::Start,
+    };
+    let told = Record {
+        moment,
+        change: Change::Renumber(Address::v4(192, 0, 2, 1)),
+    };
+    let begins = core.admit_first(alloc, &start)? && core.base().get() == 1500;
+    Ok(begins && !core.admit_first(alloc, &told)?)
+}
+
+#[test]
+fn the_first_format_has_no_renumber(rt: HostRuntime) -> Result<(), Fail> {
+    let alloc = rt.alloc();
+    assert!(rt; begins_in_first(alloc, indexed(alloc, WIDE))?);
+    assert!(rt; begins_in_first(alloc, plain(alloc, WIDE))?);
+    Ok(())
 }
 
 /// What is answered to an ANNOUNCE.

@@ -13,7 +13,6 @@ use lease_core::LeaseCore;
 use lease_store::LeaseStore;
 use pcp_base::{End, Endpoint, MapLease, Moment, Owner, PeerLease, Protocol};
 use std::alloc::Global;
-use std::process::Abort;
 use std::test::Fail;
 
 /// The number below `count` that comes next.
@@ -200,19 +199,23 @@ fn runs_of(alloc: Global, profile: Profile, seed: u64, count: u32) -> Result<(Ru
     Ok((on_indexed, on_plain))
 }
 
-/// Both runs are the same.
-fn are_same<R: Abort>(rt: &R, run: &Run, other: &Run) {
-    let first = run
-        .turns
+/// The first turn in which the runs differ.
+fn first_difference(run: &Run, other: &Run) -> Option<usize> {
+    if run.turns.len() != other.turns.len() {
+        return Some(run.turns.len());
+    }
+    run.turns
         .iter()
         .zip(other.turns.iter())
-        .position(|(a, b)| a != b);
-    assert!(rt; first == None, "turn {first:?}");
-    assert!(rt; run.turns.len() == other.turns.len());
-    assert!(rt; run.maps.as_slice() == other.maps.as_slice());
-    assert!(rt; run.peers.as_slice() == other.peers.as_slice());
-    assert!(rt; run.owners.as_slice() == other.owners.as_slice());
-    assert!(rt; run.ends.as_slice() == other.ends.as_slice());
+        .position(|(a, b)| a != b)
+}
+
+/// Whether the runs leave the same.
+fn leave_same(run: &Run, other: &Run) -> bool {
+    run.maps.as_slice() == other.maps.as_slice()
+        && run.peers.as_slice() == other.peers.as_slice()
+        && run.owners.as_slice() == other.owners.as_slice()
+        && run.ends.as_slice() == other.ends.as_slice()
 }
 
 /// How many turns are answered so.
@@ -223,30 +226,31 @@ fn refused(turns: &[Turn], code: u8) -> usize {
         .count()
 }
 
-/// Each kind of answer came, and a packet found its way.
-fn has_all_kinds<R: Abort>(rt: &R, turns: &[Turn]) {
-    assert!(rt; turns.iter().any(|turn| matches!(turn.told, Leased(..))));
-    assert!(rt; turns.iter().any(|turn| matches!(turn.told, LeasedSet(..))));
-    assert!(rt; turns.iter().any(|turn| turn.told == Gone));
-    assert!(rt; turns.iter().any(|turn| turn.found != None));
-    for code in [2, 8, 10, 11, 13] {
-        assert!(rt; refused(turns, code) > 0, "code {code}");
-    }
+/// Whether each kind of success came, and a packet found its way.
+fn has_all_kinds(turns: &[Turn]) -> bool {
+    turns.iter().any(|turn| matches!(turn.told, Leased(..)))
+        && turns.iter().any(|turn| matches!(turn.told, LeasedSet(..)))
+        && turns.iter().any(|turn| turn.told == Gone)
+        && turns.iter().any(|turn| turn.found != None)
 }
 
 #[test]
 fn both_cores_answer_alike(rt: HostRuntime) -> Result<(), Fail> {
-    let alloc = rt.alloc();
-    let (run, other) = runs_of(alloc, Profile(1024, 1043, 7), 7, 20_000)?;
-    are_same(&rt, &run, &other);
-    has_all_kinds(&rt, &run.turns);
+    let (run, other) = runs_of(rt.alloc(), Profile(1024, 1043, 7), 7, 20_000)?;
+    let first = first_difference(&run, &other);
+    assert!(rt; first.is_none(), "turn {first:?}");
+    assert!(rt; leave_same(&run, &other) && has_all_kinds(&run.turns));
+    for code in [2, 8, 10, 11, 13] {
+        assert!(rt; refused(&run.turns, code) > 0, "code {code}");
+    }
     Ok(())
 }
 
 #[test]
 fn both_cores_answer_alike_of_all_ports(rt: HostRuntime) -> Result<(), Fail> {
-    let alloc = rt.alloc();
-    let (run, other) = runs_of(alloc, WIDE, 8, 2000)?;
-    are_same(&rt, &run, &other);
+    let (run, other) = runs_of(rt.alloc(), WIDE, 8, 2000)?;
+    let first = first_difference(&run, &other);
+    assert!(rt; first.is_none(), "turn {first:?}");
+    assert!(rt; leave_same(&run, &other));
     Ok(())
 }

@@ -13,7 +13,6 @@ use lease_core::LeaseCore;
 use lease_store::LeaseStore;
 use pcp_base::Moment;
 use std::alloc::Global;
-use std::process::Abort;
 use std::test::Fail;
 
 /// Asks for 32,768 leases of one host, of one port each. The first that isn't given the external
@@ -37,28 +36,38 @@ fn first_ungranted<S: LeaseStore>(
     Ok(None)
 }
 
-/// No other host is granted a lease then, though ports are left; a renewal needs no room.
-fn is_full<S: LeaseStore + Drop, R: Abort>(
-    rt: &R,
+/// Whether no other host is granted a lease then, though ports are left, and a renewal needs no room.
+fn is_full<S: LeaseStore>(alloc: Global, core: &mut LeaseCore<S>, m: Moment) -> Result<bool, Fail>
+    requires may { MayServe (S.state core.old) (S.terms core.old) }
+    requires later { S.reached core.old ≤ m }
+{
+    let another = Request(6, 5000, 1, 3600, 0, Nothing);
+    if !is_answered(alloc, core, m, &another, Refused(8, 30))? {
+        return Ok(false);
+    }
+    let again = Request(5, 20_000, 1, 3600, 0, Nothing);
+    is_answered(alloc, core, m, &again, Leased(3600, 20_000))
+}
+
+/// Fills a core. Whether it is full then, and only then.
+fn is_filled<S: LeaseStore + Drop>(
     alloc: Global,
     made: Result<LeaseCore<S>, Fail>,
-) -> Result<(), Fail>
+) -> Result<bool, Fail>
     requires { IfOk made (λ core. AreTerms (S.terms core)) }
 {
     let mut core = begun(alloc, made)?;
     let m = moment(1010)?;
-    assert!(rt; first_ungranted(alloc, &mut core, m)? == None);
-    assert!(rt; core.leases(m) == 32_768);
-    let another = Request(6, 5000, 1, 3600, 0, Nothing);
-    assert!(rt; is_answered(alloc, &mut core, m, &another, Refused(8, 30))?);
-    let again = Request(5, 20_000, 1, 3600, 0, Nothing);
-    assert!(rt; is_answered(alloc, &mut core, m, &again, Leased(3600, 20_000))?);
-    assert!(rt; core.leases(m) == 32_768);
-    Ok(())
+    if first_ungranted(alloc, &mut core, m)?.is_some() {
+        return Ok(false);
+    }
+    Ok(is_full(alloc, &mut core, m)? && core.leases(m) == 32_768)
 }
 
 #[test]
 fn no_more_leases_than_there_may_be(rt: HostRuntime) -> Result<(), Fail> {
     let alloc = rt.alloc();
-    is_full(&rt, alloc, indexed(alloc, Profile(1024, 65535, 65_535)))
+    let made = indexed(alloc, Profile(1024, 65535, 65_535));
+    assert!(rt; is_filled(alloc, made)?);
+    Ok(())
 }

@@ -6,7 +6,7 @@ use std::test::Fail;
 
 /// A call of a disk.
 #[derive(Clone, Copy)]
-enum Call {
+pub(crate) enum Call {
     Write(u64, &'static [u8]),
     Cut(u64),
     Sync,
@@ -41,7 +41,7 @@ fn leaves(alloc: Global, disk: &MemoryDisk, choice: u8, octets: &[u8]) -> Result
 }
 
 /// Makes a call. Whether it went well.
-fn is_made<D: LeaseDisk>(disk: &mut D, call: Call) -> bool {
+pub(crate) fn is_made<D: LeaseDisk>(disk: &mut D, call: Call) -> bool {
     match call {
         Call::Write(place, octets) => disk.write_at(place, octets).is_ok(),
         Call::Cut(length) => disk.cut(length).is_ok(),
@@ -90,20 +90,46 @@ fn images(rt: HostRuntime) -> Result<(), Fail> {
 }
 
 #[test]
-fn failing_calls(rt: HostRuntime) -> Result<(), Fail> {
-    let alloc = rt.alloc();
-    let mut disk = synced_disk(alloc, 6)?;
+fn a_write_past_the_room(rt: HostRuntime) -> Result<(), Fail> {
+    let mut disk = synced_disk(rt.alloc(), 6)?;
     assert!(rt; !is_made(&mut disk, Call::Write(4, b"efg")));
     assert!(rt; is_made(&mut disk, Call::Write(4, b"ef")));
-    // the calls so far had the numbers 0 to 3
-    disk.fail_at(alloc, 4)?;
-    disk.stop_at(6);
-    assert!(rt; !is_made(&mut disk, Call::Write(0, b"x")));
-    assert!(rt; front(alloc, &mut disk)?.as_slice() == b"abcdef".as_slice());
-    assert!(rt; !is_made(&mut disk, Call::Sync));
-    assert!(rt; disk.len().is_err());
-    assert!(rt; front(alloc, &mut disk)?.as_slice() == b"!".as_slice());
-    assert!(rt; leaves(alloc, &disk, 0, b"abcd")?);
-    assert!(rt; leaves(alloc, &disk, 1, b"abcdef")?);
+    Ok(())
+}
+
+/// A disk that holds "abcdef", of which the last two octets aren't synced; its next call fails, and
+/// from the second one after that all do.
+fn failing_disk(alloc: Global) -> Result<MemoryDisk, Fail> {
+    let mut disk = synced_disk(alloc, 6)?;
+    disk.write_at(4, b"ef")?;
+    // the calls so far had the numbers 0 to 2
+    disk.fail_at(alloc, 3)?;
+    disk.stop_at(5);
+    Ok(disk)
+}
+
+/// Whether the octets from the first on are these.
+fn is_read_as<D: LeaseDisk>(alloc: Global, disk: &mut D, octets: &[u8]) -> Result<bool, Fail> {
+    Ok(front(alloc, disk)?.as_slice() == octets)
+}
+
+#[test]
+fn failing_calls(rt: HostRuntime) -> Result<(), Fail> {
+    let alloc = rt.alloc();
+    let mut disk = failing_disk(alloc)?;
+    let failed = !is_made(&mut disk, Call::Write(0, b"x"));
+    assert!(rt; failed && is_read_as(alloc, &mut disk, b"abcdef")?);
+    let stopped = !is_made(&mut disk, Call::Sync) && disk.len().is_err();
+    assert!(rt; stopped && is_read_as(alloc, &mut disk, b"!")?);
+    Ok(())
+}
+
+#[test]
+fn a_disk_that_stopped_leaves_its_images(rt: HostRuntime) -> Result<(), Fail> {
+    let alloc = rt.alloc();
+    let disk = failing_disk(alloc)?;
+    for (choice, octets) in [b"abcd".as_slice(), b"abcdef"].iter().enumerate() {
+        assert!(rt; leaves(alloc, &disk, choice as u8, octets)?, "{choice}");
+    }
     Ok(())
 }

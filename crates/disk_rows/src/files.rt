@@ -1,7 +1,7 @@
 //! A disk over a file: what a real file gives, and how the disk meets short writes, interrupted and
 //! failing reads, failing syncs, and a file that another program keeps.
 
-use crate::disks::front;
+use crate::disks::{Call, front, is_made};
 use crate::fake_files::{FakeFiles, SYNCS_AT};
 use lease_disk::{FileDisk, LeaseDisk};
 use std::alloc::Global;
@@ -10,50 +10,90 @@ use std::fs;
 use std::os::unix::fs::{PermissionsExt, symlink};
 use std::test::Fail;
 
+fn real_disk<'a>(rt: &'a HostRuntime, path: &str) -> Result<FileDisk<&'a HostRuntime>, Fail> {
+    Ok(FileDisk::new(rt, String::from_str(rt.alloc(), path)?))
+}
+
+/// Whether a new disk over this path is read so; a failed read as "!".
+fn is_read_as(rt: &HostRuntime, path: &str, octets: &[u8]) -> Result<bool, Fail> {
+    let mut disk = real_disk(rt, path)?;
+    Ok(front(rt.alloc(), &mut disk)?.as_slice() == octets)
+}
+
+/// Whether each call of a new disk over this path fails.
+fn is_refused(rt: &HostRuntime, path: &str) -> Result<bool, Fail> {
+    let mut disk = real_disk(rt, path)?;
+    Ok(disk.len().is_err() && !is_made(&mut disk, Call::Write(0, b"x")))
+}
+
 #[test]
-fn a_real_file(rt: HostRuntime) -> Result<(), Fail> {
-    let alloc = rt.alloc();
-    let lost = String::from_str(alloc, "nowhere/side")?;
-    let mut disk = FileDisk::new(&rt, lost);
-    assert!(rt; front(alloc, &mut disk)?.as_slice() == b"!".as_slice());
-    let path = String::from_str(alloc, "side")?;
-    let mut disk = FileDisk::new(&rt, path.clone()?);
-    assert!(rt; disk.len().ok() == Some(0));
-    assert!(rt; fs::metadata(&rt, "side").is_err());
-    assert!(rt; disk.write_at(0, b"abcdef").is_ok());
-    assert!(rt; disk.len().ok() == Some(6));
-    assert!(rt; fs::metadata(&rt, "side")?.permissions().mode() % 0o1000 == 0o600);
-    assert!(rt; disk.write_at(2, b"xy").is_ok());
-    assert!(rt; disk.cut(5).is_ok());
-    assert!(rt; disk.cut(9).is_ok());
-    assert!(rt; disk.len().ok() == Some(5));
-    assert!(rt; disk.sync().is_ok());
-    assert!(rt; disk.write_at(1 << 62, b"z").is_err());
-    // while it is kept another disk over it has no result
-    let mut beside = FileDisk::new(&rt, path.clone()?);
-    assert!(rt; beside.len().is_err() && beside.write_at(0, b"z").is_err());
+fn reading_makes_no_file(rt: HostRuntime) -> Result<(), Fail> {
+    assert!(rt; is_read_as(&rt, "nowhere/side", b"!")?);
+    assert!(rt; is_read_as(&rt, "unmade", b"")?);
+    let length = real_disk(&rt, "unmade")?.len();
+    assert!(rt; length.ok() == Some(0) && fs::metadata(&rt, "unmade").is_err());
+    Ok(())
+}
+
+// Calls of a new file: whether each goes well, and how long the file is then.
+static CALLS: [(Call, bool, u64); 6] = [
+    (Call::Write(0, b"abcdef"), true, 6),
+    (Call::Write(2, b"xy"), true, 6),
+    (Call::Cut(5), true, 5),
+    (Call::Cut(9), true, 5),
+    (Call::Sync, true, 5),
+    (Call::Write(1 << 62, b"z"), false, 5),
+];
+
+/// The number of the first of these calls that goes otherwise.
+fn first_other<D: LeaseDisk>(disk: &mut D, calls: &[(Call, bool, u64)]) -> Option<usize> {
+    for (number, (call, goes_well, length)) in calls.iter().enumerate() {
+        if is_made(disk, *call) != *goes_well || disk.len().ok() != Some(*length) {
+            return Some(number);
+        }
+    }
+    None
+}
+
+#[test]
+fn calls_of_a_file(rt: HostRuntime) -> Result<(), Fail> {
+    let mut disk = real_disk(&rt, "called")?;
+    let other = first_other(&mut disk, &CALLS);
+    assert!(rt; other.is_none(), "{other:?}");
+    let mode = fs::metadata(&rt, "called")?.permissions().mode();
+    assert!(rt; mode % 0o1000 == 0o600);
+    assert!(rt; fs::read(&rt, "called")?.as_slice() == b"abxye".as_slice());
+    Ok(())
+}
+
+// While a disk has its file another one over it has no result.
+#[test]
+fn a_file_is_kept_until_its_disk_is_dropped(rt: HostRuntime) -> Result<(), Fail> {
+    let mut disk = real_disk(&rt, "kept")?;
+    let made = is_made(&mut disk, Call::Write(0, b"abc"));
+    let refused = is_refused(&rt, "kept")?;
     drop(disk);
-    let mut again = FileDisk::new(&rt, path);
-    assert!(rt; front(alloc, &mut again)?.as_slice() == b"abxye".as_slice());
-    assert!(rt; again.len().ok() == Some(5));
-    assert!(rt; fs::read(&rt, "side")?.as_slice() == b"abxye".as_slice());
+    assert!(rt; made && refused);
+    assert!(rt; is_read_as(&rt, "kept", b"abc")?);
     Ok(())
 }
 
 // What isn't taken: a device, links to a file and to nothing, and a file that has another name.
 static NO_FILES: [&str; 4] = ["/dev/null", "link", "dangling", "second"];
 
+fn make_no_files(rt: &HostRuntime) -> Result<(), Fail> {
+    fs::write(rt, "target", "abc")?;
+    symlink(rt, "target", "link")?;
+    symlink(rt, "missing", "dangling")?;
+    fs::hard_link(rt, "target", "second")?;
+    Ok(())
+}
+
 #[test]
 fn no_regular_file(rt: HostRuntime) -> Result<(), Fail> {
-    let alloc = rt.alloc();
-    fs::write(&rt, "target", "abc")?;
-    symlink(&rt, "target", "link")?;
-    symlink(&rt, "missing", "dangling")?;
-    fs::hard_link(&rt, "target", "second")?;
+    make_no_files(&rt)?;
     for path in NO_FILES {
-        let mut disk = FileDisk::new(&rt, String::from_str(alloc, path)?);
-        assert!(rt; disk.len().is_err());
-        assert!(rt; disk.write_at(0, b"x").is_err());
+        assert!(rt; is_refused(&rt, path)?, "{path}");
     }
     assert!(rt; fs::metadata(&rt, "missing").is_err());
     assert!(rt; fs::read(&rt, "target")?.as_slice() == b"abc".as_slice());
@@ -92,11 +132,10 @@ fn reads_that_fail_are_faults(rt: HostRuntime) -> Result<(), Fail> {
         ..fake_files(alloc, 0, 0)
     };
     let mut disk = disk_over(alloc, files)?;
-    assert!(rt; disk.write_at(0, b"abc").is_ok());
-    assert!(rt; disk.last_error().is_none());
+    let made = is_made(&mut disk, Call::Write(0, b"abc"));
+    assert!(rt; made && disk.last_error().is_none());
     assert!(rt; front(alloc, &mut disk)?.as_slice() == b"!".as_slice());
-    assert!(rt; disk.last_error().is_some());
-    assert!(rt; disk.len().is_err());
+    assert!(rt; disk.last_error().is_some() && disk.len().is_err());
     Ok(())
 }
 
@@ -108,8 +147,9 @@ fn a_file_that_another_keeps_is_a_fault(rt: HostRuntime) -> Result<(), Fail> {
         ..fake_files(alloc, 0, 0)
     };
     let mut disk = disk_over(alloc, files)?;
-    assert!(rt; disk.write_at(0, b"abc").is_err());
-    assert!(rt; disk.sync().is_err());
+    for call in [Call::Write(0, b"abc"), Call::Sync] {
+        assert!(rt; !is_made(&mut disk, call));
+    }
     Ok(())
 }
 
@@ -124,28 +164,36 @@ fn sync_count(disk: &mut FileDisk<FakeFiles>) -> u8 {
 fn short_writes_and_interrupted_reads(rt: HostRuntime) -> Result<(), Fail> {
     let alloc = rt.alloc();
     let mut disk = fake_disk(alloc, 0, 0)?;
-    assert!(rt; disk.write_at(0, b"abcdef").is_ok());
+    assert!(rt; is_made(&mut disk, Call::Write(0, b"abcdef")));
     assert!(rt; front(alloc, &mut disk)?.as_slice() == b"abcdef".as_slice());
-    assert!(rt; disk.sync().is_ok());
-    assert!(rt; sync_count(&mut disk) == 1);
-    assert!(rt; disk.sync().is_ok());
-    assert!(rt; sync_count(&mut disk) == 2);
     Ok(())
 }
 
 #[test]
-fn failing_syncs(rt: HostRuntime) -> Result<(), Fail> {
-    let alloc = rt.alloc();
-    // the file's second sync fails, and then each later one of the disk
-    let mut disk = fake_disk(alloc, 2, 0)?;
-    let first = disk.sync().is_ok();
-    let second = disk.sync().is_ok();
-    let third = disk.sync().is_ok();
-    assert!(rt; (first, second, third) == (true, false, false));
-    // the folder is opened once to be found and once to be synced, which fails this once
-    let mut disk = fake_disk(alloc, 0, 2)?;
-    let written = disk.write_at(0, b"a").is_ok();
-    let synced = disk.sync().is_ok();
-    assert!(rt; (written, synced) == (false, false));
+fn each_sync_is_one_of_the_file(rt: HostRuntime) -> Result<(), Fail> {
+    let mut disk = fake_disk(rt.alloc(), 0, 0)?;
+    for count in 1..3 {
+        assert!(rt; is_made(&mut disk, Call::Sync) && sync_count(&mut disk) == count);
+    }
+    Ok(())
+}
+
+// The file's second sync fails, and then each later one of the disk.
+#[test]
+fn a_failed_sync_of_the_file(rt: HostRuntime) -> Result<(), Fail> {
+    let mut disk = fake_disk(rt.alloc(), 2, 0)?;
+    for goes_well in [true, false, false] {
+        assert!(rt; is_made(&mut disk, Call::Sync) == goes_well);
+    }
+    Ok(())
+}
+
+// The folder is opened once to be found and once to be synced, which fails this once.
+#[test]
+fn a_failed_sync_of_the_folder(rt: HostRuntime) -> Result<(), Fail> {
+    let mut disk = fake_disk(rt.alloc(), 0, 2)?;
+    for call in [Call::Write(0, b"a"), Call::Sync] {
+        assert!(rt; !is_made(&mut disk, call));
+    }
     Ok(())
 }

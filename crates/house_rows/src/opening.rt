@@ -172,35 +172,64 @@ fn are_these(held: &[Vec<u8>], wanted: &[&[u8]]) -> bool {
             .all(|(held, wanted)| held.as_slice() == *wanted)
 }
 
+/// Whether an opening of three blank pairs, of which the second may fail, ends so.
+fn is_begun(
+    alloc: Global,
+    fails: bool,
+    wanted: Option<HouseFault>,
+    texts: &[&[u8]],
+) -> Result<bool, Fail> {
+    let config = config(alloc, 77)?;
+    let (fault, held) = begun(alloc, &config, fails)?;
+    Ok(fault == wanted && are_these(&held, texts))
+}
+
 #[test]
 fn opened(rt: HostRuntime) -> Result<(), Fail> {
-    let alloc = rt.alloc();
-    let config = config(alloc, 77)?;
-    let (fault, held) = begun(alloc, &config, false)?;
-    assert!(rt; fault.is_none());
-    assert!(rt; are_these(&held, &[FIRST.as_slice(), SECOND.as_slice(), &[]]));
-    let (fault, held) = begun(alloc, &config, true)?;
-    assert!(rt; fault == Some(HouseFault::Disk(1)));
-    assert!(rt; are_these(&held, &[FIRST.as_slice(), &[], &[]]));
+    let texts = [FIRST.as_slice(), SECOND.as_slice(), &[]];
+    assert!(rt; is_begun(rt.alloc(), false, None, &texts)?);
+    let fault = Some(HouseFault::Disk(1));
+    let texts = [FIRST.as_slice(), &[], &[]];
+    assert!(rt; is_begun(rt.alloc(), true, fault, &texts)?);
     Ok(())
+}
+
+/// The octets of updates that are all for this port of 10.0.0.5.
+fn texts_of(alloc: Global, updates: &[Datagram], port: u16) -> Result<Vec<Vec<u8>>, Fail> {
+    let mut texts = Vec::new(alloc);
+    for update in updates {
+        if update.peer != Address::v4(10, 0, 0, 5) || update.port != port {
+            return Err("an update for another".into());
+        }
+        texts.push(update.octets.items().to_vec(alloc)?)?;
+    }
+    Ok(texts)
+}
+
+/// A pair that holds two leases of another external address, and a blank one.
+fn renumbered_pairs(alloc: Global) -> Result<Vec<DiskPair<MemoryDisk>>, Fail>
+    ensures { IfOk result (λ disks. length disks.items ≡ 2) }
+{
+    let leased = pair(alloc, &LEASED, false)?;
+    let blank = pair(alloc, &[], false)?;
+    Ok(Vec::from_array(alloc, [leased, blank])?)
 }
 
 #[test]
 fn renumbered(rt: HostRuntime) -> Result<(), Fail> {
     let alloc = rt.alloc();
     let config = config(alloc, 77)?;
-    let leased = pair(alloc, &LEASED, false)?;
-    let blank = pair(alloc, &[], false)?;
-    let disks = Vec::from_array(alloc, [leased, blank])?;
-    let (told, disks) = updates(alloc, &config, disks, 1_500)?;
-    let mut texts = Vec::new(alloc);
-    for update in &told {
-        assert!(rt; update.peer == Address::v4(10, 0, 0, 5));
-        assert!(rt; update.port == 5_350);
-        texts.push(update.octets.items().to_vec(alloc)?)?;
-    }
+    let (told, _disks) = updates(alloc, &config, renumbered_pairs(alloc)?, 1_500)?;
+    let texts = texts_of(alloc, &told, 5_350)?;
     assert!(rt; are_these(&texts, &[MAP_UPDATE.as_slice(), PEER_UPDATE.as_slice()]));
-    // each update is made once
+    Ok(())
+}
+
+#[test]
+fn each_update_is_made_once(rt: HostRuntime) -> Result<(), Fail> {
+    let alloc = rt.alloc();
+    let config = config(alloc, 77)?;
+    let (_told, disks) = updates(alloc, &config, renumbered_pairs(alloc)?, 1_500)?;
     if disks.len() != 2 {
         return Err("pairs are missing".into());
     }

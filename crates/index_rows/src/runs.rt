@@ -8,7 +8,6 @@ use port_runs::Runs;
 use port_runs::plain::PlainRuns;
 use std::alloc::Global;
 use std::marker::Brand;
-use std::process::Abort;
 use std::sync::ledger::{Blank, Ledger};
 use step_count::Steps;
 
@@ -117,17 +116,16 @@ static ALL: [Call; 19] = [
     FirstRun(32768, None, None),
 ];
 
-/// Makes a call of both bodies and compares their answers. In a wide range the plain body searches
-/// for long, and isn't asked.
-fn check<L: Ledger>(
-    rt: &impl Abort,
+/// Makes a call of both bodies. Whether both give the answer that is wanted. In a wide range the plain
+/// body searches for long, and isn't asked.
+fn is_answered<L: Ledger>(
     runs: &mut Runs,
     plain: &mut PlainRuns,
     call: &Call,
     steps: &mut Steps<L>,
     low: u16,
     high: u16,
-)
+) -> bool
     requires low { runs.old.low ≡ low }
     requires high { runs.old.high ≡ high }
     requires plain_low { plain.old.low ≡ low }
@@ -140,52 +138,43 @@ fn check<L: Ledger>(
     let is_wide = high.saturating_sub(low) > 100;
     match *call {
         Take(start, n, wanted) => {
-            assert!(rt; n >= 1 && low <= start && start as u64 + n as u64 <= high as u64 + 1);
-            assert!(rt; runs.take(start, n) == wanted, "take {start} {n}");
-            assert!(rt; plain.take(start, n) == wanted, "plain take {start} {n}");
+            if n == 0 || start < low || start as u64 + n as u64 > high as u64 + 1 {
+                return false;
+            }
+            let taken = runs.take(start, n);
+            plain.take(start, n) == wanted && taken == wanted
         }
         Give(start, n) => {
-            assert!(rt; n >= 1 && low <= start && start as u64 + n as u64 <= high as u64 + 1);
+            if n == 0 || start < low || start as u64 + n as u64 > high as u64 + 1 {
+                return false;
+            }
             runs.give(start, n);
             plain.give(start, n);
+            true
         }
         RunAt(start, most, wanted) => {
-            assert!(rt; runs.run_at(start, most) == wanted, "run_at {start} {most}");
-            assert!(rt;
-                plain.run_at(start, most) == wanted,
-                "plain run_at {start} {most}"
-            );
+            runs.run_at(start, most) == wanted && plain.run_at(start, most) == wanted
         }
+        FirstRun(0, ..) => false,
         FirstRun(n, parity, wanted) => {
-            assert!(rt; n >= 1);
-            assert!(rt; runs.first_run(n, parity, steps) == wanted, "first_run {n}");
-            assert!(rt;
-                is_wide || plain.first_run(n, parity) == wanted,
-                "plain first_run {n}"
-            );
+            runs.first_run(n, parity, steps) == wanted
+                && (is_wide || plain.first_run(n, parity) == wanted)
         }
         LongestRun(parity, wanted) => {
-            assert!(rt;
-                runs.longest_run(parity, steps) == wanted,
-                "longest_run {wanted}"
-            );
-            assert!(rt;
-                is_wide || plain.longest_run(parity) == wanted,
-                "plain longest_run {wanted}"
-            );
+            runs.longest_run(parity, steps) == wanted
+                && (is_wide || plain.longest_run(parity) == wanted)
         }
     }
 }
 
-/// Makes a table's calls, one after another.
-fn check_all<L: Ledger>(
-    rt: &impl Abort,
+/// Makes a table's calls, one after another. The first that is answered otherwise.
+fn first_other<L: Ledger>(
     alloc: Global,
     blank: Blank,
     low: u16,
     high: u16,
     calls: &[Call],
-) -> Result<(), Memory>
+) -> Result<Option<usize>, Memory>
     requires name { blank.name ≡ L.name }
     requires parts { blank.parts ≡ L.parts }
     requires part { 0 < L.parts }
@@ -195,20 +184,33 @@ fn check_all<L: Ledger>(
     let mut steps = Steps::<L>::begin(blank);
     let mut runs = Runs::new(alloc, low, high)?;
     let mut plain = PlainRuns::new(alloc, low, high)?;
-    for call in calls {
-        check(rt, &mut runs, &mut plain, call, &mut steps, low, high);
+    for (number, call) in calls.iter().enumerate() {
+        if !is_answered(&mut runs, &mut plain, call, &mut steps, low, high) {
+            return Ok(Some(number));
+        }
     }
-    Ok(())
+    Ok(None)
 }
 
 #[test]
 fn runs_are_found_among_five_ports(rt: HostRuntime) -> Result<(), Memory> {
-    check_all::<Brand>(&rt, rt.alloc(), Blank::new(1), 10, 14, &FIVE)
+    let other = first_other::<Brand>(rt.alloc(), Blank::new(1), 10, 14, &FIVE)?;
+    assert!(rt; other.is_none(), "{other:?}");
+    Ok(())
 }
 
 #[test]
-fn runs_are_found_at_the_ends_of_the_numbers(rt: HostRuntime) -> Result<(), Memory> {
-    check_all::<Brand>(&rt, rt.alloc(), Blank::new(1), 65535, 65535, &LAST)?;
-    check_all::<Brand>(&rt, rt.alloc(), Blank::new(1), 1, 1, &FIRST)?;
-    check_all::<Brand>(&rt, rt.alloc(), Blank::new(1), 1, 65535, &ALL)
+fn runs_are_found_of_one_port(rt: HostRuntime) -> Result<(), Memory> {
+    let last = first_other::<Brand>(rt.alloc(), Blank::new(1), 65535, 65535, &LAST)?;
+    assert!(rt; last.is_none(), "{last:?}");
+    let first = first_other::<Brand>(rt.alloc(), Blank::new(1), 1, 1, &FIRST)?;
+    assert!(rt; first.is_none(), "{first:?}");
+    Ok(())
+}
+
+#[test]
+fn runs_are_found_among_all_ports(rt: HostRuntime) -> Result<(), Memory> {
+    let other = first_other::<Brand>(rt.alloc(), Blank::new(1), 1, 65535, &ALL)?;
+    assert!(rt; other.is_none(), "{other:?}");
+    Ok(())
 }

@@ -49,9 +49,16 @@ pub(crate) fn octets(alloc: Global, disk: &mut MemoryDisk) -> Result<Vec<u8>, Fa
     octets_within(alloc, disk, 200)
 }
 
-/// Whether the disk holds these octets.
-fn holds(alloc: Global, disk: &mut MemoryDisk, wanted: &[u8]) -> Result<bool, Fail> {
-    Ok(octets(alloc, disk)?.as_slice() == wanted)
+/// Whether the sides hold these octets.
+fn hold(
+    alloc: Global,
+    pair: &mut DiskPair<MemoryDisk>,
+    a: &[u8],
+    b: &[u8],
+) -> Result<bool, Fail> {
+    let held_a = octets(alloc, &mut pair.a)?;
+    let held_b = octets(alloc, &mut pair.b)?;
+    Ok(held_a.as_slice() == a && held_b.as_slice() == b)
 }
 
 /// Opens a journal at `m` and does these deeds. The pair, where all went well.
@@ -68,16 +75,22 @@ fn after(
     Ok(Some(pair))
 }
 
+fn leased(alloc: Global) -> Result<DiskPair<MemoryDisk>, Fail> {
+    Ok(after(alloc, blank(alloc)?, 1000, &LEASING)?.ok_or("not leased")?)
+}
+
 #[test]
-fn written(rt: HostRuntime) -> Result<(), Fail> {
+fn a_lease_is_written(rt: HostRuntime) -> Result<(), Fail> {
+    let mut pair = leased(rt.alloc())?;
+    assert!(rt; hold(rt.alloc(), &mut pair, &LEASED, &[])?);
+    Ok(())
+}
+
+#[test]
+fn a_compaction_is_written(rt: HostRuntime) -> Result<(), Fail> {
     let alloc = rt.alloc();
-    let mut leased = after(alloc, blank(alloc)?, 1000, &LEASING)?.ok_or("not leased")?;
-    assert!(rt; holds(alloc, &mut leased.a, &LEASED)?);
-    assert!(rt; holds(alloc, &mut leased.b, &[])?);
-    let mut compacted = after(alloc, leased, 1500, &[(1010, Deed::Compacted)])?.ok_or(
-        "not compacted",
-    )?;
-    assert!(rt; holds(alloc, &mut compacted.a, b"\0")?);
-    assert!(rt; holds(alloc, &mut compacted.b, &COMPACTED)?);
+    let compacted = after(alloc, leased(alloc)?, 1500, &[(1010, Deed::Compacted)])?;
+    let mut pair = compacted.ok_or("not compacted")?;
+    assert!(rt; hold(alloc, &mut pair, b"\0", &COMPACTED)?);
     Ok(())
 }

@@ -234,20 +234,31 @@ fn sight_by(kind_a: u8, kind_b: u8) -> Sight {
     recovered(1000, 0)
 }
 
+/// What is seen of these sides.
+fn seen_of(alloc: Global, a: &[u8], b: &[u8]) -> Result<Option<Sight>, Fail> {
+    let mut pair = DiskPair {
+        a: disk_of(alloc, a)?,
+        b: disk_of(alloc, b)?,
+    };
+    view_of(alloc, &mut pair)
+}
+
+/// Whether beside each side b this side a is seen as it is to be.
+fn is_seen(alloc: Global, row_a: &[u8; 6]) -> Result<bool, Fail> {
+    let a = side_of(alloc, row_a, 0)?;
+    for row_b in &SIDES {
+        let b = side_of(alloc, row_b, 1)?;
+        if seen_of(alloc, &a, &b)? != Some(sight_by(row_a[5], row_b[5])) {
+            return Ok(false);
+        }
+    }
+    Ok(true)
+}
+
 #[test]
 fn sides_of_every_kind(rt: HostRuntime) -> Result<(), Fail> {
-    let alloc = rt.alloc();
-    for row_a in &SIDES {
-        let a = side_of(alloc, row_a, 0)?;
-        for row_b in &SIDES {
-            let b = side_of(alloc, row_b, 1)?;
-            let mut pair = DiskPair {
-                a: disk_of(alloc, &a)?,
-                b: disk_of(alloc, &b)?,
-            };
-            let want = sight_by(row_a[5], row_b[5]);
-            assert!(rt; view_of(alloc, &mut pair)? == Some(want));
-        }
+    for (number, row) in SIDES.iter().enumerate() {
+        assert!(rt; is_seen(rt.alloc(), row)?, "{number}");
     }
     Ok(())
 }
@@ -266,21 +277,12 @@ fn marked(alloc: Global, marks: u8) -> Result<Vec<u8>, Fail> {
     Ok(side)
 }
 
-/// What is seen of this side alone.
-fn sight_alone(alloc: Global, octets: &[u8]) -> Result<Option<Sight>, Fail> {
-    let mut pair = DiskPair {
-        a: disk_of(alloc, octets)?,
-        b: disk_of(alloc, &[])?,
-    };
-    view_of(alloc, &mut pair)
-}
-
 #[test]
 fn most_records(rt: HostRuntime) -> Result<(), Fail> {
     let alloc = rt.alloc();
-    let full = sight_alone(alloc, &marked(alloc, 15)?)?;
-    assert!(rt; full == Some(recovered(1000, 0)));
-    let more = sight_alone(alloc, &marked(alloc, 16)?)?;
-    assert!(rt; more == Some(DAMAGED));
+    for (marks, want) in [(15, recovered(1000, 0)), (16, DAMAGED)] {
+        let side = marked(alloc, marks)?;
+        assert!(rt; seen_of(alloc, &side, &[])? == Some(want), "{marks} marks");
+    }
     Ok(())
 }

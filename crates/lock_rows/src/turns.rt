@@ -1,5 +1,5 @@
 //! Numbers behind a turn.
-ghost use Rattle.std.specs.Prelude.{◌≡◌, ◌+◌, ◌≤◌, [], ◌∷◌, ◌++◌, false, length, drop, IfSome, MatchBool};
+ghost use Rattle.std.specs.Prelude.{◌≡◌, ◌+◌, ◌≤◌, [], ◌∷◌, ◌++◌, false, length, drop, IfOk, IfSome, MatchBool};
 ghost use Rattle.std.specs.Bool.{OnTrue};
 ghost use Rattle.turn_lock.specs.Places.{one_if};
 
@@ -135,18 +135,20 @@ fn add_in_two<R: Threads + Wait + Sync>(
     Some((turn, first))
 }
 
+fn sum_of(list: &[u32]) -> u64 {
+    let mut sum = 0u64;
+    for x in list {
+        sum = sum.wrapping_add(u64::from(*x));
+    }
+    sum
+}
+
 #[test]
 fn two_threads_take_turns(rt: HostRuntime) -> Result<(), Fail> {
     let (turn, mut pass) = add_in_two(&rt, rt.alloc(), 1000).ok_or("there is memory")?;
-    let held = turn.take(&rt, &mut pass);
-    let numbers = held.keep();
-    assert_eq!(rt; numbers.list.len(), 2000);
-    assert_eq!(rt; numbers.noted, 2000);
-    let mut sum = 0u64;
-    for x in &numbers.list {
-        sum = sum.wrapping_add(u64::from(*x));
-    }
-    assert_eq!(rt; sum, 999000);
+    let numbers = turn.take(&rt, &mut pass).keep();
+    assert!(rt; numbers.list.len() == 2000 && numbers.noted == 2000);
+    assert!(rt; sum_of(&numbers.list) == 999_000);
     Ok(())
 }
 
@@ -165,23 +167,35 @@ fn split_often(alloc: Global, turn: &Turn<Numbers>, pass: &mut Pass<Numbers>, mo
     splits
 }
 
-#[test]
-fn settlings_are_noted_and_splits_are_refused(rt: HostRuntime) -> Result<(), Fail> {
-    let alloc = rt.alloc();
+// A turn of no number, and two passes of it.
+fn with_two_passes(alloc: Global) -> Result<(Turn<Numbers>, Pass<Numbers>, Pass<Numbers>), Fail>
+    ensures { IfOk result (λ t. (t.1.turn ≡ t.0.id) × (t.1.out ≡ false)
+        × (t.2.turn ≡ t.0.id) × (t.2.out ≡ false)) }
+{
     let (turn, mut pass) = Turn::new(alloc, Numbers::none(alloc), &())
         .ok()
         .ok_or("turn")?;
-    let mut other = turn.split(alloc, &mut pass)?;
+    let other = turn.split(alloc, &mut pass)?;
+    Ok((turn, pass, other))
+}
+
+#[test]
+fn settlings_are_noted(rt: HostRuntime) -> Result<(), Fail> {
+    let (turn, mut pass, mut other) = with_two_passes(rt.alloc())?;
     assert!(rt; add_one(&rt, &turn, &mut pass, 7, true));
     assert!(rt; add_one(&rt, &turn, &mut other, 8, false));
-
-    // It may be parted into 2^32 passes, and so by halves 32 times.
-    assert!(rt; split_often(alloc, &turn, &mut other, 100) == 32);
-    turn.meet(&mut other, pass);
-    assert!(rt; turn.split(alloc, &mut other).is_ok());
     let numbers = turn.take(&rt, &mut other).keep();
-    assert!(rt; numbers.list.as_slice() == [7, 8].as_slice());
-    assert!(rt; numbers.noted == 2);
+    assert!(rt; numbers.list.as_slice() == [7, 8].as_slice() && numbers.noted == 2);
+    Ok(())
+}
+
+// A pass may be parted into 2^32, and so by halves 32 times.
+#[test]
+fn splits_are_refused(rt: HostRuntime) -> Result<(), Fail> {
+    let (turn, pass, mut other) = with_two_passes(rt.alloc())?;
+    assert!(rt; split_often(rt.alloc(), &turn, &mut other, 100) == 32);
+    turn.meet(&mut other, pass);
+    assert!(rt; turn.split(rt.alloc(), &mut other).is_ok());
     Ok(())
 }
 

@@ -1,6 +1,7 @@
 //! When announcements come, and what updates say.
 use super::*;
 use pcp_base::{Address, Endpoint, Filters, MapLease, Moment, Nonce, PeerLease, Protocol};
+use std::alloc::Global;
 use std::test::Fail;
 
 // the times of the ten announcements after a rise, and times just before them
@@ -27,29 +28,39 @@ static TIMES: [(u64, bool); 20] = [
     (900_000, false),
 ];
 
+// The announcement of this epoch, below 256.
+fn announced(epoch: u8) -> [u8; 24] {
+    let mut want = [0; 24];
+    want[0] = 2;
+    want[1] = 0x80;
+    want[11] = epoch;
+    want
+}
+
 #[test]
 fn announcements(rt: HostRuntime) -> Result<(), Fail> {
     let base = Moment::of(2).ok_or("base")?;
-    let later = Moment::of(901).ok_or("later")?;
     let mut out = [0; 24];
-    let mut announcer = Announcer::new(base, false, 5_000);
-    assert!(rt; !announcer.due(6_000, &mut out));
     let mut announcer = Announcer::new(base, true, 5_000);
     for (now_ms, due) in &TIMES {
         announcer.seen(base, *now_ms);
         assert!(rt; announcer.due(*now_ms, &mut out) == *due, "at {now_ms}");
     }
     // 132 seconds less the base
-    let mut want = [0; 24];
-    want[0] = 2;
-    want[1] = 0x80;
-    want[11] = 130;
-    assert!(rt; out == want);
-    // a new rise, and a time that goes back
+    assert!(rt; out == announced(130));
+    Ok(())
+}
+
+// Nothing is announced before a rise, and at a rise also where the time goes back then.
+#[test]
+fn a_rise_is_announced(rt: HostRuntime) -> Result<(), Fail> {
+    let base = Moment::of(2).ok_or("base")?;
+    let later = Moment::of(901).ok_or("later")?;
+    let mut out = [0; 24];
+    let mut announcer = Announcer::new(base, false, 5_000);
+    assert!(rt; !announcer.due(6_000, &mut out));
     announcer.seen(later, 910_000);
-    want[11] = 9;
-    assert!(rt; announcer.due(3, &mut out));
-    assert!(rt; out == want);
+    assert!(rt; announcer.due(3, &mut out) && out == announced(9));
     Ok(())
 }
 
@@ -70,26 +81,29 @@ static REMOTE: [u8; 20] = [
 // what a lease of five ports adds
 static SET: [u8; 12] = [130, 0, 0, 5, 0, 5, 0x13, 0x88, 0, 0, 0, 0];
 
-#[test]
-fn updates(rt: HostRuntime) -> Result<(), Fail> {
-    let alloc = rt.alloc();
-    let granted = Moment::of(1_010).ok_or("granted")?;
+fn map_update(alloc: Global, count: u16) -> Result<Vec<u8>, Fail> {
     let m = Moment::of(1_500).ok_or("m")?;
-    let new = Address::v4(192, 0, 2, 77);
-    let mut map = MapLease {
+    let lease = MapLease {
         address: Address::v4(10, 0, 0, 5),
         protocol: Protocol::Udp,
         internal: 5000,
-        count: 1,
+        count,
         external: 1024,
         nonce: NONCE,
-        granted,
+        granted: Moment::of(1_010).ok_or("granted")?,
         expiry: 4_610,
         filters: Filters::none(),
     };
-    let peer = PeerLease {
+    let mut out = Vec::new(alloc);
+    write_map_update(alloc, &mut out, &lease, &Address::v4(192, 0, 2, 77), m, m)?;
+    Ok(out)
+}
+
+fn peer_update(alloc: Global) -> Result<Vec<u8>, Fail> {
+    let m = Moment::of(1_500).ok_or("m")?;
+    let lease = PeerLease {
         endpoint: Endpoint {
-            address: map.address,
+            address: Address::v4(10, 0, 0, 5),
             protocol: Protocol::Udp,
             port: 5000,
         },
@@ -97,21 +111,27 @@ fn updates(rt: HostRuntime) -> Result<(), Fail> {
         remote: Address::v4(198, 51, 100, 7),
         remote_port: 53,
         nonce: NONCE,
-        granted,
+        granted: Moment::of(1_010).ok_or("granted")?,
         expiry: 4_610,
     };
     let mut out = Vec::new(alloc);
-    write_map_update(alloc, &mut out, &map, &new, m, m)?;
-    assert!(rt; out.as_slice() == UPDATE.as_slice());
-    map.count = 5;
-    write_map_update(alloc, &mut out, &map, &new, m, m)?;
-    assert!(rt; out[60..120] == UPDATE[..]);
-    assert!(rt; out[120..] == SET[..]);
-    let mut out = Vec::new(alloc);
-    write_peer_update(alloc, &mut out, &peer, &new, m, m)?;
-    assert!(rt; out.len() == 80);
-    assert!(rt; out[1] == 0x82);
-    assert!(rt; out[2..60] == UPDATE[2..]);
-    assert!(rt; out[60..] == REMOTE[..]);
+    write_peer_update(alloc, &mut out, &lease, &Address::v4(192, 0, 2, 77), m, m)?;
+    Ok(out)
+}
+
+#[test]
+fn updates_of_map_leases(rt: HostRuntime) -> Result<(), Fail> {
+    assert!(rt; map_update(rt.alloc(), 1)?.as_slice() == UPDATE.as_slice());
+    let set = map_update(rt.alloc(), 5)?;
+    assert!(rt; set.starts_with(&UPDATE) && set.ends_with(&SET) && set.len() == 72);
+    Ok(())
+}
+
+#[test]
+fn updates_of_peer_leases(rt: HostRuntime) -> Result<(), Fail> {
+    let update = peer_update(rt.alloc())?;
+    let mut front = UPDATE;
+    front[1] = 0x82;
+    assert!(rt; update.starts_with(&front) && update.ends_with(&REMOTE) && update.len() == 80);
     Ok(())
 }

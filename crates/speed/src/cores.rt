@@ -1,13 +1,11 @@
-//! Requests on a core, beside a core over plain lists, and beside a loop that only judges datagrams.
-//! The words are threes: a name, a count of leases, and a count of rounds of five decisions. By
-//! `core` and `plain` the leases come in the order granted, by `chance` they come by chance on the
-//! core; `judge` knows no leases. A line tells each three and a checksum of the answers, which is the
-//! same for both cores; after a first word `times` also the nanoseconds of processor time that a
-//! decision took.
+//! Requests on a core, beside a loop that only judges datagrams. The words are threes: a name, a count
+//! of leases, and a count of rounds of five decisions. By `core` the leases come in the order granted,
+//! by `chance` they come by chance; `judge` knows no leases. A line tells each three and a checksum of
+//! the answers; after a first word `times` also the nanoseconds of processor time that a decision took.
 
 use crate::judging::judged;
 use crate::requests::Order;
-use crate::serving::{decided, indexed, plain};
+use crate::serving::{decided, indexed};
 use crate::timing::Timed;
 use anyhow::{Context, bail};
 use std::alloc::Global;
@@ -29,10 +27,6 @@ fn timed<C: CpuClock>(
         "chance" => {
             let core = &mut indexed(alloc)?;
             decided(clock, alloc, core, Order::Chance, leases, rounds)
-        }
-        "plain" => {
-            let core = &mut plain(alloc)?;
-            decided(clock, alloc, core, Order::Granted, leases, rounds)
         }
         "judge" => judged(clock, alloc, rounds),
         _ => bail!("{name:?} is not one of the names"),

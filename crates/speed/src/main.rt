@@ -5,7 +5,6 @@
 mod cores;
 mod datagrams;
 mod device;
-mod indexes;
 mod judging;
 mod requests;
 mod serving;
@@ -16,14 +15,12 @@ use std::process::ExitCode;
 const USAGE: &str = "usage: speed core [times] NAME LEASES ROUNDS ..
        speed datagrams NAME .. COUNT
        speed device PATH RECORDS OCTETS
-       speed indexes NAME .. COUNT
 
-core       Decisions on a core: NAME is core, chance, plain or judge. After the
-           word times the nanoseconds of a decision are told.
+core       Decisions on a core: NAME is core, chance or judge. After the word
+           times the nanoseconds of a decision are told.
 datagrams  Requests that are judged and replied to: NAME is plain, options or
            copies.
 device     The device calls of records that are appended to a journal.
-indexes    Calls of the indexes: NAME is runs, plain_runs, wheel or plain_wheel.
 ";
 
 /// Makes the calls that the words ask for. Whether the first word is one of those known.
@@ -35,7 +32,6 @@ fn run(rt: &HostRuntime, words: &[String]) -> anyhow::Result<bool> {
         "core" => cores::run(rt, rest)?,
         "datagrams" => datagrams::run(rt, rest)?,
         "device" => device::run(rt, rest)?,
-        "indexes" => indexes::run(rt, rest)?,
         _ => return Ok(false),
     }
     Ok(true)

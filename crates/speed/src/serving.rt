@@ -11,12 +11,11 @@ use crate::requests::{Order, map_ask, next_number};
 use crate::timing::Timed;
 use anyhow::{Context, bail};
 use lease_core::{Core, LeaseCore, decisions_fit};
-use lease_store::{LeaseStore, Terms};
+use lease_store::LeaseStore;
 use pcp_base::{
     Address, Answer, Ask, Change, Config, External, Externals, Memory, Moment, Prefixes, Record,
     Replay, Subscribers, states_are_sound,
 };
-use plain_store::PlainStore;
 use std::alloc::Global;
 use std::time::CpuClock;
 
@@ -53,15 +52,6 @@ pub fn indexed(alloc: Global) -> anyhow::Result<Core>
 {
     let external = external();
     Ok(Core::new(alloc, &external, &config(alloc, &external)?)?)
-}
-
-/// A core over plain lists.
-pub fn plain(alloc: Global) -> anyhow::Result<LeaseCore<PlainStore>>
-    ensures { IfOk result (λ core. AreTerms core.terms) }
-{
-    let external = external();
-    let terms = Terms::of(&external, &config(alloc, &external)?);
-    Ok(LeaseCore::over(PlainStore::new(alloc, terms)?))
 }
 
 /// The moment of these seconds.

@@ -8,9 +8,8 @@ use Call::{Ended, External, Find, Live, Next, Put, Remove};
 use mapping_table::MapTable;
 use mapping_table::plain::PlainMapTable;
 use pcp_base::Protocol::{Tcp, Udp};
-use pcp_base::{Endpoint, MapLease, Memory};
+use pcp_base::{Endpoint, MapLease, Memory, Protocol};
 use std::alloc::Global;
-use std::process::Abort;
 
 /// A call, and the answer that is wanted. Leases are told by their first external ports.
 #[derive(Clone, Copy)]
@@ -106,72 +105,105 @@ fn put_both(
     Ok(true)
 }
 
-/// Makes a call of both bodies, and compares their answers.
-fn make(
-    rt: &impl Abort,
+/// Makes a call of both bodies. Whether both give the answer that is wanted.
+fn is_answered(
     alloc: Global,
     table: &mut MapTable,
     plain: &mut PlainMapTable,
     call: &Call,
-) -> Result<(), Memory>
+) -> Result<bool, Memory>
     requires { table.old ≡ plain.old }
     ensures { OnOk result (table.new ≡ plain.new) }
 {
-    match *call {
+    Ok(match *call {
         Put(host, internal, count, external, expiry) => {
             let new = lease(&at(Udp, host, internal), count, external, expiry);
-            let put = put_both(alloc, table, plain, &new)?;
-            assert!(rt; put);
+            put_both(alloc, table, plain, &new)?
         }
         Find(host, port, wanted) => {
             let endpoint = at(Udp, host, port);
-            assert!(rt; told(table.find(&endpoint)) == wanted);
-            assert!(rt; told(plain.find(&endpoint)) == wanted);
+            told(table.find(&endpoint)) == wanted && told(plain.find(&endpoint)) == wanted
         }
         External(port, wanted) => {
-            assert!(rt; told(table.by_external(Udp, port)) == wanted);
-            assert!(rt; told(plain.by_external(Udp, port)) == wanted);
+            told(table.by_external(Udp, port)) == wanted
+                && told(plain.by_external(Udp, port)) == wanted
         }
         Next(host, port, wanted) => {
             let endpoint = at(Udp, host, port);
-            assert!(rt; table.next_internal(&endpoint) == wanted);
-            assert!(rt; plain.next_internal(&endpoint) == wanted);
+            table.next_internal(&endpoint) == wanted && plain.next_internal(&endpoint) == wanted
         }
         Remove(host, port, wanted) => {
             let key = at(Udp, host, port);
-            assert!(rt; told(table.remove(&key).as_ref()) == wanted);
-            assert!(rt; told(plain.remove(&key).as_ref()) == wanted);
+            let (removed, plainly) = (table.remove(&key), plain.remove(&key));
+            told(removed.as_ref()) == wanted && told(plainly.as_ref()) == wanted
         }
-        Live(m, wanted) => {
-            assert!(rt; table.live(moment(m)) == wanted);
-            assert!(rt; plain.live(moment(m)) == wanted);
-        }
+        Live(m, wanted) => table.live(moment(m)) == wanted && plain.live(moment(m)) == wanted,
         Ended(m, wanted) => {
-            assert!(rt; told(table.ended(moment(m))) == wanted);
-            assert!(rt; told(plain.ended(moment(m))) == wanted);
+            told(table.ended(moment(m))) == wanted && told(plain.ended(moment(m))) == wanted
         }
-    }
-    Ok(())
+    })
 }
 
-/// Makes calls, one after the other, of bodies without a lease.
-fn call_all(rt: &impl Abort, alloc: Global, calls: &[Call]) -> Result<(), Memory> {
+/// Makes calls, one after the other, of bodies without a lease. The first that is answered otherwise.
+fn first_other(alloc: Global, calls: &[Call]) -> Result<Option<usize>, Memory> {
     let mut table = MapTable::new(alloc)?;
     let mut plain = PlainMapTable::new(alloc)?;
-    for one in calls {
-        make(rt, alloc, &mut table, &mut plain, one)?;
+    for (number, call) in calls.iter().enumerate() {
+        if !is_answered(alloc, &mut table, &mut plain, call)? {
+            return Ok(Some(number));
+        }
     }
-    Ok(())
+    Ok(None)
 }
 
 #[test]
 fn leases_are_found_by_all_their_ports(rt: HostRuntime) -> Result<(), Memory> {
-    call_all(&rt, rt.alloc(), &FOUND)
+    let other = first_other(rt.alloc(), &FOUND)?;
+    assert!(rt; other.is_none(), "{other:?}");
+    Ok(())
 }
 
 #[test]
 fn a_renewal_keeps_its_place(rt: HostRuntime) -> Result<(), Memory> {
-    call_all(&rt, rt.alloc(), &RENEWED)
+    let other = first_other(rt.alloc(), &RENEWED)?;
+    assert!(rt; other.is_none(), "{other:?}");
+    Ok(())
+}
+
+// Leases of one port each, in the order granted: protocol, host, external port and expiry.
+static THREE: [(Protocol, u8, u16, u32); 3] = [
+    (Udp, 5, 1025, 1130),
+    (Tcp, 5, 1024, 1131),
+    (Udp, 4, 1026, 4610),
+];
+
+/// Puts the three into both bodies. Whether all were sound.
+fn put_three(
+    alloc: Global,
+    table: &mut MapTable,
+    plain: &mut PlainMapTable,
+) -> Result<bool, Memory>
+    requires { table.old ≡ plain.old }
+    ensures { OnOk result (table.new ≡ plain.new) }
+{
+    for (protocol, host, external, expiry) in THREE {
+        let new = lease(&at(protocol, host, 5000), 1, external, expiry);
+        if !put_both(alloc, table, plain, &new)? {
+            return Ok(false);
+        }
+    }
+    Ok(true)
+}
+
+/// Whether the bodies copy the leases that are live at 1130 and at 1131.
+fn copies(alloc: Global, table: &MapTable, plain: &PlainMapTable) -> Result<bool, Memory> {
+    let mut live = Vec::new(alloc);
+    table.copy_live(alloc, moment(1130), &mut live)?;
+    plain.copy_live(alloc, moment(1131), &mut live)?;
+    Ok(live
+        .iter()
+        .map(|lease| lease.external)
+        .eq([1024, 1026, 1026]))
 }
 
 #[test]
@@ -179,20 +211,8 @@ fn live_leases_are_copied_in_order(rt: HostRuntime) -> Result<(), Memory> {
     let alloc = rt.alloc();
     let mut table = MapTable::new(alloc)?;
     let mut plain = PlainMapTable::new(alloc)?;
-    let first = lease(&at(Udp, 5, 5000), 1, 1025, 1130);
-    let second = lease(&at(Tcp, 5, 5000), 1, 1024, 1131);
-    let third = lease(&at(Udp, 4, 5000), 1, 1026, 4610);
-    assert!(rt; put_both(alloc, &mut table, &mut plain, &first)?);
-    assert!(rt; put_both(alloc, &mut table, &mut plain, &second)?);
-    assert!(rt; put_both(alloc, &mut table, &mut plain, &third)?);
-    let mut live = Vec::new(alloc);
-    table.copy_live(alloc, moment(1130), &mut live)?;
-    plain.copy_live(alloc, moment(1131), &mut live)?;
-    assert!(rt;
-        live.iter()
-            .map(|lease| lease.external)
-            .eq([1024, 1026, 1026])
-    );
+    assert!(rt; put_three(alloc, &mut table, &mut plain)?);
+    assert!(rt; copies(alloc, &table, &plain)?);
     table.clear();
     assert!(rt; table.find(&at(Tcp, 5, 5000)).is_none());
     Ok(())

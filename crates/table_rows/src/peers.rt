@@ -10,7 +10,6 @@ use pcp_base::{Memory, PeerLease};
 use peer_table::plain::PlainPeerTable;
 use peer_table::{PeerTable, PortUse};
 use std::alloc::Global;
-use std::process::Abort;
 
 /// A call, and the answer that is wanted. Remotes are 198.51.100.0 and so on. Leases are told by
 /// their expiries.
@@ -121,78 +120,96 @@ fn put_both(
     Ok(true)
 }
 
-/// Makes a call of both bodies, and compares their answers.
-fn make(
-    rt: &impl Abort,
+/// Makes a call of both bodies. Whether both give the answer that is wanted.
+fn is_answered(
     alloc: Global,
     table: &mut PeerTable,
     plain: &mut PlainPeerTable,
     call: &Call,
-) -> Result<(), Memory>
+) -> Result<bool, Memory>
     requires { table.old ≡ plain.old }
     ensures { OnOk result (table.new ≡ plain.new) }
 {
-    match *call {
+    Ok(match *call {
         Put(host, port, external, number, remote_port, expiry) => {
             let new = lease(host, port, external, (number, remote_port), expiry);
-            let put = put_both(alloc, table, plain, &new)?;
-            assert!(rt; put);
+            put_both(alloc, table, plain, &new)?
         }
         Find(host, port, number, remote_port, wanted) => {
             let (endpoint, remote) = (at(Udp, host, port), remote(number));
-            assert!(rt; told(table.find(&endpoint, &remote, remote_port)) == wanted);
-            assert!(rt; told(plain.find(&endpoint, &remote, remote_port)) == wanted);
+            told(table.find(&endpoint, &remote, remote_port)) == wanted
+                && told(plain.find(&endpoint, &remote, remote_port)) == wanted
         }
         External(port, number, remote_port, wanted) => {
             let remote = remote(number);
-            assert!(rt; told(table.by_external(Udp, port, &remote, remote_port)) == wanted);
-            assert!(rt; told(plain.by_external(Udp, port, &remote, remote_port)) == wanted);
+            told(table.by_external(Udp, port, &remote, remote_port)) == wanted
+                && told(plain.by_external(Udp, port, &remote, remote_port)) == wanted
         }
         Next(host, port, wanted) => {
             let endpoint = at(Udp, host, port);
-            assert!(rt; table.next_internal(&endpoint) == wanted);
-            assert!(rt; plain.next_internal(&endpoint) == wanted);
+            table.next_internal(&endpoint) == wanted && plain.next_internal(&endpoint) == wanted
         }
         OfEndpoint(host, port, m, wanted) => {
             let endpoint = at(Udp, host, port);
-            assert!(rt; use_told(table.of_endpoint(&endpoint, moment(m))) == wanted);
-            assert!(rt; use_told(plain.of_endpoint(&endpoint, moment(m))) == wanted);
+            use_told(table.of_endpoint(&endpoint, moment(m))) == wanted
+                && use_told(plain.of_endpoint(&endpoint, moment(m))) == wanted
         }
         Remove(host, port, number, remote_port, wanted) => {
             let (endpoint, remote) = (at(Udp, host, port), remote(number));
-            assert!(rt; told(table.remove(&endpoint, &remote, remote_port).as_ref()) == wanted);
-            assert!(rt; told(plain.remove(&endpoint, &remote, remote_port).as_ref()) == wanted);
+            let removed = table.remove(&endpoint, &remote, remote_port);
+            let plainly = plain.remove(&endpoint, &remote, remote_port);
+            told(removed.as_ref()) == wanted && told(plainly.as_ref()) == wanted
         }
-        Live(m, wanted) => {
-            assert!(rt; table.live(moment(m)) == wanted);
-            assert!(rt; plain.live(moment(m)) == wanted);
-        }
+        Live(m, wanted) => table.live(moment(m)) == wanted && plain.live(moment(m)) == wanted,
         Ended(m, wanted) => {
-            assert!(rt; told(table.ended(moment(m))) == wanted);
-            assert!(rt; told(plain.ended(moment(m))) == wanted);
+            told(table.ended(moment(m))) == wanted && told(plain.ended(moment(m))) == wanted
         }
-    }
-    Ok(())
+    })
 }
 
-/// Makes calls, one after the other, of bodies without a lease.
-fn call_all(rt: &impl Abort, alloc: Global, calls: &[Call]) -> Result<(), Memory> {
+/// Makes calls, one after the other, of bodies without a lease. The first that is answered otherwise.
+fn first_other(alloc: Global, calls: &[Call]) -> Result<Option<usize>, Memory> {
     let mut table = PeerTable::new(alloc)?;
     let mut plain = PlainPeerTable::new(alloc)?;
-    for one in calls {
-        make(rt, alloc, &mut table, &mut plain, one)?;
+    for (number, call) in calls.iter().enumerate() {
+        if !is_answered(alloc, &mut table, &mut plain, call)? {
+            return Ok(Some(number));
+        }
     }
-    Ok(())
+    Ok(None)
 }
 
 #[test]
 fn a_lease_opens_its_port_to_its_remote(rt: HostRuntime) -> Result<(), Memory> {
-    call_all(&rt, rt.alloc(), &OPENED)
+    let other = first_other(rt.alloc(), &OPENED)?;
+    assert!(rt; other.is_none(), "{other:?}");
+    Ok(())
 }
 
 #[test]
 fn a_renewed_lease_keeps_its_place(rt: HostRuntime) -> Result<(), Memory> {
-    call_all(&rt, rt.alloc(), &RENEWED)
+    let other = first_other(rt.alloc(), &RENEWED)?;
+    assert!(rt; other.is_none(), "{other:?}");
+    Ok(())
+}
+
+/// Puts leases of one endpoint to so many remotes into both bodies. Whether all were sound.
+fn put_many(
+    alloc: Global,
+    table: &mut PeerTable,
+    plain: &mut PlainPeerTable,
+    remotes: u8,
+) -> Result<bool, Memory>
+    requires { table.old ≡ plain.old }
+    ensures { OnOk result (table.new ≡ plain.new) }
+{
+    for number in 0..remotes {
+        let new = lease(5, 5000, 1024, (number, 53), 4610);
+        if !put_both(alloc, table, plain, &new)? {
+            return Ok(false);
+        }
+    }
+    Ok(true)
 }
 
 #[test]
@@ -200,20 +217,31 @@ fn an_endpoint_has_sixteen_leases(rt: HostRuntime) -> Result<(), Memory> {
     let alloc = rt.alloc();
     let mut table = PeerTable::new(alloc)?;
     let mut plain = PlainPeerTable::new(alloc)?;
-    for number in 0..16u8 {
-        let new = lease(5, 5000, 1024, (number, 53), 4610);
-        assert!(rt; put_both(alloc, &mut table, &mut plain, &new)?);
-    }
+    assert!(rt; put_many(alloc, &mut table, &mut plain, 16)?);
     let found = table.of_endpoint(&at(Udp, 5, 5000), moment(4609));
     assert!(rt; use_told(found) == Some((1024, 16)));
-    assert!(rt; table.last_expiry(Udp, 1024) == Some(4610));
     let new = lease(5, 5000, 1024, (16, 53), 4610);
     assert!(rt; !put_both(alloc, &mut table, &mut plain, &new)?);
+    Ok(())
+}
+
+/// How many leases both bodies copy, the first at 4609, the second at 4610.
+fn copied(alloc: Global, table: &PeerTable, plain: &PlainPeerTable) -> Result<usize, Memory> {
     let mut live = Vec::new(alloc);
     table.copy_live(alloc, moment(4609), &mut live)?;
     plain.copy_live(alloc, moment(4610), &mut live)?;
-    assert!(rt; live.len() == 16);
+    Ok(live.len())
+}
+
+#[test]
+fn live_leases_are_copied(rt: HostRuntime) -> Result<(), Memory> {
+    let alloc = rt.alloc();
+    let mut table = PeerTable::new(alloc)?;
+    let mut plain = PlainPeerTable::new(alloc)?;
+    assert!(rt; put_many(alloc, &mut table, &mut plain, 2)?);
+    assert!(rt; copied(alloc, &table, &plain)? == 2);
+    let last = table.last_expiry(Udp, 1024);
     table.clear();
-    assert!(rt; table.last_expiry(Udp, 1024) == None);
+    assert!(rt; last == Some(4610) && table.last_expiry(Udp, 1024) == None);
     Ok(())
 }

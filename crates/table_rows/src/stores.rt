@@ -293,19 +293,35 @@ fn tells_owners(alloc: Global, store: &PlainStore) -> Result<bool, Fail>
     )
 }
 
+/// Whether what the last records of their kinds told is told.
+fn tells_the_rest(store: &PlainStore) -> bool
+    requires { IsReached store.now.state }
+{
+    store.base().get() == 1000
+        && store.last().get() == 1055
+        && store.address() == Some(Address::v4(192, 0, 2, 1))
+        && store.terms() == terms()
+}
+
 #[test]
 fn tells_the_state(rt: HostRuntime) -> Result<(), Fail> {
-    let mut store = made(rt.alloc(), &RECORDS)?;
+    let store = made(rt.alloc(), &RECORDS)?;
     assert!(rt; finds_leases(&store) && tells_leases(&store)?);
     assert!(rt; tells_lists(rt.alloc(), &store)? && tells_owners(rt.alloc(), &store)?);
-    assert!(rt; store.base().get() == 1000 && store.last().get() == 1055);
-    assert!(rt; store.address() == Some(Address::v4(192, 0, 2, 1)) && store.terms() == terms());
+    assert!(rt; tells_the_rest(&store));
+    Ok(())
+}
+
+// A Start at 5 is admitted, a second record that names the external address isn't.
+#[test]
+fn forgets_and_begins_in_the_first_format(rt: HostRuntime) -> Result<(), Fail> {
+    let mut store = made(rt.alloc(), &RECORDS)?;
     store.clear();
     assert!(rt; store.lease_count() == 0 && store.last().get() == 0);
-    let fits = admits_first(rt.alloc(), &mut store, &(5, Act::Start))?;
-    assert!(rt; fits && store.base().get() == 5);
-    let fits = admits_first(rt.alloc(), &mut store, &(5, Act::Renumber(1)))?;
-    assert!(rt; !fits && store.address() == None);
+    let begins = admits_first(rt.alloc(), &mut store, &(5, Act::Start))?;
+    let renumbers = admits_first(rt.alloc(), &mut store, &(5, Act::Renumber(1)))?;
+    assert!(rt; begins && store.base().get() == 5);
+    assert!(rt; !renumbers && store.address() == None);
     Ok(())
 }
 

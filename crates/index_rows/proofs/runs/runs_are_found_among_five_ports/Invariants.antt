@@ -1,4 +1,4 @@
 use Rattle.index_rows.proofs.runs.runs_are_found_among_five_ports.Given as goal
 
-abbrev pub ghosts-check_all : goal.ghosts-check_all
-ghosts-check_all g a = record { name = a.blank.name; parts = a.blank.parts }
+abbrev pub ghosts-first_other : goal.ghosts-first_other
+ghosts-first_other g a = record { name = a.blank.name; parts = a.blank.parts }

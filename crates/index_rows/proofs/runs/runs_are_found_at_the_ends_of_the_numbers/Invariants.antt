@@ -1,4 +1,0 @@
-use Rattle.index_rows.proofs.runs.runs_are_found_at_the_ends_of_the_numbers.Given as goal
-
-abbrev pub ghosts-check_all : goal.ghosts-check_all
-ghosts-check_all g a = record { name = a.blank.name; parts = a.blank.parts }
