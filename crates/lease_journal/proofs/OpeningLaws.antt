@@ -12,7 +12,9 @@ use Rattle.journal_sides.specs.declared.formats.Format.{Format}
 use Rattle.journal_sides.specs.declared.formats.Format.TheVariants.{First, Second}
 use Rattle.journal_sides.specs.Formats.{IsReplaying}
 use Rattle.journal_sides.specs.Journals.{IsBlank, IsDamaged, IsStarting, IsStartingAnew}
-use Rattle.lease_journal.specs.Openings.{LeavesOld, MayOpen, Opens}
+use Rattle.lease_journal.specs.declared.errors.Found.{Found}
+use Rattle.lease_journal.specs.declared.errors.Found.TheVariants.{Recovered, Blank, Damaged}
+use Rattle.lease_journal.specs.Openings.{IsStillUnless, LeavesOld, MayOpen, Opens}
 use Rattle.journal_sides.specs.Reads.{ArePairRead, AreSeenStill}
 use Rattle.journal_sides.specs.Verdicts.{AreFound}
 use Rattle.journal_sides.specs.Writes.{AreDurable}
@@ -102,6 +104,12 @@ module _ {D : Type 0} (moment : D → ℕ) (left_since : D → ℕ → List ℕ 
           from = pair_goes_on moment left_since may_leave synced judged new P (pair_still moment left_since may_leave counts_now only_now P synced judged here read)
               (pair_weaker moment left_since may_leave judged new (MayOpen m (seen judged.a) (seen judged.b)) P run (λ x y may. same_octets (λ (a b : List ℕ). MayOpen m a b x y) (seen old.a) (seen old.b) (seen judged.a) (seen judged.b) same_a same_b may));
         }
+
+-- reads gave the same before that too
+pub still_unless : {D : Type 0} (seen : D → List ℕ) (old mid new : DiskPair D) (found : Found) → AreSeenStill seen old mid → IsStillUnless seen mid new found → IsStillUnless seen old new found
+still_unless seen old mid new Recovered first is = record { a = is.a ∙ first.a; b = is.b ∙ first.b }
+still_unless seen old mid new Blank first is = tt
+still_unless seen old mid new Damaged first is = tt
 
 -- a replay that takes records of some format takes those of one of the two
 pub replays_by : {R : Type 0} (replaying replaying_first : R → Type 0) (replay : R) (f : Format) → IsReplaying f replaying replaying_first replay → replaying_first replay ⊎ replaying replay

@@ -1,12 +1,13 @@
 -- Reading what stands in front of a side, and shutting it.
-use Rattle.std.proofs.Common.{◌≡◌, inl, inr, ⊎_elim, ℕ, ◌<◌, ◌≤◌, max, List, [], ◌∷◌, length, get_or, take, drop, refl, sym, ◌∙◌, ap, subst, arith, take_all, length-take, length-drop}
+use Rattle.std.proofs.Common.{◌≡◌, inl, inr, ⊎_elim, ℕ, ◌<◌, ◌≤◌, max, List, [], ◌∷◌, ◌++◌, length, get_or, take, drop, refl, sym, ◌∙◌, ap, subst, arith, take_all, length-take, length-drop}
 use Rattle.std.specs.Prelude.{◌⊎◌}
 use Rattle.std.proofs.lemmas.Bool.{cases_eq}
-use Rattle.std.proofs.lemmas.List.{get_or-take}
+use Rattle.std.proofs.lemmas.List.{drop_more, get_or-take}
 use Rattle.lease_disk.specs.Contents.{after_write}
 use Rattle.lease_disk.specs.Images.{Torn}
 use Rattle.lease_disk.specs.Pairs.{HoldsNow, PairLeavesOnly}
 use Rattle.lease_disk.specs.declared.disks.DiskPair.{DiskPair}
+use Rattle.lease_disk.proofs.Within.{after_write_within}
 use Rattle.lease_disk.proofs.CallLemmas.{has_now, weaker}
 use Rattle.lease_disk.proofs.PairLemmas.{on_a, on_b, pair_goes_on}
 use Rattle.journal_sides.specs.declared.sides.Side.{Side}
@@ -19,7 +20,7 @@ use Rattle.journal_sides.specs.Reads.{IsRead, ArePairRead, AreSeenStill}
 use Rattle.journal_sides.specs.Shut.{IsShut}
 use Rattle.journal_sides.specs.Sides.{IsClosedSide}
 use Rattle.journal_sides.specs.Writes.{AreDurable, ChangesSide, of_side, other, side_parity}
-use Rattle.lease_journal.proofs.Begins.{shut_closed, short_torn, open_torn}
+use Rattle.lease_journal.proofs.Begins.{shut_closed, shut_torn, short_torn, open_torn}
 
 -- no gate is read
 pub front_none : (octets piece : List ℕ) (count : ℕ) → count ≡ 0 → length piece ≡ 1 → take count piece ≡ take (length piece) (drop 0 octets) → length octets < 15
@@ -55,10 +56,6 @@ pub same_sides : (side : Side) (a b x y : List ℕ) → x ≡ a → y ≡ b → 
 same_sides A a b x y same_a same_b = record { changed = inl same_a; unchanged = same_b }
 same_sides B a b x y same_a same_b = record { changed = inl same_b; unchanged = same_a }
 
-pub prepared_still : (side : Side) (size : ℕ) (a b x y : List ℕ) → x ≡ a → y ≡ b → size ≡ length (of_side side a b) → IsShut (of_side side a b) → IsPrepared side size a b x y
-prepared_still A size a b x y same_a same_b long shut = record { shut = subst IsShut (sym same_a) shut; long = long ∙ ap length (sym same_a); unchanged = same_b }
-prepared_still B size a b x y same_a same_b long shut = record { shut = subst IsShut (sym same_b) shut; long = long ∙ ap length (sym same_b); unchanged = same_a }
-
 written_shut : (old new : List ℕ) → new ≡ after_write old 0 (0 ∷ []) → IsShut new
 written_shut old new is = record { some = omega (arith, ap length is); gate = λ e. omega (arith, e, ap (λ (l : List ℕ). get_or l 0 0) is) }
 
@@ -66,10 +63,39 @@ pub prepared_written : (side : Side) (size now : ℕ) (a b c d x y : List ℕ) �
 prepared_written side size now a b c d x y same_a same_b long is wrote =
     let back : ChangesSide side (λ old new. new ≡ after_write old 0 (0 ∷ [])) a b x y = subst (λ (l : List ℕ). ChangesSide side (λ old new. new ≡ after_write old 0 (0 ∷ [])) l b x y) same_a (subst (λ (l : List ℕ). ChangesSide side (λ old new. new ≡ after_write old 0 (0 ∷ [])) c l x y) same_b wrote) in
     record {
+      front = inl back.changed;
       shut = written_shut (of_side side a b) (of_side side x y) back.changed;
       long = omega (arith, is, long, ap length back.changed, length-drop 1 (of_side side a b));
       unchanged = back.unchanged;
     }
+
+-- one octet behind the gate of a shut side
+behind_gate : (old : List ℕ) → 0 < length old → after_write old 1 (0 ∷ []) ≡ get_or old 0 0 ∷ 0 ∷ drop 2 old
+behind_gate old some =
+    after_write_within old 1 (0 ∷ []) (omega (arith, some))
+    ∙ ap (λ (l : List ℕ). l ++ (0 ∷ []) ++ drop 2 old) (ap (λ (l : List ℕ). take 1 l) (drop_more old 0 0 some))
+
+behind_shut : (old new : List ℕ) → IsShut old → new ≡ after_write old 1 (0 ∷ []) → IsShut new
+behind_shut old new shut is =
+    let whole = is ∙ behind_gate old shut.some in
+    record { some = omega (arith, ap length whole); gate = λ e. shut.gate (sym (ap (λ (l : List ℕ). get_or l 0 0) whole) ∙ e) }
+
+behind_long : (old new : List ℕ) (size now : ℕ) → IsShut old → new ≡ after_write old 1 (0 ∷ []) → size ≡ length old → now ≡ max size 2 → now ≡ length new
+behind_long old new size now shut is long max_is =
+    omega (arith, ap length (is ∙ behind_gate old shut.some), length-drop 2 old, long, max_is)
+
+pub shut_again_torn : (side : Side) (a b x y : List ℕ) → IsShut (of_side side a b) → ChangesSide side (Torn 1 1) a b x y → ChangesSide side MayShut a b x y
+shut_again_torn side a b x y shut ch =
+    record { changed = inr (shut_closed (of_side side x y) (shut_torn 1 1 (of_side side a b) (of_side side x y) (omega arith) shut ch.changed)); unchanged = ch.unchanged }
+
+pub shut_again_written : (side : Side) (size now : ℕ) (a b x y : List ℕ) → IsShut (of_side side a b) → size ≡ length (of_side side a b) → now ≡ max size 2
+    → ChangesSide side (λ old new. new ≡ after_write old 1 (0 ∷ [])) a b x y → IsPrepared side now a b x y
+shut_again_written side size now a b x y shut long is wrote = record {
+  front = inr (shut, wrote.changed);
+  shut = behind_shut (of_side side a b) (of_side side x y) shut wrote.changed;
+  long = behind_long (of_side side a b) (of_side side x y) size now shut wrote.changed long is;
+  unchanged = wrote.unchanged;
+}
 
 -- a side that was judged and isn't closed has an open gate
 pub judged_gate : (parity : ℕ) (octets : List ℕ) (judged : Judged) → IsSideJudged parity octets judged → (judged ≡ Closed → ⊥) → get_or octets 0 0 ≡ 1

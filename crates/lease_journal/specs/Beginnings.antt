@@ -1,6 +1,7 @@
 -- A side that is written anew (our own).
-use Rattle.std.specs.Prelude.{◌≡◌, ◌⊎◌, ◌<◌, ℕ, Bool, true, false, List, length, get_or}
+use Rattle.std.specs.Prelude.{◌≡◌, ◌⊎◌, ◌<◌, ℕ, Bool, true, false, List, [], ◌∷◌, length, get_or}
 use Rattle.pcp_base.specs.declared.records.Record.{Record}
+use Rattle.lease_disk.specs.Contents.{after_write}
 use Rattle.journal_sides.specs.declared.layout.TheConstants.{SHORTEST_SIDE}
 use Rattle.journal_sides.specs.declared.formats.Format.TheVariants.{Second}
 use Rattle.journal_sides.specs.declared.sides.Side.{Side}
@@ -22,8 +23,14 @@ abbrev pub GateMeans : List ℕ → Bool → Type 0
 GateMeans octets true = IsShut octets
 GateMeans octets false = (length octets < SHORTEST_SIDE) ⊎ (get_or octets 0 0 ≡ 1)
 
--- this side of what was a and b is shut, and has so many octets
+-- A zero was written to the gate of a side or, where that was shut already, to the place behind it.
+abbrev pub IsFrontWritten : List ℕ → List ℕ → Type 0
+IsFrontWritten old new =
+    (new ≡ after_write old 0 (0 ∷ [])) ⊎ (IsShut old × (new ≡ after_write old 1 (0 ∷ [])))
+
+-- this side of what was a and b was written in front, is shut, and has so many octets
 pub record IsPrepared (side : Side) (size : ℕ) (a b x y : List ℕ) : Type 0 where
+  pub front : IsFrontWritten (of_side side a b) (of_side side x y)
   pub shut : IsShut (of_side side x y)
   pub long : size ≡ length (of_side side x y)
   pub unchanged : of_side (other side) x y ≡ of_side (other side) a b

@@ -27,6 +27,12 @@ FoundMeans m a b now Recovered = StandsFor now a b
 FoundMeans m a b now Blank = IsBlank a b × (now ≡ fresh_state m)
 FoundMeans m a b now Damaged = IsDamaged a b × (now ≡ fresh_state m)
 
+-- where records were found nothing is written
+abbrev pub IsStillUnless : {D : Type 0} → (D → List ℕ) → DiskPair D → DiskPair D → Found → Type 0
+IsStillUnless seen old new Recovered = AreSeenStill seen old new
+IsStillUnless seen old new Blank = ⊤
+IsStillUnless seen old new Damaged = ⊤
+
 -- the same where nothing is started: the state is then empty
 abbrev pub ViewMeans : List ℕ → List ℕ → State → Found → Type 0
 ViewMeans a b now Recovered = StandsFor now a b

@@ -55,7 +55,7 @@ impl<D: LeaseDisk> Journal<D> {
     ghost use Rattle.journal_sides.specs.Formats.{HasNext, IsReplaying, format_octet};
     ghost use Rattle.journal_sides.specs.Frames.{frame_text};
     ghost use Rattle.journal_sides.specs.Journals.{StandsFor, StandsForWithOrWithout};
-    ghost use Rattle.lease_journal.specs.Openings.{FoundMeans, HasStarted, IsClearedUnless, LeavesOld, Opens, ViewMeans, ViewReplays};
+    ghost use Rattle.lease_journal.specs.Openings.{FoundMeans, HasStarted, IsClearedUnless, IsStillUnless, LeavesOld, Opens, ViewMeans, ViewReplays};
     ghost use Rattle.journal_sides.specs.Reads.{ArePairRead, AreSeenStill};
     ghost use Rattle.lease_journal.specs.Views.{IsSettled};
     ghost use Rattle.journal_sides.specs.Writes.{of_side, other};
@@ -109,6 +109,8 @@ impl<D: LeaseDisk> Journal<D> {
         ensures found { D.tells → IfOk result
             (λ opened. FoundMeans m (D.seen pair.a) (D.seen pair.b) (R.state replay.new)
             opened.1) }
+        ensures still { D.tells → IfOk result
+            (λ opened. IsStillUnless D.seen pair opened.0.pair opened.1) }
         ensures started { IfOk result
             (λ opened. HasStarted m opened.0.side opened.0.standing (R.state replay.new)
             opened.1) }
@@ -159,6 +161,8 @@ impl<D: LeaseDisk> Journal<D> {
         ensures found { D.tells → IfOk result
             (FoundMeans m (D.seen self.old.pair.a) (D.seen self.old.pair.b)
             (R.state replay.new)) }
+        ensures still { D.tells → IfOk result
+            (IsStillUnless D.seen self.old.pair self.new.pair) }
         ensures started { IfOk result
             (HasStarted m self.new.side self.new.standing (R.state replay.new)) }
         ensures settled { D.tells → OnOk result

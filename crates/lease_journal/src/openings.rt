@@ -10,10 +10,10 @@ ghost use Rattle.lease_journal.specs.Beginnings.{GateMeans, IsBegun, IsPrepared,
 ghost use Rattle.journal_sides.specs.Formats.{HasNext, IsReplaying};
 ghost use Rattle.journal_sides.specs.Journals.{IsBlank, IsDamaged, IsStarting, IsStartingAnew, fresh_state};
 ghost use Rattle.journal_sides.specs.Judging.{IsSideJudged};
-ghost use Rattle.lease_journal.specs.Openings.{FoundMeans, HasStarted, IsNew, LeavesOld, MayOpen, Opens};
+ghost use Rattle.lease_journal.specs.Openings.{FoundMeans, HasStarted, IsNew, IsStillUnless, LeavesOld, MayOpen, Opens};
 ghost use Rattle.journal_sides.specs.Reads.{ArePairRead, AreSeenStill, IsRead};
 ghost use Rattle.journal_sides.specs.Settled.{IsSettledBy, IsInReach};
-ghost use Rattle.journal_sides.specs.Shut.{hidden_text};
+ghost use Rattle.journal_sides.specs.Shut.{IsShut, hidden_text};
 ghost use Rattle.journal_sides.specs.Sides.{AreBatches, IsClosedSide};
 ghost use Rattle.journal_sides.specs.Verdicts.{AreBroken, AreFound, IsFoundBegun, IsFoundInReach, IsFoundReplaying, IsFoundWithNext};
 ghost use Rattle.journal_sides.specs.Writes.{AreDurable, ChangesSide, of_side, side_parity};
@@ -76,7 +76,35 @@ fn front_of_side<D: LeaseDisk>(pair: &mut DiskPair<D>, side: Side) -> Result<Fro
     }
 }
 
-/// Shuts a side that has no octets or an open gate, and says how many octets it has then.
+/// Writes the octet behind a gate that isn't open, on a side of this size, and says how many octets
+/// it has then. The gate's sector goes to the disk with it, and whatever a crash leaves of that
+/// octet, the side stays shut.
+fn shut_again<D: LeaseDisk>(
+    pair: &mut DiskPair<D>,
+    side: Side,
+    size: u64,
+) -> Result<u64, Failed>
+    requires most { size ≤ 2 ^ 62 }
+    ensures moments { D.tells → AreDurable D.seen D.may_leave pair.old
+        → IsShut (of_side side (D.seen pair.old.a) (D.seen pair.old.b))
+        → PairLeavesOnly D.moment D.left_since D.may_leave pair.old pair.new
+        (ChangesSide side MayShut (D.seen pair.old.a) (D.seen pair.old.b)) }
+    ensures shut { D.tells → IsShut (of_side side (D.seen pair.old.a) (D.seen pair.old.b))
+        → size ≡ length (of_side side (D.seen pair.old.a) (D.seen pair.old.b))
+        → IfOk result (λ now. IsPrepared side now (D.seen pair.old.a) (D.seen pair.old.b)
+        (D.seen pair.new.a) (D.seen pair.new.b)) }
+    ensures durable { D.tells → AreDurable D.seen D.may_leave pair.old
+        → OnOk result (AreDurable D.seen D.may_leave pair.new) }
+    ensures most { IfOk result (λ now. now ≤ 2 ^ 62) }
+    ensures cause { PairHasCause D.faults pair.old pair.new (IsErr result) }
+{
+    write_side(pair, side, 1, &[0])?;
+    Ok(size.max(2))
+}
+
+/// Shuts a side that has no octets or an open gate, and says how many octets it has then. Where a
+/// gate that isn't open stands there already, the octet behind it is written: what was read of the
+/// gate may stand in the system's memory alone.
 fn prepare<D: LeaseDisk>(pair: &mut DiskPair<D>, side: Side) -> Result<u64, Failed>
     ensures moments { D.tells → AreDurable D.seen D.may_leave pair.old
         → PairLeavesOnly D.moment D.left_since D.may_leave pair.old pair.new
@@ -91,7 +119,7 @@ fn prepare<D: LeaseDisk>(pair: &mut DiskPair<D>, side: Side) -> Result<u64, Fail
 {
     let front = front_of_side(pair, side)?;
     if front.is_shut {
-        return Ok(front.size);
+        return shut_again(pair, side, front.size);
     }
     write_side(pair, side, 0, &[0])?;
     Ok(front.size.max(1))
@@ -279,6 +307,8 @@ fn start_by<D: LeaseDisk, R: Replay>(
         → IfOk result
         (λ opened. FoundMeans m (D.seen pair.old.a) (D.seen pair.old.b)
         (R.state replay.new) opened.found) }
+    ensures still { IfOk result
+        (λ opened. IsStillUnless D.seen pair.old pair.new opened.found) }
     ensures settled { D.tells → AreDurable D.seen D.may_leave pair.old
         → AreFound (D.seen pair.old.a) (D.seen pair.old.b) (R.state replay.old) verdict
         → IfOk result
@@ -335,6 +365,8 @@ pub(crate) fn open<D: LeaseDisk, R: Replay>(
     ensures found { D.tells → IfOk result
         (λ opened. FoundMeans m (D.seen pair.old.a) (D.seen pair.old.b) (R.state replay.new)
         opened.found) }
+    ensures still { D.tells → IfOk result
+        (λ opened. IsStillUnless D.seen pair.old pair.new opened.found) }
     ensures started { IfOk result
         (λ opened. HasStarted m opened.side opened.standing (R.state replay.new) opened.found) }
     ensures settled { D.tells → IfOk result

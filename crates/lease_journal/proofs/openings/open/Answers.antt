@@ -1,7 +1,7 @@
 use Rattle.std.proofs.Common.{inl, inr, ◌∙◌, ℕ, List}
 use Rattle.std.proofs.lemmas.Result.{IfOk-weaker}
 use Rattle.lease_journal.specs.Openings.{FoundMeans}
-use Rattle.lease_journal.proofs.OpeningLaws.{found_again, on_ok_always, only_read, opened, same_octets}
+use Rattle.lease_journal.proofs.OpeningLaws.{found_again, on_ok_always, only_read, opened, same_octets, still_unless}
 use Rattle.lease_journal.proofs.PrepareLaws.{durable_still}
 use Rattle.lease_journal.proofs.openings.open.Goals as goal
 
@@ -22,6 +22,14 @@ returns-clause-found g c = λ told.
     let still = then_.seen told in
     let found = found_again (d.seen synced.a) (d.seen synced.b) (d.seen judged.a) (d.seen judged.b) (g.R.Replay.state c.judge.new.replay) c.in_ok-verdict.verdict still.a still.b (then_.found told) in
     IfOk-weaker c.start_by.result _ _ (λ o means. same_octets (λ (a b : List ℕ). FoundMeans c.args.m a b (g.R.Replay.state c.start_by.new.replay) o.found) (d.seen pair.a) (d.seen pair.b) (d.seen judged.a) (d.seen judged.b) (still.a ∙ first.a) (still.b ∙ first.b) means) (c.start_by.ensures.found told found)
+
+pub returns-clause-still : goal.returns-clause-still
+returns-clause-still g c = λ told.
+    let d = g.D.LeaseDisk in
+    let judged = c.judge.new.pair in
+    let first = c.in_ok-sync_both.ensures.seen told in
+    let still = c.in_ok-verdict.ensures.seen told in
+    IfOk-weaker c.start_by.result _ _ (λ o is. still_unless d.seen c.args.pair.now judged c.start_by.new.pair o.found (record { a = still.a ∙ first.a; b = still.b ∙ first.b }) is) c.start_by.ensures.still
 
 pub returns-clause-settled : goal.returns-clause-settled
 returns-clause-settled g c = λ told.
