@@ -1,5 +1,5 @@
 -- From one record to the next a port that a lease left stays its endpoint's.
-use Rattle.std.specs.Prelude.{nat_le}
+use Rattle.std.specs.Prelude.{◌⊎◌, nat_le, Contains}
 use Rattle.std.specs.List.{AllByRecursion, list_any}
 use Rattle.std.proofs.Common.{◌≡◌, ◌∙◌, ℕ, ◌+◌, ◌<◌, ◌≤◌, ◌==◌, ◌&&◌, nat_lt, Bool, true, false, List, [], ◌∷◌, ◌++◌, map, filter, not, Option, Some, None, refl, ap, sym, subst, inl, inr, arith, append_assoc}
 use Rattle.std.proofs.lemmas.List.{append-nil}
@@ -37,7 +37,7 @@ use Rattle.lease_store.specs.LeaseTerms.{terms_of}
 use Rattle.pcp_options.specs.Laws.{AsksAreWellFormed}
 use Rattle.lease_histories.specs.Entries.{Served, OfRequest, OfServer, begins_anew, decided_on, entry_kind}
 use Rattle.lease_histories.specs.Legal.{IsLegal, IsNextEntry, IsOfServer, IsOfTable, IsOpening, state_after}
-use Rattle.lease_histories.specs.Laws.{PortsRest, lasting_to}
+use Rattle.lease_histories.specs.Laws.{HasEndSince, HasNoOther, OwnsUpTo, PortsRest, PortsStay, lasting_to}
 use Rattle.lease_histories.specs.PlainHouses.{with_kept}
 use Rattle.lease_histories.proofs.Growing.{if-some, prefix-legal, state-more}
 use Rattle.lease_histories.proofs.EntryKinds.{IsWell, KindOf, ServerDeed, begins, is_fault, is_request, is_server, kind_of_entry, may-decide, of-kind, renumber-fits, renumbers, server_deed, well-after, well-step}
@@ -353,37 +353,69 @@ held-kept members last s (Some r) m t o reached own late later each h = go (nat_
 
 -- ---- all entries
 
+-- no lease of the table owns a port with an end
+unowned-port : (s : State) (t : ℕ) (o : Owner) → SoundState s → HasEndSince s t o → is_owned o.protocol o.external (owners s.table) ≡ false
+unowned-port s t o sound h =
+    let unowned = All-IsIn (λ e. is_owned_by (owners s.table) e ≡ false) s.ends h.end sound.unowned (IsIn-from_Contains s.ends h.end h.there) in
+    let protocol : o.protocol ≡ h.end.endpoint.protocol = sym (ap (λ (x : Endpoint). x.protocol) h.endpoint ∙ h.own) in
+    ap (λ p. is_owned p o.external (owners s.table)) protocol ∙ ap (λ n. is_owned h.end.endpoint.protocol n (owners s.table)) (sym h.external) ∙ unowned
+
+-- what holds where an owner has its port up to t
+holds : (s : State) (t : ℕ) (o : Owner) → SoundState s → Contains (owners (lasting_to s.table t)) o ⊎ HasEndSince s t o → (o.endpoint.protocol ≡ o.protocol) × Held s t o
+holds s t o sound (inl owned) =
+    let there = IsIn-from_Contains (owners (lasting_to s.table t)) o owned in
+    (sym (owner-protocol s.table o (lasting-fewer s.table t o there)), owned_to there)
+holds s t o sound (inr h) =
+    (h.own, ended (unowned-port s t o sound h) h.end (IsIn-from_Contains s.ends h.end h.there) h.endpoint h.external h.late)
+
+module _ (formed : AsksAreWellFormed) (fit : DecisionsFit) (change : DecisionsChangeLeases) (members : EndsAtAMoment) (last : RecordsComeLast) (x : Served) (opening : State) (opens : IsOpening x opening) (t : ℕ) (o : Owner) where
+  held-along : (front rest : List Entry) → IsLegal x opening (front ++ rest) → IsWell (state_after opening front) → o.endpoint.protocol ≡ o.protocol →
+      AllByRecursion (λ e. t ≤ e.moment) rest → AllByRecursion (λ e. begins_anew (entry_kind e) ≡ false) rest → Held (state_after opening front) t o →
+      Held (state_after opening (front ++ rest)) t o
+  held-along front [] legal well own late same held = subst (λ es. Held (state_after opening es) t o) (sym (append-nil front)) held
+  held-along front (e ∷ rest) legal well own late same held =
+      let next = legal front e rest refl in
+      let grouped = append_assoc front (e ∷ []) rest in
+      subst (λ es. Held (state_after opening es) t o) grouped
+      (held-along (front ++ e ∷ []) rest (subst (λ es. IsLegal x opening es) (sym grouped) legal) (well-step formed fit x opening opens front e well next) own late.1 same.1
+      (subst (λ (s : State). Held s t o) (sym (state-more opening front e))
+      (held-kept members last (state_after opening front) e.kept e.moment t o well.reached own late.0 next.after_records
+      (entry-fits formed fit change x opening opens front e well next same.0) held)))
+
+  held-after : (before behind : List Entry) → IsLegal x opening (before ++ behind) → OwnsUpTo opening before behind t o →
+      (o.endpoint.protocol ≡ o.protocol) × Held (state_after opening (before ++ behind)) t o
+  held-after before behind legal owns =
+      let well = well-after formed fit x opening before opens (prefix-legal x opening before behind legal) in
+      let first = holds (state_after opening before) t o well.reached.sound owns.owned in
+      (first.0, held-along before behind legal well first.0 owns.undisturbed owns.same_table first.1)
+
+none-other : (s : State) (t : ℕ) (o : Owner) (n : ℕ) → SoundState s → s.last ≤ n → n < t + REST_SECONDS → Held s t o → HasNoOther (owners (live s.table n)) o
+none-other s t o n sound later soon (owned_to h) p there protocol external =
+    sound.table.one_owner p o (Contains-from_IsIn (owners s.table) p (owners-live s.table n p (IsIn-from_Contains (owners (live s.table n)) p there)))
+    (Contains-from_IsIn (owners s.table) o (lasting-fewer s.table t o h)) protocol external
+none-other s t o n sound later soon (ended un e e_there endpoint port late) p there protocol external =
+    let some = some-owned (owners s.table) p (owners-live s.table n p (IsIn-from_Contains (owners (live s.table n)) p there)) in
+    let same : is_owned p.protocol p.external (owners s.table) ≡ is_owned o.protocol o.external (owners s.table) =
+    ap (λ q. is_owned q p.external (owners s.table)) protocol ∙ ap (λ k. is_owned o.protocol k (owners s.table)) external in
+    absurd cc
+none-other s t o n sound later soon (over done) p there protocol external = absurd (omega (arith, done, later, soon))
+
 pub ports-rest : AsksAreWellFormed → DecisionsFit → DecisionsChangeLeases → EndsAtAMoment → RecordsComeLast → PortsRest
-ports-rest formed fit change members last x opening before behind t o n opens legal owns later soon p there protocol external =
-    let well = well-after formed fit x opening before opens (prefix-legal x opening before behind legal) in
-    let own = owned-own (lasting-fewer (state_after opening before).table t o (IsIn-from_Contains (owners (lasting_to (state_after opening before).table t)) o owns.owned)) in
-    let held = go before behind legal well own owns.undisturbed owns.same_table (owned_to (IsIn-from_Contains (owners (lasting_to (state_after opening before).table t)) o owns.owned)) in
+ports-rest formed fit change members last x opening before behind t o n opens legal owns later soon =
+    let held = held-after formed fit change members last x opening opens t o before behind legal owns in
     let end = well-after formed fit x opening (before ++ behind) opens legal in
-    none-other (state_after opening (before ++ behind)) end.reached.sound later held p (IsIn-from_Contains _ p there) protocol external
-  where
-    owned-own : IsIn o (owners (state_after opening before).table) → o.endpoint.protocol ≡ o.protocol
-    owned-own h = sym (owner-protocol (state_after opening before).table o h)
+    none-other (state_after opening (before ++ behind)) t o n end.reached.sound later soon held.1
 
-    go : (front rest : List Entry) → IsLegal x opening (front ++ rest) → IsWell (state_after opening front) → o.endpoint.protocol ≡ o.protocol →
-        AllByRecursion (λ e. t ≤ e.moment) rest → AllByRecursion (λ e. begins_anew (entry_kind e) ≡ false) rest → Held (state_after opening front) t o →
-        Held (state_after opening (front ++ rest)) t o
-    go front [] legal well own late same held = subst (λ es. Held (state_after opening es) t o) (sym (append-nil front)) held
-    go front (e ∷ rest) legal well own late same held =
-        let next = legal front e rest refl in
-        let grouped = append_assoc front (e ∷ []) rest in
-        subst (λ es. Held (state_after opening es) t o) grouped
-        (go (front ++ e ∷ []) rest (subst (λ es. IsLegal x opening es) (sym grouped) legal) (well-step formed fit x opening opens front e well next) own late.1 same.1
-        (subst (λ (s : State). Held s t o) (sym (state-more opening front e))
-        (held-kept members last (state_after opening front) e.kept e.moment t o well.reached own late.0 next.after_records
-        (entry-fits formed fit change x opening opens front e well next same.0) held)))
+-- the state that holds it may be the next opening
+begins-so : (s : State) (t : ℕ) (o : Owner) → o.endpoint.protocol ≡ o.protocol → Held s t o → OwnsUpTo s [] [] t o ⊎ (t + REST_SECONDS ≤ s.last)
+begins-so s t o own (owned_to h) =
+    inl (record { owned = inl (Contains-from_IsIn (owners (lasting_to s.table t)) o h); undisturbed = tt; same_table = tt })
+begins-so s t o own (ended un e there endpoint external late) =
+    let end : HasEndSince s t o = record { end = e; there = Contains-from_IsIn s.ends e there; endpoint = endpoint; external = external; own = own; late = late } in
+    inl (record { owned = inr end; undisturbed = tt; same_table = tt })
+begins-so s t o own (over done) = inr done
 
-    none-other : (s : State) → SoundState s → s.last ≤ n → Held s t o → (p : Owner) → IsIn p (owners (live s.table n)) → p.protocol ≡ o.protocol → p.external ≡ o.external → p.endpoint ≡ o.endpoint
-    none-other s sound later (owned_to h) p there protocol external =
-        sound.table.one_owner p o (Contains-from_IsIn (owners s.table) p (owners-live s.table n p there))
-        (Contains-from_IsIn (owners s.table) o (lasting-fewer s.table t o h)) protocol external
-    none-other s sound later (ended un e e_there endpoint port late) p there protocol external =
-        let some = some-owned (owners s.table) p (owners-live s.table n p there) in
-        let same : is_owned p.protocol p.external (owners s.table) ≡ is_owned o.protocol o.external (owners s.table) =
-        ap (λ q. is_owned q p.external (owners s.table)) protocol ∙ ap (λ k. is_owned o.protocol k (owners s.table)) external in
-        absurd cc
-    none-other s sound later (over done) p there protocol external = absurd (omega (arith, done, later, soon))
+pub ports-stay : AsksAreWellFormed → DecisionsFit → DecisionsChangeLeases → EndsAtAMoment → RecordsComeLast → PortsStay
+ports-stay formed fit change members last x opening before behind t o opens legal owns =
+    let held = held-after formed fit change members last x opening opens t o before behind legal owns in
+    begins-so (state_after opening (before ++ behind)) t o held.0 held.1

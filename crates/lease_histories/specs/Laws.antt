@@ -3,6 +3,7 @@ use Rattle.std.specs.Prelude.{◌≡◌, ℕ, ◌+◌, ◌<◌, ◌≤◌, ◌^�
 use Rattle.std.specs.List.{AllByRecursion}
 use Rattle.pcp_base.specs.declared.addresses.Nonce.{Nonce}
 use Rattle.pcp_base.specs.declared.leases.TheConstants.{REST_SECONDS}
+use Rattle.pcp_base.specs.declared.leases.End.{End}
 use Rattle.pcp_base.specs.declared.leases.MapLease.{MapLease}
 use Rattle.pcp_base.specs.declared.leases.PeerLease.{PeerLease}
 use Rattle.pcp_base.specs.declared.leases.Owner.{Owner}
@@ -132,11 +133,22 @@ lasting_to t m = record {
   peers = filter (λ l. nat_le m l.expiry) t.peers;
 }
 
+-- a lease of the owner's port left the table, and ended no earlier than t
+pub record HasEndSince (s : State) (t : ℕ) (o : Owner) : Type 0 where
+  pub end : End
+  pub there : Contains s.ends end
+  pub endpoint : end.endpoint ≡ o.endpoint
+  pub external : end.external ≡ o.external
+  pub own : o.endpoint.protocol ≡ o.protocol
+  pub late : t ≤ end.end
+
 -- After the entries before, the owner has its port up to t: by a lease that expires no earlier, and
--- that none of the entries behind takes away earlier. None of them begins the table anew.
+-- that none of the entries behind takes away earlier, or by one that has left the table and ended no
+-- earlier. None of the entries behind begins the table anew.
 pub record OwnsUpTo (opening : State) (before behind : List Entry) (t : ℕ) (o : Owner)
     : Type 0 where
   pub owned : Contains (owners (lasting_to (state_after opening before).table t)) o
+      ⊎ HasEndSince (state_after opening before) t o
   pub undisturbed : AllByRecursion (λ e. t ≤ e.moment) behind
   pub same_table : AllByRecursion (λ e. begins_anew (entry_kind e) ≡ false) behind
 
@@ -153,6 +165,15 @@ PortsRest =
     OwnsUpTo opening before behind t o →
     (state_after opening (before ++ behind)).last ≤ n → n < t + REST_SECONDS →
     HasNoOther (owners (live (state_after opening (before ++ behind)).table n)) o
+
+-- and the state, from which a later history may begin, still has the owner's port up to t, or those
+-- 120 seconds have passed
+abbrev pub PortsStay : Type 0
+PortsStay = (x : Served) (opening : State) (before behind : List Entry) (t : ℕ) (o : Owner) →
+    IsOpening x opening → IsLegal x opening (before ++ behind) →
+    OwnsUpTo opening before behind t o →
+    OwnsUpTo (state_after opening (before ++ behind)) [] [] t o
+    ⊎ (t + REST_SECONDS ≤ (state_after opening (before ++ behind)).last)
 
 -- ---- disclosure
 

@@ -1,5 +1,5 @@
 //! What holds of legal histories. A proof that needs a law calls its function.
-ghost use Rattle.lease_histories.specs.Laws.{CallsMakeHistories, DecisionsComeNext, EpochsDisclose, FaultsComeNext, LastIsGreatest, NextIsLegal, NoncesDecide, NothingIsLegal, OpeningsDisclose, PortsRest, PrefixesAreLegal, ServersComeNext, StartsDisclose, StatesStand};
+ghost use Rattle.lease_histories.specs.Laws.{CallsMakeHistories, DecisionsComeNext, EpochsDisclose, FaultsComeNext, LastIsGreatest, NextIsLegal, NoncesDecide, NothingIsLegal, OpeningsDisclose, PortsRest, PortsStay, PrefixesAreLegal, ServersComeNext, StartsDisclose, StatesStand};
 
 use lease_core::{decisions_change_leases, decisions_fit, nonces_match};
 use pcp_base::{ends_at_a_moment, ends_come_in_steps, ports_have_one_owner, states_are_sound};
@@ -45,9 +45,10 @@ pub fn nonces_decide()
 }
 
 /// From the end of a lease until 120 seconds later no other endpoint has its ports, unless the
-/// table begins anew in between.
+/// table begins anew in between. So it goes on where a later history begins.
 pub fn ports_rest()
-    ensures { PortsRest }
+    ensures rest { PortsRest }
+    ensures stay { PortsStay }
 {
     asks_are_well_formed();
     decisions_fit();
