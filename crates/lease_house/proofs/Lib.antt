@@ -2,6 +2,7 @@ pub mod AskLemmas
 pub mod BegunLemmas
 pub mod BookLemmas
 pub mod CallLemmas
+pub mod CrashLemmas
 pub mod HandingBack
 pub mod ListLemmas
 pub mod LookLemmas

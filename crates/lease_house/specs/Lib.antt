@@ -1,4 +1,5 @@
 pub mod BookCalls
+pub mod CrashLaws
 pub mod HouseImages
 pub mod OpeningLaws
 pub mod Routings

@@ -2,6 +2,7 @@
 #![tactic(auto)]
 
 mod book_calls;
+mod crash_laws;
 mod faults;
 mod moments;
 mod opening;
@@ -11,6 +12,7 @@ mod routes;
 mod solo;
 mod updates;
 
+pub use crash_laws::crashes_are_found;
 pub use faults::{HouseFault, Unbegun};
 pub use opening_laws::{opened_houses_begin, pairs_are_handed_back};
 pub use routes::{Routed, read_datagram, route};
