@@ -35,7 +35,7 @@ event-words : (word : List ℕ) → IsWord word → (externals : List External) 
 event-words word w externals fields m s h =
     rw h.fields_are (w, (moment-word _ m h.moment_is, (external-word externals _ s h.shard_is, tt)))
 
-words : (externals : List External) (fields : List (List ℕ)) (line : Line) → StandsFor externals fields line → AllByRecursion IsWord fields
+pub words : (externals : List External) (fields : List (List ℕ)) (line : Line) → StandsFor externals fields line → AllByRecursion IsWord fields
 words externals fields Skip h = absurd h
 words externals fields (Packet m from) h =
     rw h.fields_are (packet-word, (moment-word _ m h.moment_is, (address-word _ from.peer h.peer_is, (port-word _ from.port h.port_is, (hex-word _ from.octets h.octets_are, tt)))))
@@ -47,7 +47,7 @@ words externals fields (Owners m s) h = event-words (codes "owners") owners-word
 cons-some : (fields rest : List (List ℕ)) (first : List ℕ) → fields ≡ first ∷ rest → fields ≢ []
 cons-some fields rest first e none = let bad : first ∷ rest ≡ [] = sym e ∙ none in absurd (cc)
 
-some : (externals : List External) (fields : List (List ℕ)) (line : Line) → StandsFor externals fields line → fields ≢ []
+pub some : (externals : List External) (fields : List (List ℕ)) (line : Line) → StandsFor externals fields line → fields ≢ []
 some externals fields Skip h = absurd h
 some externals fields (Packet m from) h = cons-some fields _ _ h.fields_are
 some externals fields (Look m s p port remote remote_port) h = cons-some fields _ _ h.fields_are
@@ -77,13 +77,13 @@ pub record EventParts (externals : List External) (w a b : List ℕ) : Type 0 wh
   pub moment : IsMomentField a m
   pub shard : IsExternalField externals b s
 
-event-moment : (externals : List External) (word w a b : List ℕ) (m s : ℕ) (h : IsEvent word externals (w ∷ a ∷ b ∷ []) m s) → IsMomentField a m
+pub event-moment : (externals : List External) (word w a b : List ℕ) (m s : ℕ) (h : IsEvent word externals (w ∷ a ∷ b ∷ []) m s) → IsMomentField a m
 event-moment externals word w a b m s h =
     let e : w ∷ a ∷ b ∷ [] ≡ word ∷ h.moment_text ∷ h.external_text ∷ [] = h.fields_are in
     let same : h.moment_text ≡ a = cc in
     subst (λ (t : List ℕ). IsMomentField t m) same h.moment_is
 
-event-shard : (externals : List External) (word w a b : List ℕ) (m s : ℕ) (h : IsEvent word externals (w ∷ a ∷ b ∷ []) m s) → IsExternalField externals b s
+pub event-shard : (externals : List External) (word w a b : List ℕ) (m s : ℕ) (h : IsEvent word externals (w ∷ a ∷ b ∷ []) m s) → IsExternalField externals b s
 event-shard externals word w a b m s h =
     let e : w ∷ a ∷ b ∷ [] ≡ word ∷ h.moment_text ∷ h.external_text ∷ [] = h.fields_are in
     let same : h.external_text ≡ b = cc in

@@ -1,5 +1,6 @@
 pub mod FieldTexts
 pub mod Fields
+pub mod Laws
 pub mod Lines
 pub mod Loads
 pub mod Results
