@@ -5,7 +5,7 @@ use Rattle.pcp_base.specs.Configs.{IsConfig}
 use Rattle.pcp_script.specs.declared.lines.Line.{Line}
 use Rattle.lease_disk.specs.declared.disks.DiskPair.{DiskPair}
 use Rattle.lease_house.specs.SoloHouses.{HouseView}
-use Rattle.script_player.specs.Played.{IsKept, IsOver, Outset}
+use Rattle.script_player.specs.Played.{HasRun}
 use Rattle.script_player.specs.Scripts.{AreLines}
 use Rattle.script_player.specs.declared.player.PlayStatus.{PlayStatus}
 use Rattle.house_lines.specs.LineLaws.{HousesAreOfEntries, LinesMakeHistories, line_calls}
@@ -13,7 +13,7 @@ use Rattle.lease_histories.specs.PlainHouses.{entries_along, house_begun}
 use Rattle.server_commands.specs.declared.statuses.Status.{Status}
 use Rattle.pcp_server.specs.Opened.{AreUnused, Opens, openings, pairs_of}
 use Rattle.pcp_server.specs.Outsides.{DiskMeanings, Input, Outside}
-use Rattle.pcp_server.specs.Played.{EndsOver, IsOutset, house_course, streams_of}
+use Rattle.pcp_server.specs.Played.{EndsOver, house_course, streams_found, streams_of}
 use Rattle.pcp_server.specs.Promises.{HistoriesKeepPromises, LinesKeepPromises}
 use Rattle.pcp_server.specs.Statuses.{played_as}
 use Rattle.pcp_server.proofs.OpeningLemmas.{are_openings, begun, unused}
@@ -32,19 +32,19 @@ lines-keep keep make follow disks config start pairs house is o texts lines read
 pub ends-over : HistoriesKeepPromises → LinesMakeHistories → HousesAreOfEntries →
     {S W D : Type 0} (disks : DiskMeanings D) (config : Config) (start : ℕ) (script_before script_now : Input S) (before now : Outside W D) (status : Status)
     (house ended : HouseView D) (play_status : PlayStatus) → IsConfig config → Opens disks config start before.pairs house → status ≡ played_as play_status →
-    ((outset : Outset) → IsOutset house script_before before outset → IsOver (house_course disks house ended) outset (streams_of script_now now) play_status) →
-    ((outset : Outset) → IsOutset house script_before before outset → IsKept (house_course disks house ended) outset (streams_of script_now now)) →
+    HasRun (house_course disks house ended) (streams_found house script_before before) (streams_of script_now now) play_status →
     now.pairs ≡ pairs_of ended → length ended.books ≡ length house.books → ended.spare ≡ house.spare →
     EndsOver disks config start script_before script_now before now status
-ends-over keep make follow disks config start script_before script_now before now status house ended play_status is o told over kept pairs count spare = record {
+ends-over keep make follow disks config start script_before script_now before now status house ended play_status is o told run pairs count spare = record {
   house = house;
   opened = o;
   begun = begun disks config start before.pairs house o;
   ended = ended;
   play_status = play_status;
   told = told;
-  lines = over;
-  crash = kept;
+  script = run.script;
+  lines = run.over;
+  crash = run.kept;
   promises = lines-keep keep make follow disks config start before.pairs house is o;
   pairs = pairs;
   unused = subst (λ ps. AreUnused config before.pairs ps) (sym pairs) (unused disks config start before.pairs house ended o count spare);

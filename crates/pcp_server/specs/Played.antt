@@ -1,11 +1,11 @@
 -- How a `play` ends, and what it leaves (our own).
-use Rattle.std.specs.Prelude.{◌≡◌, ◌⊎◌, ◌≤◌, ℕ, List, length, take, flat_map, Option, Some}
+use Rattle.std.specs.Prelude.{◌≡◌, ◌⊎◌, ◌≤◌, ℕ, List, length, take, flat_map, Option}
 use Rattle.std.specs.Io.KnownBytes.{append_known}
 use Rattle.pcp_base.specs.declared.configs.Config.{Config}
 use Rattle.pcp_io.specs.Writes.{WritesPart}
 use Rattle.pcp_script.specs.Results.{reply_line}
 use Rattle.pcp_script.specs.declared.lines.Line.{Line}
-use Rattle.script_player.specs.Played.{IsKept, IsOver, Outset, Streams}
+use Rattle.script_player.specs.Played.{IsKept, IsOver, Streams}
 use Rattle.script_player.specs.Scripts.{AreLines}
 use Rattle.script_player.specs.Ways.{Course, course_of}
 use Rattle.script_player.specs.declared.player.PlayStatus.{PlayStatus}
@@ -61,17 +61,15 @@ abbrev pub house_course : {D : Type 0} → DiskMeanings D → (old new : HouseVi
 house_course disks old new = course_of house_effects plain_house
     (HouseLeavesOnly disks.tells disks.moment disks.left_since disks.may_leave) old new
 
--- What the script finds: its source has this left, and the sink holds what it held and the updates.
-pub record IsOutset {S W D : Type 0} (house : HouseView D) (script : Input S)
-    (before : Outside W D) (outset : Outset) : Type 0 where
-  pub script_is : script.left ≡ Some outset.script
-  pub held_is : append_known before.held (updates_text house) ≡ Some outset.held
+-- What the script finds: what its source has left, and a sink that holds what it held and the updates.
+abbrev pub streams_found : {S W D : Type 0} → HouseView D → Input S → Outside W D → Streams
+streams_found house script before =
+    record { left = script.left; held = append_known before.held (updates_text house) }
 
 abbrev pub streams_of : {S W D : Type 0} → Input S → Outside W D → Streams
 streams_of script now = record { left = script.left; held = now.held }
 
--- The updates are written, and the script was played. Its source and the sink are to tell their
--- octets.
+-- The updates are written, and the script was played.
 pub record EndsOver {S W D : Type 0} (disks : DiskMeanings D) (config : Config) (start : ℕ)
     (script_before script_now : Input S) (before now : Outside W D) (status : Status)
     : Type 0 where
@@ -82,12 +80,14 @@ pub record EndsOver {S W D : Type 0} (disks : DiskMeanings D) (config : Config) 
   pub ended : HouseView D
   pub play_status : PlayStatus
   pub told : status ≡ played_as play_status
+  -- what its source had left, where that tells it
+  pub script : List ℕ
   -- what was read, answered and written, by the status
-  pub lines : (outset : Outset) → IsOutset house script_before before outset →
-      IsOver (house_course disks house ended) outset (streams_of script_now now) play_status
+  pub lines : IsOver (house_course disks house ended) script
+      (streams_found house script_before before) (streams_of script_now now) play_status
   -- what a crash may leave of the journals, at each moment and at the end, whatever the status
-  pub crash : (outset : Outset) → IsOutset house script_before before outset →
-      IsKept (house_course disks house ended) outset (streams_of script_now now)
+  pub crash : IsKept (house_course disks house ended) script
+      (streams_found house script_before before) (streams_of script_now now)
   -- what holds of all lines that may be read, and so of those that were answered
   pub promises : (texts : List (List ℕ)) (lines : List Line) →
       AreLines config.externals texts lines → LinesKeepPromises config (openings house) lines

@@ -1,20 +1,25 @@
 -- What a crash may leave of a run, by its status.
-use Rattle.std.proofs.Common.{◌≡◌, ℕ, List, [], ◌∷◌, ◌++◌, length, take, drop, flat_map, Some, sym, ap, subst, ◌∙◌, inl, inr, arith, append_assoc, append-nil, length-append, take-append-drop}
+use Rattle.std.proofs.Common.{◌≡◌, ℕ, List, [], ◌∷◌, ◌++◌, length, take, drop, flat_map, sym, ap, subst, ◌∙◌, inl, inr, arith, append_assoc, append-nil, length-append, take-append-drop}
 use Rattle.std.specs.Io.KnownBytes.{append_known}
+use Rattle.pcp_io.proofs.KnownOctets.{append_known-append}
 use Rattle.script_player.specs.Houses.{houses_along, out_of}
-use Rattle.script_player.specs.Played.{AreAnswered, EndsInDoubt, IsKept, IsOver, IsPlayed, Outcome, Outset, Streams}
+use Rattle.script_player.specs.Played.{AreAnswered, EndsInDoubt, HasRun, IsKept, IsOver, IsPlayed, Outcome, Streams}
 use Rattle.script_player.specs.Scripts.{AreFirst, AreLines, ended}
 use Rattle.script_player.specs.Ways.{Course}
 use Rattle.script_player.specs.declared.player.PlayStatus.{PlayStatus}
 use Rattle.script_player.specs.declared.player.PlayStatus.TheVariants as Statuses
 use Rattle.script_player.proofs.HouseLemmas.{out_of-push}
 
-module _ {House : Type 0} (course : Course House) (outset : Outset) (streams : Streams) (outcome : Outcome) (held_is : streams.held ≡ Some (outset.held ++ outcome.written)) where
-  -- all results are written
-  all_said : (out : List ℕ) → outcome.written ≡ out → append_known streams.held [] ≡ Some (outset.held ++ out)
-  all_said out same = ap (λ known. append_known known []) held_is ∙ ap Some (append-nil (outset.held ++ outcome.written) ∙ ap (λ xs. outset.held ++ xs) same)
+module _ {House : Type 0} (course : Course House) (script : List ℕ) (before now : Streams) (outcome : Outcome) (held_is : now.held ≡ append_known before.held outcome.written) where
+  -- all results are written, but for these octets
+  all_but : (out unsaid : List ℕ) → outcome.written ++ unsaid ≡ out → append_known now.held unsaid ≡ append_known before.held out
+  all_but out unsaid same =
+      ap (λ known. append_known known unsaid) held_is ∙ append_known-append before.held outcome.written unsaid ∙ ap (append_known before.held) same
 
-  answered_kept : (texts : List (List ℕ)) (rest : List ℕ) → AreFirst outset.script rest texts → AreAnswered course texts outcome.written → IsKept course outset streams
+  all_said : (out : List ℕ) → outcome.written ≡ out → append_known now.held [] ≡ append_known before.held out
+  all_said out same = all_but out [] (append-nil outcome.written ∙ same)
+
+  answered_kept : (texts : List (List ℕ)) (rest : List ℕ) → AreFirst script rest texts → AreAnswered course texts outcome.written → IsKept course script before now
   answered_kept texts rest first a =
       let none : a.lines ++ [] ≡ a.lines = append-nil a.lines in
       record {
@@ -31,7 +36,7 @@ module _ {House : Type 0} (course : Course House) (outset : Outset) (streams : S
         at_end = a.done.at_end;
       }
 
-  in_doubt_kept : EndsInDoubt course outset.script outcome → IsKept course outset streams
+  in_doubt_kept : EndsInDoubt course script outcome → IsKept course script before now
   in_doubt_kept d = record {
     texts = d.texts ++ d.text ∷ [];
     rest = d.rest;
@@ -46,12 +51,12 @@ module _ {House : Type 0} (course : Course House) (outset : Outset) (streams : S
     at_end = d.at_end;
   }
 
-  kept : (status : PlayStatus) → IsPlayed course outset.script outcome status → IsKept course outset streams
+  kept : (status : PlayStatus) → IsPlayed course script outcome status → IsKept course script before now
   kept Statuses.Done p = answered_kept p.texts [] p.first p.answered
   kept (Statuses.ScriptRefused n) p = answered_kept p.texts (p.text ++ p.tail) p.first p.answered
   kept Statuses.ReadFault p =
       let rest = p.part ++ outcome.left in
-      let spelled : outset.script ≡ flat_map ended p.texts ++ rest = p.spelled ∙ append_assoc (flat_map ended p.texts) p.part outcome.left in
+      let spelled : script ≡ flat_map ended p.texts ++ rest = p.spelled ∙ append_assoc (flat_map ended p.texts) p.part outcome.left in
       answered_kept p.texts rest
       (record {
         unbroken = p.unbroken;
@@ -76,8 +81,7 @@ module _ {House : Type 0} (course : Course House) (outset : Outset) (streams : S
         few = omega arith;
         read = subst (λ ls. AreLines (course.effects.externals course.begun) (p.texts ++ p.text ∷ []) ls) (sym none) p.done.read;
         unsaid = drop p.taken p.result;
-        held_is = ap (λ known. append_known known (drop p.taken p.result)) held_is
-            ∙ ap Some (append_assoc outset.held outcome.written (drop p.taken p.result) ∙ ap (λ xs. outset.held ++ xs) whole);
+        held_is = all_but (out_of course.effects course.begun lines) (drop p.taken p.result) whole;
         over = subst (λ ls. course.over (houses_along course.effects course.begun ls)) (sym none) p.done.over;
         at_end = p.done.at_end;
       }
@@ -86,6 +90,7 @@ module _ {House : Type 0} (course : Course House) (outset : Outset) (streams : S
   kept Statuses.Memory (inr d) = in_doubt_kept d
 
 -- whatever the status
-pub IsKept-over : {House : Type 0} (course : Course House) (outset : Outset) (streams : Streams) (status : PlayStatus) →
-    IsOver course outset streams status → IsKept course outset streams
-IsKept-over course outset streams status o = kept course outset streams o.outcome o.held_is status o.played
+pub has_run : {House : Type 0} (course : Course House) (script : List ℕ) (before now : Streams) (status : PlayStatus) →
+    IsOver course script before now status → HasRun course before now status
+has_run course script before now status o =
+    record { script = script; over = o; kept = kept course script before now o.outcome o.held_is status o.played }

@@ -1,28 +1,31 @@
 -- How a run over a script goes on over one line, or ends at it.
-use Rattle.std.proofs.Common.{◌≡◌, ℕ, ◌+◌, ◌≤◌, List, [], ◌∷◌, ◌++◌, length, take, Option, Some, Result, Ok, Err, refl, sym, ap, subst, ◌∙◌, inl, inr, arith, append_assoc, append-nil, length-append}
-use Rattle.std.specs.Io.KnownBytes.{append_known}
+use Rattle.std.proofs.Common.{◌≡◌, ℕ, ◌+◌, ◌≤◌, List, [], ◌∷◌, ◌++◌, length, take, Option, None, Some, Result, Ok, Err, refl, sym, ap, subst, ◌∙◌, inl, inr, arith, append_assoc, append-nil, length-append}
+use Rattle.std.specs.Io.KnownBytes.{append_known, prepend_known}
+use Rattle.pcp_io.proofs.KnownOctets.{append_known-append}
 use Rattle.pcp_io.specs.Writes.{WritesPart}
 use Rattle.pcp_script.specs.Lines.{IsLine}
 use Rattle.pcp_script.specs.declared.lines.Line.{Line}
 use Rattle.script_player.specs.Houses.{LineEffects, after_lines, houses_along, line_out, out_of}
-use Rattle.script_player.specs.Played.{AreAnswered, AreDone, EndsInDoubt, IsOver, Outset, Streams}
+use Rattle.script_player.specs.Played.{AreAnswered, AreDone, EndsInDoubt, HasRun, IsOver, Streams}
 use Rattle.script_player.specs.Playing.{Answers, Fails, IsDone, IsInDoubt, IsStill, IsTurned, IsUnderway, script_limits, status_at}
 use Rattle.script_player.specs.Reading.{Reading, Ends, Stops, EndsByFeed}
 use Rattle.script_player.specs.Scripts.{AreLines}
 use Rattle.script_player.specs.Ways.{Course, WayLaws, course_of}
 use Rattle.script_player.specs.declared.faults.LineFault.{LineFault}
 use Rattle.script_player.specs.declared.faults.LineFault.TheVariants as Faults
+use Rattle.script_player.specs.declared.player.PlayStatus.{PlayStatus}
 use Rattle.script_player.specs.declared.player.PlayStatus.TheVariants as Statuses
 use Rattle.script_player.specs.declared.readers.Ending.{Ending}
 use Rattle.script_player.specs.declared.readers.Ending.TheVariants as Endings
 use Rattle.script_player.specs.declared.readers.Limits.{Limits}
 use Rattle.script_player.proofs.HouseLemmas.{AllZip-push, after_lines-push, along_more, along_still, externals_after, out_of-push}
+use Rattle.script_player.proofs.KeptLemmas.{has_run}
 use Rattle.script_player.proofs.ScriptLemmas.{ReadsAll, ReadsFew-weaker, ReadsLine, goes_by_feed, reads_all, reads_by_feed, reads_early, reads_last, reads_part, reads_refused}
 
 module _ {A House : Type 0} (effects : LineEffects House) (house : A → House) (way : A → A → List House → Type 0) (laws : WayLaws way)
     (same_externals : (h : House) (line : Line) → effects.externals (effects.after h line) ≡ effects.externals h)
-    (first mid : A) (outset : Outset) (number : ℕ) (reading : Reading) (streams : Streams)
-    (u : IsUnderway (course_of effects house way first mid) outset number reading streams) where
+    (first mid : A) (before : Streams) (number : ℕ) (reading : Reading) (streams : Streams)
+    (u : IsUnderway (course_of effects house way first mid) before number reading streams) where
   -- the house at the beginning, and that after the lines so far
   abbrev begun : House
   begun = house first
@@ -78,16 +81,17 @@ module _ {A House : Type 0} (effects : LineEffects House) (house : A → House) 
 
   -- one more line is written
   written_more : (line : Line) (now : Option (List ℕ)) →
-      now ≡ append_known streams.held (line_out (effects.result_of (house mid) line)) → now ≡ Some (outset.held ++ out_of effects begun (u.lines ++ line ∷ []))
+      now ≡ append_known streams.held (line_out (effects.result_of (house mid) line)) → now ≡ append_known before.held (out_of effects begun (u.lines ++ line ∷ []))
   written_more line now h =
       h ∙ ap (λ x. append_known streams.held (line_out (effects.result_of x line))) u.house
       ∙ ap (λ known. append_known known (line_out (effects.result_of last line))) u.held_is
-      ∙ ap Some (append_assoc outset.held lines_out (line_out (effects.result_of last line)) ∙ ap (λ xs. outset.held ++ xs) (sym (out_of-push effects begun u.lines line)))
+      ∙ append_known-append before.held lines_out (line_out (effects.result_of last line))
+      ∙ ap (append_known before.held) (sym (out_of-push effects begun u.lines line))
 
   goes_on : (new : A) (text : List ℕ) (reading' : Reading) (left' held' : Option (List ℕ)) → reading'.limits ≡ reading.limits → EndsByFeed script_limits reading reading' streams.left left' text
-      → Answers (course_of effects house way mid new) text streams.held held' → IsUnderway (course_of effects house way first new) outset (number + 1) reading' (record { left = left'; held = held' })
+      → Answers (course_of effects house way mid new) text streams.held held' → IsUnderway (course_of effects house way first new) before (number + 1) reading' (record { left = left'; held = held' })
   goes_on new text reading' left' held' limits e a =
-      let goes = goes_by_feed outset.script u.texts reading streams.left u.unbroken u.script_is u.used text reading' left' e in
+      let goes = goes_by_feed before.left u.texts reading streams.left u.unbroken u.script_is u.used text reading' left' e in
       let done = more new text a.line a.done in
       record {
         limited = limits ∙ u.limited;
@@ -104,24 +108,29 @@ module _ {A House : Type 0} (effects : LineEffects House) (house : A → House) 
       }
 
   -- a run over, of which this was written beside what was held
-  held_same : (held' : Option (List ℕ)) → held' ≡ streams.held → held' ≡ Some (outset.held ++ lines_out)
+  held_same : (held' : Option (List ℕ)) → held' ≡ streams.held → held' ≡ append_known before.held lines_out
   held_same held' same = same ∙ u.held_is
 
-  ends_all : (new : A) (left' held' : Option (List ℕ)) → ReadsAll outset.script u.texts left' → held' ≡ streams.held → IsStill (course_of effects house way mid new)
-      → IsOver (course_of effects house way first new) outset (record { left = left'; held = held' }) Statuses.Done
-  ends_all new left' held' r same s = record {
+  -- what was done, over this script
+  ran : (new : A) (script : List ℕ) (left' held' : Option (List ℕ)) (status : PlayStatus) → IsOver (course_of effects house way first new) script before (record { left = left'; held = held' }) status
+      → HasRun (course_of effects house way first new) before (record { left = left'; held = held' }) status
+  ran new script left' held' status o = has_run (course_of effects house way first new) script before (record { left = left'; held = held' }) status o
+
+  ends_all : (new : A) (left' held' : Option (List ℕ)) → ReadsAll before.left u.texts left' → held' ≡ streams.held → IsStill (course_of effects house way mid new)
+      → HasRun (course_of effects house way first new) before (record { left = left'; held = held' }) Statuses.Done
+  ends_all new left' held' r same s = ran new r.script left' held' Statuses.Done (record {
     outcome = record { left = []; written = lines_out };
-    left_is = r.left_is;
+    left_is = r.leaves;
     held_is = held_same held' same;
     played = record { texts = u.texts; first = r.first; read = refl; answered = answered new s };
-  }
+  })
 
   -- the last line, which has no line feed, is answered
-  ends_last : (new : A) (text : List ℕ) (left' held' : Option (List ℕ)) → ReadsAll outset.script (u.texts ++ text ∷ []) left' → Answers (course_of effects house way mid new) text streams.held held'
-      → IsOver (course_of effects house way first new) outset (record { left = left'; held = held' }) Statuses.Done
-  ends_last new text left' held' r a = record {
+  ends_last : (new : A) (text : List ℕ) (left' held' : Option (List ℕ)) → ReadsAll before.left (u.texts ++ text ∷ []) left' → Answers (course_of effects house way mid new) text streams.held held'
+      → HasRun (course_of effects house way first new) before (record { left = left'; held = held' }) Statuses.Done
+  ends_last new text left' held' r a = ran new r.script left' held' Statuses.Done (record {
     outcome = record { left = []; written = out_of effects begun (u.lines ++ a.line ∷ []) };
-    left_is = r.left_is;
+    left_is = r.leaves;
     held_is = written_more a.line held' a.held_is;
     played = record {
       texts = u.texts ++ text ∷ [];
@@ -129,11 +138,11 @@ module _ {A House : Type 0} (effects : LineEffects House) (house : A → House) 
       read = refl;
       answered = record { lines = u.lines ++ a.line ∷ []; done = more new text a.line a.done; results = refl };
     };
-  }
+  })
 
   -- the next line may have been answered, and nothing of its result is written
-  in_doubt : (new : A) (text : List ℕ) (left' : Option (List ℕ)) → (r : ReadsLine outset.script u.texts text left') → IsInDoubt (course_of effects house way mid new) text
-      → EndsInDoubt (course_of effects house way first new) outset.script (record { left = r.now; written = lines_out })
+  in_doubt : (new : A) (text : List ℕ) (left' : Option (List ℕ)) → (r : ReadsLine before.left u.texts text left') → IsInDoubt (course_of effects house way mid new) text
+      → EndsInDoubt (course_of effects house way first new) r.script (record { left = r.now; written = lines_out })
   in_doubt new text left' r d = record {
     texts = u.texts;
     text = text;
@@ -149,13 +158,13 @@ module _ {A House : Type 0} (effects : LineEffects House) (house : A → House) 
   }
 
   -- a line that was read whole fails
-  fails : (new : A) (text : List ℕ) (left' held' : Option (List ℕ)) (fault : LineFault) → ReadsLine outset.script u.texts text left' → length text ≤ 8192
+  fails : (new : A) (text : List ℕ) (left' held' : Option (List ℕ)) (fault : LineFault) → ReadsLine before.left u.texts text left' → length text ≤ 8192
       → Fails (course_of effects house way mid new) text streams.held held' fault
-      → IsOver (course_of effects house way first new) outset (record { left = left'; held = held' }) (status_at number fault)
+      → HasRun (course_of effects house way first new) before (record { left = left'; held = held' }) (status_at number fault)
   fails new text left' held' Faults.Read r short h = absurd h
-  fails new text left' held' Faults.NotLine r short h = record {
+  fails new text left' held' Faults.NotLine r short h = ran new r.script left' held' (Statuses.ScriptRefused number) (record {
     outcome = record { left = r.now; written = lines_out };
-    left_is = r.left_is;
+    left_is = r.leaves;
     held_is = held_same held' h.1;
     played = record {
       texts = u.texts;
@@ -172,15 +181,15 @@ module _ {A House : Type 0} (effects : LineEffects House) (house : A → House) 
       read = r.read;
       answered = answered new h.2;
     };
-  }
+  })
   fails new text left' held' Faults.Write r short h =
       let a = h in
       let result = line_out (effects.result_of last a.line) in
       let part : WritesPart streams.held held' result = subst (λ x. WritesPart streams.held held' (line_out (effects.result_of x a.line))) u.house a.part in
-      record {
+      ran new r.script left' held' Statuses.WriteFault (record {
         outcome = record { left = r.now; written = lines_out ++ take part.taken result };
-        left_is = r.left_is;
-        held_is = part.front ∙ ap (λ known. append_known known (take part.taken result)) u.held_is ∙ ap Some (append_assoc outset.held lines_out (take part.taken result));
+        left_is = r.leaves;
+        held_is = part.front ∙ ap (λ known. append_known known (take part.taken result)) u.held_is ∙ append_known-append before.held lines_out (take part.taken result);
         played = record {
           texts = u.texts;
           text = text;
@@ -196,28 +205,28 @@ module _ {A House : Type 0} (effects : LineEffects House) (house : A → House) 
           short = part.short;
           written_is = refl;
         };
-      }
-  fails new text left' held' (Faults.Disk shard) r short h = record {
+      })
+  fails new text left' held' (Faults.Disk shard) r short h = ran new r.script left' held' (Statuses.DiskFault shard) (record {
     outcome = record { left = r.now; written = lines_out };
-    left_is = r.left_is;
+    left_is = r.leaves;
     held_is = held_same held' h.1;
     played = in_doubt new text left' r h.0;
-  }
-  fails new text left' held' Faults.Memory r short h = record {
+  })
+  fails new text left' held' Faults.Memory r short h = ran new r.script left' held' Statuses.Memory (record {
     outcome = record { left = r.now; written = lines_out };
-    left_is = r.left_is;
+    left_is = r.leaves;
     held_is = held_same held' h.1;
     played = elim h.0 [
       | inl s ↦ inl (record {
         texts = u.texts;
         rest = text ++ r.tail;
         first = r.before;
-        read = ReadsFew-weaker outset.script r.now u.texts _ _ r.read (omega (arith, short));
+        read = ReadsFew-weaker r.script r.now u.texts _ _ r.read (omega (arith, short));
         answered = answered new s;
       })
       | inr d ↦ inr (in_doubt new text left' r d)
     ];
-  }
+  })
 
   still_here : way mid mid (house mid ∷ []) → IsStill (course_of effects house way mid mid)
   still_here rests = record { house = refl; over = rests; at_end = rests }
@@ -225,12 +234,12 @@ module _ {A House : Type 0} (effects : LineEffects House) (house : A → House) 
   -- the reader tells a fault
   stops : (text : List ℕ) (reading' : Reading) (left' : Option (List ℕ)) (fault : LineFault) → way mid mid (house mid ∷ [])
       → Stops script_limits reading reading' streams.left left' text fault
-      → IsOver (course_of effects house way first mid) outset (record { left = left'; held = streams.held }) (status_at number fault)
+      → HasRun (course_of effects house way first mid) before (record { left = left'; held = streams.held }) (status_at number fault)
   stops text reading' left' Faults.Read rests e =
-      let r = reads_part outset.script u.texts reading streams.left u.unbroken u.script_is u.used text reading' left' e in
-      record {
+      let r = reads_part before.left u.texts reading streams.left u.unbroken u.script_is u.used text reading' left' e in
+      ran mid r.script left' streams.held Statuses.ReadFault (record {
         outcome = record { left = r.now; written = lines_out };
-        left_is = r.left_is;
+        left_is = r.leaves;
         held_is = u.held_is;
         played = record {
           texts = u.texts;
@@ -242,12 +251,12 @@ module _ {A House : Type 0} (effects : LineEffects House) (house : A → House) 
           few = r.few;
           answered = answered mid (still_here rests);
         };
-      }
+      })
   stops text reading' left' Faults.NotLine rests e =
-      let r = reads_refused outset.script u.texts reading streams.left u.unbroken u.script_is u.used (effects.externals begun) text reading' left' e in
-      record {
+      let r = reads_refused before.left u.texts reading streams.left u.unbroken u.script_is u.used (effects.externals begun) text reading' left' e in
+      ran mid r.script left' streams.held (Statuses.ScriptRefused number) (record {
         outcome = record { left = r.now; written = lines_out };
-        left_is = r.left_is;
+        left_is = r.leaves;
         held_is = u.held_is;
         played = record {
           texts = u.texts;
@@ -259,14 +268,14 @@ module _ {A House : Type 0} (effects : LineEffects House) (house : A → House) 
           read = r.read;
           answered = answered mid (still_here rests);
         };
-      }
+      })
   stops text reading' left' Faults.Write rests e = absurd e
   stops text reading' left' (Faults.Disk shard) rests e = absurd e
   stops text reading' left' Faults.Memory rests e =
-      let r = reads_early outset.script u.texts reading streams.left u.unbroken u.script_is u.used text reading' left' e in
-      record {
+      let r = reads_early before.left u.texts reading streams.left u.unbroken u.script_is u.used text reading' left' e in
+      ran mid r.script left' streams.held Statuses.Memory (record {
         outcome = record { left = r.now; written = lines_out };
-        left_is = r.left_is;
+        left_is = r.leaves;
         held_is = u.held_is;
         played = inl (record {
           texts = u.texts;
@@ -275,35 +284,35 @@ module _ {A House : Type 0} (effects : LineEffects House) (house : A → House) 
           read = r.read;
           answered = answered mid (still_here rests);
         });
-      }
+      })
 
   pub stops_at : (text : List ℕ) (reading' : Reading) (left' : Option (List ℕ)) (fault : LineFault) (result : Result Ending LineFault) → way mid mid (house mid ∷ [])
       → result ≡ Err fault → Stops reading.limits reading reading' streams.left left' text fault
-      → IsTurned (course_of effects house way first mid) outset number reading' (record { left = left'; held = streams.held }) result
+      → IsTurned (course_of effects house way first mid) before number reading' (record { left = left'; held = streams.held }) result
   stops_at text reading' left' fault result rests same h =
       rw same (stops text reading' left' fault rests (subst (λ (l : Limits). Stops l reading reading' streams.left left' text fault) u.limited h))
 
   -- there was no further line
   pub ends_at : (text : List ℕ) (reading' : Reading) (left' : Option (List ℕ)) (ending : Ending) → way mid mid (house mid ∷ [])
       → ending ≡ Endings.End → Ends reading.limits reading reading' streams.left left' text ending
-      → IsTurned (course_of effects house way first mid) outset number reading' (record { left = left'; held = streams.held }) (Ok ending)
+      → IsTurned (course_of effects house way first mid) before number reading' (record { left = left'; held = streams.held }) (Ok ending)
   ends_at text reading' left' ending rests same h =
       rw same (ends_all mid left' streams.held
-      (reads_all outset.script u.texts reading streams.left u.unbroken u.script_is u.used text reading' left'
+      (reads_all before.left u.texts reading streams.left u.unbroken u.script_is u.used text reading' left'
       (rw same at (subst (λ (l : Limits). Ends l reading reading' streams.left left' text ending) u.limited h))) refl (still_here rests))
 
   -- the line is answered
   answers : (new : A) (text : List ℕ) (reading' : Reading) (left' held' : Option (List ℕ)) (ending : Ending) → ¬ (ending ≡ Endings.End) → reading'.limits ≡ reading.limits
       → Ends script_limits reading reading' streams.left left' text ending → Answers (course_of effects house way mid new) text streams.held held'
-      → IsTurned (course_of effects house way first new) outset number reading' (record { left = left'; held = held' }) (Ok ending)
+      → IsTurned (course_of effects house way first new) before number reading' (record { left = left'; held = held' }) (Ok ending)
   answers new text reading' left' held' Endings.Feed other limits e a = goes_on new text reading' left' held' limits e a
   answers new text reading' left' held' Endings.Last other limits e a =
-      ends_last new text left' held' (reads_last outset.script u.texts reading streams.left u.unbroken u.script_is u.used text reading' left' e).0 a
+      ends_last new text left' held' (reads_last before.left u.texts reading streams.left u.unbroken u.script_is u.used text reading' left' e).0 a
   answers new text reading' left' held' Endings.End other limits e a = absurd (other refl)
 
   pub answers_at : (new : A) (text text' : List ℕ) (reading' : Reading) (left' held' : Option (List ℕ)) (ending : Ending) → ¬ (ending ≡ Endings.End) → text' ≡ text → reading'.limits ≡ reading.limits
       → Ends reading.limits reading reading' streams.left left' text ending → Answers (course_of effects house way mid new) text' streams.held held'
-      → IsTurned (course_of effects house way first new) outset number reading' (record { left = left'; held = held' }) (Ok ending)
+      → IsTurned (course_of effects house way first new) before number reading' (record { left = left'; held = held' }) (Ok ending)
   answers_at new text text' reading' left' held' ending other same limits e a =
       answers new text reading' left' held' ending other limits
       (subst (λ (l : Limits). Ends l reading reading' streams.left left' text ending) u.limited e)
@@ -312,47 +321,55 @@ module _ {A House : Type 0} (effects : LineEffects House) (house : A → House) 
   -- it fails
   fails_by : (new : A) (text : List ℕ) (reading' : Reading) (left' held' : Option (List ℕ)) (ending : Ending) (fault : LineFault) → ¬ (ending ≡ Endings.End)
       → Ends script_limits reading reading' streams.left left' text ending → Fails (course_of effects house way mid new) text streams.held held' fault
-      → IsOver (course_of effects house way first new) outset (record { left = left'; held = held' }) (status_at number fault)
+      → HasRun (course_of effects house way first new) before (record { left = left'; held = held' }) (status_at number fault)
   fails_by new text reading' left' held' Endings.Feed fault other e h =
-      fails new text left' held' fault (reads_by_feed outset.script u.texts reading streams.left u.unbroken u.script_is u.used text reading' left' e) e.short h
+      fails new text left' held' fault (reads_by_feed before.left u.texts reading streams.left u.unbroken u.script_is u.used text reading' left' e) e.short h
   fails_by new text reading' left' held' Endings.Last fault other e h =
-      fails new text left' held' fault (reads_last outset.script u.texts reading streams.left u.unbroken u.script_is u.used text reading' left' e).1 e.short h
+      fails new text left' held' fault (reads_last before.left u.texts reading streams.left u.unbroken u.script_is u.used text reading' left' e).1 e.short h
   fails_by new text reading' left' held' Endings.End fault other e h = absurd (other refl)
 
   pub fails_at : (new : A) (text text' : List ℕ) (reading' : Reading) (left' held' : Option (List ℕ)) (ending : Ending) (fault : LineFault) (result : Result Ending LineFault) → ¬ (ending ≡ Endings.End)
       → result ≡ Err fault → text' ≡ text → Ends reading.limits reading reading' streams.left left' text ending → Fails (course_of effects house way mid new) text' streams.held held' fault
-      → IsTurned (course_of effects house way first new) outset number reading' (record { left = left'; held = held' }) result
+      → IsTurned (course_of effects house way first new) before number reading' (record { left = left'; held = held' }) result
   fails_at new text text' reading' left' held' ending fault result other same same_text e h =
       rw same (fails_by new text reading' left' held' ending fault other
       (subst (λ (l : Limits). Ends l reading reading' streams.left left' text ending) u.limited e)
       (subst (λ (xs : List ℕ). Fails (course_of effects house way mid new) xs streams.held held' fault) same_text h))
 
+nothing_used : (known : Option (List ℕ)) → known ≡ prepend_known [] (prepend_known [] known)
+nothing_used None = refl
+nothing_used (Some xs) = refl
+
+nothing_written : (known : Option (List ℕ)) → known ≡ append_known known []
+nothing_written None = refl
+nothing_written (Some xs) = ap Some (sym (append-nil xs))
+
 -- before the first line
-pub begins : {House : Type 0} (course : Course House) (outset : Outset) (reading : Reading) (left held : Option (List ℕ)) →
+pub begins : {House : Type 0} (course : Course House) (before : Streams) (reading : Reading) →
     course.ended ≡ course.begun → course.over (course.begun ∷ []) → reading ≡ record { pending = []; used = 0; limits = script_limits } →
-    left ≡ Some outset.script → held ≡ Some outset.held → IsUnderway course outset 1 reading (record { left = left; held = held })
-begins course outset reading left held same over r l h = rw (r, l, h) (record {
+    IsUnderway course before 1 reading before
+begins course before reading same over r = rw r (record {
   limited = refl;
   texts = [];
   lines = [];
   read = tt;
   unbroken = tt;
   count = refl;
-  script_is = refl;
+  script_is = nothing_used before.left;
   used = refl;
   house = same;
   over = over;
-  held_is = ap Some (sym (append-nil outset.held));
+  held_is = nothing_written before.held;
 })
 
 -- behind a line that ended by its line feed
-pub goes_on_at : {House : Type 0} (course : Course House) (outset : Outset) (number : ℕ) (reading : Reading) (streams : Streams) (ending : Ending) →
-    ending ≡ Endings.Feed → IsTurned course outset number reading streams (Ok ending) → IsUnderway course outset (number + 1) reading streams
-goes_on_at course outset number reading streams ending same h = rw same at h
+pub goes_on_at : {House : Type 0} (course : Course House) (before : Streams) (number : ℕ) (reading : Reading) (now : Streams) (ending : Ending) →
+    ending ≡ Endings.Feed → IsTurned course before number reading now (Ok ending) → IsUnderway course before (number + 1) reading now
+goes_on_at course before number reading now ending same h = rw same at h
 
 -- behind any other
-pub is_over_at : {House : Type 0} (course : Course House) (outset : Outset) (number : ℕ) (reading : Reading) (streams : Streams) (ending : Ending) →
-    ¬ (ending ≡ Endings.Feed) → IsTurned course outset number reading streams (Ok ending) → IsOver course outset streams Statuses.Done
-is_over_at course outset number reading streams Endings.Feed other h = absurd (other refl)
-is_over_at course outset number reading streams Endings.Last other h = h
-is_over_at course outset number reading streams Endings.End other h = h
+pub has_run_at : {House : Type 0} (course : Course House) (before : Streams) (number : ℕ) (reading : Reading) (now : Streams) (ending : Ending) →
+    ¬ (ending ≡ Endings.Feed) → IsTurned course before number reading now (Ok ending) → HasRun course before now Statuses.Done
+has_run_at course before number reading now Endings.Feed other h = absurd (other refl)
+has_run_at course before number reading now Endings.Last other h = h
+has_run_at course before number reading now Endings.End other h = h

@@ -1,5 +1,5 @@
 -- What a run over a script did (our own).
-use Rattle.std.specs.Prelude.{◌≡◌, ◌≢◌, ℕ, ◌+◌, ◌-◌, ◌<◌, ◌≤◌, ◌⊎◌, List, [], ◌∷◌, ◌++◌, length, flat_map, take, drop, min, slice_get, Option, Some}
+use Rattle.std.specs.Prelude.{◌≡◌, ◌≢◌, ℕ, ◌+◌, ◌-◌, ◌<◌, ◌≤◌, ◌⊎◌, List, [], ◌∷◌, ◌++◌, length, flat_map, take, drop, min, slice_get, Option, Some, None}
 use Rattle.std.specs.List.{AllByRecursion}
 use Rattle.std.specs.Io.KnownBytes.{append_known}
 use Rattle.pcp_base.specs.declared.configs.External.{External}
@@ -19,10 +19,11 @@ pub record Streams : Type 0 where
   pub left : Option (List ℕ)
   pub held : Option (List ℕ)
 
--- what is left in a source when a run begins, and what its sink holds then
-pub record Outset : Type 0 where
-  pub script : List ℕ
-  pub held : List ℕ
+-- A source that had the one left, and has the other, as far as it tells: it had this script left, and
+-- has this of it, or tells neither.
+abbrev pub LeavesOf : (script left : List ℕ) → (before now : Option (List ℕ)) → Type 0
+LeavesOf script left before now =
+    ((before ≡ Some script) × (now ≡ Some left)) ⊎ ((before ≡ None) × (now ≡ None))
 
 -- what is left of the script when a run is over, and what it wrote
 pub record Outcome : Type 0 where
@@ -162,23 +163,23 @@ IsPlayed course script outcome (DiskFault shard) = EndsInDoubt course script out
 IsPlayed course script outcome Memory =
     EndsEarly course script outcome ⊎ EndsInDoubt course script outcome
 
--- A run over, for a source and a sink that tell their octets.
-pub record IsOver {House : Type 0} (course : Course House) (outset : Outset) (streams : Streams)
-    (status : PlayStatus) : Type 0 where
+-- A run over this script.
+pub record IsOver {House : Type 0} (course : Course House) (script : List ℕ)
+    (before now : Streams) (status : PlayStatus) : Type 0 where
   pub outcome : Outcome
-  pub left_is : streams.left ≡ Some outcome.left
-  pub held_is : streams.held ≡ Some (outset.held ++ outcome.written)
-  pub played : IsPlayed course outset.script outcome status
+  pub left_is : LeavesOf script outcome.left before.left now.left
+  pub held_is : now.held ≡ append_known before.held outcome.written
+  pub played : IsPlayed course script outcome status
 
--- What a crash may leave of a run, whatever its status. Of the first lines of the script these were
--- answered, and the next one perhaps. What is written is of the results of these, and nothing else.
--- Each image stood for the house after some first ones of them, and each has all of these now, of
--- the next one perhaps.
-pub record IsKept {House : Type 0} (course : Course House) (outset : Outset) (streams : Streams)
-    : Type 0 where
+-- What a crash may leave of a run over this script, whatever its status. Of the first lines of the
+-- script these were answered, and the next one perhaps. What is written is of the results of these,
+-- and nothing else. Each image stood for the house after some first ones of them, and each has all of
+-- these now, of the next one perhaps.
+pub record IsKept {House : Type 0} (course : Course House) (script : List ℕ)
+    (before now : Streams) : Type 0 where
   pub texts : List (List ℕ)
   pub rest : List ℕ
-  pub first : AreFirst outset.script rest texts
+  pub first : AreFirst script rest texts
   pub lines : List Line
   -- the next one, or none
   pub next : List Line
@@ -186,8 +187,16 @@ pub record IsKept {House : Type 0} (course : Course House) (outset : Outset) (st
   pub read : AreLines (course.effects.externals course.begun) texts (lines ++ next)
   -- what isn't written of the results
   pub unsaid : List ℕ
-  pub held_is : append_known streams.held unsaid
-      ≡ Some (outset.held ++ out_of course.effects course.begun lines)
+  pub held_is : append_known now.held unsaid
+      ≡ append_known before.held (out_of course.effects course.begun lines)
   pub over : course.over (houses_along course.effects course.begun (lines ++ next))
   pub at_end : course.at_end (houses_along course.effects
       (after_lines course.effects course.begun lines) next)
+
+-- A run over some script, which is that of its source where that tells what it has left: what it did,
+-- and what a crash may leave of it.
+pub record HasRun {House : Type 0} (course : Course House) (before now : Streams)
+    (status : PlayStatus) : Type 0 where
+  pub script : List ℕ
+  pub over : IsOver course script before now status
+  pub kept : IsKept course script before now

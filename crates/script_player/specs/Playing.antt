@@ -1,5 +1,5 @@
 -- A run in the middle of its script (our own): what was read and answered so far.
-use Rattle.std.specs.Prelude.{◌≡◌, ℕ, ◌+◌, ◌⊎◌, List, [], ◌∷◌, ◌++◌, length, flat_map, Option, Some, Result, Ok, Err}
+use Rattle.std.specs.Prelude.{◌≡◌, ℕ, ◌+◌, ◌⊎◌, List, [], ◌∷◌, ◌++◌, length, flat_map, Option, Result, Ok, Err}
 use Rattle.std.specs.List.{AllByRecursion}
 use Rattle.std.specs.Io.KnownBytes.{prepend_known, append_known}
 use Rattle.pcp_io.specs.Writes.{WritesPart}
@@ -9,7 +9,7 @@ use Rattle.pcp_script.specs.declared.lines.LineRefused.{LineRefused}
 use Rattle.pcp_script.specs.declared.lines.LineRefused.TheVariants as Refused
 use Rattle.pcp_script.specs.declared.lines.TheConstants.{LONGEST_LINE}
 use Rattle.script_player.specs.Houses.{after_lines, houses_along, line_out, out_of}
-use Rattle.script_player.specs.Played.{IsOver, Outset, Streams}
+use Rattle.script_player.specs.Played.{HasRun, Streams}
 use Rattle.script_player.specs.Reading.{Reading, rest_of}
 use Rattle.script_player.specs.Scripts.{AreLines, IsUnbroken, ended}
 use Rattle.script_player.specs.Ways.{Course}
@@ -29,20 +29,20 @@ abbrev pub script_limits : Limits
 script_limits = record { longest = LONGEST_LINE; most = MOST_OCTETS }
 
 -- These lines were read, each with its line feed, and answered, before the one with this number.
-pub record IsUnderway {House : Type 0} (course : Course House) (outset : Outset) (number : ℕ)
-    (reading : Reading) (streams : Streams) : Type 0 where
+pub record IsUnderway {House : Type 0} (course : Course House) (before : Streams) (number : ℕ)
+    (reading : Reading) (now : Streams) : Type 0 where
   pub limited : reading.limits ≡ script_limits
   pub texts : List (List ℕ)
   pub lines : List Line
   pub read : AreLines (course.effects.externals course.begun) texts lines
   pub unbroken : AllByRecursion IsUnbroken texts
   pub count : number ≡ length texts + 1
-  pub script_is : Some outset.script ≡
-      prepend_known (flat_map ended texts) (rest_of reading streams.left)
+  pub script_is : before.left ≡
+      prepend_known (flat_map ended texts) (rest_of reading now.left)
   pub used : reading.used ≡ length (flat_map ended texts)
   pub house : course.ended ≡ after_lines course.effects course.begun lines
   pub over : course.over (houses_along course.effects course.begun lines)
-  pub held_is : streams.held ≡ Some (outset.held ++ out_of course.effects course.begun lines)
+  pub held_is : now.held ≡ append_known before.held (out_of course.effects course.begun lines)
 
 -- the status of a fault at the line with this number
 abbrev pub status_at : ℕ → LineFault → PlayStatus
@@ -53,14 +53,13 @@ status_at number (Disk shard) = Statuses.DiskFault shard
 status_at number Memory = Statuses.Memory
 
 -- a turn goes on to the next line, or ends the run
-abbrev pub IsTurned : {House : Type 0} → Course House → Outset → (number : ℕ) → Reading → Streams →
-    Result Ending LineFault → Type 0
-IsTurned course outset number reading streams (Ok Endings.Feed) =
-    IsUnderway course outset (number + 1) reading streams
-IsTurned course outset number reading streams (Ok ending) =
-    IsOver course outset streams Statuses.Done
-IsTurned course outset number reading streams (Err fault) =
-    IsOver course outset streams (status_at number fault)
+abbrev pub IsTurned : {House : Type 0} → Course House → (before : Streams) → (number : ℕ) →
+    Reading → (now : Streams) → Result Ending LineFault → Type 0
+IsTurned course before number reading now (Ok Endings.Feed) =
+    IsUnderway course before (number + 1) reading now
+IsTurned course before number reading now (Ok ending) = HasRun course before now Statuses.Done
+IsTurned course before number reading now (Err fault) =
+    HasRun course before now (status_at number fault)
 
 -- a text that is no line, and want of memory, are told as they are
 abbrev pub fault_of_line : LineRefused → LineFault

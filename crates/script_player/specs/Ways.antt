@@ -36,10 +36,6 @@ course_of effects house way old new = record {
   at_end = way new new;
 }
 
--- There are houses for one of which each image stands.
-abbrev pub GoesSomeWay : {House : Type 0} → (List House → Type 0) → Type 0
-GoesSomeWay over = (houses : List _) × over houses
-
 -- A count of faults has risen, of those of the disks of a shard.
 abbrev pub HasFault : (before now : ℕ → ℕ) → Type 0
 HasFault before now = (disk : ℕ) × HasRisen (before disk) (now disk)

@@ -2,9 +2,9 @@
 ghost use Rattle.std.specs.Prelude.{◌≡◌, ℕ, ◌+◌, ◌<◌, ◌≤◌, [], ◌∷◌, Some, Ok, Err, IfErr, IfOk, OnOk};
 ghost use Rattle.pcp_io.specs.Faults.{HasRisen};
 ghost use Rattle.script_player.specs.Houses.{line_out};
-ghost use Rattle.script_player.specs.Played.{IsKept, IsOver, Outset};
+ghost use Rattle.script_player.specs.Played.{HasRun, Streams};
 ghost use Rattle.script_player.specs.Playing.{Answers, Fails, IsTurned, IsUnderway, status_at};
-ghost use Rattle.script_player.specs.Ways.{GoesSomeWay, HasFault, course_of};
+ghost use Rattle.script_player.specs.Ways.{HasFault, course_of};
 ghost use Rattle.script_player.specs.declared.faults.LineFault.TheVariants.{Disk, Read, Write};
 ghost use Rattle.script_player.specs.declared.player.PlayStatus.TheVariants.{DiskFault, ReadFault, WriteFault};
 ghost use Rattle.script_player.specs.declared.readers.Ending.TheVariants.{Feed};
@@ -64,7 +64,6 @@ fn answer_text<W: Sink, A: LineAnswerer>(
         (Fails (course_of A.effects A.house A.way answerer.old answerer.new) text.now
         (W.held out.old) (W.held out.new)) }
     ensures rests { OnOk result (A.rests answerer.new) }
-    ensures over { GoesSomeWay (A.way answerer.old answerer.new) }
     ensures write_fault { result ≡ Err Write → HasRisen (W.faults out.old) (W.faults out.new) }
     ensures disk_fault { (shard : ℕ) → result ≡ Err (Disk shard) →
         HasFault (A.faults answerer.old shard) (A.faults answerer.new shard) }
@@ -90,16 +89,15 @@ fn turn<S: Source, W: Sink, A: LineAnswerer>(
     out: &mut W,
 ) -> Result<Ending, LineFault>
     requires rests { A.rests answerer.old }
-    ensures turned { (first : A) (outset : Outset) (number : ℕ) →
-        IsUnderway (course_of A.effects A.house A.way first answerer.old) outset number reader.old
+    ensures turned { (first : A) (before : Streams) (number : ℕ) →
+        IsUnderway (course_of A.effects A.house A.way first answerer.old) before number reader.old
         (record { left = S.left input.old; held = W.held out.old }) →
-        IsTurned (course_of A.effects A.house A.way first answerer.new) outset number reader.new
+        IsTurned (course_of A.effects A.house A.way first answerer.new) before number reader.new
         (record { left = S.left input.new; held = W.held out.new }) result }
     ensures rests { result ≡ Ok Feed → A.rests answerer.new }
     ensures used { result ≡ Ok Feed → (reader.old.used < reader.new.used)
         × (reader.new.used ≤ reader.old.limits.most) }
     ensures limits { reader.new.limits ≡ reader.old.limits }
-    ensures over { GoesSomeWay (A.way answerer.old answerer.new) }
     ensures read_fault { result ≡ Err Read → HasRisen (S.faults input.old) (S.faults input.new) }
     ensures write_fault { result ≡ Err Write → HasRisen (W.faults out.old) (W.faults out.new) }
     ensures disk_fault { (shard : ℕ) → result ≡ Err (Disk shard) →
@@ -145,20 +143,11 @@ pub fn play<S: Source, W: Sink, A: LineAnswerer>(
 ) -> PlayStatus
     requires rests { A.rests answerer.old }
 
-    // What was read, answered and written, by the status, for a source and a sink that tell it.
-    ensures played { (outset : Outset) →
-        S.left input.old ≡ Some outset.script → W.held out.old ≡ Some outset.held →
-        IsOver (course_of A.effects A.house A.way answerer.old answerer.new) outset
+    // What was read, answered and written, by the status, and what a crash may leave of it, at each
+    // moment and at the end. The script is that of the source where this tells what it has left.
+    ensures played { HasRun (course_of A.effects A.house A.way answerer.old answerer.new)
+        (record { left = S.left input.old; held = W.held out.old })
         (record { left = S.left input.new; held = W.held out.new }) result }
-
-    // What a crash may leave of it, at each moment and at the end, whatever the status.
-    ensures crash { (outset : Outset) →
-        S.left input.old ≡ Some outset.script → W.held out.old ≡ Some outset.held →
-        IsKept (course_of A.effects A.house A.way answerer.old answerer.new) outset
-        (record { left = S.left input.new; held = W.held out.new }) }
-
-    // So it is, of some houses, also where the source and the sink tell nothing.
-    ensures over { GoesSomeWay (A.way answerer.old answerer.new) }
 
     // A fault is told only where a count of faults rose.
     ensures read_fault { result ≡ ReadFault → HasRisen (S.faults input.old) (S.faults input.new) }

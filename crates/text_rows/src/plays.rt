@@ -2,7 +2,7 @@
 //! premises of `play` are met.
 ghost use Rattle.std.specs.Prelude.{◌≡◌, ◌++◌, [], Some, IfOk, OnOk, OnErr};
 ghost use Rattle.script_player.specs.Logs.{letter_of, told_after};
-ghost use Rattle.script_player.specs.Played.{IsOver};
+ghost use Rattle.script_player.specs.Played.{HasRun};
 ghost use Rattle.script_player.specs.Ways.{course_of};
 
 use crate::lines::config;
@@ -144,10 +144,10 @@ fn run_in_memory(
     answerer: Logger,
     failing: &Failing,
 ) -> Result<Run, Memory>
-    ensures { IfOk result (λ run. IsOver
+    ensures { IfOk result (λ run. HasRun
         (course_of ⟦<Logger as LineAnswerer>⟧.effects ⟦<Logger as LineAnswerer>⟧.house
         ⟦<Logger as LineAnswerer>⟧.way answerer run.answerer)
-        (record { script = script.items; held = [] })
+        (record { left = Some script.items; held = Some [] })
         (record { left = Some run.input.left; held = Some run.out.held }) run.status) }
 {
     let mut answerer = answerer;

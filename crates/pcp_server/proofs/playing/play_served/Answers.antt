@@ -1,10 +1,10 @@
 use Rattle.std.proofs.Common.{rules, ◌≡◌, ◌∙◌, length, Err, refl, sym, ap, subst, inl, inr}
 use Rattle.std.specs.Io.KnownBytes.{append_known}
 use Rattle.house_lines.specs.Rests.{IsAtRest}
-use Rattle.script_player.specs.Played.{IsKept, IsOver}
+use Rattle.script_player.specs.Played.{HasRun}
 use Rattle.pcp_server.specs.Opened.{AreUnused, Opens, pairs_of}
 use Rattle.pcp_server.specs.Outsides.{HaveNotFallen, disks_by}
-use Rattle.pcp_server.specs.Played.{house_course, updates_text}
+use Rattle.pcp_server.specs.Played.{house_course, streams_found, updates_text}
 use Rattle.pcp_server.proofs.CountLemmas.{house-fault, house-later}
 use Rattle.pcp_server.proofs.OpeningLemmas.{hands-later, hands-named, later, settled, unused}
 use Rattle.pcp_server.proofs.PairLemmas.{fault-over, none_fell-over}
@@ -80,13 +80,13 @@ returns-clause-served g c =
     (record { out = c.args.out.now; held = g.W.Sink.held c.args.out.now; pairs = c.args.disks.items })
     (record { out = c.play-status.new.out; held = g.W.Sink.held c.play-status.new.out; pairs = c.end-2.result.items })
     c.played_as.result c.in-Ok.house ended c.play-status.result c.requires.config o c.played_as.ensures
-    (λ outset at. subst (λ h. IsOver (house_course means h ended) outset (record { left = g.S.Source.left c.play-status.new.input; held = g.W.Sink.held c.play-status.new.out }) c.play-status.result)
-    c.of-lines.ensures (c.play-status.ensures.played outset at.script_is (told ∙ at.held_is)))
-    (λ outset at. subst (λ h. IsKept (house_course means h ended) outset (record { left = g.S.Source.left c.play-status.new.input; held = g.W.Sink.held c.play-status.new.out }))
-    c.of-lines.ensures (c.play-status.ensures.crash outset at.script_is (told ∙ at.held_is)))
+    (subst (λ h. HasRun (house_course means h ended) (streams_found c.in-Ok.house (record { source = c.args.input.now; left = g.S.Source.left c.args.input.now }) (record { out = c.args.out.now; held = g.W.Sink.held c.args.out.now; pairs = c.args.disks.items }))
+    (record { left = g.S.Source.left c.play-status.new.input; held = g.W.Sink.held c.play-status.new.out }) c.play-status.result) c.of-lines.ensures
+    (subst (λ held. HasRun (house_course means c.of-lines.result ended) (record { left = g.S.Source.left c.args.input.now; held = held })
+    (record { left = g.S.Source.left c.play-status.new.input; held = g.W.Sink.held c.play-status.new.out }) c.play-status.result) told c.play-status.ensures.played))
     c.end-2.ensures
-    (subst (λ h. length ended.books ≡ length h.books) c.of-lines.ensures c.play-status.ensures.over.1.count)
-    (subst (λ h. ended.spare ≡ h.spare) c.of-lines.ensures c.play-status.ensures.over.1.spare))
+    (subst (λ h. length ended.books ≡ length h.books) c.of-lines.ensures c.play-status.ensures.played.kept.over.count)
+    (subst (λ h. ended.spare ≡ h.spare) c.of-lines.ensures c.play-status.ensures.played.kept.over.spare))
 
 pub returns-clause-disk_fault : goal.returns-clause-disk_fault
 returns-clause-disk_fault g c shard is =
@@ -95,7 +95,7 @@ returns-clause-disk_fault g c shard is =
     record { config_is = c.in-Ok.ensures.config; books = c.in-Ok.ensures.opened; stands = c.in-Ok.ensures.house } in
     let ended = c.play-status.new.answerer in
     let risen = c.play-status.ensures.disk_fault shard (played-disk c.play-status.result shard (sym c.played_as.ensures ∙ is)) in
-    let fault = house-fault g.D.LeaseDisk.faults c.of-lines.result ended shard c.play-status.ensures.over.1.count risen in
+    let fault = house-fault g.D.LeaseDisk.faults c.of-lines.result ended shard c.play-status.ensures.played.kept.over.count risen in
     fault-over g.D.LeaseDisk.faults c.args.disks.items (pairs_of c.of-lines.result) c.end-2.result.items shard
     (subst (λ h. HaveNotFallen g.D.LeaseDisk.faults c.args.disks.items (pairs_of h)) (sym c.of-lines.ensures) (later means c.args.config.now c.args.start c.args.disks.items c.in-Ok.house o))
     (rw c.end-2.ensures fault)
@@ -108,4 +108,4 @@ returns-clause-disks g c =
     let ended = c.play-status.new.answerer in
     none_fell-over g.D.LeaseDisk.faults c.args.disks.items (pairs_of c.of-lines.result) c.end-2.result.items
     (subst (λ h. HaveNotFallen g.D.LeaseDisk.faults c.args.disks.items (pairs_of h)) (sym c.of-lines.ensures) (later means c.args.config.now c.args.start c.args.disks.items c.in-Ok.house o))
-    (rw c.end-2.ensures (house-later g.D.LeaseDisk.faults c.of-lines.result ended c.play-status.ensures.over.1.count c.play-status.ensures.over.1.spare c.play-status.ensures.disks))
+    (rw c.end-2.ensures (house-later g.D.LeaseDisk.faults c.of-lines.result ended c.play-status.ensures.played.kept.over.count c.play-status.ensures.played.kept.over.spare c.play-status.ensures.disks))

@@ -1,17 +1,15 @@
-use Rattle.std.proofs.Common.{◌≡◌, ℕ, ◌+◌, ◌-◌, ◌≤◌, ◌^◌, Some}
-use Rattle.script_player.specs.Played.{Outset}
+use Rattle.std.proofs.Common.{◌≡◌, ℕ, ◌+◌, ◌-◌, ◌≤◌, ◌^◌}
 use Rattle.script_player.specs.Playing.{IsUnderway, script_limits}
-use Rattle.script_player.specs.Ways.{GoesSomeWay, course_of}
+use Rattle.script_player.specs.Ways.{course_of}
 use Rattle.script_player.proofs.player.play.Given as goal
 
 -- the lines before this one were read and answered
 abbrev pub invariant-loop-number : goal.invariant-loop-number
 invariant-loop-number g l = record {
-  underway : (outset : Outset) → g.S.Source.left l.fn.input ≡ Some outset.script → g.W.Sink.held l.fn.out ≡ Some outset.held →
-      IsUnderway (course_of g.A.LineAnswerer.effects g.A.LineAnswerer.house g.A.LineAnswerer.way l.fn.answerer l.answerer) outset l.number l.reader
+  underway : IsUnderway (course_of g.A.LineAnswerer.effects g.A.LineAnswerer.house g.A.LineAnswerer.way l.fn.answerer l.answerer)
+      (record { left = g.S.Source.left l.fn.input; held = g.W.Sink.held l.fn.out }) l.number l.reader
       (record { left = g.S.Source.left l.input; held = g.W.Sink.held l.out });
   rests : g.A.LineAnswerer.rests l.answerer;
-  over : GoesSomeWay (g.A.LineAnswerer.way l.fn.answerer l.answerer);
   limits : l.reader.limits ≡ script_limits;
   number : l.number ≤ l.reader.used + 1;
   used : l.reader.used ≤ 2 ^ 30;
