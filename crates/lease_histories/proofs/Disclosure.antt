@@ -1,7 +1,7 @@
 -- The epoch told is at most the age of a lease that was given up early.
 use Rattle.std.specs.Prelude.{IfSome}
 use Rattle.std.specs.List.{AllByRecursion}
-use Rattle.std.proofs.Common.{◌≡◌, ◌∙◌, ℕ, ◌+◌, ◌≤◌, Bool, true, false, cond, List, [], ◌∷◌, ◌++◌, map, Option, Some, None, refl, ap, sym, subst, inl, inr, arith}
+use Rattle.std.proofs.Common.{◌≡◌, ◌∙◌, ℕ, ◌+◌, ◌≤◌, Bool, true, false, cond, List, [], ◌∷◌, ◌++◌, map, Option, Some, None, refl, ap, sym, subst, inl, inr, arith, append_assoc}
 use Rattle.std.proofs.lemmas.List.Sums.{fold-append}
 use Rattle.pcp_base.specs.declared.datagrams.Entry.{Entry}
 use Rattle.pcp_base.specs.declared.leases.MapLease.{MapLease}
@@ -19,8 +19,8 @@ use Rattle.pcp_base.proofs.Members.{IsIn, All-IsIn, All-push, All-weaker, IsIn-a
 use Rattle.pcp_options.specs.Laws.{AsksAreWellFormed}
 use Rattle.lease_core.specs.Laws.{DecisionsFit}
 use Rattle.lease_histories.specs.Entries.{Served}
-use Rattle.lease_histories.specs.Legal.{IsNextEntry, IsOpening, state_after}
-use Rattle.lease_histories.specs.Laws.{EpochsDisclose, GivesUp, IsWithinAge, OpeningsDisclose, StartsDisclose, WasGranted}
+use Rattle.lease_histories.specs.Legal.{IsLegal, IsNextEntry, IsOpening, state_after}
+use Rattle.lease_histories.specs.Laws.{BasesDisclose, BasesRise, EpochsDisclose, GivesUp, IsWithinAge, OpeningsDisclose, StartsDisclose, WasGranted}
 use Rattle.lease_histories.specs.PlainHouses.{with_kept}
 use Rattle.lease_histories.proofs.Growing.{along, if-some, no-earlier, prefix-legal, state-more}
 use Rattle.lease_histories.proofs.EntryKinds.{IsWell, well-after, well-step}
@@ -56,6 +56,34 @@ base-given s r g reached later gives =
 
 -- ---- entries
 
+last-within : (s : State) (kept : Option Record) (m : ℕ) → s.last ≤ m → ((r : Record) → kept ≡ Some r → r.moment ≡ m) → (with_kept s kept).last ≤ m
+last-within s None m later at = later
+last-within s (Some r) m later at = let same = at r refl in omega (arith, same)
+
+-- the bases told from an entry on are no earlier than that of the state after it
+pub bases-disclose : AsksAreWellFormed → DecisionsFit → BasesDisclose
+bases-disclose formed fit x opening before e more g opens legal granted =
+    let next = legal before e more refl in
+    let well = well-after formed fit x opening (before ++ e ∷ []) opens
+    (prefix-legal x opening (before ++ e ∷ []) more (subst (λ es. IsLegal x opening es) (sym (append_assoc before (e ∷ []) more)) legal)) in
+    let last : (state_after opening (before ++ e ∷ [])).last ≤ e.moment =
+    subst (λ (t : State). t.last ≤ e.moment) (sym (state-more opening before e))
+    (last-within (state_after opening before) e.kept e.moment next.after_records (λ r is. if-some e.kept (λ r. r.moment ≡ e.moment) r next.recorded is)) in
+    let base = well.reached.base in
+    let told = next.base in
+    All-weaker (λ p. (e.moment ≤ p.moment) × (e.base ≤ p.base)) (IsWithinAge g)
+    (λ p h. within-age g p.moment p.base (omega (arith, granted, base, last, h.0)) (omega (arith, granted, told, h.1)))
+    (e ∷ more) (no-earlier x opening before e more legal)
+
+base-rises : (b : Bool) (m base : ℕ) → base ≤ m → base ≤ cond b m base
+base-rises true m base h = h
+base-rises false m base h = omega arith
+
+pub bases-rise : BasesRise
+bases-rise s r reached later =
+    let base = reached.base in
+    (base-rises (rebases r.change s.address) r.moment s.base (omega (arith, later, base)), λ g gives. base-given s r g reached later gives)
+
 pub epochs-disclose : AsksAreWellFormed → DecisionsFit → EpochsDisclose
 epochs-disclose formed fit x opening before e more opens legal =
     by e.kept refl
@@ -69,12 +97,8 @@ epochs-disclose formed fit x opening before e more opens legal =
         let moment = if-some e.kept (λ r. r.moment ≡ e.moment) r next.recorded is in
         let later = next.after_records in
         let given = base-given s r g well.reached (omega (arith, moment, later)) gives in
-        let granted = granted-by s r.moment g well.reached gives.live_lease in
-        let told : (apply s r).base ≤ e.base =
-        subst (λ (t : State). t.base ≤ e.base) (state-more opening before e ∙ ap (with_kept s) is) next.base in
-        All-weaker (λ p. (e.moment ≤ p.moment) × (e.base ≤ p.base)) (IsWithinAge g)
-        (λ p h. within-age g p.moment p.base (omega (arith, granted, later, h.0)) (omega (arith, given, told, h.1)))
-        (e ∷ more) (no-earlier x opening before e more legal)
+        bases-disclose formed fit x opening before e more g opens legal
+        (subst (λ (t : State). g ≤ t.base) (sym (state-more opening before e ∙ ap (with_kept s) is)) given)
 
 -- ---- the opening state
 
@@ -84,10 +108,6 @@ record Risen (opening : State) (before : List Entry) : Type 0 where
   base : opening.base ≤ (state_after opening before).base
   last : opening.last ≤ (state_after opening before).last
   entries : AllByRecursion (λ p. (opening.last ≤ p.moment) × (opening.base ≤ p.base)) before
-
-base-rises : (b : Bool) (m base : ℕ) → base ≤ m → base ≤ cond b m base
-base-rises true m base h = h
-base-rises false m base h = omega arith
 
 kept-rises : (s : State) (kept : Option Record) → IsReached s → ((r : Record) → kept ≡ Some r → s.last ≤ r.moment) →
     (s.base ≤ (with_kept s kept).base) × (s.last ≤ (with_kept s kept).last)

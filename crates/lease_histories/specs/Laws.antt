@@ -16,7 +16,7 @@ use Rattle.pcp_base.specs.Tables.{Table, live}
 use Rattle.pcp_base.specs.Owners.{owners, OneOwner}
 use Rattle.pcp_base.specs.Epoch.{epoch_of}
 use Rattle.pcp_base.specs.States.{State, empty_state}
-use Rattle.pcp_base.specs.Apply.{rebases, state_of}
+use Rattle.pcp_base.specs.Apply.{apply, rebases, state_of}
 use Rattle.pcp_base.specs.Fits.{AllFit}
 use Rattle.pcp_base.specs.Reached.{IsReached}
 use Rattle.pcp_options.specs.Responses.{AreOctets}
@@ -191,7 +191,19 @@ pub record GivesUp (s : State) (r : Record) (g : ℕ) : Type 0 where
 abbrev pub IsWithinAge : ℕ → Entry → Type 0
 IsWithinAge g e = g + epoch_of e.moment e.base ≤ e.moment
 
--- so it is from the entry on that gives the lease up
+-- so it is from each entry on after which the base is g or later
+abbrev pub BasesDisclose : Type 0
+BasesDisclose = (x : Served) (opening : State) (before : List Entry) (e : Entry) (more : List Entry)
+    (g : ℕ) → IsOpening x opening → IsLegal x opening (before ++ e ∷ more) →
+    g ≤ (state_after opening (before ++ e ∷ [])).base → AllByRecursion (IsWithinAge g) (e ∷ more)
+
+-- A record that comes after the others never lowers the base. Where it gives up a lease that was
+-- granted at g, the base is g or later then.
+abbrev pub BasesRise : Type 0
+BasesRise = (s : State) (r : Record) → IsReached s → s.last ≤ r.moment →
+    (s.base ≤ (apply s r).base) × ((g : ℕ) → GivesUp s r g → g ≤ (apply s r).base)
+
+-- so the epoch is within the age from the entry on that gives the lease up
 abbrev pub EpochsDisclose : Type 0
 EpochsDisclose =
     (x : Served) (opening : State) (before : List Entry) (e : Entry) (more : List Entry) →

@@ -1,5 +1,5 @@
 //! What holds of legal histories. A proof that needs a law calls its function.
-ghost use Rattle.lease_histories.specs.Laws.{CallsMakeHistories, DecisionsComeNext, EpochsDisclose, FaultsComeNext, LastIsGreatest, NextIsLegal, NoncesDecide, NothingIsLegal, OpeningsDisclose, PortsRest, PortsStay, PrefixesAreLegal, ServersComeNext, StartsDisclose, StatesStand};
+ghost use Rattle.lease_histories.specs.Laws.{BasesDisclose, BasesRise, CallsMakeHistories, DecisionsComeNext, EpochsDisclose, FaultsComeNext, LastIsGreatest, NextIsLegal, NoncesDecide, NothingIsLegal, OpeningsDisclose, PortsRest, PortsStay, PrefixesAreLegal, ServersComeNext, StartsDisclose, StatesStand};
 
 use lease_core::{decisions_change_leases, decisions_fit, nonces_match};
 use pcp_base::{ends_at_a_moment, ends_come_in_steps, ports_have_one_owner, states_are_sound};
@@ -57,8 +57,11 @@ pub fn ports_rest()
     ends_come_in_steps();
 }
 
-/// The epoch told is at most the age of each lease that was given up early.
+/// The epoch told is at most the age of each lease that was given up early: of each that was granted
+/// by the base, and no lease that a record gives up was granted later.
 pub fn epochs_disclose()
+    ensures bases { BasesDisclose }
+    ensures rises { BasesRise }
     ensures entries { EpochsDisclose }
     ensures openings { OpeningsDisclose }
     ensures starts { StartsDisclose }

@@ -8,7 +8,7 @@ use Rattle.pcp_base.specs.States.{State}
 use Rattle.pcp_base.specs.Tables.{live}
 use Rattle.lease_histories.specs.Entries.{Served}
 use Rattle.lease_histories.specs.HouseHistories.{entries_at}
-use Rattle.lease_histories.specs.Laws.{EpochsDisclose, HasNoOther, NoncesDecide, OpeningsDisclose, PortsRest, StartsDisclose, StatesStand}
+use Rattle.lease_histories.specs.Laws.{BasesDisclose, HasNoOther, NoncesDecide, PortsRest, StatesStand}
 use Rattle.lease_histories.specs.Legal.{IsLegal, IsOpening, state_after}
 use Rattle.pcp_server.specs.Promises.{HistoriesKeepPromises, KeepsPromises}
 
@@ -17,9 +17,9 @@ All-at P [] i x all h = absurd cc
 All-at P (y ∷ xs) zero x all h = let same : y ≡ x = cc in subst P same all.0
 All-at P (y ∷ xs) (suc i) x all h = All-at P xs i x all.1 h
 
-promises-one : StatesStand → NoncesDecide → PortsRest → EpochsDisclose → OpeningsDisclose → StartsDisclose →
+promises-one : StatesStand → NoncesDecide → PortsRest → BasesDisclose →
     (x : Served) (opening : State) (entries : List Entry) → IsOpening x opening → IsLegal x opening entries → KeepsPromises x opening entries
-promises-one stand decide rest disclose openings starts x opening entries is legal = record {
+promises-one stand decide rest disclose x opening entries is legal = record {
   replies = legal;
   one_owner = λ before more e. stand x opening before more is (subst (IsLegal x opening) e legal);
   nonces = λ before e more so. decide x opening before e more is (subst (IsLegal x opening) so legal);
@@ -27,16 +27,13 @@ promises-one stand decide rest disclose openings starts x opening entries is leg
       subst (λ es. HasNoOther (owners (live (state_after opening es).table n)) o) (sym so)
       (rest x opening before behind t o n is (subst (IsLegal x opening) so legal) owns
       (subst (λ es. (state_after opening es).last ≤ n) so last) soon);
-  epochs = λ before e more so. disclose x opening before e more is (subst (IsLegal x opening) so legal);
-  epochs_of_records = λ before r more g fit so gives. openings x before r more entries g fit
-      (subst (IsOpening x) so is) (subst (λ s. IsLegal x s entries) so legal) gives;
-  epochs_of_starts = λ g early. starts x opening entries g is legal early;
+  epochs = λ before e more g so granted. disclose x opening before e more g is (subst (IsLegal x opening) so legal) granted;
 }
 
-pub promises : StatesStand → NoncesDecide → PortsRest → EpochsDisclose → OpeningsDisclose → StartsDisclose → HistoriesKeepPromises
-promises stand decide rest disclose opens starts config openings history are solo = record {
+pub promises : StatesStand → NoncesDecide → PortsRest → BasesDisclose → HistoriesKeepPromises
+promises stand decide rest disclose config openings history are solo = record {
   solo = solo;
-  each = λ place x opening there at. promises-one stand decide rest disclose opens starts (record { config = config; place = place; external = x }) opening (entries_at place history)
+  each = λ place x opening there at. promises-one stand decide rest disclose (record { config = config; place = place; external = x }) opening (entries_at place history)
       (record {
         config = are.config_is;
         there = there;

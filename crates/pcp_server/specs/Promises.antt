@@ -2,22 +2,19 @@
 -- house: every reply is the lease table's in journal order, no external port has two owners, only the
 -- matching nonce renews or deletes, ports rest, and no epoch told is above the age of a lease that was
 -- given up early.
-use Rattle.std.specs.Prelude.{◌≡◌, ℕ, ◌+◌, ◌<◌, ◌≤◌, List, [], ◌∷◌, ◌++◌, Some, IfSome, Contains}
+use Rattle.std.specs.Prelude.{◌≡◌, ℕ, ◌+◌, ◌<◌, ◌≤◌, List, [], ◌∷◌, ◌++◌, Some, Contains}
 use Rattle.std.specs.List.{AllByRecursion, slice_get}
 use Rattle.pcp_base.specs.declared.configs.Config.{Config}
 use Rattle.pcp_base.specs.declared.configs.External.{External}
 use Rattle.pcp_base.specs.declared.datagrams.Entry.{Entry}
 use Rattle.pcp_base.specs.declared.leases.Owner.{Owner}
 use Rattle.pcp_base.specs.declared.leases.TheConstants.{REST_SECONDS}
-use Rattle.pcp_base.specs.declared.records.Record.{Record}
-use Rattle.pcp_base.specs.Apply.{state_of}
-use Rattle.pcp_base.specs.Fits.{AllFit}
 use Rattle.pcp_base.specs.Owners.{owners}
-use Rattle.pcp_base.specs.States.{State, empty_state}
+use Rattle.pcp_base.specs.States.{State}
 use Rattle.pcp_base.specs.Tables.{live}
 use Rattle.lease_histories.specs.Entries.{Served}
 use Rattle.lease_histories.specs.HouseHistories.{HouseEntry, IsSoloHistory, entries_at}
-use Rattle.lease_histories.specs.Laws.{AreOpenings, ChangesByNonce, GivesUp, HasNoOther, IsWithinAge, OwnsUpTo, Stands}
+use Rattle.lease_histories.specs.Laws.{AreOpenings, ChangesByNonce, HasNoOther, IsWithinAge, OwnsUpTo, Stands}
 use Rattle.lease_histories.specs.Legal.{IsLegal, state_after}
 use Rattle.lease_histories.specs.PlainHouses.{PlainHouse, entries_along, house_begun}
 use Rattle.pcp_script.specs.declared.lines.Line.{Line}
@@ -42,19 +39,11 @@ pub record KeepsPromises (x : Served) (opening : State) (entries : List Entry) :
       entries ≡ before ++ behind → OwnsUpTo opening before behind t o →
       (state_after opening entries).last ≤ n → n < t + REST_SECONDS →
       HasNoOther (owners (live (state_after opening entries).table n)) o
-  -- the epoch told is at most the age of each lease that was given up early, from the entry on that
-  -- gave it up
-  pub epochs : (before : List Entry) (e : Entry) (more : List Entry) →
-      entries ≡ before ++ e ∷ more →
-      IfSome e.kept (λ r. (g : ℕ) → GivesUp (state_after opening before) r g →
-      AllByRecursion (IsWithinAge g) (e ∷ more))
-  -- in each entry, where a record of the opening state gave it up
-  pub epochs_of_records : (before : List Record) (r : Record) (more : List Record) (g : ℕ) →
-      AllFit empty_state (before ++ r ∷ more) → opening ≡ state_of (before ++ r ∷ more) →
-      GivesUp (state_of before) r g → AllByRecursion (IsWithinAge g) entries
-  -- and in each entry, where it was granted by the base of the opening state: so was each lease that a
-  -- start on a blank or damaged journal forgot, if no moment before was later than that start
-  pub epochs_of_starts : (g : ℕ) → g ≤ opening.base → AllByRecursion (IsWithinAge g) entries
+  -- The epoch told is at most the age of each lease that was given up early: from each entry on, of
+  -- those granted by the base after it. Each that a record gave up is such (`BasesRise`).
+  pub epochs : (before : List Entry) (e : Entry) (more : List Entry) (g : ℕ) →
+      entries ≡ before ++ e ∷ more → g ≤ (state_after opening (before ++ e ∷ [])).base →
+      AllByRecursion (IsWithinAge g) (e ∷ more)
 
 -- Of a house on one thread: what is promised of each external address, and the base told is the
 -- greatest of all so far.

@@ -3,5 +3,4 @@ use Rattle.pcp_server.proofs.laws.histories_keep_promises.Goals as goal
 
 pub returns : goal.returns
 returns c =
-    promises c.states_stand.ensures c.nonces_decide.ensures c.ports_rest.ensures.rest c.epochs_disclose.ensures.entries
-    c.epochs_disclose.ensures.openings c.epochs_disclose.ensures.starts
+    promises c.states_stand.ensures c.nonces_decide.ensures c.ports_rest.ensures.rest c.epochs_disclose.ensures.bases
