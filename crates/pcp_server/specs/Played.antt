@@ -1,5 +1,5 @@
 -- How a `play` ends, and what it leaves (our own).
-use Rattle.std.specs.Prelude.{◌≡◌, ◌⊎◌, ◌≤◌, ℕ, List, length, take, flat_map, Option}
+use Rattle.std.specs.Prelude.{◌≡◌, ◌⊎◌, ◌<◌, ℕ, List, length, take, flat_map, Option}
 use Rattle.std.specs.Io.KnownBytes.{append_known}
 use Rattle.pcp_base.specs.declared.configs.Config.{Config}
 use Rattle.pcp_io.specs.Writes.{WritesPart}
@@ -27,10 +27,10 @@ use Rattle.pcp_server.specs.Statuses.{played_as}
 abbrev pub updates_text : {D : Type 0} → HouseView D → List ℕ
 updates_text house = flat_map reply_line (updates_of house)
 
--- some first octets of the text were written
+-- nothing was written of the text, or some first octets and not all
 pub record WritesFront (before now : Option (List ℕ)) (text : List ℕ) : Type 0 where
   pub taken : ℕ
-  pub few : taken ≤ length text
+  pub few : (taken ≡ 0) ⊎ (taken < length text)
   pub front : now ≡ append_known before (take taken text)
 
 -- what is written where not all updates are
