@@ -1,2 +1,3 @@
 pub mod FloatLemmas
+pub mod ReplayLemmas
 pub mod TurnLemmas

@@ -21,3 +21,9 @@ abbrev pub reading_of : Found → State → JournalReading
 reading_of Found.Recovered s = Recovered s
 reading_of Found.Blank s = Blank
 reading_of Found.Damaged s = Damaged
+
+-- these sides are found so
+abbrev pub IsFoundAs : List ℕ → List ℕ → Found → Type 0
+IsFoundAs a b Found.Recovered = (s : State) × StandsFor s a b
+IsFoundAs a b Found.Blank = IsBlank a b
+IsFoundAs a b Found.Damaged = IsDamaged a b
