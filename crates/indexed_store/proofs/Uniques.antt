@@ -10,7 +10,7 @@ use Rattle.pcp_base.specs.declared.leases.PeerLease.{PeerLease}
 use Rattle.pcp_base.specs.Tables.{Table, EachTwo, AreApart, HaveOtherKeys, covers, first_endpoint, is_map_of, is_peer_of, live, IsMapLease, same_address, same_protocol}
 use Rattle.pcp_base.specs.Owners.{owners, map_owners, peer_owner, is_port, owns}
 use Rattle.pcp_base.specs.Sound.{Sound}
-use Rattle.lease_store.specs.Lookups.{is_with}
+use Rattle.filter_rules.specs.Lookups.{is_with}
 use Rattle.peer_table.specs.PeerLists.{opens}
 use Rattle.pcp_base.proofs.Members.{IsIn, IsIn-filter, IsIn-right, map-IsIn, Contains-from_IsIn, find-some, find-none, All-IsIn, All-from_IsIn}
 use Rattle.pcp_base.proofs.Same.{same_address-Decides, same_endpoint-Decides, same_protocol-Decides}

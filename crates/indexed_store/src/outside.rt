@@ -5,7 +5,7 @@ ghost use Rattle.pcp_base.specs.Tables.{HasPorts, live};
 ghost use Rattle.pcp_base.specs.Sound.{Sound};
 ghost use Rattle.pcp_base.specs.Owners.{is_port, peer_owner, owns, endpoint_behind};
 ghost use Rattle.filter_rules.specs.Filters.{allows as lets};
-ghost use Rattle.lease_store.specs.Lookups.{is_with, owners_for};
+ghost use Rattle.filter_rules.specs.Lookups.{is_with, owners_for};
 
 use crate::leases::Leases;
 use filter_rules::allows;

@@ -14,8 +14,9 @@ use Rattle.pcp_base.specs.declared.asks.PortSet.{PortSet}
 use Rattle.pcp_base.specs.declared.asks.Answer.TheVariants.{Refused, Gone, Mapped, Peered}
 use Rattle.pcp_base.specs.declared.records.Change.TheVariants.{Map, Peer, DropMap, DropPeer}
 use Rattle.pcp_base.specs.States.{State}
+use Rattle.filter_rules.specs.Lookups.{look}
 use Rattle.lease_store.specs.declared.terms.Terms.{Terms}
-use Rattle.lease_store.specs.Lookups.{look, next_inside}
+use Rattle.lease_store.specs.Lookups.{next_inside}
 use Rattle.lease_store.specs.Picks.{pick}
 use Rattle.lease_core.specs.Answers.{answered, answered_with, refused, refused_until}
 use Rattle.lease_core.specs.DecideMap.{decide_map}

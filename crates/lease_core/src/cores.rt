@@ -6,8 +6,9 @@ ghost use Rattle.pcp_base.specs.States.{empty_state};
 ghost use Rattle.pcp_base.specs.Apply.{apply, apply_first};
 ghost use Rattle.pcp_base.specs.Fits.{Fits, FitsFirst};
 ghost use Rattle.pcp_base.specs.Reached.{IsReached};
+ghost use Rattle.filter_rules.specs.Lookups.{look};
 ghost use Rattle.lease_store.specs.declared.terms.Terms.{Terms};
-ghost use Rattle.lease_store.specs.Lookups.{covering, lease_count, look};
+ghost use Rattle.lease_store.specs.Lookups.{covering, lease_count};
 ghost use Rattle.lease_store.specs.OwnerOrder.{owners_in_order};
 ghost use Rattle.lease_core.specs.Decide.{decide as decided};
 

@@ -15,7 +15,8 @@ use Rattle.pcp_base.specs.declared.records.Change.TheVariants.{Lose}
 use Rattle.pcp_base.specs.declared.records.Record.{Record}
 use Rattle.pcp_base.specs.Apply.{apply}
 use Rattle.pcp_base.specs.States.{State}
-use Rattle.lease_store.specs.Lookups.{covering, lease_count, look}
+use Rattle.filter_rules.specs.Lookups.{look}
+use Rattle.lease_store.specs.Lookups.{covering, lease_count}
 use Rattle.lease_store.specs.OwnerOrder.{owners_in_order}
 use Rattle.lease_histories.specs.Routes.{route_of}
 use Rattle.lease_histories.specs.Entries.{Served, Request, request_of, request_entry}

@@ -1,17 +1,12 @@
--- What is asked of a lease table at a moment (our own; filters: RFC 6887, section 13.3).
-use Rattle.std.specs.Prelude.{ℕ, ◌+◌, ◌-◌, ◌&&◌, ◌||◌, ◌==◌, max, Bool, List, ◌++◌, length, map, flat_map, filter, find, count_by, Option}
+-- What is asked of a lease table at a moment (our own).
+use Rattle.std.specs.Prelude.{ℕ, ◌+◌, ◌-◌, ◌||◌, Bool, length, find, count_by, Option}
 use Rattle.std.specs.List.{list_any, range_with_len}
 use Rattle.std.specs.Option.{option_map}
 use Rattle.pcp_base.specs.declared.addresses.Address.{Address}
-use Rattle.pcp_base.specs.declared.leases.Protocol.{Protocol}
 use Rattle.pcp_base.specs.declared.leases.Endpoint.{Endpoint}
 use Rattle.pcp_base.specs.declared.leases.MapLease.{MapLease}
 use Rattle.pcp_base.specs.declared.leases.PeerLease.{PeerLease}
-use Rattle.pcp_base.specs.declared.leases.Owner.{Owner}
-use Rattle.pcp_base.specs.Tables.{Table, live, covers, names, is_peer_of, same_address}
-use Rattle.pcp_base.specs.Owners.{map_owners, peer_owner, is_port}
-use Rattle.pcp_base.specs.States.{State}
-use Rattle.filter_rules.specs.Filters.{allows}
+use Rattle.pcp_base.specs.Tables.{Table, live, covers, names, is_peer_of}
 
 -- the live MAP lease that covers the endpoint
 abbrev pub covering : Table → ℕ → Endpoint → Option MapLease
@@ -46,20 +41,3 @@ is_taken_inside t m e port = list_any (λ l. covers l (with_port e port)) (live 
 -- or names
 unfoldable pub next_inside : Table → ℕ → Endpoint → Option ℕ
 next_inside t m e = find (is_taken_inside t m e) (range_with_len (e.port + 1) (65535 - e.port))
-
--- whether the PEER lease has exactly this remote
-abbrev pub is_with : Address → ℕ → PeerLease → Bool
-is_with remote remote_port l = same_address l.remote remote && l.remote_port == remote_port
-
--- owned ports through which this remote peer may send: those of MAP leases whose filters allow it,
--- and those of PEER leases with exactly this remote
-abbrev pub owners_for : Table → Address → ℕ → List Owner
-owners_for t remote remote_port =
-    flat_map map_owners (filter (λ l. allows l.filters remote remote_port) t.maps)
-    ++ map peer_owner (filter (is_with remote remote_port) t.peers)
-
--- The endpoint to which a remote peer may send through this port, by the live leases; a moment
--- before the last one counts as that.
-abbrev pub look : State → Protocol → ℕ → Address → ℕ → ℕ → Option Endpoint
-look s protocol port remote remote_port m = option_map (λ o. o.endpoint)
-    (find (is_port protocol port) (owners_for (live s.table (max m s.last)) remote remote_port))

@@ -6,9 +6,10 @@ ghost use Rattle.pcp_base.specs.Apply.{apply, apply_first};
 ghost use Rattle.pcp_base.specs.Fits.{Fits, FitsFirst};
 ghost use Rattle.pcp_base.specs.Reached.{IsReached, IsReachedFirst};
 ghost use Rattle.external_pool.specs.Calls.{IsAsk};
+ghost use Rattle.filter_rules.specs.Lookups.{look};
 ghost use Rattle.lease_store.specs.declared.terms.Terms.{Terms};
 ghost use Rattle.lease_store.specs.LeaseTerms.{AreTerms};
-ghost use Rattle.lease_store.specs.Lookups.{covering, peering, named_port, peer_count, lease_count, next_inside, look};
+ghost use Rattle.lease_store.specs.Lookups.{covering, peering, named_port, peer_count, lease_count, next_inside};
 ghost use Rattle.lease_store.specs.OwnerOrder.{owners_in_order};
 ghost use Rattle.lease_store.specs.Picks.{pick_answer};
 

@@ -6,7 +6,8 @@ ghost use Rattle.pcp_base.specs.Tables.{live, names, covers, HasPorts, IsMapLeas
 ghost use Rattle.pcp_base.specs.Owners.{is_port, peer_owner, owns, endpoint_behind};
 ghost use Rattle.pcp_base.specs.Reached.{IsReached};
 ghost use Rattle.filter_rules.specs.Filters.{allows as lets};
-ghost use Rattle.lease_store.specs.Lookups.{covering, peering, named_port, peer_count, lease_count, is_taken_inside, next_inside, is_with, owners_for, look};
+ghost use Rattle.filter_rules.specs.Lookups.{is_with, owners_for, look};
+ghost use Rattle.lease_store.specs.Lookups.{covering, peering, named_port, peer_count, lease_count, is_taken_inside, next_inside};
 
 use crate::owned::{is_map_owner, is_peer_owner};
 use filter_rules::allows;

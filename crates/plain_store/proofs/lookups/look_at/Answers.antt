@@ -3,7 +3,7 @@ use Rattle.std.specs.List.{AllByRecursion}
 use Rattle.pcp_base.specs.declared.leases.MapLease.{MapLease}
 use Rattle.pcp_base.specs.Tables.{IsMapLease, live}
 use Rattle.filter_rules.specs.Filters.{allows}
-use Rattle.lease_store.specs.Lookups.{is_with}
+use Rattle.filter_rules.specs.Lookups.{is_with}
 use Rattle.pcp_base.proofs.OwnerLooks.{found_in}
 use Rattle.plain_store.proofs.lookups.look_at.Goals as goal
 

@@ -2,7 +2,7 @@ use Rattle.std.proofs.Common.{filter, Bool, ◌∙◌}
 use Rattle.pcp_base.specs.declared.leases.MapLease.{MapLease}
 use Rattle.pcp_base.specs.Tables.{live}
 use Rattle.filter_rules.specs.Filters.{allows}
-use Rattle.lease_store.specs.Lookups.{is_with}
+use Rattle.filter_rules.specs.Lookups.{is_with}
 use Rattle.indexed_store.proofs.LookLemmas.{looked}
 use Rattle.indexed_store.proofs.leases.Leases.look.Goals as goal
 
