@@ -72,6 +72,7 @@ fn add_one<R: Wait>(
 ) -> bool
     requires { (pass.old.turn ≡ turn.now.id) × (pass.old.out ≡ false) }
     ensures pass { (pass.new.turn ≡ pass.old.turn) × (pass.new.out ≡ false) }
+    ensures room { pass.new.room ≡ pass.old.room }
     ensures mine { OnTrue result (length pass.new.mine ≡ length pass.old.mine + one_if own) }
 {
     let mut held = turn.take(rt, pass);
@@ -196,6 +197,22 @@ fn splits_are_refused(rt: HostRuntime) -> Result<(), Fail> {
     assert!(rt; split_often(rt.alloc(), &turn, &mut other, 100) == 32);
     turn.meet(&mut other, pass);
     assert!(rt; turn.split(rt.alloc(), &mut other).is_ok());
+    Ok(())
+}
+
+#[test]
+fn a_turn_that_nobody_shares_gives_its_value(rt: HostRuntime) -> Result<(), Fail> {
+    let alloc = rt.alloc();
+    let (turn, mut pass) = Turn::new(alloc, Numbers::none(alloc), &())
+        .ok()
+        .ok_or("turn")?;
+    let mut other = turn.split(alloc, &mut pass)?;
+    assert!(rt; add_one(&rt, &turn, &mut pass, 7, true));
+    assert!(rt; add_one(&rt, &turn, &mut other, 8, false));
+    turn.meet(&mut pass, other);
+    let numbers = turn.into_value(pass);
+    assert!(rt; numbers.list.as_slice() == [7, 8].as_slice());
+    assert!(rt; numbers.noted == 2);
     Ok(())
 }
 

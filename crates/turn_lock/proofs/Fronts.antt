@@ -1,5 +1,5 @@
 -- Beginnings of one list.
-use Rattle.std.proofs.Common.{◌≡◌, ◌≤◌, Bool, true, false, List, [], ◌∷◌, ◌++◌, length, refl, ap, sym, ◌∙◌, arith, append_assoc, append-nil, length-append}
+use Rattle.std.proofs.Common.{◌≡◌, ◌≤◌, ◌⊎◌, ⊎_elim, Bool, true, false, List, [], ◌∷◌, ◌++◌, length, refl, ap, sym, ◌∙◌, arith, append_assoc, append-nil, length-append}
 use mathlib.Core.List.{IsPrefix}
 use Rattle.std.specs.Prelude.{nat_lt, if◌then◌else◌}
 use Rattle.std.proofs.lemmas.Bool.{ltb-true, ltb-false}
@@ -31,6 +31,16 @@ prefix_shorter (x ∷ xs) (y ∷ ys) (z ∷ zs) p q le =
 pub prefix_length : {A : Type 0} (xs ys : List A) → IsPrefix xs ys → length xs ≤ length ys
 prefix_length xs ys p = omega (arith, sym (ap length p.1) ∙ length-append xs p.0)
 
+-- a beginning of a list that is as long is the list
+pub prefix_whole : {A : Type 0} (xs ys : List A) → IsPrefix xs ys → length ys ≤ length xs → xs ≡ ys
+prefix_whole [] [] p long = refl
+prefix_whole [] (y ∷ ys) p long = absurd (omega arith)
+prefix_whole (x ∷ xs) [] p long = absurd (cc (p.1))
+prefix_whole (x ∷ xs) (y ∷ ys) p long =
+    let heads : x ≡ y = cc (p.1) in
+    let rest = prefix_whole xs ys (p.0, cc (p.1)) (omega arith) in
+    cc (heads, rest)
+
 -- of two beginnings of one list, the longer begins it, and the shorter begins the longer
 pub longer_of : {A : Type 0} (xs ys log : List A) → IsPrefix xs log → IsPrefix ys log → IsPrefix (longer xs ys) log × IsPrefix (shorter xs ys) (longer xs ys)
 longer_of {A} xs ys log p q = go (nat_lt (length xs) (length ys)) refl
@@ -38,6 +48,20 @@ longer_of {A} xs ys log p q = go (nat_lt (length xs) (length ys)) refl
     go : (b : Bool) → nat_lt (length xs) (length ys) ≡ b → IsPrefix (if b then ys else xs) log × IsPrefix (if b then xs else ys) (if b then ys else xs)
     go true e = (q, prefix_shorter xs ys log p q (let l = ltb-true (length xs) (length ys) e in omega arith))
     go false e = (p, prefix_shorter ys xs log q p (ltb-false (length xs) (length ys) e))
+
+-- of two beginnings of a list, one of which is the list, the longer is the list
+pub longer_whole : {A : Type 0} (xs ys log : List A) → IsPrefix xs log → IsPrefix ys log → (xs ≡ log) ⊎ (ys ≡ log) → longer xs ys ≡ log
+longer_whole {A} xs ys log p q whole = go (nat_lt (length xs) (length ys)) refl
+  where
+    go : (b : Bool) → nat_lt (length xs) (length ys) ≡ b → (if b then ys else xs) ≡ log
+    go true e = ⊎_elim
+        (λ is. let l = ltb-true (length xs) (length ys) e in let most = prefix_length ys log q in let same = ap length is in absurd (omega arith))
+        (λ is. is)
+        whole
+    go false e = ⊎_elim
+        (λ is. is)
+        (λ is. prefix_whole xs log p (let l = ltb-false (length xs) (length ys) e in let same = ap length is in omega arith))
+        whole
 
 pub longer_length : {A : Type 0} (xs ys : List A) → (length xs ≤ length (longer xs ys)) × (length ys ≤ length (longer xs ys))
 longer_length {A} xs ys = go (nat_lt (length xs) (length ys)) refl

@@ -10,7 +10,7 @@ use Rattle.atomic_table.specs.Table.{State}
 use Rattle.atomic_table.proofs.Lists.{at_set, at_snoc, set_here, set_else, at_longer}
 use Rattle.turn_lock.specs.declared.views.TurnView.{TurnView}
 use Rattle.turn_lock.specs.Places.{one_if, total}
-use Rattle.turn_lock.specs.Rule.{FitsHistory, HaveOwnTickets, IsOut, NoneIsOut, IsHomeFor, IsRuled}
+use Rattle.turn_lock.specs.Rule.{FitsHistory, HaveOwnTickets, IsKnown, IsOut, NoneIsOut, IsHomeFor, IsRuled}
 use Rattle.turn_lock.specs.Views.{tickets_held, room_of, count_in_view}
 use Rattle.turn_lock.proofs.Sums.{total_snoc, total_most}
 
@@ -48,6 +48,12 @@ module _ {E : Type 0} where
       (λ e. let is : u ≡ v = some-injective u v (sym there ∙ (ap (get_elem? views) e ∙ at)) in (id, w, set_here views id w (at_within views id v at), same ∙ (ap (λ (z : TurnView E). z.out) (sym is) ∙ out)))
       (λ ne. (o, u, set_else views id o w ne ∙ there, out))
 
+  -- whoever has seen all has so still, where the view that changes has seen as much, and has room where it had
+  pub known_set : (log : List E) (views : List (TurnView E)) (id : ℕ) (v w : TurnView E) → get_elem? views id ≡ some v → w.seen ≡ v.seen → (0 < v.room → 0 < w.room) → IsKnown log views → IsKnown log (set views id w)
+  known_set log views id v w at same roomy (k, u, there, room, all) = dite (ℕ_discrete k id)
+      (λ e. let is : v ≡ u = some-injective v u (sym at ∙ (ap (get_elem? views) (sym e) ∙ there)) in (id, w, set_here views id w (at_within views id v at), roomy (subst (λ (z : TurnView E). 0 < z.room) (sym is) room), same ∙ (ap (λ (z : TurnView E). z.seen) is ∙ all)))
+      (λ ne. (k, u, set_else views id k w ne ∙ there, room, all))
+
   -- each view with a ticket has room, so there are no more tickets out than rooms
   pub held_few : (views : List (TurnView E)) → ((j : ℕ) (v : TurnView E) → get_elem? views j ≡ some v → v.waits ≡ true → 0 < v.room) → total tickets_held views ≤ total room_of views
   held_few views h = total_most tickets_held room_of views (λ j v e. held_most v.waits v.room (h j v e))
@@ -75,11 +81,12 @@ module _ {X E : Type 0} (stands : X → List E → Type 0) (added : X → List E
       → FitsHistory log served (served + total tickets_held (set s.views id w)) w
       → ((j : ℕ) (u : TurnView E) → j ≢ id → get_elem? s.views j ≡ some u → u.waits ≡ true → w.waits ≡ true → u.ticket ≢ w.ticket)
       → (IsHomeFor stands added log homes × NoneIsOut (set s.views id w)) ⊎ IsOut (set s.views id w)
+      → IsKnown log (set s.views id w)
       → ((x : ℕ) → total (count_in_view x) (set s.views id w) ≤ 1)
       → total room_of (set s.views id w) < 18446744073709551616
       → IsRuled stands added record { words = words; homes = homes; views = set s.views id w }
-  moved s r id v w words homes log served at wide single history ticket serving others mine lone value once few =
-      record { log = log; served = served; wide = wide; single = single; history_is = history; ticket_is = ticket; serving_is = serving; each = each; apart = apart; value = value; once = once; few = few }
+  moved s r id v w words homes log served at wide single history ticket serving others mine lone value known once few =
+      record { log = log; served = served; wide = wide; single = single; history_is = history; ticket_is = ticket; serving_is = serving; each = each; apart = apart; value = value; known = known; once = once; few = few }
     where
       each : (j : ℕ) (u : TurnView E) → get_elem? (set s.views id w) j ≡ some u → FitsHistory log served (served + total tickets_held (set s.views id w)) u
       each j u e = ⊎_elim (λ (t : (j ≡ id) × (w ≡ u)). subst (FitsHistory log served (served + total tickets_held (set s.views id w))) t.1 mine) (λ (t : (j ≢ id) × (get_elem? s.views j ≡ some u)). others j u t.0 t.1 (r.each j u t.1)) (at_set s.views id j w u e)
@@ -117,6 +124,7 @@ module _ {X E : Type 0} (stands : X → List E → Type 0) (added : X → List E
             (λ (t : IsHomeFor stands added r.log s.homes × NoneIsOut s.views). inl (t.0, λ j v e. ⊎_elim (λ (was : get_elem? s.views j ≡ some v). t.1 j v was) (λ (is : u ≡ v). ap (λ (z : TurnView E). z.out) (sym is) ∙ home) (at_snoc s.views u v j e)))
             (λ (t : IsOut s.views). inr (t.0, t.1, at_longer s.views (u ∷ []) t.0 t.1 t.2, t.3))
             r.value;
+        known = let (k, v, there, room, all) = r.known in (k, v, at_longer s.views (u ∷ []) k v there, room, all);
         once = λ x. let a = total_snoc (count_in_view x) s.views u in let b = none_of x in let c = r.once x in omega arith;
         few = let a = total_snoc room_of s.views u in let c : total room_of s.views + u.room < 18446744073709551616 = few in omega arith;
       }

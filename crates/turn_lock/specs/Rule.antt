@@ -44,6 +44,11 @@ module _ {E : Type 0} where
   abbrev pub IsOut : List (TurnView E) → Type 0
   IsOut views = (o : ℕ) × (v : TurnView E) × (get_elem? views o ≡ some v) × (v.out ≡ true)
 
+  -- a view with room has seen the whole history
+  abbrev pub IsKnown : List E → List (TurnView E) → Type 0
+  IsKnown log views =
+      (k : ℕ) × (v : TurnView E) × (get_elem? views k ≡ some v) × (0 < v.room) × (v.seen ≡ log)
+
   -- the value is out with none
   abbrev pub NoneIsOut : List (TurnView E) → Type 0
   NoneIsOut views = (j : ℕ) (v : TurnView E) → get_elem? views j ≡ some v → v.out ≡ false
@@ -67,6 +72,7 @@ module _ {X E : Type 0} (stands : X → List E → Type 0) (added : X → List E
         → FitsHistory log served (served + total tickets_held s.views) v
     pub apart : HaveOwnTickets s.views
     pub value : (IsHomeFor log s.homes × NoneIsOut s.views) ⊎ IsOut s.views
+    pub known : IsKnown log s.views
     -- each place stands once at most in all the lists of all views
     pub once : (x : ℕ) → total (count_in_view x) s.views ≤ 1
     -- each view that waits has room, so fewer than 2^64 wait

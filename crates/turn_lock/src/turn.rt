@@ -1,6 +1,9 @@
 //! The lock.
 ghost use Rattle.std.specs.Prelude.{◌≡◌, ◌<◌, ◌≤◌, ◌+◌, ◌++◌, ◌%◌, ◌^◌, ℕ, [], List, length, true, false, Some, IfOk, IfErr, IfSome, IfNone, OnErr};
 ghost use mathlib.Core.List.{IsPrefix};
+ghost use mathlib.Core.Option.{some};
+ghost use lib.ListN.{get_elem?};
+ghost use Rattle.std.specs.Mem.Slots.{slots_items, slots_len, IsFull};
 ghost use Rattle.turn_lock.specs.declared.layout.TheConstants.{FIRST_ROOM};
 ghost use Rattle.turn_lock.specs.Lengths.{longer};
 ghost use Rattle.turn_lock.specs.Passes.{SplitsPass, IsPlaced, SeesMore, IsIdle, IsWaiting, TakesOut, after_note, after_give, new_pass};
@@ -11,7 +14,7 @@ use crate::kept::Kept;
 use crate::layout::{FIRST_ROOM, HISTORY, NEW_ROOM, SERVING, TICKET, VALUE};
 use crate::plays::{Draw, Give, Learn, Look, Naming, NoteOwn, NoteSettling, Noting, SplitAndMeet};
 use crate::views::{TurnRule, TurnView};
-use atomic_table::{Refused, Seat, Table};
+use atomic_table::{Closed, Refused, Seat, Table};
 use std::alloc::{AllocError, AllocFailed, Global};
 use std::marker::{Brand, Model};
 use std::sync::Wait;
@@ -229,6 +232,22 @@ impl<V: Kept> Turn<V> {
             .fetch_add::<Give>(&mut pass.seat, SERVING, 1);
     }
 
+    /// Takes the value out for good, where nobody shares the turn: the pass has the share of all passes
+    /// (each that was split off has met it again), and its value is at home. So nobody else can have
+    /// noted more than it has seen. It waits for nobody and takes no memory.
+    pub fn into_value(self, pass: Pass<V>) -> V
+        requires turn { pass.turn ≡ self.id }
+        requires idle { pass.out ≡ false }
+        requires whole { pass.room ≡ FIRST_ROOM }
+        ensures value { V.stands self.key result pass.seen }
+        ensures added { V.added result ≡ [] }
+    {
+        let Pass { seat, room: _ } = pass;
+        let Turn { table } = self;
+        let value = only_slot(table.close_with(seat));
+        value.unwrap()
+    }
+
     /// Another pass, which has seen as much and noted nothing. It takes no memory. It is refused, as
     /// for want of memory, where this pass's share of the 2^64 passes that a turn may have is used
     /// up: the first pass has all, and one that is split off gets 2^32, but at most a half.
@@ -266,6 +285,17 @@ impl<V: Kept> Turn<V> {
         self.table.shared.load::<Learn>(&mut pass.seat, HISTORY);
         pass.room += room;
     }
+}
+
+// The value of the one slot.
+fn only_slot<S>(mut closed: Closed<S, Global>) -> S
+    requires full { IsFull closed.slots }
+    requires one { slots_len closed.slots ≡ 1 }
+    ensures { get_elem? (slots_items closed.slots) 0 ≡ some result }
+{
+    let value = closed.take(VALUE);
+    closed.free();
+    value
 }
 
 // How much of this room a new pass gets: `NEW_ROOM`, but at most a half.

@@ -1,4 +1,4 @@
-use Rattle.std.proofs.Common.{◌≡◌, false, rules, ap, ◌∙◌}
+use Rattle.std.proofs.Common.{◌≡◌, ◌<◌, false, rules, ap, subst, ◌∙◌}
 use mathlib.Core.Option.{none}
 use Rattle.atomic_table.specs.Table.{step}
 use Rattle.turn_lock.specs.Passes.{carried_slots}
@@ -11,7 +11,7 @@ join_seat-requires g c =
     let k = c.other.invariant in
     let rests : c.pass.inside.seat.me.0.out ≡ false = search rules in
     let theirs : c.other.inside.seat.me.0.out ≡ false = search rules in
-    (search rules, search rules, k.carries ∙ ap carried_slots theirs, search rules, joins (g.V.Kept.stands c.self.inside.table.shared.key) g.V.Kept.added _ _ _ _ (i.rests ∙ rests) rests (k.rests ∙ theirs) theirs)
+    (search rules, search rules, k.carries ∙ ap carried_slots theirs, search rules, joins (g.V.Kept.stands c.self.inside.table.shared.key) g.V.Kept.added _ _ _ _ (i.rests ∙ rests) rests (subst (λ n. 0 < n) i.room_is i.some) (k.rests ∙ theirs) theirs)
 
 pub load-requires : goal.load-requires
 load-requires g c =
