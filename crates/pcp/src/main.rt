@@ -3,8 +3,6 @@
 
 mod kept;
 mod places;
-#[cfg(test)]
-mod tests;
 
 use crate::kept::KeptSource;
 use crate::places::{Places, journals_in, places_of};

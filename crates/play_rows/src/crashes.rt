@@ -1,8 +1,7 @@
 //! Plays that stop at each device call, and plays of which one call fails.
 use crate::configs::PROFILE;
 use crate::octets::{DAMAGED, FIRST_FORMAT};
-use crate::rows::pair_of;
-use crate::runs::{Ended, Failing, NEVER, NO_FAULT, Step, Text, octets_of, pairs_behind, run};
+use crate::runs::{Ended, Failing, NEVER, NO_FAULT, Step, pair_of, pairs_behind, run};
 use lease_disk::{DiskPair, MemoryDisk};
 use pcp_base::Memory;
 use pcp_server::Status;
@@ -26,8 +25,7 @@ static PLAYS: [Play; 3] = [
         step: Step {
             words: "play c s j 1000",
             config: PROFILE,
-            script: Text::Whole(
-                "packet 1010 10.0.0.5 40000 0201000000000e1000000000000000000000ffff0a000005\
+            script: "packet 1010 10.0.0.5 40000 0201000000000e1000000000000000000000ffff0a000005\
     000102030405060708090a0b110000001388000000000000000000000000ffff00000000\n\
     packet 1020 10.0.0.5 40000 0201000000000e1000000000000000000000ffff0a000005\
     000102030405060708090a0b110000001388000000000000000000000000ffff00000000\n\
@@ -36,10 +34,8 @@ static PLAYS: [Play; 3] = [
     packet 1030 10.0.0.5 40000 020100000000000000000000000000000000ffff0a000005\
     000102030405060708090a0b110000001388000000000000000000000000ffff00000000\n\
     lose 1040 192.0.2.1\n",
-            ),
             status: Status::Done,
-            output: Text::Whole(
-                "reply 10.0.0.5 40000 0281000000000e100000000a000000000000000000000000\
+            output: "reply 10.0.0.5 40000 0281000000000e100000000a000000000000000000000000\
     000102030405060708090a0b110000001388040000000000000000000000ffffc0000201\n\
     reply 10.0.0.5 40000 0281000000000e1000000014000000000000000000000000\
     000102030405060708090a0b110000001388040000000000000000000000ffffc0000201\n\
@@ -48,7 +44,6 @@ static PLAYS: [Play; 3] = [
     reply 10.0.0.5 40000 02810000000000000000001e000000000000000000000000\
     000102030405060708090a0b110000001388000000000000000000000000ffff00000000\n\
     lost 1\n",
-            ),
         },
         opened: 1,
         dumps: &[
@@ -94,15 +89,11 @@ static PLAYS: [Play; 3] = [
         step: Step {
             words: "play c s j 1500",
             config: PROFILE,
-            script: Text::Whole(
-                "packet 1510 10.0.0.5 40000 0201000000000e1000000000000000000000ffff0a000005\
+            script: "packet 1510 10.0.0.5 40000 0201000000000e1000000000000000000000ffff0a000005\
     000102030405060708090a0b110000001388000000000000000000000000ffff00000000\n",
-            ),
             status: Status::Done,
-            output: Text::Whole(
-                "reply 10.0.0.5 40000 0281000000000e10000001fe000000000000000000000000\
+            output: "reply 10.0.0.5 40000 0281000000000e10000001fe000000000000000000000000\
     000102030405060708090a0b110000001388040000000000000000000000ffffc0000201\n",
-            ),
         },
         opened: 1,
         dumps: &[
@@ -132,15 +123,11 @@ static PLAYS: [Play; 3] = [
         step: Step {
             words: "play c s j 1500",
             config: PROFILE,
-            script: Text::Whole(
-                "packet 1510 10.0.0.5 40000 0201000000000e1000000000000000000000ffff0a000005\
+            script: "packet 1510 10.0.0.5 40000 0201000000000e1000000000000000000000ffff0a000005\
     000102030405060708090a0b110000001388000000000000000000000000ffff00000000\n",
-            ),
             status: Status::Done,
-            output: Text::Whole(
-                "reply 10.0.0.5 40000 0281000000000e100000000a000000000000000000000000\
+            output: "reply 10.0.0.5 40000 0281000000000e100000000a000000000000000000000000\
     000102030405060708090a0b110000001388040000000000000000000000ffffc0000201\n",
-            ),
         },
         opened: 2,
         dumps: &[
@@ -162,9 +149,9 @@ static PLAYS: [Play; 3] = [
 static DUMP: Step = Step {
     words: "dump c j",
     config: PROFILE,
-    script: Text::Whole(""),
+    script: "",
     status: Status::Done,
-    output: Text::Whole(""),
+    output: "",
 };
 
 /// A device: a side of the first journal.
@@ -304,11 +291,11 @@ fn status_of(part: Part) -> Status {
 // How the play ends wrongly where some call of this part fails, if it does. What is put out is a
 // first part of the whole.
 fn wrong_failure(alloc: Global, play: &Play, part: Part) -> Result<Option<String>, Fail> {
-    let output = octets_of(alloc, &play.step.output)?;
+    let output = play.step.output.as_bytes();
     for call in 0..1_000 {
         let ended = failed_at(alloc, play, part, call)?;
         let told = ended.out.held();
-        if ended.status == Status::Done && told == output.as_slice() {
+        if ended.status == Status::Done && told == output {
             return Ok(None);
         }
         if ended.status != status_of(part) || !output.starts_with(told) {

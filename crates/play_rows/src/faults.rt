@@ -1,6 +1,6 @@
 //! What fails: a read of the script, a write of what comes out, and the first disk.
 use crate::configs::PROFILE;
-use crate::runs::{Ended, Failing, NEVER, Step, Text, octets_of, pairs_behind, run};
+use crate::runs::{Ended, Failing, NEVER, Step, pairs_behind, run};
 use lease_disk::{DiskPair, MemoryDisk};
 use pcp_base::Memory;
 use pcp_server::Status;
@@ -11,15 +11,11 @@ use std::test::Fail;
 pub(crate) static REQUEST: Step = Step {
     words: "play c s j 1000",
     config: PROFILE,
-    script: Text::Whole(
-        "packet 1010 10.0.0.5 40000 0201000000000e1000000000000000000000ffff0a000005\
+    script: "packet 1010 10.0.0.5 40000 0201000000000e1000000000000000000000ffff0a000005\
         000102030405060708090a0b110000001388000000000000000000000000ffff00000000\n",
-    ),
     status: Status::Done,
-    output: Text::Whole(
-        "reply 10.0.0.5 40000 0281000000000e100000000a000000000000000000000000\
+    output: "reply 10.0.0.5 40000 0281000000000e100000000a000000000000000000000000\
         000102030405060708090a0b110000001388040000000000000000000000ffffc0000201\n",
-    ),
 };
 
 /// What fails: the read and the write of this number, the device call of this number on side a of
@@ -115,13 +111,13 @@ fn run_failing(alloc: Global, fault: &Fault) -> Result<Ended<MemoryDisk>, Memory
 
 #[test]
 fn faults(rt: HostRuntime) -> Result<(), Fail> {
-    let reply = octets_of(rt.alloc(), &REQUEST.output)?;
+    let reply = REQUEST.output.as_bytes();
     for (i, fault) in FAULTS.iter().enumerate() {
         let ended = run_failing(rt.alloc(), fault)?;
         let told = ended.out.held();
         assert!(rt; ended.status == fault.status, "{i}: {}", ended.status);
         if fault.replied {
-            assert!(rt; told == reply.as_slice(), "{i}: {}", told.escape_ascii());
+            assert!(rt; told == reply, "{i}: {}", told.escape_ascii());
         } else {
             assert!(rt; told.is_empty(), "{i}: {}", told.escape_ascii());
         }

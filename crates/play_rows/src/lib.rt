@@ -1,8 +1,6 @@
-//! Tests of the server's commands over journals in memory, octet by octet.
+//! Tests of the server's plays over journals in memory that stop or fail at some call.
 #![tactic(auto)]
 
-#[cfg(test)]
-mod commands;
 #[cfg(test)]
 mod configs;
 #[cfg(test)]
@@ -10,17 +8,7 @@ mod crashes;
 #[cfg(test)]
 mod faults;
 #[cfg(test)]
-mod granting;
-#[cfg(test)]
-mod journals;
-#[cfg(test)]
-mod loads;
-#[cfg(test)]
 mod octets;
-#[cfg(test)]
-mod refusing;
-#[cfg(test)]
-mod rows;
 #[cfg(test)]
 mod runs;
 #[cfg(test)]

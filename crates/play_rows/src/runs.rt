@@ -4,32 +4,16 @@ use pcp_base::{MOST_EXTERNALS, Memory};
 use pcp_io::{MemorySink, MemorySource};
 use pcp_server::{Status, run_once};
 use std::alloc::Global;
-
-/// A text that goes in or comes out.
-pub(crate) enum Text {
-    Whole(&'static str),
-    /// As many zeros between two texts.
-    Filled(&'static str, usize, &'static str),
-}
+use std::test::Fail;
 
 /// A command: its words with a space between each two, what it reads, how it ends and what it puts
 /// out.
 pub(crate) struct Step {
     pub(crate) words: &'static str,
     pub(crate) config: &'static str,
-    pub(crate) script: Text,
+    pub(crate) script: &'static str,
     pub(crate) status: Status,
-    pub(crate) output: Text,
-}
-
-/// Commands one after the other over the same journals.
-pub(crate) struct Row {
-    pub(crate) name: &'static str,
-    /// What side a of the first journal has before, in hexadecimal digits. All else is blank.
-    pub(crate) before: &'static str,
-    pub(crate) steps: &'static [Step],
-    /// What its sides have after all, where that is compared.
-    pub(crate) after: Option<[&'static str; 2]>,
+    pub(crate) output: &'static str,
 }
 
 /// The read of the script and the write that fail, numbered from 0.
@@ -56,22 +40,6 @@ pub(crate) struct Ended<D: LeaseDisk + Drop> {
     pub(crate) pairs: Vec<DiskPair<D>>,
 }
 
-/// The octets of a text.
-pub(crate) fn octets_of(alloc: Global, text: &Text) -> Result<Vec<u8>, Memory> {
-    let mut octets = Vec::new(alloc);
-    match text {
-        Text::Whole(text) => octets.extend_from_slice(text.as_bytes())?,
-        Text::Filled(front, zeros, end) => {
-            octets.extend_from_slice(front.as_bytes())?;
-            for _ in 0..*zeros {
-                octets.push(b'0')?;
-            }
-            octets.extend_from_slice(end.as_bytes())?;
-        }
-    }
-    Ok(octets)
-}
-
 fn words_of(alloc: Global, line: &str) -> Result<Vec<String>, Memory> {
     let mut words = Vec::new(alloc);
     for word in line.split(' ') {
@@ -89,7 +57,7 @@ pub(crate) fn run<D: LeaseDisk + Drop>(
 ) -> Result<Ended<D>, Memory> {
     let words = words_of(alloc, step.words)?;
     let mut config = MemorySource::new(alloc, step.config.as_bytes().to_vec(alloc)?)?;
-    let mut input = MemorySource::new(alloc, octets_of(alloc, &step.script)?)?;
+    let mut input = MemorySource::new(alloc, step.script.as_bytes().to_vec(alloc)?)?;
     input.fail_at(alloc, failing.read)?;
     let mut out = MemorySink::new(alloc, 65_536)?;
     out.fail_at(alloc, failing.write)?;
@@ -98,6 +66,16 @@ pub(crate) fn run<D: LeaseDisk + Drop>(
     }
     let (status, pairs) = run_once(alloc, &words, &mut config, &mut input, &mut out, pairs);
     Ok(Ended { status, out, pairs })
+}
+
+/// A pair whose side a has these octets, in hexadecimal digits.
+pub(crate) fn pair_of(alloc: Global, digits: &str) -> Result<DiskPair<MemoryDisk>, Fail> {
+    let octets = hex::decode(alloc, digits.as_bytes())?;
+    let mut a = MemoryDisk::new(alloc, 4_194_304)?;
+    a.write_at(0, &octets)?;
+    a.sync()?;
+    let b = MemoryDisk::new(alloc, 4_194_304)?;
+    Ok(DiskPair { a, b })
 }
 
 /// Blank journals behind this pair.

@@ -1,7 +1,7 @@
 //! A play is stopped, and what a crash leaves is played on.
 use crate::configs::PROFILE;
 use crate::faults::REQUEST;
-use crate::runs::{NO_FAULT, Step, Text, octets_of, pairs_behind, run};
+use crate::runs::{NO_FAULT, Step, pairs_behind, run};
 use lease_disk::{DiskPair, MemoryDisk};
 use pcp_base::Memory;
 use pcp_server::Status;
@@ -12,24 +12,18 @@ use std::test::Fail;
 static KEPT: Step = Step {
     words: "play c s j 1500",
     config: PROFILE,
-    script: Text::Whole(
-        "packet 1500 10.0.0.5 40000 \
+    script: "packet 1500 10.0.0.5 40000 \
         020000000000000000000000000000000000ffff0a000005\n\
         owners 1500 192.0.2.1\n",
-    ),
     status: Status::Done,
-    output: Text::Whole(
-        "reply 10.0.0.5 40000 0280000000000000000001f4000000000000000000000000\n\
+    output: "reply 10.0.0.5 40000 0280000000000000000001f4000000000000000000000000\n\
         own 17 1024 10.0.0.5 5000\n\
         owners 1\n",
-    ),
 };
 
 // What is told where it isn't.
-static LOST: Text = Text::Whole(
-    "reply 10.0.0.5 40000 0280000000000000000001f4000000000000000000000000\n\
-        owners 0\n",
-);
+static LOST: &str = "reply 10.0.0.5 40000 0280000000000000000001f4000000000000000000000000\n\
+        owners 0\n";
 
 // Whether the lease is kept: of a play that is stopped so many device calls of side a before its
 // end, in the image of each choice. The last four calls write a frame, sync it, write its gate, and
@@ -82,9 +76,9 @@ fn other_on(
         pairs_behind(alloc, DiskPair { a, b })?,
         NO_FAULT,
     )?;
-    let output = octets_of(alloc, if kept { &KEPT.output } else { &LOST })?;
+    let output = if kept { KEPT.output } else { LOST };
     let told = ended.out.held();
-    if ended.status != Status::Done || told != output.as_slice() {
+    if ended.status != Status::Done || told != output.as_bytes() {
         let status = ended.status;
         let told = told.escape_ascii();
         return Ok(Some(format!(in alloc; "{choice}: {status}, {told}")?));
