@@ -1,5 +1,5 @@
 -- What a crash may leave while a journal is read again that stands for one of two states.
-use Rattle.std.proofs.Common.{◌≡◌, inl, ⊎_elim, ℕ, List}
+use Rattle.std.proofs.Common.{◌≡◌, inl, ⊎_elim, ℕ, ◌-◌, ◌^◌, ◌<◌, List, refl, subst}
 use Rattle.std.specs.Prelude.{◌⊎◌}
 use Rattle.pcp_base.specs.declared.records.Record.{Record}
 use Rattle.pcp_base.specs.Apply.{apply_all}
@@ -9,13 +9,16 @@ use Rattle.lease_disk.specs.Pairs.{HoldsNow, PairLeavesOnly}
 use Rattle.lease_disk.proofs.PairLemmas.{pair_goes_on, pair_weaker}
 use Rattle.lease_journal.specs.declared.errors.Found.{Found}
 use Rattle.lease_journal.specs.declared.errors.Found.TheVariants.{Recovered, Blank, Damaged}
+use Rattle.journal_sides.specs.declared.formats.Format.TheVariants.{Second}
 use Rattle.journal_sides.specs.declared.sides.Side.{Side}
 use Rattle.journal_sides.specs.declared.walks.Standing.{Standing}
 use Rattle.journal_sides.specs.Journals.{StandsFor, StandsForWithOrWithout}
 use Rattle.journal_sides.specs.Laws.{OneState, RecoveredAlone}
-use Rattle.lease_journal.specs.Openings.{HasStarted, LeavesOld, MayOpen, Opens}
+use Rattle.journal_sides.specs.Settled.{StandsBy}
+use Rattle.lease_journal.specs.Views.{JournalView, IsSettled}
+use Rattle.lease_journal.specs.Openings.{HasStarted, IsStillUnless, LeavesOld, MayOpen, Opens}
 use Rattle.shard_book.specs.Addresses.{renumbering}
-use Rattle.shard_book.specs.Openings.{IsStartUnless, MayOpenBook, OpensBook}
+use Rattle.shard_book.specs.Openings.{IsOnOther, IsStartUnless, IsWrittenAnewIf, MayOpenBook, OpensBook}
 use Rattle.pcp_base.specs.declared.addresses.Address.{Address}
 use Rattle.lease_journal.specs.Openings.{FoundMeans}
 use Rattle.shard_book.proofs.OpenLemmas.{may_known, one_of, opens_may}
@@ -24,6 +27,25 @@ pub started_start : (m : ℕ) (side : Side) (standing : Standing) (s : State) (f
 started_start m side standing s Recovered is = tt
 started_start m side standing s Blank is = is.state
 started_start m side standing s Damaged is = is.state
+
+pub second_unless : (m : ℕ) (side : Side) (standing : Standing) (s : State) (found : Found) → HasStarted m side standing s found → (found ≡ Recovered → ⊥) → standing.format ≡ Second
+second_unless m side standing s Recovered is not = absurd (not refl)
+second_unless m side standing s Blank is not = is.new.second
+second_unless m side standing s Damaged is not = is.new.second
+
+-- what was found stands on the sides as they were
+pub written_anew : {D : Type 0} (tells : Type 0) (seen : D → List ℕ) (may_leave : D → List ℕ → Type 0) (old : DiskPair D) (mid new : JournalView D) (s : State) (found : Found) → (tells → IsStillUnless seen old mid.pair found) → (tells → IsSettled seen may_leave mid s)
+    → (found ≡ Recovered → mid.standing.generation < 2 ^ 64 - 1 → IsOnOther mid.side mid.standing.generation new) → IsWrittenAnewIf tells (seen old.a) (seen old.b) s new found
+written_anew tells seen may_leave old mid new s Recovered still settled goes = record {
+  side = mid.side;
+  standing = mid.standing;
+  stood = λ told.
+      let is = still told in
+      subst (λ (l : List ℕ). StandsBy mid.side mid.standing s l (seen old.b)) is.a (subst (λ (l : List ℕ). StandsBy mid.side mid.standing s (seen mid.pair.a) l) is.b (settled told).sides);
+  anew = goes refl;
+}
+written_anew tells seen may_leave old mid new s Blank still settled goes = tt
+written_anew tells seen may_leave old mid new s Damaged still settled goes = tt
 
 module _ {D : Type 0} (seen : D → List ℕ) (moment : D → ℕ) (left_since : D → ℕ → List ℕ → Type 0) (may_leave : D → List ℕ → Type 0) where
   pub reading_runs : OneState → RecoveredAlone → (m : ℕ) (old new : DiskPair D) (s : State) (rs : List Record) → HoldsNow may_leave (StandsForWithOrWithout s rs) old → StandsForWithOrWithout s rs (seen old.a) (seen old.b)

@@ -82,6 +82,15 @@ abbrev pub frame_octets : List Record → ℕ
 frame_octets [] = 0
 frame_octets (r ∷ rs) = 1 + length (frame_text (r ∷ rs))
 
+-- the records were appended to a journal in one frame, if there are any
+pub record IsAppended {D : Type 0} (tells : Type 0) (records : List Record)
+    (old new : JournalView D) : Type 0 where
+  pub idle : records ≡ [] → new ≡ old
+  pub side : new.side ≡ old.side
+  pub generation : new.standing.generation ≡ old.standing.generation
+  pub first_length : new.first_length ≡ old.first_length
+  pub grown : tells → new.standing.length ≤ old.standing.length + frame_octets records
+
 -- what a batch does to the journal
 pub record Journals {D : Type 0} (tells : Type 0) (records : List Record)
     (old new : JournalView D) : Type 0 where
@@ -89,6 +98,7 @@ pub record Journals {D : Type 0} (tells : Type 0) (records : List Record)
   pub idle : records ≡ [] → is_overlong old ≡ false → new ≡ old
   pub generation : new.standing.generation
       ≡ (if is_overlong old then old.standing.generation + 1 else old.standing.generation)
+  pub first_length : is_overlong old ≡ false → new.first_length ≡ old.first_length
   -- less the batch's frame it isn't too long
   pub short : tells → old.standing.generation < 2 ^ 64 - 1 →
       new.standing.length ≤ frame_octets records + max LONGEST_SIDE (2 * new.first_length)

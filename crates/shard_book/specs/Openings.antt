@@ -1,6 +1,7 @@
 -- What opening a book leaves (our own).
-use Rattle.std.specs.Prelude.{◌≡◌, ◌⊎◌, ℕ, List, [], ⊤, None}
+use Rattle.std.specs.Prelude.{◌≡◌, ◌⊎◌, ℕ, ◌+◌, ◌-◌, ◌^◌, ◌<◌, ◌≤◌, List, [], ⊤, None}
 use Rattle.pcp_base.specs.declared.addresses.Address.{Address}
+use Rattle.pcp_base.specs.declared.records.Record.{Record}
 use Rattle.pcp_base.specs.Apply.{apply_all, is_another}
 use Rattle.pcp_base.specs.States.{State}
 use Rattle.lease_store.specs.declared.terms.Terms.{Terms}
@@ -8,18 +9,51 @@ use Rattle.lease_disk.specs.declared.disks.DiskPair.{DiskPair}
 use Rattle.lease_disk.specs.Pairs.{PairLeavesOnly}
 use Rattle.lease_journal.specs.declared.errors.Found.{Found}
 use Rattle.lease_journal.specs.declared.errors.Found.TheVariants.{Recovered, Blank, Damaged}
+use Rattle.journal_sides.specs.declared.sides.Side.{Side}
+use Rattle.journal_sides.specs.declared.walks.Standing.{Standing}
 use Rattle.journal_sides.specs.Journals.{IsBlank, IsDamaged, StandsFor, fresh_state}
 use Rattle.lease_journal.specs.Openings.{FoundMeans, LeavesOld, MayOpen}
+use Rattle.lease_journal.specs.Views.{JournalView}
 use Rattle.journal_sides.specs.Reads.{AreSeenStill}
-use Rattle.journal_sides.specs.Writes.{AreDurable}
+use Rattle.journal_sides.specs.Settled.{StandsBy}
+use Rattle.journal_sides.specs.Writes.{AreDurable, other}
 use Rattle.shard_book.specs.Addresses.{renumbering}
 use Rattle.shard_book.specs.Books.{BookView}
+use Rattle.shard_book.specs.Keepings.{frame_octets}
 
 -- where no records were found the journal was started at m
 abbrev pub IsStartUnless : ℕ → State → Found → Type 0
 IsStartUnless m s Recovered = ⊤
 IsStartUnless m s Blank = s ≡ fresh_state m
 IsStartUnless m s Damaged = s ≡ fresh_state m
+
+-- a journal went over to the other side, with the next generation
+pub record IsOnOther {D : Type 0} (side : Side) (generation : ℕ) (journal : JournalView D)
+    : Type 0 where
+  pub turned : journal.side ≡ other side
+  pub next : journal.standing.generation ≡ generation + 1
+
+-- Sides that held a and b stood for s, by one of them. The journal is written anew on the other one,
+-- unless there is no next generation.
+pub record IsWrittenAnew {D : Type 0} (tells : Type 0) (a b : List ℕ) (s : State)
+    (journal : JournalView D) : Type 0 where
+  pub side : Side
+  pub standing : Standing
+  pub stood : tells → StandsBy side standing s a b
+  pub anew : standing.generation < 2 ^ 64 - 1 → IsOnOther side standing.generation journal
+
+-- the same where records were found
+abbrev pub IsWrittenAnewIf : {D : Type 0} → Type 0 → (a b : List ℕ) → State → JournalView D → Found
+    → Type 0
+IsWrittenAnewIf tells a b s journal Recovered = IsWrittenAnew tells a b s journal
+IsWrittenAnewIf tells a b s journal Blank = ⊤
+IsWrittenAnewIf tells a b s journal Damaged = ⊤
+
+-- the first length is that of the side, but for a frame of these records
+pub record IsFirstLength {D : Type 0} (tells : Type 0) (records : List Record)
+    (journal : JournalView D) : Type 0 where
+  pub alone : records ≡ [] → journal.first_length ≡ journal.standing.length
+  pub most : tells → journal.standing.length ≤ journal.first_length + frame_octets records
 
 -- a book opened at m over a pair whose sides held a and b
 pub record IsOpened {D : Type 0} (tells : Type 0) (a b : List ℕ) (terms : Terms) (m : ℕ)
@@ -34,6 +68,10 @@ pub record IsOpened {D : Type 0} (tells : Type 0) (a b : List ℕ) (terms : Term
   pub renumbered : book.renumbered ≡ is_another terms.external.address opened.address
   pub settled : book.fault ≡ None
   pub sure : book.unsure ≡ []
+  -- nothing is believed that this opening hasn't written
+  pub anew : IsWrittenAnewIf tells a b opened book.journal found
+  pub first_length :
+      IsFirstLength tells (renumbering m terms.external.address opened) book.journal
 
 -- sides that held a and b stand for s, or, where they stand for nothing, a start at m does
 abbrev pub OpensAs : ℕ → State → List ℕ → List ℕ → Type 0

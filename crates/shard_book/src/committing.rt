@@ -8,6 +8,7 @@ ghost use Rattle.pcp_base.specs.Records.{IsWellFormedRecord};
 ghost use Rattle.pcp_base.specs.Snapshots.{snapshot};
 ghost use Rattle.pcp_base.specs.States.{State, empty_state};
 ghost use Rattle.lease_disk.specs.Pairs.{PairHasCause, PairLeavesOnly};
+ghost use Rattle.lease_journal.specs.declared.errors.Found.TheVariants.{Recovered};
 ghost use Rattle.journal_sides.specs.declared.errors.JournalFault.TheVariants.{Disk};
 ghost use Rattle.journal_sides.specs.declared.formats.Format.TheVariants.{Second};
 ghost use Rattle.journal_sides.specs.declared.layout.TheConstants.{MOST_RECORDS};
@@ -16,14 +17,15 @@ ghost use Rattle.journal_sides.specs.Journals.{StandsFor, StandsForWithOrWithout
 ghost use Rattle.lease_journal.specs.Views.{IsSettled};
 ghost use Rattle.shard_book.specs.Books.{IsWritable};
 ghost use Rattle.shard_book.specs.Insides.{IsKnownAs};
-ghost use Rattle.shard_book.specs.Keepings.{Journals, frame_octets, is_overlong, unsure_after};
+ghost use Rattle.shard_book.specs.Keepings.{IsAppended, Journals, frame_octets, is_overlong, unsure_after};
+ghost use Rattle.shard_book.specs.Openings.{IsOnOther};
 
 use crate::lengths::LONGEST_SIDE;
 use crate::snapshots::snapshot_of;
 use crate::texts::KeptTexts;
 use lease_core::LeaseCore;
 use lease_disk::LeaseDisk;
-use lease_journal::{Journal, JournalFault, one_journal};
+use lease_journal::{Found, Journal, JournalFault, one_journal};
 use lease_store::LeaseStore;
 use pcp_base::{Memory, Record, snapshots_stand};
 use std::alloc::Global;
@@ -124,6 +126,7 @@ fn append_all<D: LeaseDisk>(
     ensures idle { records.now ≡ [] → journal.new ≡ journal.old }
     ensures read { OnOk result (journal.new.unread ≡ false) }
     ensures second { OnOk result (journal.new.standing.format ≡ Second) }
+    ensures side { OnOk result (journal.new.side ≡ journal.old.side) }
     ensures generation { OnOk result
         (journal.new.standing.generation ≡ journal.old.standing.generation) }
     ensures first_length { OnOk result (journal.new.first_length ≡ journal.old.first_length) }
@@ -277,6 +280,47 @@ pub(crate) fn use_second<D: LeaseDisk, S: LeaseStore>(
     journal.compact(alloc, &snapshot)
 }
 
+/// Compacts a journal whose records an opening found, unless it has no next generation: what was read
+/// of it may stand in the system's memory alone, where a sync failed in a process before.
+pub(crate) fn write_anew<D: LeaseDisk, S: LeaseStore>(
+    alloc: Global,
+    journal: &mut Journal<D>,
+    core: &LeaseCore<S>,
+    found: Found,
+) -> Result<(), JournalFault>
+    requires read { journal.old.unread ≡ false }
+    requires next { HasNext journal.old.standing.format journal.old.standing.generation }
+    requires second { found ≢ Recovered → journal.old.standing.format ≡ Second }
+    requires first_length { journal.old.first_length ≡ journal.old.standing.length }
+    requires reached { IsReached (S.state core.now) }
+    requires started { (S.state core.now).started ≡ true }
+    requires settled { D.tells
+        → IsSettled D.seen D.may_leave journal.old (S.state core.now) }
+    ensures writable { OnOk result
+        (IsWritable D.tells D.seen D.may_leave journal.new (S.state core.now)) }
+    ensures anew { found ≡ Recovered → journal.old.standing.generation < 2 ^ 64 - 1
+        → OnOk result
+        (IsOnOther journal.old.side journal.old.standing.generation journal.new) }
+    ensures first_length { OnOk result
+        (journal.new.first_length ≡ journal.new.standing.length) }
+    ensures moments { D.tells
+        → PairLeavesOnly D.moment D.left_since D.may_leave journal.old.pair journal.new.pair
+        (StandsFor (S.state core.now)) }
+    ensures cause { PairHasCause D.faults journal.old.pair journal.new.pair
+        (result ≡ Err Disk) }
+{
+    if found != Found::Recovered {
+        return Ok(());
+    }
+    if journal.generation() == u64::MAX {
+        return Ok(());
+    }
+    one_journal();
+    snapshots_stand();
+    let snapshot = snapshot_of(alloc, core)?;
+    journal.compact(alloc, &snapshot)
+}
+
 /// Applies a record that fits to a core, and appends it.
 pub(crate) fn keep<D: LeaseDisk, S: LeaseStore>(
     alloc: Global,
@@ -293,6 +337,8 @@ pub(crate) fn keep<D: LeaseDisk, S: LeaseStore>(
     ensures terms { S.terms core.new ≡ S.terms core.old }
     ensures writable { OnOk result (IsWritable D.tells D.seen D.may_leave journal.new
         (apply (S.state core.old) kept.now)) }
+    ensures appended { OnOk result
+        (IsAppended D.tells (kept.now ∷ []) journal.old journal.new) }
     ensures moments { D.tells
         → PairLeavesOnly D.moment D.left_since D.may_leave journal.old.pair journal.new.pair
         (StandsForWithOrWithout (S.state core.old) (kept.now ∷ [])) }

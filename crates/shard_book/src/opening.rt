@@ -1,5 +1,5 @@
 //! Opening a book.
-ghost use Rattle.std.specs.Prelude.{◌≡◌, ◌⊎◌, ◌≤◌, ◌<◌, ◌^◌, ◌∷◌, [], max, length, true, false, None, Some, Ok, Err, IfOk, IfErr, OnOk};
+ghost use Rattle.std.specs.Prelude.{◌≡◌, ◌⊎◌, ◌≤◌, ◌<◌, ◌-◌, ◌^◌, ◌∷◌, [], max, length, true, false, None, Some, Ok, Err, IfOk, IfErr, OnOk};
 ghost use Rattle.pcp_base.specs.Apply.{apply, apply_all, is_another, state_of};
 ghost use Rattle.pcp_base.specs.Configs.{IsConfig, IsExternal};
 ghost use Rattle.pcp_base.specs.Fits.{AllFit, Fits};
@@ -7,18 +7,20 @@ ghost use Rattle.pcp_base.specs.Reached.{IsReached};
 ghost use Rattle.pcp_base.specs.States.{State, empty_state};
 ghost use Rattle.lease_store.specs.LeaseTerms.{AreTerms, terms_of};
 ghost use Rattle.lease_disk.specs.Pairs.{PairHasCause, PairLeavesOnly};
+ghost use Rattle.lease_journal.specs.declared.errors.Found.TheVariants.{Recovered};
 ghost use Rattle.journal_sides.specs.declared.errors.JournalFault.TheVariants.{Disk};
 ghost use Rattle.pcp_base.specs.Snapshots.{snapshot};
 ghost use Rattle.journal_sides.specs.Formats.{HasNext};
 ghost use Rattle.journal_sides.specs.Journals.{StandsFor, StandsForWithOrWithout};
-ghost use Rattle.lease_journal.specs.Openings.{LeavesOld};
+ghost use Rattle.lease_journal.specs.Openings.{HasStarted, LeavesOld};
 ghost use Rattle.lease_journal.specs.Views.{IsSettled};
 ghost use Rattle.shard_book.specs.Addresses.{is_named, renumbering};
 ghost use Rattle.shard_book.specs.Books.{IsBook, IsWritable};
-ghost use Rattle.shard_book.specs.Openings.{IsOpened, OpensBook};
+ghost use Rattle.shard_book.specs.Keepings.{IsAppended};
+ghost use Rattle.shard_book.specs.Openings.{IsFirstLength, IsOnOther, IsOpened, OpensBook};
 
 use crate::books::LeaseBook;
-use crate::committing::{keep, use_second};
+use crate::committing::{keep, write_anew};
 use crate::snapshots::texts_of_state;
 use crate::texts::KeptTexts;
 use indexed_store::IndexedStore;
@@ -36,9 +38,9 @@ pub type Book<D> = LeaseBook<D, IndexedStore>;
 
 impl<D: LeaseDisk> LeaseBook<D, IndexedStore> {
     /// Opens the journal of a pair, as [`Journal::recover`](lease_journal::Journal::recover) does,
-    /// for this external address under the configuration. A journal of format 1 is compacted in
-    /// format 2. Where it names no address or another one, it is told this one. After a fault the
-    /// pair is handed back.
+    /// for this external address under the configuration. Records that are found, in either format,
+    /// are written anew on the other side, unless the generation is 2^64 - 1. Where the journal names
+    /// no address or another one, it is told this one. After a fault the pair is handed back.
     pub fn begin(
         alloc: Global,
         external: &External,
@@ -124,6 +126,8 @@ fn name_address<D: LeaseDisk, S: LeaseStore>(
     ensures terms { S.terms core.new ≡ S.terms core.old }
     ensures writable { OnOk result
         (IsWritable D.tells D.seen D.may_leave journal.new (S.state core.new)) }
+    ensures appended { OnOk result (IsAppended D.tells
+        (renumbering m address.now (S.state core.old)) journal.old journal.new) }
     ensures moments { D.tells
         → PairLeavesOnly D.moment D.left_since D.may_leave journal.old.pair journal.new.pair
         (StandsForWithOrWithout (S.state core.old)
@@ -150,16 +154,19 @@ struct Opening {
     renumbered: bool,
 }
 
-/// Brings a journal that was opened into the second format, and tells it the address.
+/// Writes records anew that were found in a journal, and tells it the address.
 fn finish<D: LeaseDisk, S: LeaseStore>(
     alloc: Global,
     journal: &mut Journal<D>,
     core: &mut LeaseCore<S>,
     address: &Address,
     m: Moment,
+    found: Found,
 ) -> Result<Opening, JournalFault>
     requires read { journal.old.unread ≡ false }
     requires next { HasNext journal.old.standing.format journal.old.standing.generation }
+    requires start { HasStarted m journal.old.side journal.old.standing (S.state core.old) found }
+    requires first_length { journal.old.first_length ≡ journal.old.standing.length }
     requires reached { IsReached (S.state core.old) }
     requires started { (S.state core.old).started ≡ true }
     requires past { S.reached core.old ≤ (S.state core.old).last }
@@ -178,6 +185,11 @@ fn finish<D: LeaseDisk, S: LeaseStore>(
         opening.texts ≡ record { sure = snapshot (S.state core.new); added = [] }) }
     ensures renumbered { IfOk result (λ opening.
         opening.renumbered ≡ is_another address.now (S.state core.old).address) }
+    ensures anew { found ≡ Recovered → journal.old.standing.generation < 2 ^ 64 - 1
+        → OnOk result
+        (IsOnOther journal.old.side journal.old.standing.generation journal.new) }
+    ensures first_length { OnOk result (IsFirstLength D.tells
+        (renumbering m address.now (S.state core.old)) journal.new) }
     ensures moments { D.tells
         → PairLeavesOnly D.moment D.left_since D.may_leave journal.old.pair journal.new.pair
         (StandsForWithOrWithout (S.state core.old)
@@ -185,7 +197,7 @@ fn finish<D: LeaseDisk, S: LeaseStore>(
     ensures cause { PairHasCause D.faults journal.old.pair journal.new.pair
         (result ≡ Err Disk) }
 {
-    use_second(alloc, journal, core)?;
+    write_anew(alloc, journal, core, found)?;
     let renumbered = is_another(address, core.address());
     name_address(alloc, journal, core, address, m)?;
     let texts = texts_of_state(alloc, core)?;
@@ -221,7 +233,7 @@ impl<D: LeaseDisk, S: LeaseStore + Drop> LeaseBook<D, S> {
         let mut core = core;
         let (journal, found) = Journal::recover(alloc, pair, m, &mut core)?;
         let mut journal = journal;
-        match finish(alloc, &mut journal, &mut core, &address, m) {
+        match finish(alloc, &mut journal, &mut core, &address, m, found) {
             Ok(opening) => {
                 let last = core.last();
                 let base = core.base();

@@ -9,7 +9,8 @@ use Rattle.std.specs.Prelude.{OnOk}
 use Rattle.lease_disk.specs.Pairs.{PairLeavesOnly}
 use Rattle.journal_sides.specs.Journals.{StandsForWithOrWithout}
 use Rattle.lease_journal.specs.Views.{IsSettled}
-use Rattle.shard_book.proofs.JournalLemmas.{one_settled, still_settled, without, writable_ok}
+use Rattle.shard_book.specs.Keepings.{IsAppended}
+use Rattle.shard_book.proofs.JournalLemmas.{appended_ok, one_settled, still_settled, without, writable_ok}
 use Rattle.shard_book.proofs.committing.keep.Goals as goal
 
 pub append_all-requires-clause-formed : goal.append_all-requires-clause-formed
@@ -40,3 +41,13 @@ returns-clause-moments g c = λ told.
     let d = g.D.LeaseDisk in
     let s = g.S.LeaseStore.state c.args.core.now in
     subst (λ (l : List Record). PairLeavesOnly d.moment d.left_since d.may_leave c.args.journal.now.pair c.append_all.new.journal.pair (StandsForWithOrWithout s l)) c.from_ref.ensures.value (c.append_all.ensures.moments told s (c.requires.writable.settled told))
+
+pub returns-clause-appended : goal.returns-clause-appended
+returns-clause-appended g c =
+    let d = g.D.LeaseDisk in
+    let s = g.S.LeaseStore.state c.args.core.now in
+    let old = c.args.journal.now in
+    let new = c.append_all.new.journal in
+    let first = c.append_all.ensures in
+    subst (λ (l : List Record). OnOk c.append_all.result (IsAppended d.tells l old new)) c.from_ref.ensures.value
+    (appended_ok c.append_all.result d.tells c.from_ref.result.now old new first.idle first.side first.generation first.first_length (λ told. first.grown told s (c.requires.writable.settled told)))

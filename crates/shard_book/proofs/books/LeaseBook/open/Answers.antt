@@ -11,11 +11,11 @@ use Rattle.lease_store.specs.LeaseTerms.{AreTerms}
 use Rattle.shard_book.specs.Addresses.{renumbering}
 use Rattle.shard_book.specs.Insides.{MayDecideAt, StandAlone}
 use Rattle.shard_book.specs.KeptTexts.{KeptRecords}
-use Rattle.shard_book.specs.Openings.{OpensBook}
+use Rattle.shard_book.specs.Openings.{IsFirstLength, OpensBook}
 use Rattle.shard_book.proofs.BookLemmas.{settled_book}
 use Rattle.shard_book.proofs.StandLemmas.{stand_snapshot}
 use Rattle.shard_book.proofs.OpenLemmas.{replay_reached}
-use Rattle.shard_book.proofs.ReadingRuns.{opening_runs, opens_book, started_start}
+use Rattle.shard_book.proofs.ReadingRuns.{opening_runs, opens_book, started_start, written_anew}
 use Rattle.shard_book.proofs.books.LeaseBook.open.Goals as goal
 
 pub returns-in_err-journal-clause-refused_moments : goal.returns-in_err-journal-clause-refused_moments
@@ -98,6 +98,8 @@ returns-in-Ok-clause-opened g c =
       renumbered = c.in-Ok.ensures.renumbered ∙ ap (λ (a : Address). is_another a opened.address) c.requires.address;
       settled = refl;
       sure = none;
+      anew = written_anew d.tells d.seen d.may_leave c.args.pair c.in_ok-journal.journal c.finish.new.journal opened c.in_ok-journal.found c.in_ok-journal.ensures.still c.in_ok-journal.ensures.settled c.in-Ok.ensures.anew;
+      first_length = subst (λ (a : Address). IsFirstLength d.tells (renumbering c.args.m a opened) c.finish.new.journal) c.requires.address c.in-Ok.ensures.first_length;
     }
 
 pub returns-in-Ok-clause-moments : goal.returns-in-Ok-clause-moments

@@ -1,0 +1,57 @@
+use Rattle.std.proofs.Common.{sym, subst, ◌∙◌, ap}
+use Rattle.std.specs.List.{AllByRecursion}
+use Rattle.pcp_base.specs.Apply.{state_of}
+use Rattle.pcp_base.specs.Records.{IsWellFormedRecord}
+use Rattle.pcp_base.specs.Snapshots.{snapshot}
+use Rattle.pcp_base.specs.States.{empty_state}
+use Rattle.shard_book.proofs.JournalLemmas.{last_second, one_settled, still_settled, writable_ok}
+use Rattle.shard_book.proofs.ResultLemmas.{both_ok}
+use Rattle.shard_book.proofs.StateLemmas.{formed_all}
+use Rattle.shard_book.proofs.committing.write_anew.Goals as goal
+
+pub returns-then-ne-clause-moments : goal.returns-then-ne-clause-moments
+returns-then-ne-clause-moments g c = λ told.
+    let d = g.D.LeaseDisk in
+    still_settled d.seen d.may_leave d.moment d.left_since c.args.journal.now (g.S.LeaseStore.state c.args.core.now) (c.requires.settled told)
+
+pub returns-then-generation-eq18446744073709551615-clause-moments : goal.returns-then-generation-eq18446744073709551615-clause-moments
+returns-then-generation-eq18446744073709551615-clause-moments g c = λ told.
+    let d = g.D.LeaseDisk in
+    still_settled d.seen d.may_leave d.moment d.left_since c.args.journal.now (g.S.LeaseStore.state c.args.core.now) (c.requires.settled told)
+
+pub returns-then-generation-eq18446744073709551615-clause-writable : goal.returns-then-generation-eq18446744073709551615-clause-writable
+returns-then-generation-eq18446744073709551615-clause-writable g c =
+    let j = c.args.journal.now in
+    record {
+      read = c.requires.read;
+      second = last_second j.standing.format j.standing.generation c.requires.next (sym c.generation.ensures ∙ c.if-generation-eq18446744073709551615.true);
+      settled = c.requires.settled;
+    }
+
+pub returns-in_err-snapshot-clause-moments : goal.returns-in_err-snapshot-clause-moments
+returns-in_err-snapshot-clause-moments g c = λ told.
+    let d = g.D.LeaseDisk in
+    still_settled d.seen d.may_leave d.moment d.left_since c.args.journal.now (g.S.LeaseStore.state c.args.core.now) (c.requires.settled told)
+
+pub compact-requires-clause-formed : goal.compact-requires-clause-formed
+compact-requires-clause-formed g c =
+    let s = g.S.LeaseStore.state c.args.core.now in
+    subst (AllByRecursion IsWellFormedRecord) (sym (c.deref.ensures.value ∙ c.in_ok-snapshot.ensures)) (formed_all empty_state (snapshot s) (c.snapshots_stand.ensures s c.requires.reached c.requires.started).0)
+
+pub compact-requires-clause-same : goal.compact-requires-clause-same
+compact-requires-clause-same g c = λ told t is.
+    let d = g.D.LeaseDisk in
+    let s = g.S.LeaseStore.state c.args.core.now in
+    ap state_of (c.deref.ensures.value ∙ c.in_ok-snapshot.ensures) ∙ (c.snapshots_stand.ensures s c.requires.reached c.requires.started).1 ∙ one_settled c.one_journal.ensures.state d.seen d.may_leave c.args.journal.now s t (c.requires.settled told) is
+
+pub returns-clause-writable : goal.returns-clause-writable
+returns-clause-writable g c =
+    let d = g.D.LeaseDisk in
+    let s = g.S.LeaseStore.state c.args.core.now in
+    writable_ok c.compact.result d.tells d.seen d.may_leave c.compact.new.self s c.compact.ensures.ready c.compact.ensures.format (λ told. c.compact.ensures.settled told s (c.requires.settled told))
+
+pub returns-clause-moments : goal.returns-clause-moments
+returns-clause-moments g c = λ told. c.compact.ensures.moments told (g.S.LeaseStore.state c.args.core.now) (c.requires.settled told)
+
+pub returns-clause-anew : goal.returns-clause-anew
+returns-clause-anew g c = λ is next. both_ok c.compact.result _ _ _ c.compact.ensures.side c.compact.ensures.generation (λ turned n. record { turned = turned; next = n })
