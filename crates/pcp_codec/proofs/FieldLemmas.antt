@@ -35,7 +35,7 @@ pub octets_at-all : (xs : List ℕ) (n : ℕ) → length xs ≡ n → octets_at 
 octets_at-all xs n e = rw (← e) (octets_at-whole xs)
 
 -- from a place on
-octets_at-from : (message : List ℕ) (place i n : ℕ) → octets_at message (place + i) n ≡ octets_at (drop place message) i n
+pub octets_at-from : (message : List ℕ) (place i n : ℕ) → octets_at message (place + i) n ≡ octets_at (drop place message) i n
 octets_at-from message place i zero = refl
 octets_at-from message place i (suc n) =
     let same : place + i + 1 ≡ place + (i + 1) = omega arith in

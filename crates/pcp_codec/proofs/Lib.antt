@@ -1,3 +1,4 @@
 pub mod FieldLemmas
 pub mod FramingLemmas
 pub mod PacketLemmas
+pub mod ResponseLemmas

@@ -19,7 +19,7 @@ abbrev IsOctets : List ℕ → Type 0
 IsOctets message = (i : ℕ) → octet message i < 256
 
 -- the body of a request with an opcode
-abbrev body_with : ℕ → List ℕ → Body
+abbrev pub body_with : ℕ → List ℕ → Body
 body_with opcode message =
     if opcode == 0 then Announce
     else if opcode == 1 then Map (common_of message)
@@ -51,7 +51,7 @@ peer-spelled message fits = record {
   port_fits = u16_at-fits message fits 60;
 }
 
-data-spelled : (message : List ℕ) (opcode : ℕ) → IsOctets message → opcode ≤ 2 → IsData opcode (octets_at message 24 (data_length opcode)) (body_with opcode message)
+pub data-spelled : (message : List ℕ) (opcode : ℕ) → IsOctets message → opcode ≤ 2 → IsData opcode (octets_at message 24 (data_length opcode)) (body_with opcode message)
 data-spelled message zero fits h = (refl, refl)
 data-spelled message (suc zero) fits h = (refl, common-spelled message fits)
 data-spelled message (suc (suc zero)) fits h = (refl, peer-spelled message fits)
@@ -137,12 +137,12 @@ peer-back front fields rest c port remote h =
     (ap (λ text. common_of (octets_at front 0 24 ++ text ++ tail)) (sym (common-cells h.front c h.common)) ∙ common-back front h.front tail c h.common)
     (from_be_bytes-to_be_bytes_2 port h.port_fits) (octets_at-all remote.0 16 h.sixteen)
 
-data-size : (opcode : ℕ) (fields : List ℕ) (body : Body) → IsData opcode fields body → (opcode ≤ 2) × (length fields ≡ data_length opcode)
+pub data-size : (opcode : ℕ) (fields : List ℕ) (body : Body) → IsData opcode fields body → (opcode ≤ 2) × (length fields ≡ data_length opcode)
 data-size opcode fields Announce h = rw (h.0, h.1) (lit≤ tt, refl)
 data-size opcode fields (Map c) h = rw h.0 (lit≤ tt, ap length (common-cells fields c h.1))
 data-size opcode fields (Peer c port remote) h = rw h.0 (lit≤ tt, ap length (peer-cells fields c port remote h.1))
 
-data-back : (front fields options : List ℕ) (opcode : ℕ) (body : Body) → IsData opcode fields body → body_with opcode (octets_at front 0 24 ++ fields ++ options) ≡ body
+pub data-back : (front fields options : List ℕ) (opcode : ℕ) (body : Body) → IsData opcode fields body → body_with opcode (octets_at front 0 24 ++ fields ++ options) ≡ body
 data-back front fields options opcode Announce h = rw h.0 refl
 data-back front fields options opcode (Map c) h = rw h.0 (ap Map (common-back front fields options c h.1))
 data-back front fields options opcode (Peer c port remote) h = rw h.0 (peer-back front fields options c port remote h.1)

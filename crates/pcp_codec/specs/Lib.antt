@@ -3,3 +3,4 @@ pub mod Framing
 pub mod Packets
 pub mod Replies
 pub mod Requests
+pub mod Responses

@@ -27,6 +27,12 @@ pub const MAP_OCTETS: usize = 36;
 /// How many octets of data PEER has.
 pub const PEER_OCTETS: usize = 56;
 
+/// Where the result code stands in a response.
+pub const CODE_PLACE: usize = 3;
+
+/// Where the epoch stands in a response.
+pub const EPOCH_PLACE: usize = 8;
+
 /// Where the lifetime stands.
 pub const LIFETIME_PLACE: usize = 4;
 

@@ -133,8 +133,8 @@ fn refused_with(octets: &[u8], source: &Address) -> Option<Refusal>
     }
 }
 
-/// How many octets of data the opcode of a request has.
-fn data_len(octets: &[u8]) -> usize
+/// How many octets of data the opcode of a message has, where that is 0 to 2.
+pub(crate) fn data_len(octets: &[u8]) -> usize
     ensures value { result ≡ data_length (opcode_of octets.now) }
     ensures bound { result ≤ PEER_OCTETS }
 {
