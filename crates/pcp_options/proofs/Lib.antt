@@ -1,9 +1,14 @@
 pub mod AskLaws
 pub mod CheckLemmas
+pub mod FrontLemmas
+pub mod GrammarLemmas
 pub mod OptionLaws
 pub mod ReplyLaws
+pub mod RequestItems
+pub mod RequestLaws
 pub mod ResponseLaws
 pub mod RoomLemmas
 pub mod TextLemmas
 pub mod VerdictLemmas
 pub mod WalkLemmas
+pub mod WrittenLaws

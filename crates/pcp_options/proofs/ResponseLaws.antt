@@ -43,7 +43,7 @@ all-short (item ∷ items) (fits, more) = (short item fits, all-short items more
 option-words : (n : ℕ) → (4 + n + fill n) % 4 ≡ 0
 option-words n = omega arith
 
-both-words : (a b : ℕ) → a % 4 ≡ 0 → b % 4 ≡ 0 → (a + b) % 4 ≡ 0
+pub both-words : (a b : ℕ) → a % 4 ≡ 0 → b % 4 ≡ 0 → (a + b) % 4 ≡ 0
 both-words a b x y = omega (arith, x, y)
 
 option-size : (o : WholeOption) → length (option_text o) ≡ 4 + length o.content + fill (length o.content)
@@ -53,7 +53,7 @@ option-size o =
     let f = length-replicate {A = ℕ} (fill (length o.content)) 0 in
     omega (arith, e, f)
 
-options-words : (os : List WholeOption) → length (options_text os) % 4 ≡ 0
+pub options-words : (os : List WholeOption) → length (options_text os) % 4 ≡ 0
 options-words [] = refl
 options-words (o ∷ os) =
     subst (λ k. k % 4 ≡ 0) (sym (length-append (option_text o) (options_text os)))
@@ -70,7 +70,7 @@ common-is c h = record {
   ports_fit = (h.2, h.3);
 }
 
-data-is : (body : Body) → FitsBody body → IsData (opcode_of_body body) (body_text body) body
+pub data-is : (body : Body) → FitsBody body → IsData (opcode_of_body body) (body_text body) body
 data-is Announce h = (refl, refl)
 data-is (Map c) h = (refl, common-is c h)
 data-is (Peer c port remote) h = (
@@ -95,7 +95,7 @@ common-size c h =
     let g = length-append c.nonce.0 (c.protocol ∷ 0 ∷ 0 ∷ 0 ∷ to_be_bytes w16 c.internal) in
     omega (arith, e, f, g, nonce, address)
 
-body-words : (body : Body) → FitsBody body → length (body_text body) % 4 ≡ 0
+pub body-words : (body : Body) → FitsBody body → length (body_text body) % 4 ≡ 0
 body-words Announce h = refl
 body-words (Map c) h = rw (common-size c h) refl
 body-words (Peer c port remote) h =

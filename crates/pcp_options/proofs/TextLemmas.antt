@@ -33,3 +33,8 @@ told-step (Some item) rest = refl
 pub told-texts : (set : Option Sets.PortSet) (items : List Item) → options_text (map option_of (told_items set items)) ≡ flat_map (told_text set) items
 told-texts set [] = refl
 told-texts set (item ∷ items) = told-step (told_item set item) (told_items set items) ∙ ap (λ rest. told_text set item ++ rest) (told-texts set items)
+
+-- options that are written, one after the other
+pub each-text : (items : List Item) → options_text (map option_of items) ≡ flat_map (λ item. option_text (option_of item)) items
+each-text [] = refl
+each-text (item ∷ items) = ap (λ rest. option_text (option_of item) ++ rest) (each-text items)

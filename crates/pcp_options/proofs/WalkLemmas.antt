@@ -36,7 +36,7 @@ take-min [] (suc n) = let e : min (suc n) 0 ≡ 0 = omega arith in rw e refl
 take-min (x ∷ xs) zero = let e : min 0 (suc (length xs)) ≡ 0 = omega arith in rw e refl
 take-min (x ∷ xs) (suc n) = let e : min (suc n) (suc (length xs)) ≡ suc (min n (length xs)) = omega arith in rw e (ap (λ ys. x ∷ ys) (take-min xs n))
 
-drop-min : (xs : List ℕ) (n : ℕ) → drop (min n (length xs)) xs ≡ drop n xs
+pub drop-min : (xs : List ℕ) (n : ℕ) → drop (min n (length xs)) xs ≡ drop n xs
 drop-min [] zero = refl
 drop-min [] (suc n) = let e : min (suc n) 0 ≡ 0 = omega arith in rw e refl
 drop-min (x ∷ xs) zero = let e : min 0 (suc (length xs)) ≡ 0 = omega arith in rw e refl

@@ -2,7 +2,12 @@ pub mod Asking
 pub mod Laws
 pub mod Options
 pub mod Raw
+pub mod ReadingLaws
+pub mod ReadResponses
 pub mod Replies
+pub mod RequestLaws
+pub mod Requests
+pub mod ResponseGrammar
 pub mod Responses
 pub mod Steps
 pub mod Verdicts

@@ -122,15 +122,15 @@ impl Seen {
 /// An option as it stands in a message.
 #[derive(Clone, Copy)]
 pub(crate) struct RawOption<'a> {
-    code: u8,
+    pub(crate) code: u8,
     /// How many octets of data it claims to have.
-    claimed: usize,
+    pub(crate) claimed: usize,
     /// Those that are there.
-    content: &'a [u8],
+    pub(crate) content: &'a [u8],
 }
 
 /// The first option of these octets, and what stands behind its padding; none where no option is left.
-fn split_option(text: &[u8]) -> Option<(RawOption<'_>, &[u8])>
+pub(crate) fn split_option(text: &[u8]) -> Option<(RawOption<'_>, &[u8])>
     ensures found { MatchOption result (found_in text.now ≡ [])
         (λ parts. found_in text.now ≡ found_of parts.0 ∷ found_in parts.1.now) }
     ensures shorter { IfSome result (λ parts.
@@ -152,7 +152,7 @@ fn split_option(text: &[u8]) -> Option<(RawOption<'_>, &[u8])>
 }
 
 /// What the option says; none where it is ignored.
-fn read_item(option: &RawOption) -> Option<Item>
+pub(crate) fn read_item(option: &RawOption) -> Option<Item>
     ensures { result ≡ item_of (found_of option.now) }
 {
     let content = option.content;
@@ -189,7 +189,7 @@ fn is_ignored(code: u8) -> bool
 }
 
 /// Whether it has another length than the options of its code.
-fn has_another_length(option: &RawOption) -> bool
+pub(crate) fn has_another_length(option: &RawOption) -> bool
     ensures { result ≡ has_another_length (found_of option.now) }
 {
     option.claimed

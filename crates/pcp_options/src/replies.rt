@@ -15,10 +15,10 @@ use pcp_codec::{
 };
 use std::alloc::{AllocError, Global};
 
-/// How many octets a success without options has at most: the header, and the data of PEER.
+/// How many octets a message without options has at most: the header, and the data of PEER.
 const PLAIN_OCTETS: usize = HEAD_OCTETS + PEER_OCTETS;
 
-/// How many octets an option of a success has at most: its head, and the data of FILTER.
+/// How many octets a processed option has at most: its head, and the data of FILTER.
 const LONGEST_OPTION: usize = OPTION_HEAD_OCTETS + FILTER_OCTETS;
 
 /// Appends the reply to a request whose verdict gave the ask and the items: an error reply, or a
@@ -111,8 +111,7 @@ pub fn write_success(
     ensures err { OnErr result (out.new.items ≡ out.old.items) }
 {
     // Room for the whole reply at once: its pieces are short and many.
-    let options = items.len().saturating_mul(LONGEST_OPTION);
-    let mut text = Vec::with_capacity(alloc, options.saturating_add(PLAIN_OCTETS))?;
+    let mut text = Vec::with_capacity(alloc, room_for(items))?;
     push_head(&mut text, opcode_of_body(body), lifetime, epoch)?;
     push_body(&mut text, body)?;
     push_options(&mut text, set, items)?;
@@ -120,7 +119,37 @@ pub fn write_success(
     Ok(())
 }
 
-fn opcode_of_body(body: &Body) -> u8
+/// Appends a success of the body's opcode, with this lifetime and epoch in seconds, the body and the
+/// items as they are (RFC 6887, section 7.2). After `Memory` nothing was appended.
+pub fn write_success_with(
+    alloc: Global,
+    out: &mut Vec<u8>,
+    lifetime: u32,
+    epoch: u32,
+    body: &Body,
+    items: &[Item],
+) -> Result<(), Memory>
+    ensures ok { OnOk result (out.new.items
+        ≡ out.old.items ++ success_text lifetime epoch body.now items.now) }
+    ensures err { OnErr result (out.new.items ≡ out.old.items) }
+{
+    let mut text = Vec::with_capacity(alloc, room_for(items))?;
+    push_head(&mut text, opcode_of_body(body), lifetime, epoch)?;
+    push_body(&mut text, body)?;
+    push_all(&mut text, items)?;
+    out.extend_from_slice(&text)?;
+    Ok(())
+}
+
+/// How many octets a message with these options has at most.
+pub(crate) fn room_for(items: &[Item]) -> usize {
+    items
+        .len()
+        .saturating_mul(LONGEST_OPTION)
+        .saturating_add(PLAIN_OCTETS)
+}
+
+pub(crate) fn opcode_of_body(body: &Body) -> u8
     ensures { result ≡ opcode_of_body body.now }
 {
     match body {
@@ -139,7 +168,7 @@ fn push_head(text: &mut Vec<u8>, opcode: u8, lifetime: u32, epoch: u32) -> Resul
     text.extend_from_slice(&head)
 }
 
-fn push_body(text: &mut Vec<u8>, body: &Body) -> Result<(), AllocError>
+pub(crate) fn push_body(text: &mut Vec<u8>, body: &Body) -> Result<(), AllocError>
     ensures { OnOk result (text.new.items ≡ text.old.items ++ body_text body.now) }
 {
     match body {
@@ -211,6 +240,24 @@ fn push_set(text: &mut Vec<u8>, set: Option<PortSet>) -> Result<(), AllocError>
         Some(set) => push_option(text, &Item::PortSet(set)),
         None => Ok(()),
     }
+}
+
+/// Appends the options that say these items.
+pub(crate) fn push_all(text: &mut Vec<u8>, items: &[Item]) -> Result<(), AllocError>
+    ensures { OnOk result (text.new.items
+        ≡ text.old.items ++ options_text (map option_of items.now)) }
+{
+    push_each(text, items)
+}
+
+fn push_each(text: &mut Vec<u8>, items: &[Item]) -> Result<(), AllocError>
+    ensures { OnOk result (text.new.items
+        ≡ text.old.items ++ flat_map (λ item. option_text (option_of item)) items.now) }
+{
+    for item in items {
+        push_option(text, item)?;
+    }
+    Ok(())
 }
 
 /// Appends the option that says an item.
