@@ -40,6 +40,7 @@ fn first_ungranted<S: LeaseStore>(
 fn is_full<S: LeaseStore>(alloc: Global, core: &mut LeaseCore<S>, m: Moment) -> Result<bool, Fail>
     requires may { MayServe (S.state core.old) (S.terms core.old) }
     requires later { S.reached core.old ≤ m }
+    ensures { OnOk result (MayServe (S.state core.new) (S.terms core.new)) }
 {
     let another = Request(6, 5000, 1, 3600, 0, Nothing);
     if !is_answered(alloc, core, m, &another, Refused(8, 30))? {
