@@ -203,20 +203,23 @@ fn first_harmed(
     Ok(Some(2000))
 }
 
+// Of which side a call fails, and whether a request comes then.
+static WAYS: [(bool, bool); 4] = [(false, false), (false, true), (true, false), (true, true)];
+
 #[test]
 fn faults(rt: HostRuntime) -> Result<(), Fail> {
-    let alloc = rt.alloc();
-    for (fails_b, asks) in [(false, false), (false, true), (true, false), (true, true)] {
-        let harmed = first_harmed(alloc, &short(), fails_b, asks)?;
-        assert!(rt;
-            harmed == None,
-            "side b {fails_b}, asks {asks}, call {harmed:?}"
-        );
-        let harmed = first_harmed(alloc, &long(), fails_b, asks)?;
-        assert!(rt;
-            harmed == None,
-            "side b {fails_b}, asks {asks}, call {harmed:?}"
-        );
+    for (fails_b, asks) in WAYS {
+        let harmed = first_harmed(rt.alloc(), &short(), fails_b, asks)?;
+        assert!(rt; harmed == None, "side b {fails_b}, asks {asks}, call {harmed:?}");
+    }
+    Ok(())
+}
+
+#[test]
+fn faults_of_a_long_run(rt: HostRuntime) -> Result<(), Fail> {
+    for (fails_b, asks) in WAYS {
+        let harmed = first_harmed(rt.alloc(), &long(), fails_b, asks)?;
+        assert!(rt; harmed == None, "side b {fails_b}, asks {asks}, call {harmed:?}");
     }
     Ok(())
 }

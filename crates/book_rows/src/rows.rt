@@ -192,8 +192,7 @@ fn lengths_after(alloc: Global, batches: u16) -> Result<(u64, u64), Fail> {
 }
 
 #[test]
-fn rooms_and_lengths(rt: HostRuntime) -> Result<(), Fail> {
-    let alloc = rt.alloc();
+fn rooms(rt: HostRuntime) -> Result<(), Fail> {
     let refused = Went::Refused(BookFault::Disk);
     let rows = [
         (28, (false, refused)),
@@ -202,10 +201,24 @@ fn rooms_and_lengths(rt: HostRuntime) -> Result<(), Fail> {
         (4096, (true, Went::AsSaid)),
     ];
     for (room, came) in rows {
-        assert!(rt; with_room(alloc, room)? == came, "room {room}");
+        assert!(rt; with_room(rt.alloc(), room)? == came, "room {room}");
     }
-    assert!(rt; lengths_after(alloc, 1069)? == (1_048_814, 0));
-    assert!(rt; lengths_after(alloc, 1070)? == (1, 1105));
+    Ok(())
+}
+
+// The side is one octet longer than may be before the last batch.
+#[test]
+fn a_long_side_is_compacted(rt: HostRuntime) -> Result<(), Fail> {
+    let (lengths, _pair) = lengths_after(rt.alloc(), 1070)?;
+    assert!(rt; lengths == (1, 1105));
+    Ok(())
+}
+
+#[test]
+fn a_shorter_one_is_compacted_at_its_opening(rt: HostRuntime) -> Result<(), Fail> {
+    let (lengths, pair) = lengths_after(rt.alloc(), 1069)?;
+    assert!(rt; lengths == (1_048_814, 0));
+    assert!(rt; lengths_opened(rt.alloc(), pair)? == (1, 124));
     Ok(())
 }
 
@@ -271,16 +284,31 @@ fn cut_calls(rt: HostRuntime) -> Result<(), Fail> {
     ];
     for (left_out, leases) in &rows {
         let call = calls.saturating_sub(*left_out);
-        assert!(rt;
-            are_leases(alloc, call, leases)?,
-            "{left_out} calls are left out"
-        );
+        let left = are_leases(alloc, call, leases)?;
+        assert!(rt; left, "{left_out} calls are left out");
     }
-    let anew = Some(Seen(1600, 1600, 0, 0, 0));
-    let blank = cut_when_closed(alloc, Side(&LEASED, 88, 0x03), NOTHING, false)?;
-    assert!(rt; blank.found == Some(Found::Blank) && blank.stands == anew);
-    let both = (Side(&LEASED, 88, 0), Side(&COMPACTED, 87, 0x03));
-    let damaged = cut_when_closed(alloc, both.0, both.1, true)?;
-    assert!(rt; damaged.found == Some(Found::Damaged) && damaged.stands == anew);
+    Ok(())
+}
+
+/// Whether an opening that is cut as soon as the gate of side a is closed leaves what is found so,
+/// and begins anew at 1600.
+fn begins_anew(
+    alloc: Global,
+    a: Side,
+    b: Side,
+    stops_b: bool,
+    found: Found,
+) -> Result<bool, Fail> {
+    let done = cut_when_closed(alloc, a, b, stops_b)?;
+    Ok(done.found == Some(found) && done.stands == Some(Seen(1600, 1600, 0, 0, 0)))
+}
+
+#[test]
+fn cut_openings(rt: HostRuntime) -> Result<(), Fail> {
+    let alloc = rt.alloc();
+    let damaged = Side(&LEASED, 88, 0x03);
+    assert!(rt; begins_anew(alloc, damaged, NOTHING, false, Found::Blank)?);
+    let (a, b) = (Side(&LEASED, 88, 0), Side(&COMPACTED, 87, 0x03));
+    assert!(rt; begins_anew(alloc, a, b, true, Found::Damaged)?);
     Ok(())
 }

@@ -75,11 +75,17 @@ fn first_lost(alloc: Global, tried: &Run, stops_b: bool) -> Result<Option<u64>, 
 
 #[test]
 fn stops(rt: HostRuntime) -> Result<(), Fail> {
-    let alloc = rt.alloc();
     for stops_b in [false, true] {
-        let lost = first_lost(alloc, &short(), stops_b)?;
+        let lost = first_lost(rt.alloc(), &short(), stops_b)?;
         assert!(rt; lost == None, "side b {stops_b}, call {lost:?}");
-        let lost = first_lost(alloc, &long(), stops_b)?;
+    }
+    Ok(())
+}
+
+#[test]
+fn stops_of_a_long_run(rt: HostRuntime) -> Result<(), Fail> {
+    for stops_b in [false, true] {
+        let lost = first_lost(rt.alloc(), &long(), stops_b)?;
         assert!(rt; lost == None, "side b {stops_b}, call {lost:?}");
     }
     Ok(())
