@@ -86,6 +86,9 @@ fn heads(rt: HostRuntime) {
 }
 
 fn refusal_of(alloc: Global, request: &[u8]) -> Result<Vec<u8>, Fail> {
+    if request.len() < 2 {
+        return Err("a silent request".into());
+    }
     let mut out = Vec::new(alloc);
     let refusal = unparsed(Code::UnsuppVersion);
     write_refusal(alloc, &mut out, request, refusal, 10)?;
