@@ -79,11 +79,7 @@ fn front_of_side<D: LeaseDisk>(pair: &mut DiskPair<D>, side: Side) -> Result<Fro
 /// Writes the octet behind a gate that isn't open, on a side of this size, and says how many octets
 /// it has then. The gate's sector goes to the disk with it, and whatever a crash leaves of that
 /// octet, the side stays shut.
-fn shut_again<D: LeaseDisk>(
-    pair: &mut DiskPair<D>,
-    side: Side,
-    size: u64,
-) -> Result<u64, Failed>
+fn shut_again<D: LeaseDisk>(pair: &mut DiskPair<D>, side: Side, size: u64) -> Result<u64, Failed>
     requires most { size ≤ 2 ^ 62 }
     ensures moments { D.tells → AreDurable D.seen D.may_leave pair.old
         → IsShut (of_side side (D.seen pair.old.a) (D.seen pair.old.b))
