@@ -1,12 +1,13 @@
 -- How a request counts, by the leases that are live before it and after it, and by its reply.
 use Rattle.std.proofs.Common.{◌≡◌, ◌∙◌, ℕ, suc, ◌+◌, ◌<◌, ◌≤◌, ◌==◌, ◌&&◌, not, Bool, max, true, false, cond, List, [], Option, Some, None, refl, ap, sym, subst, arith}
-use Rattle.std.specs.Prelude.{nat_le, nat_lt, is_none, unwrap_or, bytes_eq, slice_set}
+use Rattle.std.specs.Prelude.{nat_le, nat_lt, is_none, unwrap_or, bytes_eq, slice_index, slice_set}
 use Rattle.std.specs.List.{AllByRecursion, slice_get}
 use Rattle.std.specs.Option.{option_map, option_map_or}
 use Rattle.std.proofs.lemmas.Bool.{eq-eqb, le-ltb, lt-ltb, ne_eqb}
 use Rattle.pcp_base.proofs.Members.{All-IsIn, All-filter, All-from_IsIn, find-none, find-some, none-any, some-any}
 use Rattle.pcp_base.proofs.Same.{same_endpoint-Decides}
 use Rattle.pcp_base.proofs.TableLemmas.{covers-first}
+use Rattle.pcp_base.specs.Codes.{code_number}
 use Rattle.pcp_base.specs.Epoch.{epoch_of}
 use Rattle.pcp_base.specs.declared.asks.Ask.{Ask}
 use Rattle.pcp_base.specs.declared.asks.Ask.TheVariants as Asks
@@ -14,20 +15,22 @@ use Rattle.pcp_base.specs.declared.configs.Config.{Config}
 use Rattle.pcp_base.specs.declared.datagrams.Datagram.{Datagram}
 use Rattle.pcp_base.specs.declared.datagrams.Entry.{Entry}
 use Rattle.lease_store.specs.LeaseTerms.{terms_of}
-use Rattle.lease_histories.specs.Entries.{Request, request_entry, request_of}
+use Rattle.lease_histories.specs.Entries.{Request, reply_text_of, request_entry, request_of}
 use Rattle.lease_histories.specs.PlainHouses.{PlainHouse, PlainShard, add_by, add_entry, at_last, entry_by, greatest_base, packet_after, packet_entry, packet_reply, raised, served_at, shard_after, with_kept}
 use Rattle.lease_histories.specs.Routes.{route_of}
 use Rattle.pcp_base.specs.declared.leases.Endpoint.{Endpoint}
 use Rattle.pcp_base.specs.declared.leases.MapLease.{MapLease}
 use Rattle.pcp_base.specs.declared.asks.MapAsk.{MapAsk}
 use Rattle.pcp_base.specs.declared.codes.Code.TheVariants.{NoResources, UserExQuota, CannotProvideExternal, ExcessiveRemotePeers}
+use Rattle.pcp_base.specs.declared.asks.Answer.{Answer}
 use Rattle.pcp_base.specs.declared.asks.Answer.TheVariants.{Gone}
+use Rattle.pcp_base.specs.declared.asks.Answer.TheVariants as Answers
+use Rattle.pcp_base.specs.declared.asks.Refusal.{Refusal}
 use Rattle.pcp_base.specs.declared.records.Change.TheVariants.{DropMap}
 use Rattle.pcp_base.specs.States.{State}
 use Rattle.pcp_base.specs.Tables.{IsMapLease, covers, first_endpoint, is_map_of, live}
 use Rattle.pcp_base.specs.Owners.{owned}
 use Rattle.pcp_options.specs.declared.options.Item.{Item}
-use Rattle.pcp_options.specs.Replies.{reply_text}
 use Rattle.external_pool.specs.declared.asks.Picked.{Picked}
 use Rattle.lease_store.specs.declared.terms.Terms.{Terms}
 use Rattle.lease_store.specs.Lookups.{covering, lease_count, named_port}
@@ -42,6 +45,7 @@ use Rattle.lease_house.specs.declared.routes.Routed.{Routed}
 use Rattle.lease_house.specs.Routings.{routed_by, routed_to}
 use Rattle.house_lines.specs.LoadFindings.{kind_found, kind_told, live_in, was_there}
 use Rattle.house_lines.specs.LoadEffects.{entry_kind_by, kind_asked, request_kind}
+use Rattle.house_lines.proofs.ResultLemmas.{TellsResult, tells-result}
 use Rattle.house_lines.proofs.CountLemmas.{count_at, dropped-count, granted-count, renewed-count}
 use Rattle.house_lines.proofs.StateLemmas.{get-set-same}
 
@@ -67,7 +71,15 @@ kind-granted true before after is more = absurd cc
 kind-granted false before after is more =
     ap (λ b. cond b Renewed Granted) (sym (ne_eqb after before (λ same. absurd (omega (arith, more, same)))))
 
-module _ (terms : Terms) (s : State) (m : ℕ) (ask : MapAsk) (message : List ℕ) (items : List Item) (epoch : ℕ) (past : s.last ≤ m) (some : 0 < terms.lifetime_min) (ordered : terms.lifetime_min ≤ terms.lifetime_max) where
+kind-met : (told : Bool) (done found : LoadKind) → told ≡ true → done ≡ found → done ≡ cond told found Refused
+kind-met true done found h same = same
+kind-met false done found h same = absurd cc
+
+kind-refused : (told : Bool) (found : LoadKind) → told ≡ false → cond told Absent Refused ≡ cond told found Refused
+kind-refused true found h = absurd cc
+kind-refused false found h = refl
+
+module _ (terms : Terms) (s : State) (m : ℕ) (ask : MapAsk) (text : Answer → List ℕ) (told : TellsResult text) (past : s.last ≤ m) (some : 0 < terms.lifetime_min) (ordered : terms.lifetime_min ≤ terms.lifetime_max) where
   abbrev deletes : Bool
   deletes = ask.lifetime == 0
 
@@ -79,8 +91,15 @@ module _ (terms : Terms) (s : State) (m : ℕ) (ask : MapAsk) (message : List �
 
   abbrev IsRight : Decided → Type 0
   IsRight d =
-      unwrap_or (kind_by s.table m (reply_text message items d.answer epoch) d.kept) Refused
-      ≡ kind_found (was_there deletes live-before (live-after d)) deletes (reply_text message items d.answer epoch)
+      unwrap_or (kind_by s.table m (text d.answer) d.kept) Refused
+      ≡ kind_found (was_there deletes live-before (live-after d)) deletes (text d.answer)
+
+  abbrev tells-success : Answer → Bool
+  tells-success answer = slice_index (text answer) 3 == 0
+
+  refused-right : (refusal : Refusal) → (code_number refusal.code == 0) ≡ false → IsRight (answered (Answers.Refused refusal))
+  refused-right refusal fails =
+      kind-refused (tells-success (Answers.Refused refusal)) (kind_at (was_there deletes live-before live-before) deletes) (told.refused refusal fails)
 
   lasting : m < m + granted_lifetime terms ask.lifetime
   lasting = omega (arith, some, ordered)
@@ -89,28 +108,34 @@ module _ (terms : Terms) (s : State) (m : ℕ) (ask : MapAsk) (message : List �
   covered-right : (lease : MapLease) → has_live_key s.table m (first_endpoint lease) ≡ true → IsRight (covered terms m ask lease)
   covered-right lease known =
       let last = mapped terms m ask (renewed terms m ask lease) in
-      by_case IsRight (not (bytes_eq lease.nonce.0 ask.nonce.0)) (refused_until m lease.expiry) _ last (λ _. refl)
-      (λ _. by_case IsRight deletes (gone m (DropMap (first_endpoint lease))) _ last
-      (λ yes. kind-deleted deletes live-before (live-after (gone m (DropMap (first_endpoint lease)))) yes (dropped-count s m past (first_endpoint lease) known))
+      let dropped = gone m (DropMap (first_endpoint lease)) in
+      by_case IsRight (not (bytes_eq lease.nonce.0 ask.nonce.0)) (refused_until m lease.expiry) _ last (λ _. refused-right _ refl)
+      (λ _. by_case IsRight deletes dropped _ last
+      (λ yes. kind-met (tells-success Gone) Deleted (kind_at (was_there deletes live-before (live-after dropped)) deletes) told.gone
+      (kind-deleted deletes live-before (live-after dropped) yes (dropped-count s m past (first_endpoint lease) known)))
       (λ no. by_case IsRight (ask.prefer && not (is_port_met ask.port (port_told ask lease) && is_address_met ask.address terms.external.address))
-      (refused CannotProvideExternal) _ last (λ _. refl)
-      (λ _. by_case IsRight (has_excess lease.filters ask) (refused ExcessiveRemotePeers) None last (λ _. refl)
-      (λ _. ap (λ b. cond b Renewed Granted) known
-      ∙ kind-renewed deletes live-before (live-after last) no (renewed-count s m past (renewed terms m ask lease) lasting known)))))
+      (refused CannotProvideExternal) _ last (λ _. refused-right _ refl)
+      (λ _. by_case IsRight (has_excess lease.filters ask) (refused ExcessiveRemotePeers) None last (λ _. refused-right _ refl)
+      (λ _. kind-met (tells-success last.answer) (cond (has_live_key s.table m (first_endpoint lease)) Renewed Granted)
+      (kind_at (was_there deletes live-before (live-after last)) deletes) (told.mapped _ _ _ _)
+      (ap (λ b. cond b Renewed Granted) known
+      ∙ kind-renewed deletes live-before (live-after last) no (renewed-count s m past (renewed terms m ask lease) lasting known))))))
 
   -- none does
   uncovered-right : (named : Option ℕ) (choice : Option Picked) → has_live_key s.table m ask.endpoint ≡ false → IsRight (uncovered_by terms s m ask named choice)
   uncovered-right named choice new =
       let last = granted terms m ask choice in
-      by_case IsRight deletes (answered Gone) _ last (λ yes. kind-absent deletes live-before yes)
-      (λ no. by_case IsRight (is_none named && nat_le terms.quota (owned s.table m ask.endpoint.address)) (refused UserExQuota) _ last (λ _. refl)
-      (λ _. by_case IsRight (ask.prefer && not (is_wanted terms ask choice)) (refused CannotProvideExternal) _ last (λ _. refl)
-      (λ _. by_case IsRight (is_none choice) (refused NoResources) _ last (λ _. refl)
-      (λ _. by_case IsRight (is_full s.table m) (refused NoResources) _ last (λ _. refl)
-      (λ _. by_case IsRight (has_excess [] ask) (refused ExcessiveRemotePeers) None last (λ _. refl)
-      (λ _. ap (λ b. cond b Renewed Granted) new
+      by_case IsRight deletes (answered Gone) _ last (λ yes. ap (λ k. cond (tells-success Gone) k Refused) (kind-absent deletes live-before yes))
+      (λ no. by_case IsRight (is_none named && nat_le terms.quota (owned s.table m ask.endpoint.address)) (refused UserExQuota) _ last (λ _. refused-right _ refl)
+      (λ _. by_case IsRight (ask.prefer && not (is_wanted terms ask choice)) (refused CannotProvideExternal) _ last (λ _. refused-right _ refl)
+      (λ _. by_case IsRight (is_none choice) (refused NoResources) _ last (λ _. refused-right _ refl)
+      (λ _. by_case IsRight (is_full s.table m) (refused NoResources) _ last (λ _. refused-right _ refl)
+      (λ _. by_case IsRight (has_excess [] ask) (refused ExcessiveRemotePeers) None last (λ _. refused-right _ refl)
+      (λ _. kind-met (tells-success last.answer) (cond (has_live_key s.table m ask.endpoint) Renewed Granted)
+      (kind_at (was_there deletes live-before (live-after last)) deletes) (told.mapped _ _ _ _)
+      (ap (λ b. cond b Renewed Granted) new
       ∙ kind-granted deletes live-before (live-after last) no
-      (granted-count s m past (new_lease terms m ask (unwrap_or choice (record { start = 0; count = 0 }))) lasting new)))))))
+      (granted-count s m past (new_lease terms m ask (unwrap_or choice (record { start = 0; count = 0 }))) lasting new))))))))
 
   -- the lease that covers the endpoint has a live key
   known-key : (lease : MapLease) → covering s.table m ask.endpoint ≡ Some lease → has_live_key s.table m (first_endpoint lease) ≡ true
@@ -163,7 +188,10 @@ ask-right house now from shard sound (Asks.Map ask) items e is =
     let m = raised now shard in
     let late = sound.later in
     let past : shard.state.last ≤ m = omega (arith, late) in
-    rw is (sym (map-right (terms_of shard.external house.config) shard.state m ask from.octets items (epoch_of m (greatest_base house)) past sound.some sound.ordered sound.formed))
+    let address = shard.external.address in
+    let epoch = epoch_of m (greatest_base house) in
+    rw is (sym (map-right (terms_of shard.external house.config) shard.state m ask (λ answer. reply_text_of from.octets address items answer epoch)
+    (tells-result from.octets address items epoch) past sound.some sound.ordered sound.formed))
 
 -- live leases when a call comes at a moment that is reached
 live-at : (house : PlainHouse) (place now : ℕ) (shard : PlainShard) → slice_get house.shards place ≡ Some shard →

@@ -2,6 +2,7 @@ pub mod CallLemmas
 pub mod CountLemmas
 pub mod FaultLemmas
 pub mod LawLemmas
+pub mod ResultLemmas
 pub mod StateLemmas
 pub mod SumLemmas
 pub mod KindLemmas

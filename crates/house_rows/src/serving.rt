@@ -21,7 +21,7 @@ struct Line {
     reply: &'static str,
 }
 
-static LINES: [Line; 6] = [
+static LINES: [Line; 8] = [
     Line {
         now: 1_010,
         request: "02",
@@ -56,6 +56,17 @@ static LINES: [Line; 6] = [
         now: 1_020,
         request: "020000000000000000000000000000000000ffff0a000005",
         reply: "028000000000000000000014000000000000000000000000",
+    },
+    // NAT-PMP: the external address, and the port of a lease that PCP made
+    Line {
+        now: 1_020,
+        request: "0000",
+        reply: "0080000000000014c0000201",
+    },
+    Line {
+        now: 1_020,
+        request: "000100001388000000000e10",
+        reply: "00810002000000141388000000000000",
     },
 ];
 

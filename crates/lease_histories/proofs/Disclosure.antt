@@ -16,7 +16,7 @@ use Rattle.pcp_base.specs.Reached.{IsReached}
 use Rattle.pcp_base.specs.Records.{IsTermAt}
 use Rattle.pcp_base.specs.States.{State, empty_state}
 use Rattle.pcp_base.proofs.Members.{IsIn, All-IsIn, All-push, All-weaker, IsIn-append, IsIn-filter, IsIn-from_Contains, IsIn-map}
-use Rattle.pcp_options.specs.Laws.{AsksAreWellFormed}
+use Rattle.lease_histories.specs.DatagramAsks.{DatagramAsksAreWellFormed}
 use Rattle.lease_core.specs.Laws.{DecisionsFit}
 use Rattle.lease_histories.specs.Entries.{Served}
 use Rattle.lease_histories.specs.Legal.{IsLegal, IsNextEntry, IsOpening, state_after}
@@ -61,7 +61,7 @@ last-within s None m later at = later
 last-within s (Some r) m later at = let same = at r refl in omega (arith, same)
 
 -- the bases told from an entry on are no earlier than that of the state after it
-pub bases-disclose : AsksAreWellFormed → DecisionsFit → BasesDisclose
+pub bases-disclose : DatagramAsksAreWellFormed → DecisionsFit → BasesDisclose
 bases-disclose formed fit x opening before e more g opens legal granted =
     let next = legal before e more refl in
     let well = well-after formed fit x opening (before ++ e ∷ []) opens
@@ -84,7 +84,7 @@ bases-rise s r reached later =
     let base = reached.base in
     (base-rises (rebases r.change s.address) r.moment s.base (omega (arith, later, base)), λ g gives. base-given s r g reached later gives)
 
-pub epochs-disclose : AsksAreWellFormed → DecisionsFit → EpochsDisclose
+pub epochs-disclose : DatagramAsksAreWellFormed → DecisionsFit → EpochsDisclose
 epochs-disclose formed fit x opening before e more opens legal =
     by e.kept refl
   where
@@ -117,7 +117,7 @@ kept-rises s (Some r) reached h =
     let base = reached.base in
     (base-rises (rebases r.change s.address) r.moment s.base (omega (arith, later, base)), later)
 
-risen-step : AsksAreWellFormed → DecisionsFit → (x : Served) (opening : State) → IsOpening x opening → (before : List Entry) (e : Entry) →
+risen-step : DatagramAsksAreWellFormed → DecisionsFit → (x : Served) (opening : State) → IsOpening x opening → (before : List Entry) (e : Entry) →
     Risen opening before → IsNextEntry x opening before e → Risen opening (before ++ e ∷ [])
 risen-step formed fit x opening opens before e h next =
     let s = state_after opening before in
@@ -138,7 +138,7 @@ risen-step formed fit x opening opens before e h next =
           (omega (arith, last, later), omega (arith, base, rises_base, told));
     }
 
-pub starts-disclose : AsksAreWellFormed → DecisionsFit → StartsDisclose
+pub starts-disclose : DatagramAsksAreWellFormed → DecisionsFit → StartsDisclose
 starts-disclose formed fit x opening entries g opens legal granted =
     let risen = along (Risen opening) x opening (risen-step formed fit x opening opens) [] entries legal
     (record {
@@ -166,7 +166,7 @@ fit-front : (s : State) (xs ys : List Record) → AllFit s (xs ++ ys) → AllFit
 fit-front s [] ys h = (tt, h)
 fit-front s (x ∷ xs) ys h = let rest = fit-front (apply s x) xs ys h.1 in ((h.0, rest.0), rest.1)
 
-pub openings-disclose : AsksAreWellFormed → DecisionsFit → RecordsReach → ReachedIsKept → OpeningsDisclose
+pub openings-disclose : DatagramAsksAreWellFormed → DecisionsFit → RecordsReach → ReachedIsKept → OpeningsDisclose
 openings-disclose formed fit reach law x before r more entries g fits opens legal gives =
     let parts = fit-front empty_state before (r ∷ more) fits in
     let s = state_of before in

@@ -21,7 +21,7 @@ use Rattle.pcp_base.proofs.TableLemmas.{Sound-live, Sound-empty}
 use Rattle.pcp_options.specs.declared.options.Item.{Item}
 use Rattle.pcp_options.specs.declared.verdicts.Verdict.{Verdict}
 use Rattle.pcp_options.specs.declared.verdicts.Verdict.TheVariants.{Silent, Refuse, Asked}
-use Rattle.pcp_options.specs.Laws.{AsksAreWellFormed}
+use Rattle.lease_histories.specs.DatagramAsks.{DatagramAsksAreWellFormed}
 use Rattle.pcp_options.specs.Responses.{AreOctets}
 use Rattle.lease_store.specs.LeaseTerms.{AreTerms, terms_of}
 use Rattle.lease_core.specs.Laws.{DecisionsFit, MayDecide}
@@ -74,7 +74,7 @@ formed-by (Asked place ask items) request asked h =
     let made : Request = record { ask = ask; items = items } in
     let same : made ≡ request = cc in subst (λ (r : Request). IsWellFormedAsk r.ask) same (asked place ask items refl)
 
-pub request-formed : AsksAreWellFormed → (config : Config) (from : Datagram) (request : Request) → AreOctets from.octets →
+pub request-formed : DatagramAsksAreWellFormed → (config : Config) (from : Datagram) (request : Request) → AreOctets from.octets →
     request_of config from ≡ Some request → IsWellFormedAsk request.ask
 request-formed law config from request octets h =
     formed-by (judged config from) request (λ place ask items is. law config from.peer from.octets place ask items octets is) h
@@ -161,7 +161,7 @@ well-server s before r h later range (renumbers a is just) =
     }
 
 -- what may be decided on a request
-pub may-decide : AsksAreWellFormed → (x : Served) (s : State) (m : ℕ) (from : Datagram) (request : Request) →
+pub may-decide : DatagramAsksAreWellFormed → (x : Served) (s : State) (m : ℕ) (from : Datagram) (request : Request) →
     IsConfig x.config → slice_get x.config.externals x.place ≡ Some x.external → IsWell s → s.last ≤ m → m < 2 ^ 40 → AreOctets from.octets →
     request_of x.config from ≡ Some request → MayDecide (terms_of x.external x.config) s m request.ask
 may-decide law x s m from request config there h later range octets asks = record {
@@ -181,7 +181,7 @@ pub of-kind : (x : Served) (opening : State) (before : List Entry) (e : Entry) (
     IsNextEntry x opening before e → IsOfKind k x opening before e
 of-kind x opening before e k is next = subst (λ j. IsOfKind j x opening before e) is next.kind
 
-pub well-step : AsksAreWellFormed → DecisionsFit → (x : Served) (opening : State) → IsOpening x opening → (before : List Entry) (e : Entry) →
+pub well-step : DatagramAsksAreWellFormed → DecisionsFit → (x : Served) (opening : State) → IsOpening x opening → (before : List Entry) (e : Entry) →
     IsWell (state_after opening before) → IsNextEntry x opening before e → IsWell (state_after opening (before ++ e ∷ []))
 well-step formed fit x opening opens before e h next =
     subst IsWell (sym (state-more opening before e))
@@ -204,7 +204,7 @@ well-step formed fit x opening opens before e h next =
         (fit (terms_of x.external x.config) s e.moment of.request.ask may) (sym of.kept ∙ is) in
         record { reached = IsReached-apply s r h.reached fits.0; started = started-after s r h.started }
 
-pub well-after : AsksAreWellFormed → DecisionsFit → (x : Served) (opening : State) (entries : List Entry) → IsOpening x opening → IsLegal x opening entries →
+pub well-after : DatagramAsksAreWellFormed → DecisionsFit → (x : Served) (opening : State) (entries : List Entry) → IsOpening x opening → IsLegal x opening entries →
     IsWell (state_after opening entries)
 well-after formed fit x opening entries opens legal =
     along (λ es. IsWell (state_after opening es)) x opening (well-step formed fit x opening opens) [] entries legal

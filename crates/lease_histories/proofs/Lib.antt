@@ -1,3 +1,4 @@
+pub mod DatagramAsks
 pub mod Disclosure
 pub mod EntryKinds
 pub mod Growing

@@ -19,6 +19,7 @@ use Rattle.pcp_options.specs.Verdicts.{verdict_of}
 use Rattle.lease_store.specs.LeaseTerms.{terms_of}
 use Rattle.lease_core.specs.Laws.{ChangesLease, DecisionsChangeLeases}
 use Rattle.lease_histories.specs.Entries.{Served, OfRequest, OfServer, OfFault, Request, entry_kind, kind_without_octets, request_by, request_of, request_entry, decided_on}
+use Rattle.lease_histories.specs.Routes.{verdict_of_datagram}
 use Rattle.lease_histories.specs.Legal.{IsLegal, IsOfKind, IsOpening, state_after, moment_after, base_after}
 use Rattle.lease_histories.specs.Laws.{AreGreatest, DecisionsComeNext, FaultsComeNext, ServersComeNext}
 use Rattle.lease_histories.specs.PlainHouses.{with_kept}
@@ -27,8 +28,8 @@ use Rattle.lease_histories.proofs.EntryKinds.{KindOf, is_request, is_server, is_
 
 -- ---- requests
 
-empty-silent : (config : Config) (source : Address) (message : List ℕ) → (length message == 0) ≡ true → verdict_of config source message ≡ Silent
-unfolding verdict_of
+empty-silent : (config : Config) (source : Address) (message : List ℕ) → (length message == 0) ≡ true → verdict_of_datagram config source message ≡ Silent
+unfolding verdict_of verdict_of_datagram
 empty-silent config source [] h = refl
 empty-silent config source (x ∷ message) h = let k = eqb-true (length (x ∷ message)) 0 h in absurd (omega (arith, k))
 

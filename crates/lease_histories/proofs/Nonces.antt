@@ -13,7 +13,7 @@ use Rattle.pcp_base.specs.Tables.{Table, live, first_endpoint, is_map_of, is_pee
 use Rattle.pcp_base.specs.Apply.{table_changed}
 use Rattle.pcp_base.specs.States.{State}
 use Rattle.pcp_base.proofs.Members.{IsIn, Contains-from_IsIn, IsIn-from_Contains, IsIn-filter, filter-IsIn, map-IsIn}
-use Rattle.pcp_options.specs.Laws.{AsksAreWellFormed}
+use Rattle.lease_histories.specs.DatagramAsks.{DatagramAsksAreWellFormed}
 use Rattle.lease_store.specs.LeaseTerms.{terms_of}
 use Rattle.lease_core.specs.Laws.{ChangesLease, DecisionsChangeLeases, DecisionsFit, HasNonce, NoncesMatch, nonces_of}
 use Rattle.lease_histories.specs.Entries.{Served, OfRequest, OfServer, begins_anew, entry_kind, decided_on}
@@ -131,7 +131,7 @@ keeps changes match x opening before e well next = by (kind_of_entry e)
         (server_deed before r.moment r.change (of-kind x opening before e (OfServer r) kind next)))
     by (is_request kind) = decided (of-kind x opening before e OfRequest kind next) e.kept refl
 
-pub nonces-decide : AsksAreWellFormed → DecisionsFit → DecisionsChangeLeases → NoncesMatch → NoncesDecide
+pub nonces-decide : DatagramAsksAreWellFormed → DecisionsFit → DecisionsChangeLeases → NoncesMatch → NoncesDecide
 nonces-decide formed fit changes match x opening before e more opens legal =
     let well = well-after formed fit x opening before opens (prefix-legal x opening before (e ∷ more) legal) in
     let k = keeps changes match x opening before e well (legal before e more refl) in

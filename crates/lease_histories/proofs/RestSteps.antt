@@ -34,7 +34,7 @@ use Rattle.pcp_base.proofs.RestLaws.{protocol_number-same}
 use Rattle.pcp_base.proofs.TableLemmas.{Sound-live}
 use Rattle.lease_core.specs.Laws.{DecisionsChangeLeases, DecisionsFit, ChangesLease}
 use Rattle.lease_store.specs.LeaseTerms.{terms_of}
-use Rattle.pcp_options.specs.Laws.{AsksAreWellFormed}
+use Rattle.lease_histories.specs.DatagramAsks.{DatagramAsksAreWellFormed}
 use Rattle.lease_histories.specs.Entries.{Served, OfRequest, OfServer, begins_anew, decided_on, entry_kind}
 use Rattle.lease_histories.specs.Legal.{IsLegal, IsNextEntry, IsOfServer, IsOfTable, IsOpening, state_after}
 use Rattle.lease_histories.specs.Laws.{HasEndSince, HasNoOther, OwnsUpTo, PortsRest, PortsStay, lasting_to}
@@ -298,7 +298,7 @@ record FitsOn (s : State) (r : Record) (m : ℕ) : Type 0 where
   keeps : empties r.change ≡ false
   moment : r.moment ≡ m
 
-entry-fits : AsksAreWellFormed → DecisionsFit → DecisionsChangeLeases → (x : Served) (opening : State) → IsOpening x opening → (before : List Entry) (e : Entry) →
+entry-fits : DatagramAsksAreWellFormed → DecisionsFit → DecisionsChangeLeases → (x : Served) (opening : State) → IsOpening x opening → (before : List Entry) (e : Entry) →
     IsWell (state_after opening before) → IsNextEntry x opening before e → begins_anew (entry_kind e) ≡ false → (r : Record) → e.kept ≡ Some r →
     FitsOn (state_after opening before) r e.moment
 entry-fits formed fit change x opening opens before e well next same r is = by (kind_of_entry e)
@@ -368,7 +368,7 @@ holds s t o sound (inl owned) =
 holds s t o sound (inr h) =
     (h.own, ended (unowned-port s t o sound h) h.end (IsIn-from_Contains s.ends h.end h.there) h.endpoint h.external h.late)
 
-module _ (formed : AsksAreWellFormed) (fit : DecisionsFit) (change : DecisionsChangeLeases) (members : EndsAtAMoment) (last : RecordsComeLast) (x : Served) (opening : State) (opens : IsOpening x opening) (t : ℕ) (o : Owner) where
+module _ (formed : DatagramAsksAreWellFormed) (fit : DecisionsFit) (change : DecisionsChangeLeases) (members : EndsAtAMoment) (last : RecordsComeLast) (x : Served) (opening : State) (opens : IsOpening x opening) (t : ℕ) (o : Owner) where
   held-along : (front rest : List Entry) → IsLegal x opening (front ++ rest) → IsWell (state_after opening front) → o.endpoint.protocol ≡ o.protocol →
       AllByRecursion (λ e. t ≤ e.moment) rest → AllByRecursion (λ e. begins_anew (entry_kind e) ≡ false) rest → Held (state_after opening front) t o →
       Held (state_after opening (front ++ rest)) t o
@@ -400,7 +400,7 @@ none-other s t o n sound later soon (ended un e e_there endpoint port late) p th
     absurd cc
 none-other s t o n sound later soon (over done) p there protocol external = absurd (omega (arith, done, later, soon))
 
-pub ports-rest : AsksAreWellFormed → DecisionsFit → DecisionsChangeLeases → EndsAtAMoment → RecordsComeLast → PortsRest
+pub ports-rest : DatagramAsksAreWellFormed → DecisionsFit → DecisionsChangeLeases → EndsAtAMoment → RecordsComeLast → PortsRest
 ports-rest formed fit change members last x opening before behind t o n opens legal owns later soon =
     let held = held-after formed fit change members last x opening opens t o before behind legal owns in
     let end = well-after formed fit x opening (before ++ behind) opens legal in
@@ -415,7 +415,7 @@ begins-so s t o own (ended un e there endpoint external late) =
     inl (record { owned = inr end; undisturbed = tt; same_table = tt })
 begins-so s t o own (over done) = inr done
 
-pub ports-stay : AsksAreWellFormed → DecisionsFit → DecisionsChangeLeases → EndsAtAMoment → RecordsComeLast → PortsStay
+pub ports-stay : DatagramAsksAreWellFormed → DecisionsFit → DecisionsChangeLeases → EndsAtAMoment → RecordsComeLast → PortsStay
 ports-stay formed fit change members last x opening before behind t o opens legal owns =
     let held = held-after formed fit change members last x opening opens t o before behind legal owns in
     begins-so (state_after opening (before ++ behind)) t o held.0 held.1

@@ -16,7 +16,7 @@ use Rattle.pcp_base.specs.Reached.{IsReached}
 use Rattle.pcp_base.specs.States.{State}
 use Rattle.pcp_base.proofs.Members.{IsIn, All-push, All-weaker, Contains-from_IsIn, IsIn-from_Contains, IsIn-left}
 use Rattle.pcp_options.specs.Responses.{AreOctets}
-use Rattle.pcp_options.specs.Laws.{AsksAreWellFormed}
+use Rattle.lease_histories.specs.DatagramAsks.{DatagramAsksAreWellFormed}
 use Rattle.lease_core.specs.Laws.{DecisionsChangeLeases, DecisionsFit}
 use Rattle.lease_store.specs.LeaseTerms.{terms_of}
 use Rattle.lease_histories.specs.Routes.{route_of}
@@ -286,7 +286,7 @@ tie-call config openings house history place entry tie (something s e is good) =
     (tie-more config openings house history place s e tie good))
 
 -- the state of an external address is one that fitting records made
-tie-well : AsksAreWellFormed → DecisionsFit → (config : Config) (openings : List State) (house : PlainHouse) (history : List HouseEntry) (place : ℕ) (s : PlainShard) →
+tie-well : DatagramAsksAreWellFormed → DecisionsFit → (config : Config) (openings : List State) (house : PlainHouse) (history : List HouseEntry) (place : ℕ) (s : PlainShard) →
     TieOne config openings history (greatest_base house) place s → IsReached s.state
 tie-well formed fit config openings house history place s t =
     subst IsReached (sym t.state) (well-after formed fit (served config place s.external) t.opening (entries_at place history) t.opens t.legal).reached
@@ -338,7 +338,7 @@ packet-case change config openings house history now from tie range octets (Some
     })
 
 -- by a loss
-loss-case : AsksAreWellFormed → DecisionsFit → (config : Config) (openings : List State) (house : PlainHouse) (history : List HouseEntry) (now place : ℕ) →
+loss-case : DatagramAsksAreWellFormed → DecisionsFit → (config : Config) (openings : List State) (house : PlainHouse) (history : List HouseEntry) (now place : ℕ) →
     Tie config openings house history → now < 2 ^ 40 → (found : Option PlainShard) → slice_get house.shards place ≡ found →
     CallCase openings house history place (option_map (λ s. loss_of house (raised now s)) found)
 loss-case formed fit config openings house history now place tie range None is = nothing refl
@@ -368,7 +368,7 @@ loss-case formed fit config openings house history now place tie range (Some s) 
       base = refl;
     })
 
-call-case : AsksAreWellFormed → DecisionsFit → DecisionsChangeLeases → (config : Config) (openings : List State) (house : PlainHouse) (history : List HouseEntry) →
+call-case : DatagramAsksAreWellFormed → DecisionsFit → DecisionsChangeLeases → (config : Config) (openings : List State) (house : PlainHouse) (history : List HouseEntry) →
     Tie config openings house history → (call : HouseCall) → IsCallValue config call → CallCase openings house history (call_place house call) (call_entry house call)
 call-case formed fit change config openings house history tie (Packet now from) h =
     packet-case change config openings house history now from tie h.0 h.1 (slice_get house.shards (route_of house.config from)) (request_of house.config from) refl refl
@@ -380,7 +380,7 @@ call-case formed fit change config openings house history tie (Loss now place) h
 abbrev IsTied : Config → List State → List HouseEntry → Type 0
 IsTied config openings history = (house : PlainHouse) × Tie config openings house history
 
-calls-along : AsksAreWellFormed → DecisionsFit → DecisionsChangeLeases → (config : Config) (openings : List State) (house : PlainHouse) (history : List HouseEntry) (calls : List HouseCall) →
+calls-along : DatagramAsksAreWellFormed → DecisionsFit → DecisionsChangeLeases → (config : Config) (openings : List State) (house : PlainHouse) (history : List HouseEntry) (calls : List HouseCall) →
     Tie config openings house history → AllByRecursion (IsCallValue config) calls → IsTied config openings (history ++ entries_along house calls)
 calls-along formed fit change config openings house history [] tie all = (house, subst (λ hs. Tie config openings house hs) (sym (append-nil history)) tie)
 calls-along formed fit change config openings house history (call ∷ calls) tie all =
@@ -480,7 +480,7 @@ history-of config openings house history count tie = record {
         subst (λ (y : External). IsLegal (served house.config place y) opening (entries_at place history)) same_x
         (subst (λ (o : State). IsLegal (served house.config place s.external) o (entries_at place history)) same_o t.legal)
 
-pub calls-make : AsksAreWellFormed → DecisionsFit → DecisionsChangeLeases → CallsMakeHistories
+pub calls-make : DatagramAsksAreWellFormed → DecisionsFit → DecisionsChangeLeases → CallsMakeHistories
 calls-make formed fit change config openings calls h all =
     let tied = calls-along formed fit change config openings (house_begun config openings) [] calls (tie-begun config openings h) all in
     subst (λ (c : Config). IsSoloHistory c openings (entries_along (house_begun config openings) calls)) tied.1.same

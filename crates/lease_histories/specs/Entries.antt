@@ -2,6 +2,8 @@
 use Rattle.std.specs.Prelude.{ℕ, ◌==◌, ◌&&◌, Bool, false, List, [], length, Option, Some, None, if◌then◌else◌}
 use Rattle.std.specs.List.{last_or}
 use Rattle.std.specs.Option.{option_map_or}
+use Rattle.pcp_base.specs.declared.addresses.Address.{Address}
+use Rattle.pcp_base.specs.declared.asks.Answer.{Answer}
 use Rattle.pcp_base.specs.declared.asks.Ask.{Ask}
 use Rattle.pcp_base.specs.declared.asks.Ask.TheVariants.{Known}
 use Rattle.pcp_base.specs.declared.configs.Config.{Config}
@@ -16,6 +18,8 @@ use Rattle.pcp_options.specs.declared.options.Item.{Item}
 use Rattle.pcp_options.specs.declared.verdicts.Verdict.{Verdict}
 use Rattle.pcp_options.specs.declared.verdicts.Verdict.TheVariants.{Silent, Refuse, Asked}
 use Rattle.pcp_options.specs.Replies.{reply_text}
+use Rattle.natpmp_front.specs.Requests.{is_front}
+use Rattle.natpmp_front.specs.Replies.{front_text}
 use Rattle.lease_store.specs.LeaseTerms.{terms_of}
 use Rattle.lease_core.specs.declared.decided.Decided.{Decided}
 use Rattle.lease_core.specs.Decide.{decide}
@@ -78,17 +82,23 @@ request_of config from = request_by (judged config from)
 abbrev pub decided_on : Served → State → ℕ → Request → Decided
 decided_on x s m request = decide (terms_of x.external x.config) s m request.ask
 
--- the reply to a request that came in these octets
-abbrev pub reply_to : List ℕ → Request → Decided → ℕ → ℕ → List ℕ
-reply_to octets request decided m base =
-    reply_text octets request.items decided.answer (epoch_of m base)
+-- the text of an answer to octets that came: that of NAT-PMP where octet 0 is 0, else that of PCP
+abbrev pub reply_text_of : List ℕ → Address → List Item → Answer → ℕ → List ℕ
+reply_text_of octets address items answer epoch =
+    if is_front octets then front_text octets address answer epoch
+    else reply_text octets items answer epoch
+
+-- the reply to a request that came in these octets to an external address
+abbrev pub reply_to : List ℕ → Address → Request → Decided → ℕ → ℕ → List ℕ
+reply_to octets address request decided m base =
+    reply_text_of octets address request.items decided.answer (epoch_of m base)
 
 -- the entry that a request makes at m, with the base told
 abbrev pub request_entry : Served → State → ℕ → ℕ → Datagram → Request → Entry
 request_entry x s m base from request = record {
   moment = m;
   from = from;
-  reply = reply_to from.octets request (decided_on x s m request) m base;
+  reply = reply_to from.octets x.external.address request (decided_on x s m request) m base;
   kept = (decided_on x s m request).kept;
   base = base;
 }

@@ -42,7 +42,8 @@ pub record IsOfTable (x : Served) (s : State) (e : Entry) : Type 0 where
   pub asks : request_of x.config e.from ≡ Some request
   pub kept : e.kept ≡ (decided_on x s e.moment request).kept
   pub reply : e.reply
-      ≡ reply_to e.from.octets request (decided_on x s e.moment request) e.moment e.base
+      ≡ reply_to e.from.octets x.external.address request (decided_on x s e.moment request) e.moment
+      e.base
 
 -- The server itself begins the table anew, or tells the address of a table that it just began.
 abbrev pub IsOfServer : List Entry → Change → Type 0

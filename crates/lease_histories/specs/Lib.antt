@@ -1,3 +1,4 @@
+pub mod DatagramAsks
 pub mod Entries
 pub mod HouseHistories
 pub mod Laws

@@ -1,9 +1,19 @@
 //! What holds of legal histories. A proof that needs a law calls its function.
+ghost use Rattle.lease_histories.specs.DatagramAsks.{DatagramAsksAreWellFormed};
 ghost use Rattle.lease_histories.specs.Laws.{BasesDisclose, BasesRise, CallsMakeHistories, DecisionsComeNext, EpochsDisclose, FaultsComeNext, LastIsGreatest, NextIsLegal, NoncesDecide, NothingIsLegal, OpeningsDisclose, PortsRest, PortsStay, PrefixesAreLegal, ServersComeNext, StartsDisclose, StatesStand};
 
 use lease_core::{decisions_change_leases, decisions_fit, nonces_match};
+use natpmp_front::front_asks_are_well_formed;
 use pcp_base::{ends_at_a_moment, ends_come_in_steps, ports_have_one_owner, states_are_sound};
 use pcp_options::asks_are_well_formed;
+
+/// Whatever a datagram of octets asks for, by either protocol, may be asked of a lease table.
+pub fn datagram_asks_are_well_formed()
+    ensures { DatagramAsksAreWellFormed }
+{
+    asks_are_well_formed();
+    front_asks_are_well_formed();
+}
 
 /// A history begins with nothing, grows entry by entry, and each front of a legal one is legal. Its
 /// last moment and its last base are the greatest.
@@ -28,7 +38,7 @@ pub fn entries_come_next()
 pub fn states_stand()
     ensures { StatesStand }
 {
-    asks_are_well_formed();
+    datagram_asks_are_well_formed();
     decisions_fit();
     ports_have_one_owner();
 }
@@ -38,7 +48,7 @@ pub fn states_stand()
 pub fn nonces_decide()
     ensures { NoncesDecide }
 {
-    asks_are_well_formed();
+    datagram_asks_are_well_formed();
     decisions_fit();
     decisions_change_leases();
     nonces_match();
@@ -50,7 +60,7 @@ pub fn ports_rest()
     ensures rest { PortsRest }
     ensures stay { PortsStay }
 {
-    asks_are_well_formed();
+    datagram_asks_are_well_formed();
     decisions_fit();
     decisions_change_leases();
     ends_at_a_moment();
@@ -66,7 +76,7 @@ pub fn epochs_disclose()
     ensures openings { OpeningsDisclose }
     ensures starts { StartsDisclose }
 {
-    asks_are_well_formed();
+    datagram_asks_are_well_formed();
     decisions_fit();
     states_are_sound();
 }
@@ -77,6 +87,6 @@ pub fn calls_make_histories()
     ensures { CallsMakeHistories }
 {
     decisions_change_leases();
-    asks_are_well_formed();
+    datagram_asks_are_well_formed();
     decisions_fit();
 }

@@ -5,6 +5,6 @@
 mod laws;
 
 pub use laws::{
-    calls_make_histories, entries_come_next, epochs_disclose, histories_grow, nonces_decide,
-    ports_rest, states_stand,
+    calls_make_histories, datagram_asks_are_well_formed, entries_come_next, epochs_disclose,
+    histories_grow, nonces_decide, ports_rest, states_stand,
 };

@@ -21,11 +21,14 @@ use Rattle.pcp_options.specs.declared.options.Item.{Item}
 use Rattle.pcp_options.specs.declared.verdicts.Verdict.{Verdict}
 use Rattle.pcp_options.specs.declared.verdicts.Verdict.TheVariants.{Silent, Refuse, Asked}
 use Rattle.pcp_options.specs.Asking.{ask_of, subject_of, third_of}
-use Rattle.pcp_options.specs.Laws.{AsksAreWellFormed}
 use Rattle.pcp_options.specs.Options.{items_of}
 use Rattle.pcp_options.specs.Responses.{AreOctets}
 use Rattle.pcp_options.specs.Verdicts.{asked_by, options_in, request_steps, verdict_by, verdict_of}
-use Rattle.lease_histories.specs.Routes.{judged, place_by}
+use Rattle.natpmp_front.specs.declared.requests.Front.TheVariants as Fronts
+use Rattle.natpmp_front.specs.Requests.{is_front}
+use Rattle.natpmp_front.specs.Verdicts.{ask_by, front_of, refusal_steps}
+use Rattle.lease_histories.specs.DatagramAsks.{DatagramAsksAreWellFormed}
+use Rattle.lease_histories.specs.Routes.{front_verdict, judged, place_by, verdict_of_datagram}
 use Rattle.lease_histories.specs.Entries.{request_by}
 use Rattle.lease_house.specs.declared.routes.Routed.{Routed}
 use Rattle.lease_house.specs.Routings.{MayBeAsked, routed_to}
@@ -61,7 +64,7 @@ by-place config source frame items more (Some refusal) place ask h = absurd cc
 by-place config source frame items more None place ask h =
     asked-place items more (ask_of (subject_of source (third_of items)) frame items) (place_of config.subscribers (subject_of source (third_of items))) place ask h
 
-pub asked-within : (config : Config) (source : Address) (message : List ℕ) (place : ℕ) (ask : Ask) (items : List Item) → IsConfig config →
+asked-within : (config : Config) (source : Address) (message : List ℕ) (place : ℕ) (ask : Ask) (items : List Item) → IsConfig config →
     verdict_of config source message ≡ Asked place ask items → place < length config.externals
 unfolding verdict_of
 asked-within config source message place ask items is h = by (is_silent message) refl
@@ -82,17 +85,40 @@ asked-within config source message place ask items is h = by (is_silent message)
         row-within (length config.externals) (subject_of source (third_of found)) config.subscribers place is.subscribers
         (by-place config source (frame_of message) found items refused place ask e)
 
+front-place : (b : Bool) (p place : ℕ) (a ask : Ask) (items : List Item) → front_verdict (cond b Fronts.Silent (Fronts.Asked p a)) ≡ Asked place ask items → p ≡ place
+front-place true p place a ask items h = absurd cc
+front-place false p place a ask items h = let same : p ≡ place = cc in same
+
+datagram-within : (config : Config) (source : Address) (message : List ℕ) (place : ℕ) (ask : Ask) (items : List Item) → IsConfig config →
+    verdict_of_datagram config source message ≡ Asked place ask items → place < length config.externals
+unfolding verdict_of_datagram
+datagram-within config source message place ask items is h = by (is_front message) refl
+  where
+    found : Option ℕ
+    found = place_of config.subscribers source
+
+    front : Verdict
+    front = front_verdict (front_of config source message)
+
+    by : (b : Bool) → is_front message ≡ b → place < length config.externals
+    by true here =
+        let same = front-place _ (unwrap_or found 0) place (ask_by source message (first_case (refusal_steps config source found message))) ask items
+        (ap (λ b. cond b front (verdict_of config source message)) (sym here) ∙ h) in
+        subst (λ k. k < length config.externals) same
+        (source-within (length config.externals) found is.external_count.0 (λ p at. row-within (length config.externals) source config.subscribers p is.subscribers at))
+    by false none = asked-within config source message place ask items is (ap (λ b. cond b front (verdict_of config source message)) (sym none) ∙ h)
+
 -- ---- octets
 
-long-unless : (config : Config) (source : Address) (message : List ℕ) → (verdict_of config source message ≡ Silent → ⊥) → 2 ≤ length message
-unfolding verdict_of
+long-unless : (config : Config) (source : Address) (message : List ℕ) → (verdict_of_datagram config source message ≡ Silent → ⊥) → 2 ≤ length message
+unfolding verdict_of verdict_of_datagram
 long-unless config source [] asks = absurd (asks refl)
 long-unless config source (x ∷ []) asks = absurd (asks refl)
 long-unless config source (x ∷ y ∷ more) asks = omega arith
 
 -- ---- what is read
 
-pub by-verdict : (config : Config) (from : Datagram) (v : Verdict) → judged config from ≡ v → IsConfig config → AreOctets from.octets → AsksAreWellFormed →
+pub by-verdict : (config : Config) (from : Datagram) (v : Verdict) → judged config from ≡ v → IsConfig config → AreOctets from.octets → DatagramAsksAreWellFormed →
     (r : Routed) → option_map (routed_to (place_by config from.peer v)) (request_by v) ≡ Some r → MayBeAsked config from r.place r.ask
 by-verdict config from Silent is good octets law r h = absurd cc
 by-verdict config from (Refuse refusal) is good octets law r h =
@@ -108,7 +134,17 @@ by-verdict config from (Asked place ask items) is good octets law r h =
     let made : Routed = routed_to place (record { ask = ask; items = items }) in
     let same : made ≡ r = cc in
     subst (λ (x : Routed). MayBeAsked config from x.place x.ask) same (record {
-      there = asked-within config from.peer from.octets place ask items good is;
+      there = datagram-within config from.peer from.octets place ask items good is;
       formed = law config from.peer from.octets place ask items octets is;
       long = long-unless config from.peer from.octets (λ e. absurd (cc (is, e)));
     })
+
+-- ---- which protocol
+
+pub front-judged : (config : Config) (source : Address) (message : List ℕ) → is_front message ≡ true → front_verdict (front_of config source message) ≡ verdict_of_datagram config source message
+unfolding verdict_of_datagram
+front-judged config source message h = ap (λ b. cond b (front_verdict (front_of config source message)) (verdict_of config source message)) (sym h)
+
+pub pcp-judged : (config : Config) (source : Address) (message : List ℕ) → is_front message ≡ false → verdict_of config source message ≡ verdict_of_datagram config source message
+unfolding verdict_of_datagram
+pcp-judged config source message h = ap (λ b. cond b (front_verdict (front_of config source message)) (verdict_of config source message)) (sym h)

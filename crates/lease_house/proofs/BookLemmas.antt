@@ -1,7 +1,10 @@
 -- What a call on one book leaves of a house.
 use Rattle.std.specs.Prelude.{slice_set, Result, Ok, Err}
 use Rattle.std.specs.List.{slice_get}
-use Rattle.std.proofs.Common.{◌≡◌, ◌∙◌, ℕ, ◌<◌, List, ◌⊎◌, length, map, Some, None, refl, ap, sym, subst, inl, inr, arith}
+use Rattle.std.specs.Option.{option_map}
+use Rattle.std.proofs.Common.{◌≡◌, ◌∙◌, ℕ, ◌<◌, List, ◌⊎◌, length, map, Option, Some, None, refl, ap, sym, subst, inl, inr, arith}
+use Rattle.pcp_base.specs.declared.addresses.Address.{Address}
+use Rattle.pcp_base.specs.declared.asks.Ask.{Ask}
 use Rattle.pcp_base.specs.declared.configs.Config.{Config}
 use Rattle.pcp_base.specs.declared.configs.External.{External}
 use Rattle.lease_store.specs.declared.terms.Terms.{Terms}
@@ -11,9 +14,10 @@ use Rattle.lease_disk.specs.Pairs.{PairHasCause}
 use Rattle.lease_journal.proofs.ShutLaws.{cause_on}
 use Rattle.journal_sides.specs.declared.errors.JournalFault.{JournalFault}
 use Rattle.journal_sides.specs.declared.errors.JournalFault.TheVariants as Journals
+use Rattle.shard_book.specs.declared.batches.Answered.{Answered}
 use Rattle.shard_book.specs.Books.{BookView, IsBook}
 use Rattle.lease_house.specs.declared.faults.HouseFault.TheVariants.{Disk}
-use Rattle.lease_house.specs.BookCalls.{ChangesAt, IsSettledIn, StaysBook}
+use Rattle.lease_house.specs.BookCalls.{AnswersAsk, ChangesAt, IsSettledIn, StaysBook}
 use Rattle.lease_house.specs.SoloCalls.{SettlesAt, fault_at, told_at}
 use Rattle.lease_house.specs.SoloHouses.{ChangesBook, HaveCauses, HouseView, IsHouse}
 use Rattle.lease_house.proofs.ListLemmas.{All-put, get-map, get-map-back, get-put, get-within, length-map, length-put, map-put-same, put-at, within-get}
@@ -49,6 +53,31 @@ on-terms {D} tells seen may_leave h place b is there =
     ap (λ (ts : List Terms). slice_get ts place) (sym is.terms) ∙ get-map (λ (x : BookView D). x.terms) h.books place b there in
     let found = get-map-back (λ (x : External). terms_of x h.config) h.config.externals place b.terms at in
     ap (λ (t : Terms). terms_of t.external h.config) (sym found.2) ∙ found.2
+
+-- and so is its address
+address-of : {D : Type 0} (tells : Type 0) (seen : D → List ℕ) (may_leave : D → List ℕ → Type 0) (h : HouseView D) (place : ℕ) (b : BookView D) (address : Address) →
+    IsHouse tells seen may_leave h → slice_get h.books place ≡ Some b →
+    option_map (λ (x : External). x.address) (slice_get h.config.externals place) ≡ Some address → address ≡ b.terms.external.address
+address-of {D} tells seen may_leave h place b address is there told =
+    let at : slice_get (map (λ (x : External). terms_of x h.config) h.config.externals) place ≡ Some b.terms =
+    ap (λ (ts : List Terms). slice_get ts place) (sym is.terms) ∙ get-map (λ (x : BookView D). x.terms) h.books place b there in
+    let found = get-map-back (λ (x : External). terms_of x h.config) h.config.externals place b.terms at in
+    let known : Some found.0.address ≡ Some address = ap (λ (o : Option External). option_map (λ (x : External). x.address) o) (sym found.1) ∙ told in
+    let same : found.0.address ≡ address = cc in
+    sym same ∙ ap (λ (t : Terms). t.external.address) found.2
+
+-- the external address to which a request goes is that of the book that answered it
+pub answered-address : {D : Type 0} (tells : Type 0) (seen : D → List ℕ) (moment : D → ℕ) (left_since : D → ℕ → List ℕ → Type 0) (may_leave : D → List ℕ → Type 0)
+    (now place : ℕ) (ask : Ask) (old new : HouseView D) (answered : Answered) (address : Address) →
+    (a : AnswersAsk tells moment left_since may_leave now place ask old new answered) → IsHouse tells seen may_leave new →
+    option_map (λ (x : External). x.address) (slice_get old.config.externals place) ≡ Some address → address ≡ a.book.terms.external.address
+answered-address {D} tells seen moment left_since may_leave now place ask old new answered address a is told =
+    let configured : new.config ≡ old.config = ap (λ (h : HouseView D). h.config) a.changes.new_is ∙ ap (λ (h : HouseView D). h.config) a.settles.changes.new_is in
+    let there : slice_get new.books place ≡ Some a.kept_book =
+    ap (λ (h : HouseView D). slice_get h.books place) a.changes.new_is ∙ put-at a.mid.books place a.book a.kept_book a.changes.there in
+    address-of tells seen may_leave new place a.kept_book address is there
+    (ap (λ (x : Config). option_map (λ (y : External). y.address) (slice_get x.externals place)) configured ∙ told)
+    ∙ ap (λ (t : Terms). t.external.address) a.keeps.terms
 
 -- ---- causes
 

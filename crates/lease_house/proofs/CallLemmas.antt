@@ -1,10 +1,15 @@
 -- A call on a book that is settled.
 use Rattle.std.specs.Prelude.{max, IsSome, Result, Ok, Err, IfOk, IfErr, OnOk}
 use Rattle.std.specs.List.{slice_get}
+use Rattle.std.specs.Option.{option_map}
 use Rattle.std.proofs.Common.{◌≡◌, ◌∙◌, ℕ, List, [], ◌∷◌, map, get_or, Option, Some, None, refl, ap, subst, inl, inr, arith}
+use Rattle.pcp_base.specs.declared.addresses.Address.{Address}
 use Rattle.pcp_base.specs.declared.asks.Ask.{Ask}
 use Rattle.pcp_base.specs.declared.configs.Config.{Config}
+use Rattle.pcp_base.specs.declared.configs.External.{External}
+use Rattle.pcp_base.specs.declared.datagrams.Datagram.{Datagram}
 use Rattle.pcp_base.specs.declared.records.Record.{Record}
+use Rattle.pcp_base.specs.Epoch.{epoch_of}
 use Rattle.lease_core.specs.Decide.{decide}
 use Rattle.lease_store.specs.Lookups.{lease_count}
 use Rattle.lease_disk.specs.declared.disks.DiskPair.{DiskPair}
@@ -16,13 +21,17 @@ use Rattle.shard_book.specs.Batches.{answer_at}
 use Rattle.shard_book.specs.Books.{BookView}
 use Rattle.shard_book.specs.Keepings.{Doubts, IsRefused, Keeps, Loses, Serves, batch_answers, batch_records, lose_records}
 use Rattle.shard_book.specs.Settlings.{KeepsDoubt, Settles}
+use Rattle.lease_histories.specs.Entries.{reply_text_of, request_of}
 use Rattle.lease_histories.specs.HouseHistories.{greatest}
+use Rattle.lease_histories.specs.Routes.{route_of}
+use Rattle.lease_house.specs.declared.routes.Routed.{Routed}
 use Rattle.lease_house.specs.BookCalls.{AnswersAsk, ChangesAt, StaysBook, ask_answer}
-use Rattle.lease_house.specs.SoloCalls.{IsDoubtKept, IsLineRefused, LosesAt, SettlesAt, ask_records, fault_at, loss_records, told_at}
+use Rattle.lease_house.specs.Routings.{routed_by}
+use Rattle.lease_house.specs.SoloCalls.{AnswersPacket, IsDoubtKept, IsLineRefused, LosesAt, SettlesAt, ask_records, fault_at, loss_records, told_at}
 use Rattle.lease_house.specs.SoloHouses.{ChangesBook, HouseView, IsHouse}
-use Rattle.lease_house.proofs.BookLemmas.{After, after-call, house-of, on-terms}
+use Rattle.lease_house.proofs.BookLemmas.{After, after-call, answered-address, house-of, on-terms}
 use Rattle.lease_house.proofs.ListLemmas.{greatest-has}
-use Rattle.lease_house.proofs.PlainLemmas.{loses-plainly, plain-greatest}
+use Rattle.lease_house.proofs.PlainLemmas.{answers-packet, loses-plainly, plain-greatest, routed-is}
 
 module _ {D : Type 0} (tells : Type 0) (moment : D → ℕ) (left_since : D → ℕ → List ℕ → Type 0) (may_leave : D → List ℕ → Type 0) where
   pub serves-settled : (now base : ℕ) (asks : List Ask) (b c : BookView D) (answers : List Answered) → b.fault ≡ None →
@@ -175,6 +184,21 @@ module _ {D : Type 0} (tells : Type 0) (seen : D → List ℕ) (moment : D → �
   )
   answers-house now place ask (Err fault) old mid new books same settles is a =
       (tt, refused-at now place (ask_records now ask) old mid new a.before a.after fault settles a.changes a.how.1)
+
+  -- what was read of a datagram, and where it goes
+  pub read-answers : (now : ℕ) (from : Datagram) (r : Routed) (old new : HouseView D) (answered : Answered) (address : Address) → routed_by old.config from ≡ Some r →
+      option_map (λ (x : External). x.address) (slice_get old.config.externals r.place) ≡ Some address →
+      AnswersAsk tells moment left_since may_leave now r.place r.ask old new answered → IsHouse tells seen may_leave new →
+      AnswersPacket tells moment left_since may_leave now from old new (reply_text_of from.octets address r.items answered.answer (epoch_of answered.moment answered.base))
+  read-answers now from r old new answered address read told answers is =
+      let place : ℕ = route_of old.config from in
+      let asked = routed-is place (request_of old.config from) r read in
+      let here : AnswersAsk tells moment left_since may_leave now place r.ask old new answered =
+      subst (λ (p : ℕ). AnswersAsk tells moment left_since may_leave now p r.ask old new answered) asked.1 answers in
+      let there : option_map (λ (x : External). x.address) (slice_get old.config.externals place) ≡ Some address =
+      subst (λ (p : ℕ). option_map (λ (x : External). x.address) (slice_get old.config.externals p) ≡ Some address) asked.1 told in
+      answers-packet tells moment left_since may_leave now from (record { ask = r.ask; items = r.items }) old new answered address asked.0 here
+      (answered-address tells seen moment left_since may_leave now place r.ask old new answered address here is there)
 
   pub loses-house : (now place : ℕ) (told : Result ℕ JournalFault) (old mid new : HouseView D) → SettlesAt tells moment left_since may_leave now place old mid →
       After tells seen may_leave faults place told mid new (λ b c.

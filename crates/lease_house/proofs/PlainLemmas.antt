@@ -3,6 +3,7 @@ use Rattle.std.specs.Prelude.{max, slice_set, IsSome}
 use Rattle.std.specs.List.{slice_get}
 use Rattle.std.specs.Option.{option_map, option_map_or}
 use Rattle.std.proofs.Common.{◌≡◌, ◌∙◌, ℕ, List, [], map, Option, Some, None, refl, ap, sym, subst, inl, inr}
+use Rattle.pcp_base.specs.declared.addresses.Address.{Address}
 use Rattle.pcp_base.specs.declared.configs.Config.{Config}
 use Rattle.pcp_base.specs.declared.configs.External.{External}
 use Rattle.pcp_base.specs.declared.datagrams.Datagram.{Datagram}
@@ -11,7 +12,6 @@ use Rattle.pcp_base.specs.declared.records.Record.{Record}
 use Rattle.pcp_base.specs.Apply.{apply_all}
 use Rattle.pcp_base.specs.Epoch.{epoch_of}
 use Rattle.pcp_base.specs.States.{State}
-use Rattle.pcp_options.specs.Replies.{reply_text}
 use Rattle.lease_core.specs.Decide.{decide}
 use Rattle.lease_store.specs.declared.terms.Terms.{Terms}
 use Rattle.lease_store.specs.Lookups.{lease_count}
@@ -19,7 +19,7 @@ use Rattle.shard_book.specs.declared.batches.Answered.{Answered}
 use Rattle.shard_book.specs.Batches.{kept_before}
 use Rattle.shard_book.specs.Books.{BookView}
 use Rattle.shard_book.specs.Keepings.{Keeps}
-use Rattle.lease_histories.specs.Entries.{Request, request_entry, request_of}
+use Rattle.lease_histories.specs.Entries.{Request, reply_text_of, request_entry, request_of}
 use Rattle.lease_histories.specs.HouseHistories.{greatest}
 use Rattle.lease_histories.specs.PlainHouses.{PlainHouse, PlainShard, add_by, add_entry, entry_by, greatest_base, loss_entry, loss_of, packet_entry, raised, served_at, shard_after, with_kept}
 use Rattle.lease_histories.specs.Routes.{route_of}
@@ -76,10 +76,10 @@ routed-is place (Some q) r h =
     subst (λ (x : Routed). (Some q ≡ Some (record { ask = x.ask; items = x.items })) × (x.place ≡ place)) same (refl, refl)
 
 module _ {D : Type 0} (tells : Type 0) (moment : D → ℕ) (left_since : D → ℕ → List ℕ → Type 0) (may_leave : D → List ℕ → Type 0) where
-  pub answers-packet : (now : ℕ) (from : Datagram) (request : Request) (old new : HouseView D) (answered : Answered) → request_of old.config from ≡ Some request →
-      AnswersAsk tells moment left_since may_leave now (route_of old.config from) request.ask old new answered →
-      AnswersPacket tells moment left_since may_leave now from old new (reply_text from.octets request.items answered.answer (epoch_of answered.moment answered.base))
-  answers-packet now from request old new answered asks a =
+  pub answers-packet : (now : ℕ) (from : Datagram) (request : Request) (old new : HouseView D) (answered : Answered) (address : Address) → request_of old.config from ≡ Some request →
+      (a : AnswersAsk tells moment left_since may_leave now (route_of old.config from) request.ask old new answered) → address ≡ a.book.terms.external.address →
+      AnswersPacket tells moment left_since may_leave now from old new (reply_text_of from.octets address request.items answered.answer (epoch_of answered.moment answered.base))
+  answers-packet now from request old new answered address asks a to =
       let mid : HouseView D = a.mid in
       let book : BookView D = a.book in
       let house : PlainHouse = plain_house mid in
@@ -91,9 +91,11 @@ module _ {D : Type 0} (tells : Type 0) (moment : D → ℕ) (left_since : D → 
       let asked : request_of mid.config from ≡ Some request = ap (λ (x : Config). request_of x from) same ∙ asks in
       let e : Entry = request_entry (served_at house (route_of mid.config from) (plain_shard book)) book.state m (greatest_base house) from request in
       let entry : packet_entry house now from ≡ Some e = entry-is house now from (plain_shard book) request here asked in
-      let told : e.reply ≡ reply_text from.octets request.items answered.answer (epoch_of answered.moment answered.base) =
-      ap (λ (t : Terms). reply_text from.octets request.items (decide t book.state m request.ask).answer (epoch_of m (greatest_base house))) a.on_terms
-      ∙ sym (ap (λ (x : Answered). reply_text from.octets request.items x.answer (epoch_of x.moment x.base)) a.told) in
+      let own : Address = book.terms.external.address in
+      let told : e.reply ≡ reply_text_of from.octets address request.items answered.answer (epoch_of answered.moment answered.base) =
+      ap (λ (t : Terms). reply_text_of from.octets own request.items (decide t book.state m request.ask).answer (epoch_of m (greatest_base house))) a.on_terms
+      ∙ sym (ap (λ (x : Answered). reply_text_of from.octets own request.items x.answer (epoch_of x.moment x.base)) a.told)
+      ∙ sym (ap (λ (x : Address). reply_text_of from.octets x request.items answered.answer (epoch_of answered.moment answered.base)) to) in
       let kept : a.kept_book.state ≡ with_kept book.state e.kept =
       a.keeps.state ∙ kept-once book.state (decide book.terms book.state m request.ask).kept
       ∙ sym (ap (λ (t : Terms). with_kept book.state (decide t book.state m request.ask).kept) a.on_terms) in

@@ -4,7 +4,7 @@ use crate::book_calls::{ask_at, lose_at, settle_at, told_at};
 use crate::faults::{HouseFault, Unbegun};
 use crate::moments::{greatest_base, later};
 use crate::opening::{copy_of, hand_back, open_books};
-use crate::replying::reply_of;
+use crate::replying::{address_at, reply_of};
 use crate::routes::{Routed, read_datagram};
 use crate::updates::updates_of;
 use lease_core::Core;
@@ -168,9 +168,17 @@ impl<D: LeaseDisk + Drop> SoloHouse<D> {
         ensures cause { HaveCauses D.faults self.old self.new
             (λ place. result ≡ Err (Disk place)) }
     {
+        let address = address_at(self.config(), request.place);
         let answered = self.answer(alloc, request.place, &request.ask, now)?;
         let octets = datagram.octets.items();
-        let reply = reply_of(alloc, octets, &request.ask, &request.items, &answered)?;
+        let reply = reply_of(
+            alloc,
+            octets,
+            &address,
+            &request.ask,
+            &request.items,
+            &answered,
+        )?;
         Ok(reply)
     }
 

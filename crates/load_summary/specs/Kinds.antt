@@ -26,7 +26,8 @@ kept_kind t m Mark = None
 kept_kind t m (Rest endpoint port end_) = None
 kept_kind t m (Renumber address) = None
 
--- octet 3 of a reply is its result code (RFC 6887, section 7.2), 0 for a success
+-- octet 3 of a reply is its result code (RFC 6887, section 7.2), by NAT-PMP the lower octet of its result
+-- (RFC 6886, section 3.5): 0 for a success
 abbrev pub kind_by : Table → ℕ → (reply : List ℕ) → Option Record → Option LoadKind
 kind_by t m reply None = Some (if slice_index reply 3 == 0 then Absent else Refused)
 kind_by t m reply (Some kept) = kept_kind t m kept.change

@@ -1,14 +1,17 @@
-use Rattle.std.proofs.Common.{◌≡◌, ◌∙◌, ℕ, List, ap, sym, subst, rules}
+use Rattle.std.specs.List.{slice_get}
+use Rattle.std.specs.Option.{option_map}
+use Rattle.std.proofs.Common.{◌≡◌, ◌∙◌, ℕ, List, Some, ap, sym, subst, rules}
 use Rattle.std.proofs.lemmas.Result.{err_from_is_err_and}
+use Rattle.pcp_base.specs.declared.configs.Config.{Config}
+use Rattle.pcp_base.specs.declared.configs.External.{External}
 use Rattle.pcp_base.specs.Epoch.{epoch_of}
-use Rattle.pcp_options.specs.Replies.{reply_text}
-use Rattle.lease_histories.specs.Entries.{request_of}
+use Rattle.lease_histories.specs.Entries.{reply_text_of, request_of}
 use Rattle.lease_histories.specs.Routes.{route_of}
 use Rattle.lease_house.specs.declared.faults.HouseFault.{HouseFault}
-use Rattle.lease_house.specs.BookCalls.{AnswersAsk}
 use Rattle.lease_house.specs.SoloCalls.{AnswersPacket, IsLineRefused, RefusesPacket, ask_records}
 use Rattle.lease_house.proofs.BookLemmas.{weaker-causes}
-use Rattle.lease_house.proofs.PlainLemmas.{answers-packet, refuses-packet, routed-is, untold-packet}
+use Rattle.lease_house.proofs.CallLemmas.{read-answers}
+use Rattle.lease_house.proofs.PlainLemmas.{refuses-packet, routed-is, untold-packet}
 use Rattle.lease_house.proofs.solo.SoloHouse.serve_read.Goals as goal
 
 pub returns-in_err-answered-clause-refused : goal.returns-in_err-answered-clause-refused
@@ -37,8 +40,10 @@ returns-in_err-reply-clause-refused g c =
     let r = c.args.request.now in
     let asked = routed-is (route_of old.config from) (request_of old.config from) r c.requires.read in
     let answered = c.in_ok-answered.answered in
-    let answers = answers-packet d.tells d.moment d.left_since d.may_leave c.args.now from (record { ask = r.ask; items = r.items }) old c.answer.new.self answered asked.0
-    (subst (λ (p : ℕ). AnswersAsk d.tells d.moment d.left_since d.may_leave c.args.now p r.ask old c.answer.new.self answered) asked.1 c.in_ok-answered.ensures.answered) in
+    let address = c.address_at-address.result in
+    let there : option_map (λ (x : External). x.address) (slice_get old.config.externals r.place) ≡ Some address =
+    subst (λ (k : Config). option_map (λ (x : External). x.address) (slice_get k.externals r.place) ≡ Some address) c.config.ensures.value c.address_at-address.ensures in
+    let answers = read-answers d.tells d.seen d.moment d.left_since d.may_leave d.faults c.args.now from r old c.answer.new.self answered address c.requires.read there c.in_ok-answered.ensures.answered c.in_ok-answered.ensures.house in
     let p = err_from_is_err_and c.from_residual-in_err-reply.result c.from_residual-in_err-reply.ensures.1 in
     rw p.1 (untold-packet d.tells d.moment d.left_since d.may_leave c.args.now from (record { ask = r.ask; items = r.items }) old c.answer.new.self p.0 _ asked.0 p.2 answers)
 
@@ -53,11 +58,12 @@ returns-clause-served g c =
     let from = c.args.datagram.now in
     let old = c.args.self.now in
     let r = c.args.request.now in
-    let asked = routed-is (route_of old.config from) (request_of old.config from) r c.requires.read in
     let answered = c.in_ok-answered.answered in
-    let answers = answers-packet d.tells d.moment d.left_since d.may_leave c.args.now from (record { ask = r.ask; items = r.items }) old c.answer.new.self answered asked.0
-    (subst (λ (p : ℕ). AnswersAsk d.tells d.moment d.left_since d.may_leave c.args.now p r.ask old c.answer.new.self answered) asked.1 c.in_ok-answered.ensures.answered) in
-    let told = c.in_ok-reply.ensures ∙ ap (λ (o : List ℕ). reply_text o r.items answered.answer (epoch_of answered.moment answered.base)) c.items-octets.ensures in
+    let address = c.address_at-address.result in
+    let there : option_map (λ (x : External). x.address) (slice_get old.config.externals r.place) ≡ Some address =
+    subst (λ (k : Config). option_map (λ (x : External). x.address) (slice_get k.externals r.place) ≡ Some address) c.config.ensures.value c.address_at-address.ensures in
+    let answers = read-answers d.tells d.seen d.moment d.left_since d.may_leave d.faults c.args.now from r old c.answer.new.self answered address c.requires.read there c.in_ok-answered.ensures.answered c.in_ok-answered.ensures.house in
+    let told = c.in_ok-reply.ensures ∙ ap (λ (o : List ℕ). reply_text_of o address r.items answered.answer (epoch_of answered.moment answered.base)) c.items-octets.ensures in
     subst (λ (t : List ℕ). AnswersPacket d.tells d.moment d.left_since d.may_leave c.args.now from old c.answer.new.self t) (sym told) answers
 
 pub returns-clause-cause : goal.returns-clause-cause
