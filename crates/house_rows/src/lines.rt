@@ -1,4 +1,5 @@
-//! Scripts and loads over the journals of a house, with what they put out.
+//! Scripts and loads over the journals of a house whose disk has too little room. What they put out
+//! where nothing fails is said by rows of whole commands.
 ghost use Rattle.std.specs.Prelude.{IfOk, IfSome};
 ghost use Rattle.house_lines.specs.Rests.{IsAtRest};
 
@@ -14,30 +15,10 @@ use server_commands::LoadPlan;
 use std::alloc::Global;
 use std::test::Fail;
 
-// A script over one journal that begins at 1000: a grant, look-ups, a loss and an announcement.
+// A request over one journal that begins at 1000.
 static SCRIPT: &str = "packet 1010 10.0.0.5 40000 \
     0201000000000e1000000000000000000000ffff0a000005\
-    000102030405060708090a0b110000001388000000000000000000000000ffff00000000\n\
-    # a comment\n\
-    owners 10 192.0.2.1\n\
-    look 4609 192.0.2.1 17 1024 198.51.100.7 9\n\
-    look 4610 192.0.2.1 17 1024 198.51.100.7 9\n\
-    packet 1500 10.0.0.5 40000 02\n\
-    lose 2000 192.0.2.1\n\
-    owners 2000 192.0.2.1\n\
-    packet 2003 10.0.0.5 40000 020000000000000000000000000000000000ffff0a000005\n";
-
-static OUTPUT: &str = "reply 10.0.0.5 40000 \
-    0281000000000e100000000a000000000000000000000000\
-    000102030405060708090a0b110000001388040000000000000000000000ffffc0000201\n\
-    own 17 1024 10.0.0.5 5000\n\
-    owners 1\n\
-    owner 10.0.0.5 17 5000\n\
-    none\n\
-    silent\n\
-    lost 1\n\
-    owners 0\n\
-    reply 10.0.0.5 40000 028000000000000000000003000000000000000000000000\n";
+    000102030405060708090a0b110000001388000000000000000000000000ffff00000000\n";
 
 // A house over one journal that begins at 1000, of which side a may hold so many octets; none where a
 // disk failed.
@@ -73,8 +54,7 @@ fn played(alloc: Global, room: u64, script: &str) -> Result<Option<(PlayStatus, 
 }
 
 // How much room side a has, and how the script is then played.
-static RUNS: [(u64, Option<PlayStatus>); 4] = [
-    (4_096, Some(PlayStatus::Done)),
+static RUNS: [(u64, Option<PlayStatus>); 3] = [
     (28, None),
     (40, None),
     (70, Some(PlayStatus::DiskFault(0))),
@@ -84,27 +64,16 @@ static RUNS: [(u64, Option<PlayStatus>); 4] = [
 fn scripts(rt: HostRuntime) -> Result<(), Fail> {
     for (room, want) in &RUNS {
         let run = played(rt.alloc(), *room, SCRIPT)?;
-        let output = if *want == Some(PlayStatus::Done) {
-            OUTPUT
-        } else {
-            ""
-        };
         match run {
             Some((status, held)) => {
                 assert!(rt; Some(status) == *want, "{room}");
-                assert!(rt; held.as_slice() == output.as_bytes(), "{room}");
+                assert!(rt; held.is_empty(), "{room}");
             }
             None => assert!(rt; want.is_none(), "{room}"),
         }
     }
     Ok(())
 }
-
-// The first eight requests of number 7, as a computation apart from this program has them: seven
-// grants, and a deletion of nothing.
-static SUMMARY: &str = "requests 8\ngranted 7\nrenewed 0\ndeleted 0\nabsent 1\nrefused 0\n\
-    leases 7\nowned 7\n\
-    digest d6c4f2f6693589461130a024bc3a0fc040134873776272b77f814977780eec27\n";
 
 // How a load of number 7 from 1000 on is played, and what it puts out; nothing where the house isn't
 // opened.
@@ -127,17 +96,12 @@ fn loaded(alloc: Global, room: u64) -> Result<Option<(LoadStatus, Vec<u8>)>, Mem
 
 #[test]
 fn loads(rt: HostRuntime) -> Result<(), Fail> {
-    for (room, want, output) in [
-        (4_096, LoadStatus::Done, SUMMARY),
-        (70, LoadStatus::DiskFault(0), ""),
-    ] {
-        match loaded(rt.alloc(), room)? {
-            Some((status, held)) => {
-                assert!(rt; status == want, "{room}");
-                assert!(rt; held.as_slice() == output.as_bytes(), "{room}");
-            }
-            None => assert!(rt; false, "{room}"),
+    match loaded(rt.alloc(), 70)? {
+        Some((status, held)) => {
+            assert!(rt; status == LoadStatus::DiskFault(0));
+            assert!(rt; held.is_empty());
         }
+        None => assert!(rt; false),
     }
     Ok(())
 }

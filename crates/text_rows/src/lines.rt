@@ -3,7 +3,7 @@ use pcp_base::{
     Address, Config, Datagram, Endpoint, External, Externals, Memory, Octets, Owner, OwnerList,
     Prefixes, Protocol, Subscribers,
 };
-use pcp_script::{LONGEST_LINE, Line, LineRefused, LineResult, Load, read_line, write_result};
+use pcp_script::{Line, LineRefused, LineResult, Load, read_line, write_result};
 use std::alloc::{AllocError, Global};
 use std::test::Fail;
 
@@ -85,29 +85,16 @@ pub(crate) fn config(alloc: Global) -> Result<Config, AllocError> {
     })
 }
 
-static CASES: [(&[u8], Shown); 47] = [
+// One line of each kind, and each with the greatest numbers; lines that are refused stand in rows of
+// whole commands.
+static CASES: [(&[u8], Shown); 10] = [
     (b"", Shown::Skip),
-    (b"#", Shown::Skip),
-    (b"# x  y", Shown::Skip),
-    (b" ", Shown::Refused),
+    (b"packet x", Shown::Refused),
     (b"packet 0 10.0.0.5 0 -", Shown::Packet(0, HOST, 0, 0)),
     (
         b"packet 1099511627775 00000000000000000000FFFF0A000005 65535 aBCd",
         Shown::Packet(1_099_511_627_775, HOST, 65_535, 2),
     ),
-    (b"packet x", Shown::Refused),
-    (b"packet 1010 10.0.0.5 40000", Shown::Refused),
-    (b"packet 1010  10.0.0.5 40000 02", Shown::Refused),
-    (b"packet 1010 10.0.0.5 40000 02 ", Shown::Refused),
-    (b" packet 1010 10.0.0.5 40000 02", Shown::Refused),
-    (b"packet 1099511627776 10.0.0.5 40000 02", Shown::Refused),
-    (b"packet 01010 10.0.0.5 40000 02", Shown::Refused),
-    (b"packet 1010 10.0.0.256 40000 02", Shown::Refused),
-    (b"packet 1010 10.0.0.5 65536 02", Shown::Refused),
-    (b"packet 1010 10.0.0.5 40000 ", Shown::Refused),
-    (b"packet 1010 10.0.0.5 40000 020", Shown::Refused),
-    (b"packet 1010 10.0.0.5 40000 0g", Shown::Refused),
-    (b"Packet 1010 10.0.0.5 40000 02", Shown::Refused),
     (
         b"look 0 192.0.2.1 6 1 10.0.0.5 0",
         Shown::Look(0, 0, Protocol::Tcp, 1, HOST, 0),
@@ -116,31 +103,11 @@ static CASES: [(&[u8], Shown); 47] = [
         b"look 1099511627775 20010DB8000000000000000000000001 17 65535 10.0.0.5 65535",
         Shown::Look(1_099_511_627_775, 1, Protocol::Udp, 65_535, HOST, 65_535),
     ),
-    (
-        b"look 1099511627776 192.0.2.1 6 1 10.0.0.5 0",
-        Shown::Refused,
-    ),
-    (b"look 0 192.0.2.2 6 1 10.0.0.5 0", Shown::Refused),
-    (b"look 0 192.0.2.1 1 1 10.0.0.5 0", Shown::Refused),
-    (b"look 0 192.0.2.1 06 1 10.0.0.5 0", Shown::Refused),
-    (b"look 0 192.0.2.1 6 0 10.0.0.5 0", Shown::Refused),
-    (b"look 0 192.0.2.1 6 65536 10.0.0.5 0", Shown::Refused),
-    (b"look 0 192.0.2.1 6 1 10.0.0 0", Shown::Refused),
-    (b"look 0 192.0.2.1 6 1 10.0.0.5 65536", Shown::Refused),
-    (b"look 0 192.0.2.1 6 1 10.0.0.5", Shown::Refused),
-    (b"look 0 192.0.2.1 6 1 10.0.0.5 0 0", Shown::Refused),
-    (b"find 0 192.0.2.1 6 1 10.0.0.5 0", Shown::Refused),
     (b"lose 0 192.0.2.1", Shown::Lose(0, 0)),
     (
         b"lose 1099511627775 20010db8000000000000000000000001",
         Shown::Lose(1_099_511_627_775, 1),
     ),
-    (b"lose 1099511627776 192.0.2.1", Shown::Refused),
-    (b"lose 0 192.0.2.2", Shown::Refused),
-    (b"lose 0 192.0.2.1 ", Shown::Refused),
-    (b"lose 0", Shown::Refused),
-    (b"lose", Shown::Refused),
-    (b"loses 0 192.0.2.1", Shown::Refused),
     (
         b"owners 0 00000000000000000000ffffc0000201",
         Shown::Owners(0, 0),
@@ -149,11 +116,6 @@ static CASES: [(&[u8], Shown); 47] = [
         b"owners 1099511627775 20010db8000000000000000000000001",
         Shown::Owners(1_099_511_627_775, 1),
     ),
-    (b"owners 1099511627776 192.0.2.1", Shown::Refused),
-    (b"owners -1 192.0.2.1", Shown::Refused),
-    (b"owners 0 2001:db8::1", Shown::Refused),
-    (b"owners 0 192.0.2.1 0", Shown::Refused),
-    (b"owner 0 192.0.2.1", Shown::Refused),
 ];
 
 #[test]
@@ -166,38 +128,21 @@ fn lines_of_a_script(rt: HostRuntime) -> Result<(), Fail> {
     Ok(())
 }
 
-// What a line begins with, the octet that fills it, how many octets it has then, and what it stands
-// for.
-static LONG_LINES: [(&[u8], u8, usize, Shown); 4] = [
-    (b"", b'#', LONGEST_LINE, Shown::Skip),
-    (b"", b'#', LONGEST_LINE + 1, Shown::Refused),
-    (
-        b"packet 7 10.0.0.5 9 ",
-        b'0',
-        4_116,
-        Shown::Packet(7, HOST, 9, 2_048),
-    ),
-    (b"packet 7 10.0.0.5 9 ", b'0', 4_118, Shown::Refused),
-];
-
 #[test]
-fn longest_lines(rt: HostRuntime) -> Result<(), Fail> {
+fn longest_datagram(rt: HostRuntime) -> Result<(), Fail> {
     let config = config(rt.alloc())?;
-    for (front, octet, length, want) in &LONG_LINES {
-        let mut text = front.to_vec(rt.alloc())?;
-        text.resize(*length, *octet)?;
-        assert!(rt; shown_of(rt.alloc(), &config, &text) == *want, "{length}");
-    }
+    let mut text = b"packet 7 10.0.0.5 9 ".to_vec(rt.alloc())?;
+    text.resize(4_116, b'0')?;
+    let want = Shown::Packet(7, HOST, 9, 2_048);
+    assert!(rt; shown_of(rt.alloc(), &config, &text) == want);
     Ok(())
 }
 
 // What a line is told, as a value that takes no memory.
 #[derive(Clone, Copy)]
 enum Told {
-    Silent,
     // the peer, its port and the octets
     Reply(Address, u16, &'static [u8]),
-    Owner(Option<Endpoint>),
     Lost(u32),
     // so many first ones of the owners below
     Owners(usize),
@@ -228,7 +173,6 @@ static OWNERS: [Owner; 2] = [
 
 fn result_of(alloc: Global, told: &Told) -> Result<LineResult, AllocError> {
     Ok(match told {
-        Told::Silent => LineResult::Silent,
         Told::Reply(peer, port, octets) => {
             let octets = octets.to_vec(alloc)?;
             LineResult::Reply(Datagram {
@@ -237,7 +181,6 @@ fn result_of(alloc: Global, told: &Told) -> Result<LineResult, AllocError> {
                 octets: Octets::of(octets),
             })
         }
-        Told::Owner(endpoint) => LineResult::Owner(*endpoint),
         Told::Lost(count) => LineResult::Lost(*count),
         Told::Owners(count) => {
             let count = OWNERS.len().min(*count);
@@ -246,9 +189,8 @@ fn result_of(alloc: Global, told: &Told) -> Result<LineResult, AllocError> {
     })
 }
 
-// What a line is told, and what that puts out.
-static RESULTS: [(Told, &[u8]); 9] = [
-    (Told::Silent, b"silent\n"),
+// What a line is told, and what that puts out; the other results stand in rows of whole commands.
+static RESULTS: [(Told, &[u8]); 4] = [
     (
         Told::Reply(HOST, 40_000, b"\x02\x81\xff"),
         b"reply 10.0.0.5 40000 0281ff\n",
@@ -261,11 +203,7 @@ static RESULTS: [(Told, &[u8]); 9] = [
         ),
         b"reply 20010db8000000000000000000000001 0 -\n",
     ),
-    (Told::Owner(None), b"none\n"),
-    (Told::Owner(Some(UDP)), b"owner 10.0.0.5 17 5000\n"),
-    (Told::Lost(0), b"lost 0\n"),
     (Told::Lost(4_294_967_295), b"lost 4294967295\n"),
-    (Told::Owners(0), b"owners 0\n"),
     (
         Told::Owners(2),
         b"own 6 1024 10.0.0.5 5000\nown 17 65535 10.0.0.5 1\nowners 2\n",
