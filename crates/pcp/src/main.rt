@@ -3,11 +3,12 @@
 
 mod kept;
 mod places;
+mod told;
 
 use crate::kept::KeptSource;
-use crate::places::{Places, journals_in, places_of};
+use crate::places::{Places, journals_in, may_open, places_of};
+use crate::told::{look_at, told_of};
 use pcp_base::Memory;
-use pcp_config::explain;
 use pcp_io::{FileSource, StdSink};
 use pcp_server::{Status, run_once};
 use std::alloc::Global;
@@ -52,8 +53,9 @@ Exit status, and the line on standard error:
     7  pcp: disk of shard N failed (N counts the external addresses from 0)
     8  pcp: out of memory
 
-Where the environment has PCP_EXPLAIN, a second line tells why a configuration
-is refused.
+Where the environment has PCP_EXPLAIN, more lines tell why a configuration is
+refused or a disk failed, and which journals play and load found blank or
+damaged.
 ";
 
 const VERSION: &str = "pcp 0.1.0\n";
@@ -62,15 +64,16 @@ const VERSION: &str = "pcp 0.1.0\n";
 #[derive(Drop)]
 struct Ended {
     status: Status,
-    /// why the configuration is refused, where that is asked for
-    cause: Option<String>,
+    /// what people are told beside it, where they ask
+    told: Vec<String>,
 }
 
-impl From<Status> for Ended {
-    fn from(status: Status) -> Ended {
+impl Ended {
+    /// It ended so, and there is no more to tell.
+    fn with(rt: &HostRuntime, status: Status) -> Ended {
         Ended {
             status,
-            cause: None,
+            told: Vec::new(rt.alloc()),
         }
     }
 }
@@ -78,13 +81,13 @@ impl From<Status> for Ended {
 fn main(rt: HostRuntime) -> ExitCode {
     let ended = match words(&rt) {
         Ok(words) => run(&rt, &words, explains(&rt)),
-        Err(status) => Ended::from(status),
+        Err(status) => Ended::with(&rt, status),
     };
     if ended.status != Status::Done {
         let _ = eprintln!(rt; "{}", ended.status);
     }
-    if let Some(cause) = &ended.cause {
-        let _ = eprintln!(rt; "pcp: {cause}");
+    for line in &ended.told {
+        let _ = eprintln!(rt; "pcp: {line}");
     }
     ExitCode::from(ended.status.exit())
 }
@@ -112,7 +115,7 @@ fn status_of(kind: ErrorKind) -> Status {
     }
 }
 
-/// Whether people are to be told why a configuration is refused.
+/// Whether people are to be told more than a status.
 fn explains(rt: &HostRuntime) -> bool {
     match env::var(rt, "PCP_EXPLAIN") {
         Ok(_) | Err(VarError::NotUnicode) => true,
@@ -123,11 +126,11 @@ fn explains(rt: &HostRuntime) -> bool {
 /// Runs the command that the words are.
 fn run(rt: &HostRuntime, words: &[String], explains: bool) -> Ended {
     match words {
-        [word] if word.as_str() == "--help" => Ended::from(tell(rt, USAGE)),
-        [word] if word.as_str() == "--version" => Ended::from(tell(rt, VERSION)),
+        [word] if word.as_str() == "--help" => Ended::with(rt, tell(rt, USAGE)),
+        [word] if word.as_str() == "--version" => Ended::with(rt, tell(rt, VERSION)),
         _ => match run_at(rt, words, &places_of(words), explains) {
             Ok(ended) => ended,
-            Err(Memory) => Ended::from(Status::Memory),
+            Err(Memory) => Ended::with(rt, Status::Memory),
         },
     }
 }
@@ -153,23 +156,22 @@ fn run_at(
     } else {
         None
     };
+    let found = if explains && may_open(words) {
+        look_at(rt, places.journals)
+    } else {
+        Vec::new(alloc)
+    };
     let config = FileSource::new(rt, String::from_str(alloc, places.config)?);
     let mut config = KeptSource::of(config, kept);
     let mut script = FileSource::new(rt, String::from_str(alloc, places.script)?);
     let mut out = StdSink::new(rt.stdout());
     let disks = journals_in(rt, places.journals)?;
-    let (status, _) = run_once(alloc, words, &mut config, &mut script, &mut out, disks);
-    let cause = match (status, config.kept()) {
-        (Status::ConfigRefused(_), Some(text)) => cause_in(alloc, text),
-        _ => None,
-    };
-    Ok(Ended { status, cause })
-}
-
-/// Why this text is no configuration, where there is memory to tell.
-fn cause_in(alloc: Global, text: &[u8]) -> Option<String> {
-    match explain(alloc, text) {
-        Ok(cause) => cause,
-        Err(Memory) => None,
+    let (status, disks) = run_once(alloc, words, &mut config, &mut script, &mut out, disks);
+    if !explains {
+        return Ok(Ended::with(rt, status));
+    }
+    match told_of(alloc, status, config.kept(), &found, &disks) {
+        Ok(told) => Ok(Ended { status, told }),
+        Err(Memory) => Ok(Ended::with(rt, status)),
     }
 }

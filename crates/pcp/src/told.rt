@@ -1,0 +1,144 @@
+//! What people are told who ask for more than a status.
+use crate::places::pair_at;
+use journal_dump::found_in;
+use lease_disk::{DiskPair, FileDisk, LeaseDisk};
+use lease_journal::Found;
+use pcp_base::{MOST_EXTERNALS, Memory};
+use pcp_config::{explain, read_config};
+use pcp_server::Status;
+use std::alloc::Global;
+use std::io;
+use std::io::ErrorKind;
+
+/// What the journals of a folder are found to be before a command opens them; none of one that can't
+/// be read. Where no memory is found, it tells of fewer.
+pub(crate) fn look_at(rt: &HostRuntime, folder: &str) -> Vec<Option<Found>> {
+    let mut found = Vec::new(rt.alloc());
+    for place in 0..MOST_EXTERNALS {
+        // These disks are closed again, so that the command finds its own as they were.
+        let Ok(mut pair) = pair_at(rt, folder, place) else {
+            return found;
+        };
+        if found.push(found_at(rt.alloc(), &mut pair)).is_err() {
+            return found;
+        }
+    }
+    found
+}
+
+/// What a journal is found to be. Without an octet it is blank, which takes no store to tell.
+fn found_at(alloc: Global, pair: &mut DiskPair<FileDisk<&HostRuntime>>) -> Option<Found> {
+    match (pair.a.len(), pair.b.len()) {
+        (Ok(0), Ok(0)) => Some(Found::Blank),
+        (Ok(_), Ok(_)) => found_in(alloc, pair).ok(),
+        _ => None,
+    }
+}
+
+/// Why a command ended so, where that is known, and one line for each external address of the
+/// configuration whose journal was found blank or damaged.
+pub(crate) fn told_of(
+    alloc: Global,
+    status: Status,
+    config: Option<&[u8]>,
+    found: &[Option<Found>],
+    disks: &[DiskPair<FileDisk<&HostRuntime>>],
+) -> Result<Vec<String>, Memory> {
+    let mut told = Vec::new(alloc);
+    if let Some(cause) = cause_of(alloc, status, config, disks)? {
+        told.push(cause)?;
+    }
+    if let Some(text) = config {
+        tell_found(alloc, &mut told, text, found)?;
+    }
+    Ok(told)
+}
+
+/// Why a configuration is refused, or a disk failed.
+fn cause_of(
+    alloc: Global,
+    status: Status,
+    config: Option<&[u8]>,
+    disks: &[DiskPair<FileDisk<&HostRuntime>>],
+) -> Result<Option<String>, Memory> {
+    match status {
+        Status::ConfigRefused(_) => match config {
+            Some(text) => explain(alloc, text),
+            None => Ok(None),
+        },
+        Status::DiskFault(place) => match disks.get(place as usize) {
+            Some(pair) => cause_in(alloc, pair),
+            None => Ok(None),
+        },
+        _ => Ok(None),
+    }
+}
+
+/// Why one of two disks failed.
+fn cause_in(
+    alloc: Global,
+    pair: &DiskPair<FileDisk<&HostRuntime>>,
+) -> Result<Option<String>, Memory> {
+    match cause_on(alloc, &pair.a)? {
+        Some(cause) => Ok(Some(cause)),
+        None => cause_on(alloc, &pair.b),
+    }
+}
+
+/// The path of a disk that failed, and why it did.
+fn cause_on(alloc: Global, disk: &FileDisk<&HostRuntime>) -> Result<Option<String>, Memory> {
+    let Some(error) = disk.last_error() else {
+        return Ok(None);
+    };
+    let path = disk.path();
+    match reason_of(error) {
+        Some(reason) => Ok(Some(format!(in alloc; "{path}: {reason}")?)),
+        None => Ok(Some(format!(in alloc; "{path}: {error}")?)),
+    }
+}
+
+/// Why a disk failed where it isn't the system that says so.
+fn reason_of(error: &io::Error) -> Option<&'static str> {
+    if error.raw_os_error().is_some() {
+        return None;
+    }
+    match error.kind() {
+        ErrorKind::WouldBlock => Some("another program has it"),
+        ErrorKind::InvalidInput => Some("not a regular file with one name"),
+        ErrorKind::AlreadyExists => Some("another program made it"),
+        ErrorKind::FileTooLarge => Some("more than 2^62 octets"),
+        ErrorKind::Other => Some("a sync failed before"),
+        _ => None,
+    }
+}
+
+/// Adds a line for each external address of the configuration whose journal was found blank or damaged.
+fn tell_found(
+    alloc: Global,
+    told: &mut Vec<String>,
+    config: &[u8],
+    found: &[Option<Found>],
+) -> Result<(), Memory> {
+    let Ok(config) = read_config(alloc, config) else {
+        return Ok(());
+    };
+    let count = config.externals.items().len();
+    for (place, found) in found.iter().enumerate() {
+        match state_of(*found) {
+            Some(state) if place < count => {
+                told.push(format!(in alloc; "journal of shard {place} was {state}")?)?;
+            }
+            _ => {}
+        }
+    }
+    Ok(())
+}
+
+/// What people are told of what was found; nothing where a journal was there.
+fn state_of(found: Option<Found>) -> Option<&'static str> {
+    match found {
+        Some(Found::Blank) => Some("blank"),
+        Some(Found::Damaged) => Some("damaged"),
+        Some(Found::Recovered) | None => None,
+    }
+}
