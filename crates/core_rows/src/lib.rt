@@ -6,6 +6,7 @@
 mod calls;
 #[cfg(test)]
 mod generated;
+mod histories;
 #[cfg(test)]
 mod making;
 #[cfg(test)]
@@ -16,3 +17,5 @@ mod requests;
 mod rows;
 #[cfg(test)]
 mod serving;
+
+pub use histories::three_entries;

@@ -25,8 +25,7 @@ Leads moment left_since may_leave P old [] new = new ≡ old
 Leads moment left_since may_leave P old (next ∷ more) new =
     OnOneSide moment left_since may_leave P old next × Leads moment left_since may_leave P next more new
 
--- Each two images of the sides at any moment from old to new have P. Moments are those of an order of
--- stretches of calls, each on one side alone, since the sides have no common clock.
+-- each two images of the sides at any moment from old to new have P
 pub record PairLeavesOnly {D : Type 0} (moment : D → ℕ) (left_since : D → ℕ → List ℕ → Type 0)
     (may_leave : D → List ℕ → Type 0) (old new : DiskPair D)
     (P : List ℕ → List ℕ → Type 0) : Type 0 where

@@ -1,7 +1,8 @@
 //! Plays that stop at each device call, and plays of which one call fails.
 use crate::configs::PROFILE;
+use crate::in_memory::{Ended, Failing};
 use crate::octets::{DAMAGED, FIRST_FORMAT};
-use crate::runs::{Ended, Failing, NEVER, NO_FAULT, Step, pair_of, pairs_behind, run};
+use crate::runs::{NEVER, NO_FAULT, Step, pair_of, pairs_behind, run};
 use lease_disk::{DiskPair, MemoryDisk};
 use pcp_base::Memory;
 use pcp_server::Status;

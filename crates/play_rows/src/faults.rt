@@ -1,6 +1,7 @@
 //! What fails: a read of the script, a write of what comes out, and the first disk.
 use crate::configs::PROFILE;
-use crate::runs::{Ended, Failing, NEVER, Step, pairs_behind, run};
+use crate::in_memory::{Ended, Failing};
+use crate::runs::{NEVER, Step, pairs_behind, run};
 use lease_disk::{DiskPair, MemoryDisk};
 use pcp_base::Memory;
 use pcp_server::Status;

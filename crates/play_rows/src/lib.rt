@@ -1,4 +1,5 @@
-//! Tests of the server's plays over journals in memory that stop or fail at some call.
+//! The server's commands over streams in memory, and tests of plays over journals in memory that stop
+//! or fail at some call.
 #![tactic(auto)]
 
 #[cfg(test)]
@@ -7,9 +8,12 @@ mod configs;
 mod crashes;
 #[cfg(test)]
 mod faults;
+mod in_memory;
 #[cfg(test)]
 mod octets;
 #[cfg(test)]
 mod runs;
 #[cfg(test)]
 mod stops;
+
+pub use in_memory::{Ended, Failing, run_in_memory};

@@ -1,8 +1,8 @@
 //! Commands over journals in memory.
+use crate::in_memory::{Ended, Failing, run_in_memory};
 use lease_disk::{DiskPair, LeaseDisk, MemoryDisk};
 use pcp_base::{MOST_EXTERNALS, Memory};
-use pcp_io::{MemorySink, MemorySource};
-use pcp_server::{Status, run_once};
+use pcp_server::Status;
 use std::alloc::Global;
 use std::test::Fail;
 
@@ -16,13 +16,6 @@ pub(crate) struct Step {
     pub(crate) output: &'static str,
 }
 
-/// The read of the script and the write that fail, numbered from 0.
-#[derive(Clone, Copy)]
-pub(crate) struct Failing {
-    pub(crate) read: u64,
-    pub(crate) write: u64,
-}
-
 /// A number that no call has.
 pub(crate) const NEVER: u64 = 1_000_000;
 
@@ -31,14 +24,6 @@ pub(crate) const NO_FAULT: Failing = Failing {
     read: NEVER,
     write: NEVER,
 };
-
-/// How a command ended, what it put out, and the journals that it left.
-#[derive(Drop)]
-pub(crate) struct Ended<D: LeaseDisk + Drop> {
-    pub(crate) status: Status,
-    pub(crate) out: MemorySink,
-    pub(crate) pairs: Vec<DiskPair<D>>,
-}
 
 fn words_of(alloc: Global, line: &str) -> Result<Vec<String>, Memory> {
     let mut words = Vec::new(alloc);
@@ -56,16 +41,12 @@ pub(crate) fn run<D: LeaseDisk + Drop>(
     failing: Failing,
 ) -> Result<Ended<D>, Memory> {
     let words = words_of(alloc, step.words)?;
-    let mut config = MemorySource::new(alloc, step.config.as_bytes().to_vec(alloc)?)?;
-    let mut input = MemorySource::new(alloc, step.script.as_bytes().to_vec(alloc)?)?;
-    input.fail_at(alloc, failing.read)?;
-    let mut out = MemorySink::new(alloc, 65_536)?;
-    out.fail_at(alloc, failing.write)?;
+    let config = step.config.as_bytes().to_vec(alloc)?;
+    let script = step.script.as_bytes().to_vec(alloc)?;
     if pairs.len() < MOST_EXTERNALS {
         return Err(Memory);
     }
-    let (status, pairs) = run_once(alloc, &words, &mut config, &mut input, &mut out, pairs);
-    Ok(Ended { status, out, pairs })
+    run_in_memory(alloc, &words, config, script, pairs, failing)
 }
 
 /// A pair whose side a has these octets, in hexadecimal digits.
