@@ -2,7 +2,7 @@
 
 use crate::acts::{Seen, Step, Went};
 use crate::doings::{Done, run};
-use crate::octets::{COMPACTED, FIRST, LEASED, MOVED, STARTED};
+use crate::octets::{AGAIN, COMPACTED, FIRST, LAST, LEASED, MOVED, STARTED};
 use crate::requests::{Request, Told};
 use crate::sides::{NOTHING, Side, holds, is_closed, pair_of, stop_at, stopped};
 use Request::{Announce, Map};
@@ -153,6 +153,35 @@ fn openings_and_steps(rt: HostRuntime) -> Result<(), Fail> {
             left: Some((b"\0", &MOVED)),
             ..empty
         },
+        // what is found is written anew on the other side, each time, but for the last generation
+        Row {
+            a: Side(&LEASED, 0, 0),
+            at: 1500,
+            found: Found::Recovered,
+            steps: &GOES_ON,
+            stands: Seen(1000, 1010, 1, 4610, 0),
+            left: Some((b"\0", &COMPACTED)),
+            ..empty
+        },
+        Row {
+            a: Side(b"\0", 0, 0),
+            b: Side(&COMPACTED, 0, 0),
+            at: 1500,
+            found: Found::Recovered,
+            steps: &GOES_ON,
+            stands: Seen(1000, 1010, 1, 4610, 0),
+            left: Some((&AGAIN, b"\0")),
+            ..empty
+        },
+        Row {
+            b: Side(&LAST, 0, 0),
+            at: 1500,
+            found: Found::Recovered,
+            steps: &GOES_ON,
+            stands: Seen(1000, 1010, 1, 4610, 0),
+            left: Some((&[], &LAST)),
+            ..empty
+        },
         // the address is another
         Row {
             a: Side(&LEASED, 57, 0x03),
@@ -180,14 +209,20 @@ fn with_room(alloc: Global, room: u64) -> Result<(bool, Went), Fail> {
     Ok((done.found.is_some(), done.went))
 }
 
-/// How long the sides are after a lease at 1010 and so many batches of renewals.
-fn lengths_after(alloc: Global, batches: u16) -> Result<(u64, u64), Fail> {
+/// How long the sides are after a lease at 1010 and so many batches of renewals, and what is left.
+fn lengths_after(alloc: Global, batches: u16) -> Result<((u64, u64), DiskPair<MemoryDisk>), Fail> {
     let pair = pair_of(alloc, NOTHING, NOTHING)?;
     let done = run(alloc, pair, 1000, &[LEASE[0], (1010, Renewed(batches))])?;
     if done.went != Went::AsSaid {
         return Err("a batch is refused".into());
     }
     let mut pair = done.pair;
+    Ok(((pair.a.len()?, pair.b.len()?), pair))
+}
+
+/// How long the sides are once they are opened at 1500.
+fn lengths_opened(alloc: Global, pair: DiskPair<MemoryDisk>) -> Result<(u64, u64), Fail> {
+    let mut pair = run(alloc, pair, 1500, &[])?.pair;
     Ok((pair.a.len()?, pair.b.len()?))
 }
 

@@ -9,7 +9,7 @@ use std::alloc::Global;
 use std::test::Fail;
 
 /// A disk that holds these octets, synced.
-fn disk_of(alloc: Global, octets: &[u8]) -> Result<MemoryDisk, Fail> {
+pub(crate) fn disk_of(alloc: Global, octets: &[u8]) -> Result<MemoryDisk, Fail> {
     let mut disk = MemoryDisk::new(alloc, 10_000)?;
     if !octets.is_empty() {
         disk.write_at(0, octets)?;
