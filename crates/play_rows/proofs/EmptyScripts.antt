@@ -1,5 +1,6 @@
 -- How a play of an empty script ends.
-use Rattle.std.proofs.Common.{◌≡◌, ◌≢◌, ◌∙◌, ◌<◌, ◌+◌, ℕ, ⊤, List, [], ◌∷◌, ◌++◌, inl, inr, length, flat_map, Option, Some, None, refl, sym, ap, subst, arith, append-nil, length-append}
+use Rattle.std.specs.Prelude.{⊤}
+use Rattle.std.proofs.Common.{◌≡◌, ◌≢◌, ◌∙◌, ◌<◌, ◌+◌, ℕ, List, [], ◌∷◌, ◌++◌, inl, inr, length, flat_map, Option, Some, None, refl, sym, ap, subst, arith, append-nil, length-append}
 use Rattle.std.proofs.lemmas.Option.{same_Some}
 use Rattle.toml.specs.Data.{Members}
 use Rattle.toml.specs.Parse.{parse_document}
@@ -110,11 +111,11 @@ empty script left before now is (inr none) = let bad : None ≡ Some [] = sym no
 pub unrefused : {S W D : Type 0} (disks : DiskMeanings D) (start : ℕ) (source_now : Option (List ℕ)) (text : List ℕ) (config : Config) (script_before script_now : Input S) (before now : Outside W D) (status : Status) →
     IsConfigText text config → script_before.left ≡ Some [] → Plays disks start (Some text) source_now script_before script_now before now status → IsUnrefused status
 unrefused disks start source_now text config script_before script_now before now status is none plays = elim plays [
-  | inl (no, still) ↦ subst IsUnrefused (sym no.told) (unread text config source_now no.fault is no.source)
+  | inl (bad, still) ↦ subst IsUnrefused (sym bad.told) (unread text config source_now bad.fault is bad.source)
   | inr (served, accepts, ends) ↦ elim ends [
     | inl (early, still) ↦ elim early [
-      | inl no ↦ subst IsUnrefused (sym no.told) (unopened no.fault)
-      | inr no ↦ untold _ before.held now.held status no.updates
+      | inl bad ↦ subst IsUnrefused (sym bad.told) (unopened bad.fault)
+      | inr bad ↦ untold _ before.held now.held status bad.updates
     ]
     | inr all ↦ subst IsUnrefused (sym all.told)
         (over _ all.script _ _ all.play_status (empty all.script all.lines.outcome.left _ _ none all.lines.left_is) all.lines)
