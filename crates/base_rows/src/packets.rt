@@ -126,7 +126,10 @@ fn refusals_are_padded_and_cut(rt: HostRuntime) -> Result<(), Fail> {
     let alloc = rt.alloc();
     for (length, want) in [(26, 28), (1102, 1100)] {
         let request = vec![in alloc; 1u8; length]?;
-        assert!(rt; refusal_of(alloc, &request)?.len() == want, "for {length} octets");
+        assert!(rt;
+            refusal_of(alloc, &request)?.len() == want,
+            "for {length} octets"
+        );
     }
     Ok(())
 }

@@ -183,8 +183,11 @@ fn writing_in_parts(rt: HostRuntime) -> Result<(), Fail> {
 }
 
 // Pieces that are written into a sink of eight octets, and how many of each are taken.
-static TAKEN: [(&[u8], Option<usize>); 3] =
-    [(b"abcde", Some(5)), (b"fghi", None), (b"fgh", Some(3))];
+static TAKEN: [(&[u8], Option<usize>); 3] = [
+    (b"abcde", Some(5)),
+    (b"fghi", None),
+    (b"fgh", Some(3)),
+];
 
 #[test]
 fn sinks_in_memory(rt: HostRuntime) -> Result<(), Fail> {

@@ -210,7 +210,10 @@ static WAYS: [(bool, bool); 4] = [(false, false), (false, true), (true, false), 
 fn faults(rt: HostRuntime) -> Result<(), Fail> {
     for (fails_b, asks) in WAYS {
         let harmed = first_harmed(rt.alloc(), &short(), fails_b, asks)?;
-        assert!(rt; harmed == None, "side b {fails_b}, asks {asks}, call {harmed:?}");
+        assert!(rt;
+            harmed == None,
+            "side b {fails_b}, asks {asks}, call {harmed:?}"
+        );
     }
     Ok(())
 }
@@ -219,7 +222,10 @@ fn faults(rt: HostRuntime) -> Result<(), Fail> {
 fn faults_of_a_long_run(rt: HostRuntime) -> Result<(), Fail> {
     for (fails_b, asks) in WAYS {
         let harmed = first_harmed(rt.alloc(), &long(), fails_b, asks)?;
-        assert!(rt; harmed == None, "side b {fails_b}, asks {asks}, call {harmed:?}");
+        assert!(rt;
+            harmed == None,
+            "side b {fails_b}, asks {asks}, call {harmed:?}"
+        );
     }
     Ok(())
 }

@@ -327,13 +327,7 @@ fn cut_calls(rt: HostRuntime) -> Result<(), Fail> {
 
 /// Whether an opening that is cut as soon as the gate of side a is closed leaves what is found so,
 /// and begins anew at 1600.
-fn begins_anew(
-    alloc: Global,
-    a: Side,
-    b: Side,
-    stops_b: bool,
-    found: Found,
-) -> Result<bool, Fail> {
+fn begins_anew(alloc: Global, a: Side, b: Side, stops_b: bool, found: Found) -> Result<bool, Fail> {
     let done = cut_when_closed(alloc, a, b, stops_b)?;
     Ok(done.found == Some(found) && done.stands == Some(Seen(1600, 1600, 0, 0, 0)))
 }

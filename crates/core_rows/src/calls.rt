@@ -92,9 +92,11 @@ fn has_leases<S: LeaseStore>(alloc: Global, core: &LeaseCore<S>, m: Moment) -> R
     let granted = moment(1010)?;
     let maps = core.maps(alloc, m)?;
     let peers = core.peers(alloc, m)?;
-    Ok(core.leases(m) == 2
-        && maps.as_slice() == [map_lease(granted)].as_slice()
-        && peers.as_slice() == [peer_lease(granted)].as_slice())
+    Ok(
+        core.leases(m) == 2
+            && maps.as_slice() == [map_lease(granted)].as_slice()
+            && peers.as_slice() == [peer_lease(granted)].as_slice(),
+    )
 }
 
 /// Their port is owned by the endpoint of both, and that of the deleted lease has an end.
@@ -129,10 +131,12 @@ fn is_served<S: LeaseStore + Drop>(
 {
     let core = served(alloc, made)?;
     let m = moment(1020)?;
-    Ok(has_leases(alloc, &core, m)?
-        && has_owner_and_end(alloc, &core, m)?
-        && core.covered(&endpoint(5000), m)
-        && !core.covered(&endpoint(6000), m))
+    Ok(
+        has_leases(alloc, &core, m)?
+            && has_owner_and_end(alloc, &core, m)?
+            && core.covered(&endpoint(5000), m)
+            && !core.covered(&endpoint(6000), m),
+    )
 }
 
 #[test]
@@ -154,10 +158,12 @@ fn tells_and_forgets<S: LeaseStore + Drop>(
     let told = (core.base().get(), core.last().get());
     let address = core.address();
     core.clear();
-    Ok(told == (1000, 1020)
-        && address == Some(Address::v4(192, 0, 2, 1))
-        && core.last().get() == 0
-        && core.address() == None)
+    Ok(
+        told == (1000, 1020)
+            && address == Some(Address::v4(192, 0, 2, 1))
+            && core.last().get() == 0
+            && core.address() == None,
+    )
 }
 
 #[test]

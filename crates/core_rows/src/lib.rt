@@ -6,7 +6,6 @@
 mod calls;
 #[cfg(test)]
 mod generated;
-mod histories;
 #[cfg(test)]
 mod making;
 #[cfg(test)]
@@ -17,5 +16,3 @@ mod requests;
 mod rows;
 #[cfg(test)]
 mod serving;
-
-pub use histories::three_entries;

@@ -50,12 +50,7 @@ pub(crate) fn octets(alloc: Global, disk: &mut MemoryDisk) -> Result<Vec<u8>, Fa
 }
 
 /// Whether the sides hold these octets.
-fn hold(
-    alloc: Global,
-    pair: &mut DiskPair<MemoryDisk>,
-    a: &[u8],
-    b: &[u8],
-) -> Result<bool, Fail> {
+fn hold(alloc: Global, pair: &mut DiskPair<MemoryDisk>, a: &[u8], b: &[u8]) -> Result<bool, Fail> {
     let held_a = octets(alloc, &mut pair.a)?;
     let held_b = octets(alloc, &mut pair.b)?;
     Ok(held_a.as_slice() == a && held_b.as_slice() == b)

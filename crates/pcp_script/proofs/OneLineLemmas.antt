@@ -87,7 +87,7 @@ look-unique : (externals : List External) (fields : List (List ℕ)) (m m' s s' 
     → IsLook externals fields m s p n r q → IsLook externals fields m' s' p' n' r' q' → Look m s p n r q ≡ Look m' s' p' n' r' q'
 look-unique externals fields m m' s s' p p' n n' r r' q q' different h k =
     let e : codes "look" ∷ h.moment_text ∷ h.external_text ∷ h.protocol_text ∷ h.port_text ∷ h.remote_text ∷ h.remote_port_text ∷ []
-        ≡ codes "look" ∷ k.moment_text ∷ k.external_text ∷ k.protocol_text ∷ k.port_text ∷ k.remote_text ∷ k.remote_port_text ∷ [] = sym h.fields_are ∙ k.fields_are in
+    ≡ codes "look" ∷ k.moment_text ∷ k.external_text ∷ k.protocol_text ∷ k.port_text ∷ k.remote_text ∷ k.remote_port_text ∷ [] = sym h.fields_are ∙ k.fields_are in
     let one : k.moment_text ≡ h.moment_text = cc in
     let two : k.external_text ≡ h.external_text = cc in
     let three : k.protocol_text ≡ h.protocol_text = cc in

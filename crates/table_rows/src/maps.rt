@@ -178,11 +178,7 @@ static THREE: [(Protocol, u8, u16, u32); 3] = [
 ];
 
 /// Puts the three into both bodies. Whether all were sound.
-fn put_three(
-    alloc: Global,
-    table: &mut MapTable,
-    plain: &mut PlainMapTable,
-) -> Result<bool, Memory>
+fn put_three(alloc: Global, table: &mut MapTable, plain: &mut PlainMapTable) -> Result<bool, Memory>
     requires { table.old ≡ plain.old }
     ensures { OnOk result (table.new ≡ plain.new) }
 {
@@ -200,10 +196,11 @@ fn copies(alloc: Global, table: &MapTable, plain: &PlainMapTable) -> Result<bool
     let mut live = Vec::new(alloc);
     table.copy_live(alloc, moment(1130), &mut live)?;
     plain.copy_live(alloc, moment(1131), &mut live)?;
-    Ok(live
-        .iter()
-        .map(|lease| lease.external)
-        .eq([1024, 1026, 1026]))
+    Ok(
+        live.iter()
+            .map(|lease| lease.external)
+            .eq([1024, 1026, 1026]),
+    )
 }
 
 #[test]
