@@ -1,0 +1,12 @@
+use Rattle.house_rows.proofs.ThreeLemmas.{are-within, is-kept}
+use Rattle.house_rows.proofs.histories.three_entries.Goals as goal
+
+pub returns-clause-kept : goal.returns-clause-kept
+returns-clause-kept c =
+    is-kept c.histories_grow.ensures.nothing c.histories_grow.ensures.next c.entries_come_next.ensures.servers c.entries_come_next.ensures.faults
+    c.nonces_decide.ensures
+
+pub returns-clause-epochs : goal.returns-clause-epochs
+returns-clause-epochs c =
+    are-within c.histories_grow.ensures.nothing c.histories_grow.ensures.next c.entries_come_next.ensures.servers c.entries_come_next.ensures.faults
+    c.epochs_disclose.ensures.entries
