@@ -1,26 +1,41 @@
 -- Writing all that stands behind the gate of a side, batch by batch.
-use Rattle.std.proofs.Common.{◌≡◌, ℕ, ◌<◌, List, [], ◌∷◌, ◌++◌, length, drop, refl, sym, ◌∙◌, ap, subst, arith, append_assoc, append-nil}
+use Rattle.std.proofs.Common.{◌≡◌, ℕ, ◌<◌, min, List, [], ◌∷◌, ◌++◌, length, drop, refl, sym, ◌∙◌, ap, subst, arith, append_assoc, append-nil, length-append}
 use Rattle.std.specs.List.{AllByRecursion}
 use Rattle.std.proofs.lemmas.List.{nil_from_length}
 use Rattle.pcp_base.specs.declared.records.Record.{Record}
 use Rattle.pcp_base.specs.Records.{IsWellFormedRecord}
 use Rattle.journal_sides.specs.declared.formats.Format.TheVariants.{Second}
 use Rattle.journal_sides.specs.Frames.{IsBatch, frame_text, records_of}
-use Rattle.journal_sides.specs.Shut.{IsHidden, hidden_text}
+use Rattle.journal_sides.specs.Shut.{AreFull, IsHidden, hidden_text}
 use Rattle.journal_sides.specs.Sides.{head_text, side_text}
 use Rattle.journal_sides.proofs.FrameLaws.{records_of-push, each-push}
 use Rattle.journal_sides.proofs.SideLaws.{side_text-push}
+
+-- as many records as a frame takes
+abbrev pub IsFull : List Record → Type 0
+IsFull batch = length batch ≡ 16
+
+full-push : (batches : List (List Record)) (batch : List Record) → AllByRecursion IsFull batches → AreFull (batches ++ batch ∷ [])
+full-push [] batch all = tt
+full-push (first ∷ []) batch all = (all.0, tt)
+full-push (first ∷ next ∷ batches) batch all = (all.0, full-push (next ∷ batches) batch all.1)
+
+all_full-push : (batches : List (List Record)) (batch : List Record) → AllByRecursion IsFull batches → IsFull batch → AllByRecursion IsFull (batches ++ batch ∷ [])
+all_full-push [] batch all this = (this, tt)
+all_full-push (first ∷ batches) batch all this = (all.0, all_full-push batches batch all.1 this)
 
 -- the records before the rest are written
 pub record HasHidden (generation : ℕ) (records rest : List Record) (text : List ℕ) : Type 0 where
   pub batches : List (List Record)
   pub each : AllByRecursion IsBatch batches
+  pub full : AreFull batches
+  pub all_full : 0 < length rest → AllByRecursion IsFull batches
   pub holds : records_of batches ++ rest ≡ records
   pub begun : text ≡ hidden_text generation batches
   pub formed : AllByRecursion IsWellFormedRecord rest
 
 pub hides_none : (generation : ℕ) (records : List Record) (text : List ℕ) → text ≡ drop 1 (head_text Second generation) → AllByRecursion IsWellFormedRecord records → HasHidden generation records records text
-hides_none generation records text is formed = record { batches = []; each = tt; holds = refl; begun = is; formed = formed }
+hides_none generation records text is formed = record { batches = []; each = tt; full = tt; all_full = λ some. tt; holds = refl; begun = is; formed = formed }
 
 formed_front : (front back : List Record) → AllByRecursion IsWellFormedRecord (front ++ back) → AllByRecursion IsWellFormedRecord front
 formed_front [] back all = tt
@@ -39,10 +54,12 @@ hidden_text-push generation batches batch =
     sym (append-nil (side_text Second generation (batches ++ batch ∷ []))) ∙ side_text-push generation batches batch [] ∙ ap (λ (l : List ℕ). side_text Second generation batches ++ 1 ∷ l) (append-nil (frame_text batch)) in
     ap (λ (l : List ℕ). drop 1 l) whole
 
-pub hides_next : (generation : ℕ) (records rest batch left : List Record) (text new : List ℕ) → HasHidden generation records rest text → rest ≡ batch ++ left → IsBatch batch → new ≡ text ++ 1 ∷ frame_text batch → HasHidden generation records left new
-hides_next generation records rest batch left text new so_far parts is wrote = record {
+pub hides_next : (generation : ℕ) (records rest batch left : List Record) (text new : List ℕ) → HasHidden generation records rest text → rest ≡ batch ++ left → length batch ≡ min 16 (length rest) → 0 < length rest → IsBatch batch → new ≡ text ++ 1 ∷ frame_text batch → HasHidden generation records left new
+hides_next generation records rest batch left text new so_far parts size some is wrote = record {
   batches = so_far.batches ++ batch ∷ [];
   each = each-push so_far.batches batch so_far.each is;
+  full = full-push so_far.batches batch (so_far.all_full some);
+  all_full = λ more. all_full-push so_far.batches batch (so_far.all_full some) (omega (arith, size, more, ap length parts, length-append batch left));
   holds = ap (λ (l : List Record). l ++ left) (records_of-push so_far.batches batch) ∙ append_assoc (records_of so_far.batches) batch left ∙ ap (λ (l : List Record). records_of so_far.batches ++ l) (sym parts) ∙ so_far.holds;
   begun = wrote ∙ ap (λ (l : List ℕ). l ++ 1 ∷ frame_text batch) so_far.begun ∙ sym (hidden_text-push generation so_far.batches batch);
   formed = formed_back batch left (subst (AllByRecursion IsWellFormedRecord) parts so_far.formed);
@@ -55,6 +72,7 @@ hides_all generation records rest text new so_far none some wrote =
       batches = so_far.batches;
       some = has_batch so_far.batches whole;
       each = so_far.each;
+      full = so_far.full;
       holds = whole;
       text = wrote ∙ ap (λ (l : List ℕ). l ++ 0 ∷ []) so_far.begun;
     }
