@@ -1,2 +1,4 @@
+mod ControlLemmas
 pub mod KnownOctets
 mod ReadLemmas
+mod TakeLemmas

@@ -1,5 +1,10 @@
+pub mod Asks
 pub mod CallLogs
+pub mod Controls
 pub mod Faults
 pub mod InMemory
 pub mod Reads
+pub mod Sends
+pub mod Takes
+pub mod Times
 pub mod Writes

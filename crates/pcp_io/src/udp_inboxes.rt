@@ -1,0 +1,113 @@
+//! An inbox over a UDP socket. It tells nothing of content.
+ghost use Rattle.std.specs.Prelude.{◌≡◌, ◌≤◌, length, IfOk};
+ghost use Rattle.pcp_io.specs.declared.inboxes.Incoming.TheVariants.{Quiet};
+ghost use Rattle.pcp_io.specs.declared.inboxes.TheConstants.{LONGEST_DATAGRAM};
+ghost use Rattle.pcp_io.specs.Takes.{filled};
+
+use crate::controls::read_control;
+use crate::inboxes::{Inbox, Incoming, LONGEST_DATAGRAM};
+use crate::sockets::{Trouble, address_of, ready, receive};
+use pcp_base::Failed;
+use std::marker::Model;
+use std::net::{SocketAddr, UdpSocket};
+
+/// Datagrams that come to a socket, and orders of this host. A take waits for at most 100
+/// milliseconds. Each error of the socket is a fault that it counts, and nothing else is. Where the error
+/// tells that a packet sent before is lost, the take gives `Quiet`. A count that stands at 2^64 - 1
+/// stands still.
+#[derive(Drop)]
+pub struct UdpInbox {
+    socket: Option<UdpSocket>,
+    faults: u64,
+}
+
+impl Model for UdpInbox {
+    ghost use Rattle.std.specs.Prelude.{ℕ};
+
+    // How many faults it has counted.
+    ghost Value = { ℕ };
+
+    ghost view = { λ b. b.faults };
+}
+
+impl UdpInbox {
+    ghost use Rattle.std.specs.Prelude.{◌≡◌};
+
+    /// An inbox of this socket that has counted no fault. Without one, or where it takes no waiting
+    /// time, each take fails.
+    pub fn of(socket: Option<UdpSocket>) -> UdpInbox
+        ensures { result ≡ 0 }
+    {
+        UdpInbox {
+            socket: ready(socket),
+            faults: 0,
+        }
+    }
+}
+
+/// What these octets from there are: an order of this host, or a datagram.
+fn incoming_of(from: SocketAddr, octets: &[u8]) -> Incoming
+    ensures { filled result ≤ length octets.now }
+{
+    let peer = address_of(from.ip());
+    match read_control(&peer, octets) {
+        Some(incoming) => incoming,
+        None => Incoming::Packet {
+            peer,
+            port: from.port(),
+            length: octets.len(),
+        },
+    }
+}
+
+/// Takes what comes next, a datagram's first `LONGEST_DATAGRAM` octets at most.
+fn take_by(socket: &Option<UdpSocket>, room: &mut [u8]) -> Result<Incoming, Trouble>
+    requires { LONGEST_DATAGRAM ≤ length room.old }
+    ensures same { length room.new ≡ length room.old }
+    ensures most { IfOk result (λ incoming. filled incoming ≤ LONGEST_DATAGRAM) }
+{
+    let Some(found) = receive(socket, &mut room[..LONGEST_DATAGRAM])? else {
+        return Ok(Incoming::Quiet);
+    };
+    let (length, from) = found;
+    Ok(incoming_of(from, &room[..length]))
+}
+
+/// What a take gives after an error.
+fn given_after(trouble: Trouble) -> Result<Incoming, Failed>
+    ensures { IfOk result (λ incoming. incoming ≡ Quiet) }
+{
+    match trouble {
+        Trouble::Lost => Ok(Incoming::Quiet),
+        Trouble::Broken => Err(Failed),
+    }
+}
+
+impl Inbox for UdpInbox {
+    ghost use Rattle.std.specs.Prelude.{◌≡◌, ◌⊎◌, None, OnErr};
+    ghost use Rattle.pcp_io.specs.declared.inboxes.Incoming.TheVariants.{Quiet};
+    ghost use Rattle.pcp_io.specs.CallLogs.{one_more};
+    ghost use Rattle.pcp_io.specs.Faults.{HasCause};
+    ghost use Rattle.pcp_io.specs.Takes.{Takes};
+
+    ghost left = { λ _. None };
+
+    ghost faults = { λ b. b };
+
+    fn take(&mut self, room: &mut [u8]) -> Result<Incoming, Failed>
+        requires { LONGEST_DATAGRAM ≤ length room.old }
+        ensures takes { IfOk result (Takes None None room.new) }
+        ensures cause { HasCause self.old self.new result }
+        ensures same { IfOk result (λ incoming. (self.new ≡ self.old)
+            ⊎ ((incoming ≡ Quiet) × (self.new ≡ one_more self.old))) }
+        ensures counted { OnErr result (self.new ≡ one_more self.old) }
+    {
+        match take_by(&self.socket, room) {
+            Ok(incoming) => Ok(incoming),
+            Err(trouble) => {
+                self.faults = self.faults.saturating_add(1);
+                given_after(trouble)
+            }
+        }
+    }
+}
