@@ -3,10 +3,11 @@ ghost use Rattle.std.specs.Prelude.{◌≡◌, Ok, false, true, IsSome, IfOk};
 ghost use Rattle.lease_journal.specs.Views.{IsSettled};
 
 use crate::deeds::{Deed, Seen, moment, record_of, standing};
+use crate::disks::images;
 use crate::snapshots::snapshot_of;
 use lease_disk::{DiskPair, LeaseDisk, MemoryDisk};
 use lease_journal::{Journal, one_journal, snapshots_take_over};
-use pcp_base::{Record, Replay};
+use pcp_base::{Moment, Record, Replay};
 use plain_replay::PlainReplay;
 use std::alloc::Global;
 use std::test::Fail;
@@ -62,24 +63,6 @@ fn compact<D: LeaseDisk>(
     Ok(true)
 }
 
-/// Appends the record of a deed at `m`. Whether that went well.
-fn append_deed<D: LeaseDisk>(
-    alloc: Global,
-    journal: &mut Journal<D>,
-    replay: &mut PlainReplay,
-    m: u64,
-    deed: &Deed,
-) -> Result<bool, Fail>
-    requires told { D.tells }
-    requires read { journal.old.unread ≡ false }
-    requires settled { IsSettled D.seen D.may_leave journal.old replay.old }
-    ensures read_now { result ≡ Ok true → journal.new.unread ≡ false }
-    ensures settled { result ≡ Ok true → IsSettled D.seen D.may_leave journal.new replay.new }
-{
-    let kept = record_of(m, deed)?;
-    append(alloc, journal, replay, &kept)
-}
-
 /// Does this at `m`. Whether that went well.
 fn act<D: LeaseDisk>(
     alloc: Global,
@@ -94,9 +77,9 @@ fn act<D: LeaseDisk>(
     ensures read_now { result ≡ Ok true → journal.new.unread ≡ false }
     ensures settled { result ≡ Ok true → IsSettled D.seen D.may_leave journal.new replay.new }
 {
-    match deed {
-        Deed::Compacted => compact(alloc, journal, replay),
-        _ => append_deed(alloc, journal, replay, m, deed),
+    match record_of(m, deed)? {
+        Some(kept) => append(alloc, journal, replay, &kept),
+        None => compact(alloc, journal, replay),
     }
 }
 
@@ -119,48 +102,59 @@ pub(crate) fn act_all<D: LeaseDisk>(
     Ok(deeds.len())
 }
 
-/// A pair without an octet.
-pub(crate) fn blank(alloc: Global) -> Result<DiskPair<MemoryDisk>, Fail> {
-    Ok(DiskPair {
-        a: MemoryDisk::new(alloc, 10_000)?,
-        b: MemoryDisk::new(alloc, 10_000)?,
-    })
-}
-
-/// Opens a journal at `m`, and does these deeds until a device call fails. The pair, and how many of
-/// the opening and the deeds went well.
-pub(crate) fn run(
+/// Opens a journal at `m`, and does these deeds until a device call fails. The pair, what stood after
+/// the opening, and how many of the opening and the deeds went well.
+fn run_from<D: LeaseDisk + Drop>(
     alloc: Global,
-    pair: DiskPair<MemoryDisk>,
-    m: u64,
+    pair: DiskPair<D>,
+    m: Moment,
     deeds: &[(u64, Deed)],
-) -> Result<(DiskPair<MemoryDisk>, usize), Fail> {
-    let mut replay = PlainReplay::new(alloc);
-    match Journal::recover(alloc, pair, moment(m)?, &mut replay) {
-        Ok((mut journal, _found)) => {
-            let done = act_all(alloc, &mut journal, &mut replay, deeds)?;
-            Ok((journal.close(), done.saturating_add(1)))
+    replay: &mut PlainReplay,
+) -> Result<(DiskPair<D>, Option<Seen>, usize), Fail>
+    requires told { D.tells }
+{
+    match Journal::recover(alloc, pair, m, replay) {
+        Ok((mut journal, found)) => {
+            let seen = standing(found, replay);
+            let done = act_all(alloc, &mut journal, replay, deeds)?;
+            Ok((journal.close(), Some(seen), done.saturating_add(1)))
         }
-        Err(unopened) => Ok((unopened.pair, 0)),
+        Err(unopened) => Ok((unopened.pair, None, 0)),
     }
 }
 
-/// What an opening at `m` finds in the image of this choice.
+/// The same with a replay of its own.
+pub(crate) fn run<D: LeaseDisk + Drop>(
+    alloc: Global,
+    pair: DiskPair<D>,
+    m: u64,
+    deeds: &[(u64, Deed)],
+) -> Result<(DiskPair<D>, Option<Seen>, usize), Fail>
+    requires told { D.tells }
+{
+    run_from(alloc, pair, moment(m)?, deeds, &mut PlainReplay::new(alloc))
+}
+
+/// What stands after an opening at `m`.
+pub(crate) fn opened<D: LeaseDisk + Drop>(
+    alloc: Global,
+    pair: DiskPair<D>,
+    m: u64,
+) -> Result<Option<Seen>, Fail>
+    requires told { D.tells }
+{
+    let (_pair, seen, _done) = run(alloc, pair, m, &[])?;
+    Ok(seen)
+}
+
+/// What stands after an opening at `m` of the images of this choice.
 pub(crate) fn found(
     alloc: Global,
     pair: &DiskPair<MemoryDisk>,
     choice: u8,
     m: u64,
 ) -> Result<Option<Seen>, Fail> {
-    let stopped = DiskPair {
-        a: pair.a.stopped(alloc, choice)?,
-        b: pair.b.stopped(alloc, choice)?,
-    };
-    let mut replay = PlainReplay::new(alloc);
-    match Journal::recover(alloc, stopped, moment(m)?, &mut replay) {
-        Ok((_journal, found)) => Ok(Some(standing(found, &replay))),
-        Err(_) => Ok(None),
-    }
+    opened(alloc, images(alloc, pair, choice)?, m)
 }
 
 /// Reads a journal again at 2000, and once more where that failed.

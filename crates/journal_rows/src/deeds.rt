@@ -6,7 +6,7 @@ use plain_replay::PlainReplay;
 use std::test::Fail;
 
 /// What is done to an opened journal.
-#[derive(Clone, Copy, Debug)]
+#[derive(Clone, Copy)]
 pub(crate) enum Deed {
     /// The external address 192.0.2.1 is told.
     Told,
@@ -20,7 +20,7 @@ pub(crate) enum Deed {
 
 /// What stands after an opening: how it began, and of the state the base, the last moment, and how
 /// many leases and ends there are.
-#[derive(Clone, Copy, Debug, PartialEq, Eq)]
+#[derive(Clone, Copy, PartialEq, Eq)]
 pub(crate) struct Seen(
     pub(crate) Found,
     pub(crate) u64,
@@ -58,8 +58,8 @@ fn lease_of(internal: u16, external: u16, granted: u64, expiry: u64) -> Result<M
     })
 }
 
-/// The record of a deed at `m`; that of a compaction is a Mark.
-pub(crate) fn record_of(m: u64, deed: &Deed) -> Result<Record, Fail> {
+/// The record of a deed at `m`; a compaction has none.
+pub(crate) fn record_of(m: u64, deed: &Deed) -> Result<Option<Record>, Fail> {
     let moment = moment(m)?;
     let change = match deed {
         Deed::Told => Change::Renumber(Address::v4(192, 0, 2, 1)),
@@ -72,9 +72,9 @@ pub(crate) fn record_of(m: u64, deed: &Deed) -> Result<Record, Fail> {
             port: *internal,
         }),
         Deed::Lost => Change::Lose,
-        Deed::Compacted => Change::Mark,
+        Deed::Compacted => return Ok(None),
     };
-    Ok(Record { moment, change })
+    Ok(Some(Record { moment, change }))
 }
 
 /// What is done after a journal was opened at 1000, each with its moment.
@@ -109,12 +109,12 @@ pub(crate) static STATES: [Seen; 13] = [
     Seen(Found::Recovered, 1060, 1080, 2, 0),
 ];
 
-/// Whether this is the state of this number, or the one after it.
-pub(crate) fn is_at(number: usize, left: &Seen) -> bool {
-    STATES
+/// Whether this is one of so many states from this number on.
+pub(crate) fn is_among(states: &[Seen], number: usize, count: usize, left: &Seen) -> bool {
+    states
         .iter()
         .skip(number)
-        .take(2)
+        .take(count)
         .any(|state| state == left)
 }
 

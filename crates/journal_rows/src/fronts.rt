@@ -2,9 +2,9 @@
 
 use crate::acts::run;
 use crate::deeds::Deed;
-use crate::octets::{LEASED, octets};
-use crate::sides::disk_of;
-use lease_disk::{DiskPair, MemoryDisk};
+use crate::disks::{Side, holds, pair_of, stop_at};
+use crate::octets::LEASED;
+use lease_disk::MemoryDisk;
 use std::alloc::Global;
 use std::test::Fail;
 
@@ -31,39 +31,45 @@ fn with_octet(alloc: Global, octets: &[u8], place: usize, octet: u8) -> Result<V
     Ok(copy)
 }
 
-/// A journal with a lease on side a, and these octets on side b, which is to take over until its device
-/// call of this number.
-fn compacted_until(alloc: Global, b: &[u8], call: u64) -> Result<DiskPair<MemoryDisk>, Fail> {
-    let mut pair = DiskPair {
-        a: disk_of(alloc, &LEASED)?,
-        b: disk_of(alloc, b)?,
-    };
-    pair.b.stop_at(call);
-    let (pair, _done) = run(alloc, pair, 1500, &[(1010, Deed::Compacted)])?;
-    Ok(pair)
+/// Side b, which held these octets, after a compaction of the lease on side a, until its device call of
+/// this number.
+fn side_b(alloc: Global, b: &'static [u8], call: u64) -> Result<MemoryDisk, Fail> {
+    let mut pair = pair_of(alloc, Side(&LEASED, 0, 0), Side(b, 0, 0))?;
+    stop_at(&mut pair, true, call);
+    let (pair, _seen, _done) = run(alloc, pair, 1500, &[(1010, Deed::Compacted)])?;
+    Ok(pair.b)
 }
 
-/// What stands on side b after the first call that changes it, and with `ff` for what that wrote.
-fn first_written(alloc: Global, b: &[u8]) -> Result<(Vec<u8>, Vec<u8>), Fail> {
+/// Whether it holds these octets in the image of this choice.
+fn is_left(
+    alloc: Global,
+    b: &'static [u8],
+    call: u64,
+    choice: u8,
+    octets: &[u8],
+) -> Result<bool, Fail> {
+    let disk = side_b(alloc, b, call)?;
+    Ok(holds(&mut disk.stopped(alloc, choice)?, octets))
+}
+
+/// The first device call before which side b was changed.
+fn first_change(alloc: Global, b: &'static [u8]) -> Result<u64, Fail> {
     for call in 0..100 {
-        let pair = compacted_until(alloc, b, call)?;
-        let mut read = pair.b.stopped(alloc, 1)?;
-        let mut torn = pair.b.stopped(alloc, 2)?;
-        let read = octets(alloc, &mut read)?;
-        if read.as_slice() != b {
-            return Ok((read, octets(alloc, &mut torn)?));
+        if !is_left(alloc, b, call, 1, b)? {
+            return Ok(call);
         }
     }
-    Ok(Err("nothing is written")?)
+    Err("nothing is written".into())
 }
 
-/// Whether it is this octet that is written first.
+/// Whether it is this octet that is written first: a read then gives a zero there, and where the
+/// write is torn an `ff`.
 fn is_written(alloc: Global, front: &Front) -> Result<bool, Fail> {
     let Front(b, place) = *front;
-    let (read, torn) = first_written(alloc, b)?;
+    let call = first_change(alloc, b)?;
     let zero = with_octet(alloc, b, place, 0)?;
     let other = with_octet(alloc, b, place, 0xff)?;
-    Ok(read.as_slice() == zero.as_slice() && torn.as_slice() == other.as_slice())
+    Ok(is_left(alloc, b, call, 1, &zero)? && is_left(alloc, b, call, 2, &other)?)
 }
 
 #[test]

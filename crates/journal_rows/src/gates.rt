@@ -1,8 +1,9 @@
 //! The append of a lease, of which each device call in turn is the last one, octet by octet.
 
-use crate::acts::{blank, found, run};
+use crate::acts::{opened, run};
 use crate::deeds::{LEASES, Seen};
-use crate::octets::{LEASED, LEASING, octets};
+use crate::disks::{blank, hold, images, pair_with};
+use crate::octets::{LEASED, LEASING};
 use lease_disk::{DiskPair, LeaseDisk, MemoryDisk};
 use std::alloc::Global;
 use std::test::Fail;
@@ -64,49 +65,56 @@ fn octets_of(alloc: Global, left: &Left) -> Result<Vec<u8>, Fail> {
 fn leased(alloc: Global, call: u64) -> Result<(DiskPair<MemoryDisk>, usize), Fail> {
     let mut pair = blank(alloc)?;
     pair.a.stop_at(call);
-    run(alloc, pair, 1000, &LEASING)
+    let (pair, _seen, done) = run(alloc, pair, 1000, &LEASING)?;
+    Ok((pair, done))
 }
 
 /// The first device call of the lease.
 fn first_call(alloc: Global) -> Result<u64, Fail> {
     for call in 0..200 {
-        let (_pair, done) = leased(alloc, call)?;
-        if done == 2 {
+        if leased(alloc, call)?.1 == 2 {
             return Ok(call);
         }
     }
-    Ok(Err("no call")?)
+    Err("no call".into())
 }
 
-/// Whether this found these leases.
-fn has(found: Option<Seen>, leases: usize) -> bool {
-    match found {
-        Some(seen) => LEASES.get(leases) == Some(&seen),
-        None => false,
-    }
+/// Whether an opening at 1500 finds so many leases.
+fn has<D: LeaseDisk + Drop>(alloc: Global, pair: DiskPair<D>, leases: usize) -> Result<bool, Fail>
+    requires told { D.tells }
+{
+    let seen = opened(alloc, pair, 1500)?;
+    Ok(seen.is_some() && seen.as_ref() == LEASES.get(leases))
 }
 
-/// Whether this journal is left on side a at this choice, and alone.
+/// Whether the pair holds these octets on side a alone, and so many leases.
+fn is_image<D: LeaseDisk + Drop>(
+    alloc: Global,
+    pair: DiskPair<D>,
+    octets: &[u8],
+    leases: usize,
+) -> Result<bool, Fail>
+    requires told { D.tells }
+{
+    let mut pair = pair;
+    Ok(hold(&mut pair, octets, &[]) && has(alloc, pair, leases)?)
+}
+
+/// Whether this is left at this choice.
 fn is_left(
     alloc: Global,
     pair: &DiskPair<MemoryDisk>,
     choice: u8,
     left: &Left,
 ) -> Result<bool, Fail> {
-    let (mut a, mut b) = (
-        pair.a.stopped(alloc, choice)?,
-        pair.b.stopped(alloc, choice)?,
-    );
-    if octets(alloc, &mut a)?.as_slice() != octets_of(alloc, left)?.as_slice() {
-        return Ok(false);
-    }
-    Ok(octets(alloc, &mut b)?.is_empty() && has(found(alloc, pair, choice, 1500)?, left.3))
+    let octets = octets_of(alloc, left)?;
+    is_image(alloc, images(alloc, pair, choice)?, &octets, left.3)
 }
 
 /// The same at each choice.
-fn are_left(alloc: Global, call: u64, images: &[Left; 3]) -> Result<bool, Fail> {
+fn are_left(alloc: Global, call: u64, left: &[Left; 3]) -> Result<bool, Fail> {
     let (pair, _done) = leased(alloc, call)?;
-    for (choice, left) in images.iter().enumerate() {
+    for (choice, left) in left.iter().enumerate() {
         if !is_left(alloc, &pair, choice as u8, left)? {
             return Ok(false);
         }
@@ -114,12 +122,10 @@ fn are_left(alloc: Global, call: u64, images: &[Left; 3]) -> Result<bool, Fail> 
     Ok(true)
 }
 
-/// What an opening at 1500 finds behind this gate.
-fn found_behind(alloc: Global, gate: u8) -> Result<Option<Seen>, Fail> {
-    let mut pair = blank(alloc)?;
-    pair.a
-        .write_at(0, &octets_of(alloc, &Left(125, gate, false, 0))?)?;
-    found(alloc, &pair, 1, 1500)
+/// Whether so many leases stand behind this gate.
+fn stand_behind(alloc: Global, gate: u8, leases: usize) -> Result<bool, Fail> {
+    let octets = octets_of(alloc, &Left(125, gate, false, 0))?;
+    has(alloc, pair_with(alloc, &octets, &[])?, leases)
 }
 
 #[test]
@@ -136,8 +142,8 @@ fn a_stopped_lease_leaves_these_images(rt: HostRuntime) -> Result<(), Fail> {
 #[test]
 fn a_lease_stands_behind_its_gate(rt: HostRuntime) -> Result<(), Fail> {
     for gate in 0..=0xff {
-        let leases = usize::from(gate == 0x01);
-        assert!(rt; has(found_behind(rt.alloc(), gate)?, leases), "{gate}");
+        let stand = stand_behind(rt.alloc(), gate, usize::from(gate == 0x01))?;
+        assert!(rt; stand, "{gate}");
     }
     Ok(())
 }

@@ -7,6 +7,8 @@ mod acts;
 #[cfg(test)]
 mod deeds;
 #[cfg(test)]
+mod disks;
+#[cfg(test)]
 mod fronts;
 #[cfg(test)]
 mod gates;

@@ -1,8 +1,9 @@
 //! A lease and its compaction, octet by octet.
 
-use crate::acts::{blank, run};
+use crate::acts::run;
 use crate::deeds::Deed;
-use lease_disk::{DiskPair, LeaseDisk, MemoryDisk};
+use crate::disks::{blank, hold};
+use lease_disk::{DiskPair, LeaseDisk};
 use std::alloc::Global;
 use std::test::Fail;
 
@@ -36,56 +37,49 @@ pub(crate) static LEASING: [(u64, Deed); 2] = [
     (1010, Deed::Leased(5000, 1024, 1010, 4610)),
 ];
 
-/// The octets of a disk, at most so many.
-fn octets_within(alloc: Global, disk: &mut MemoryDisk, most: usize) -> Result<Vec<u8>, Fail> {
-    let mut piece = vec![in alloc; 0u8; most]?;
-    let count = disk.read_at(0, &mut piece)?;
-    piece.truncate(count);
-    Ok(piece)
-}
-
-/// The octets of a disk, at most 200.
-pub(crate) fn octets(alloc: Global, disk: &mut MemoryDisk) -> Result<Vec<u8>, Fail> {
-    octets_within(alloc, disk, 200)
-}
-
-/// Whether the sides hold these octets.
-fn hold(alloc: Global, pair: &mut DiskPair<MemoryDisk>, a: &[u8], b: &[u8]) -> Result<bool, Fail> {
-    let held_a = octets(alloc, &mut pair.a)?;
-    let held_b = octets(alloc, &mut pair.b)?;
-    Ok(held_a.as_slice() == a && held_b.as_slice() == b)
-}
-
-/// Opens a journal at `m` and does these deeds. The pair, where all went well.
-fn after(
+/// Opens a journal at `m` and does these deeds, which all go well.
+fn after<D: LeaseDisk + Drop>(
     alloc: Global,
-    pair: DiskPair<MemoryDisk>,
+    pair: DiskPair<D>,
     m: u64,
     deeds: &[(u64, Deed)],
-) -> Result<Option<DiskPair<MemoryDisk>>, Fail> {
-    let (pair, done) = run(alloc, pair, m, deeds)?;
+) -> Result<DiskPair<D>, Fail>
+    requires told { D.tells }
+{
+    let (pair, _seen, done) = run(alloc, pair, m, deeds)?;
     if done <= deeds.len() {
-        return Ok(None);
+        return Err("a deed failed".into());
     }
-    Ok(Some(pair))
+    Ok(pair)
 }
 
-fn leased(alloc: Global) -> Result<DiskPair<MemoryDisk>, Fail> {
-    Ok(after(alloc, blank(alloc)?, 1000, &LEASING)?.ok_or("not leased")?)
+/// Whether the sides hold these octets after that.
+fn hold_after<D: LeaseDisk + Drop>(
+    alloc: Global,
+    pair: DiskPair<D>,
+    m: u64,
+    deeds: &[(u64, Deed)],
+    a: &[u8],
+    b: &[u8],
+) -> Result<bool, Fail>
+    requires told { D.tells }
+{
+    let mut pair = after(alloc, pair, m, deeds)?;
+    Ok(hold(&mut pair, a, b))
 }
 
 #[test]
 fn a_lease_is_written(rt: HostRuntime) -> Result<(), Fail> {
-    let mut pair = leased(rt.alloc())?;
-    assert!(rt; hold(rt.alloc(), &mut pair, &LEASED, &[])?);
+    let alloc = rt.alloc();
+    assert!(rt; hold_after(alloc, blank(alloc)?, 1000, &LEASING, &LEASED, &[])?);
     Ok(())
 }
 
 #[test]
 fn a_compaction_is_written(rt: HostRuntime) -> Result<(), Fail> {
     let alloc = rt.alloc();
-    let compacted = after(alloc, leased(alloc)?, 1500, &[(1010, Deed::Compacted)])?;
-    let mut pair = compacted.ok_or("not compacted")?;
-    assert!(rt; hold(alloc, &mut pair, b"\0", &COMPACTED)?);
+    let deeds = [(1010, Deed::Compacted)];
+    let leased = after(alloc, blank(alloc)?, 1000, &LEASING)?;
+    assert!(rt; hold_after(alloc, leased, 1500, &deeds, b"\0", &COMPACTED)?);
     Ok(())
 }

@@ -1,83 +1,21 @@
 //! Two sides of octets, and what reading and opening them finds.
 
-use crate::deeds::{Seen, moment, standing};
+use crate::acts::run;
+use crate::deeds::{Seen, standing};
+use crate::disks::{Side, pair_of, pair_with};
 use crate::octets::{COMPACTED, LEASED};
-use lease_disk::{DiskPair, LeaseDisk, MemoryDisk};
+use lease_disk::{DiskPair, LeaseDisk};
 use lease_journal::{Found, Journal};
 use plain_replay::PlainReplay;
-use std::alloc::Global;
+use std::alloc::{AllocError, Global};
 use std::test::Fail;
 
-/// A disk that holds these octets, synced.
-pub(crate) fn disk_of(alloc: Global, octets: &[u8]) -> Result<MemoryDisk, Fail> {
-    let mut disk = MemoryDisk::new(alloc, 10_000)?;
-    if !octets.is_empty() {
-        disk.write_at(0, octets)?;
-        disk.sync()?;
-    }
-    Ok(disk)
-}
-
-/// What is found on two sides: the base and the number of MAP leases where records are recovered.
-#[derive(Clone, Copy, Debug, PartialEq, Eq)]
-struct Sight {
-    found: Found,
-    base: u64,
-    leases: usize,
-}
-
-/// A recovered journal with this base and so many MAP leases.
-const fn recovered(base: u64, leases: usize) -> Sight {
-    Sight {
-        found: Found::Recovered,
-        base,
-        leases,
-    }
-}
-
-const BLANK: Sight = Sight {
-    found: Found::Blank,
-    base: 0,
-    leases: 0,
-};
-
-const DAMAGED: Sight = Sight {
-    found: Found::Damaged,
-    base: 0,
-    leases: 0,
-};
-
-/// What is seen where this stands.
-fn sight_of(seen: Seen) -> Sight {
-    let Seen(found, base, _last, leases, _ends) = seen;
-    Sight {
-        found,
-        base,
-        leases,
-    }
-}
-
-fn view_of(alloc: Global, pair: &mut DiskPair<MemoryDisk>) -> Result<Option<Sight>, Fail> {
+/// What is seen of two sides that are read; nothing of what is blank or damaged.
+fn view_of<D: LeaseDisk>(alloc: Global, pair: &mut DiskPair<D>) -> Option<Seen> {
     let mut replay = PlainReplay::new(alloc);
     match Journal::view(alloc, pair, &mut replay) {
-        Ok(found) => Ok(Some(sight_of(standing(found, &replay)))),
-        Err(_) => Ok(None),
-    }
-}
-
-/// Opens a journal at `m`. Gives the pair back, and what was found and then stands in the replay.
-fn open_at(
-    alloc: Global,
-    pair: DiskPair<MemoryDisk>,
-    m: u64,
-) -> Result<(DiskPair<MemoryDisk>, Option<Sight>), Fail> {
-    let mut replay = PlainReplay::new(alloc);
-    match Journal::recover(alloc, pair, moment(m)?, &mut replay) {
-        Ok((journal, found)) => {
-            let sight = sight_of(standing(found, &replay));
-            Ok((journal.close(), Some(sight)))
-        }
-        Err(unopened) => Ok((unopened.pair, None)),
+        Ok(found) => Some(standing(found, &replay)),
+        Err(_) => None,
     }
 }
 
@@ -97,75 +35,66 @@ static FIRST: [u8; 95] = [
     0x00, 0x00, 0x00, 0x03, 0xf2, 0x00, 0x00, 0x00, 0x00, 0x00, 0x00, 0x12, 0x02, 0x00, 0x00,
 ];
 
-/// The octets with those at this place changed by a mask.
-fn changed(alloc: Global, octets: &[u8], place: usize, mask: u8) -> Result<Vec<u8>, Fail> {
-    let mut copy = octets.to_vec(alloc)?;
-    if let Some(octet) = copy.get_mut(place) {
-        *octet ^= mask;
+/// Two sides, when they are opened, and what is found.
+#[derive(Clone, Copy)]
+struct Opened(Side, Side, u64, Found);
+
+/// What stands where this was found: the lease, or nothing since `m`.
+fn seen_at(found: Found, m: u64) -> Seen {
+    match found {
+        Found::Recovered => Seen(found, 1000, 1010, 1, 0),
+        _ => Seen(found, m, m, 0, 0),
     }
-    Ok(copy)
 }
 
-/// A side's octets, and the place of the one that is changed by a mask.
-#[derive(Clone, Copy)]
-struct Masked(&'static [u8], usize, u8);
-
-/// Two sides, when they are opened, what is seen before that, and the base after it.
-#[derive(Clone, Copy)]
-struct Opened(Masked, Masked, u64, Sight, u64);
-
-/// Whether the sides of this row are seen and opened as it says.
-fn is_opened(alloc: Global, row: &Opened) -> Result<bool, Fail> {
-    let Opened(a, b, m, want, base) = *row;
-    let mut pair = DiskPair {
-        a: disk_of(alloc, &changed(alloc, a.0, a.1, a.2)?)?,
-        b: disk_of(alloc, &changed(alloc, b.0, b.1, b.2)?)?,
-    };
-    if view_of(alloc, &mut pair)? != Some(want) {
-        return Ok(false);
-    }
-    let (mut pair, opened) = open_at(alloc, pair, m)?;
-    if opened != Some(Sight { base, ..want }) {
-        return Ok(false);
-    }
-    Ok(view_of(alloc, &mut pair)? == Some(recovered(base, want.leases)))
+/// Whether that is seen of the pair before it is opened, at its opening, and after it, when it is a
+/// journal.
+fn is_opened<D: LeaseDisk + Drop>(
+    alloc: Global,
+    pair: DiskPair<D>,
+    m: u64,
+    found: Found,
+) -> Result<bool, Fail>
+    requires told { D.tells }
+{
+    let mut pair = pair;
+    let before = view_of(alloc, &mut pair);
+    let (mut pair, opened, _done) = run(alloc, pair, m, &[])?;
+    let after = view_of(alloc, &mut pair);
+    let stands = seen_at(found, m);
+    Ok(
+        before == Some(seen_at(found, 0))
+            && opened == Some(stands)
+            && after == Some(Seen(Found::Recovered, stands.1, stands.2, stands.3, stands.4)),
+    )
 }
 
 #[test]
 fn opened_sides(rt: HostRuntime) -> Result<(), Fail> {
     let alloc = rt.alloc();
-    let none = Masked(&[], 0, 0);
-    let leased = Masked(&LEASED, 0, 0);
+    let none = Side(&[], 0, 0);
+    let leased = Side(&LEASED, 0, 0);
+    let compacted = Side(&COMPACTED, 0, 0);
     // a side whose gate is closed, and those whose lease has another protocol
-    let closed = Masked(&LEASED, 0, 0x01);
-    let torn = Masked(&COMPACTED, 87, 0x03);
+    let closed = Side(&LEASED, 0, 0x01);
+    let torn = Side(&COMPACTED, 87, 0x03);
     let rows = [
-        Opened(leased, none, 1500, recovered(1000, 1), 1000),
-        Opened(Masked(&LEASED, 88, 0x03), none, 1500, DAMAGED, 1500),
-        Opened(closed, none, 1600, BLANK, 1600),
+        Opened(leased, none, 1500, Found::Recovered),
+        Opened(Side(&LEASED, 88, 0x03), none, 1500, Found::Damaged),
+        Opened(closed, none, 1600, Found::Blank),
         // a compaction that was stopped before side a was shut
-        Opened(
-            leased,
-            Masked(&COMPACTED, 0, 0),
-            1500,
-            recovered(1000, 1),
-            1000,
-        ),
-        Opened(leased, torn, 1500, DAMAGED, 1500),
-        Opened(closed, torn, 1600, DAMAGED, 1600),
+        Opened(leased, compacted, 1500, Found::Recovered),
+        Opened(leased, torn, 1500, Found::Damaged),
+        Opened(closed, torn, 1600, Found::Damaged),
         // the first format, in which a record of kind 8 isn't known, nor the last generation
-        Opened(Masked(&FIRST, 0, 0), none, 1500, recovered(1000, 1), 1000),
-        Opened(Masked(&FIRST, 33, 0x0a), none, 1500, DAMAGED, 1500),
-        Opened(
-            none,
-            Masked(&FIRST, 13, 0x01),
-            1500,
-            recovered(1000, 1),
-            1000,
-        ),
+        Opened(Side(&FIRST, 0, 0), none, 1500, Found::Recovered),
+        Opened(Side(&FIRST, 33, 0x0a), none, 1500, Found::Damaged),
+        Opened(none, Side(&FIRST, 13, 0x01), 1500, Found::Recovered),
     ];
     for (number, row) in rows.iter().enumerate() {
-        assert!(rt; is_opened(alloc, row)?, "{number}");
+        let Opened(a, b, m, found) = *row;
+        let opened = is_opened(alloc, pair_of(alloc, a, b)?, m, found)?;
+        assert!(rt; opened, "{number}");
     }
     Ok(())
 }
@@ -213,42 +142,57 @@ static SIDES: [[u8; 6]; 33] = [
     [29, 0, 0, 0, 0, 2],
 ];
 
-/// The octets of such a side, which has this generation.
-fn side_of(alloc: Global, row: &[u8; 6], generation: u8) -> Result<Vec<u8>, Fail> {
-    let [count, place, mask, second_place, second_mask, _kind] = *row;
-    let started = changed(alloc, &STARTED, 13, generation)?;
-    let once = changed(alloc, &started, place as usize, mask)?;
-    let mut twice = changed(alloc, &once, second_place as usize, second_mask)?;
-    twice.truncate(count as usize);
-    Ok(twice)
+fn change(octets: &mut [u8], place: u8, mask: u8) {
+    if let Some(octet) = octets.get_mut(usize::from(place)) {
+        *octet ^= mask;
+    }
 }
 
+/// Such a side before it is cut, with this generation.
+fn side_of(row: &[u8; 6], generation: u8) -> [u8; 29] {
+    let [_count, place, mask, second_place, second_mask, _kind] = *row;
+    let mut octets = STARTED;
+    change(&mut octets, 13, generation);
+    change(&mut octets, place, mask);
+    change(&mut octets, second_place, second_mask);
+    octets
+}
+
+/// The first so many octets.
+fn cut(octets: &[u8], count: u8) -> &[u8] {
+    &octets[..octets.len().min(usize::from(count))]
+}
+
+// What is seen of a start at 1000, and of what is blank or damaged.
+const STANDS: Seen = Seen(Found::Recovered, 1000, 1000, 0, 0);
+
+const BLANK: Seen = Seen(Found::Blank, 0, 0, 0, 0);
+
+const DAMAGED: Seen = Seen(Found::Damaged, 0, 0, 0, 0);
+
 /// What is seen of two sides of these kinds.
-fn sight_by(kind_a: u8, kind_b: u8) -> Sight {
+fn seen_by(kind_a: u8, kind_b: u8) -> Seen {
     if kind_a == 1 || kind_b == 1 {
         return DAMAGED;
     }
     if kind_a == 0 && kind_b == 0 {
         return BLANK;
     }
-    recovered(1000, 0)
+    STANDS
 }
 
-/// What is seen of these sides.
-fn seen_of(alloc: Global, a: &[u8], b: &[u8]) -> Result<Option<Sight>, Fail> {
-    let mut pair = DiskPair {
-        a: disk_of(alloc, a)?,
-        b: disk_of(alloc, b)?,
-    };
-    view_of(alloc, &mut pair)
+/// Whether this is seen of these sides.
+fn is_seen(alloc: Global, a: &[u8], b: &[u8], seen: Seen) -> Result<bool, Fail> {
+    Ok(view_of(alloc, &mut pair_with(alloc, a, b)?) == Some(seen))
 }
 
 /// Whether beside each side b this side a is seen as it is to be.
-fn is_seen(alloc: Global, row_a: &[u8; 6]) -> Result<bool, Fail> {
-    let a = side_of(alloc, row_a, 0)?;
+fn are_seen(alloc: Global, row_a: &[u8; 6]) -> Result<bool, Fail> {
+    let a = side_of(row_a, 0);
     for row_b in &SIDES {
-        let b = side_of(alloc, row_b, 1)?;
-        if seen_of(alloc, &a, &b)? != Some(sight_by(row_a[5], row_b[5])) {
+        let b = side_of(row_b, 1);
+        let seen = seen_by(row_a[5], row_b[5]);
+        if !is_seen(alloc, cut(&a, row_a[0]), cut(&b, row_b[0]), seen)? {
             return Ok(false);
         }
     }
@@ -258,14 +202,13 @@ fn is_seen(alloc: Global, row_a: &[u8; 6]) -> Result<bool, Fail> {
 #[test]
 fn sides_of_every_kind(rt: HostRuntime) -> Result<(), Fail> {
     for (number, row) in SIDES.iter().enumerate() {
-        assert!(rt; is_seen(rt.alloc(), row)?, "{number}");
+        assert!(rt; are_seen(rt.alloc(), row)?, "{number}");
     }
     Ok(())
 }
 
-/// A side with one frame of a Start at 1000 and so many Marks.
-fn marked(alloc: Global, marks: u8) -> Result<Vec<u8>, Fail> {
-    let mut side = STARTED[..15].to_vec(alloc)?;
+/// Adds one frame of a Start at 1000 and so many Marks.
+fn add_marked(side: &mut Vec<u8>, marks: u8) -> Result<(), AllocError> {
     let size = 9 + 9 * u32::from(marks);
     side.extend_from_slice(&size.to_be_bytes())?;
     side.extend_from_slice(&STARTED[19..28])?;
@@ -274,15 +217,20 @@ fn marked(alloc: Global, marks: u8) -> Result<Vec<u8>, Fail> {
         side.extend_from_slice(&STARTED[20..28])?;
     }
     side.push(0)?;
-    Ok(side)
+    Ok(())
+}
+
+/// Whether this is seen of a side with one such frame.
+fn is_seen_marked(alloc: Global, marks: u8, seen: Seen) -> Result<bool, Fail> {
+    let mut side = STARTED[..15].to_vec(alloc)?;
+    add_marked(&mut side, marks)?;
+    is_seen(alloc, &side, &[], seen)
 }
 
 #[test]
 fn most_records(rt: HostRuntime) -> Result<(), Fail> {
-    let alloc = rt.alloc();
-    for (marks, want) in [(15, recovered(1000, 0)), (16, DAMAGED)] {
-        let side = marked(alloc, marks)?;
-        assert!(rt; seen_of(alloc, &side, &[])? == Some(want), "{marks} marks");
+    for (marks, seen) in [(15, STANDS), (16, DAMAGED)] {
+        assert!(rt; is_seen_marked(rt.alloc(), marks, seen)?, "{marks} marks");
     }
     Ok(())
 }

@@ -1,17 +1,17 @@
 //! Openings and runs of which each device call in turn is the last one, or fails.
+ghost use Rattle.std.specs.Prelude.{◌≡◌, false};
+ghost use Rattle.lease_journal.specs.Views.{IsSettled};
 
-use crate::acts::{act_all, blank, found, read_again, run};
-use crate::deeds::{ANEW, Deed, RUN, STATES, Seen, is_at, moment};
+use crate::acts::{act_all, found, read_again, run};
+use crate::deeds::{ANEW, Deed, RUN, STATES, Seen, is_among, moment};
+use crate::disks::{Side, blank, pair_of, stop_at};
 use crate::octets::{COMPACTED, LEASED};
 use lease_disk::{DiskPair, LeaseDisk, MemoryDisk};
 use lease_journal::Journal;
+use pcp_base::Moment;
 use plain_replay::PlainReplay;
 use std::alloc::Global;
 use std::test::Fail;
-
-/// A side: its octets, and the place of the one that is changed by a mask.
-#[derive(Clone, Copy)]
-struct Side(&'static [u8], usize, u8);
 
 /// An opening of two sides, deeds after it, and what may stand then.
 #[derive(Clone, Copy)]
@@ -26,18 +26,6 @@ struct Row {
     before: usize,
 }
 
-/// The disk of a side, synced.
-fn disk_of(alloc: Global, side: &Side) -> Result<MemoryDisk, Fail> {
-    let Side(octets, place, mask) = *side;
-    let mut disk = MemoryDisk::new(alloc, 10_000)?;
-    disk.write_at(0, octets)?;
-    if let Some(octet) = octets.get(place) {
-        disk.write_at(place as u64, &[*octet ^ mask])?;
-    }
-    disk.sync()?;
-    Ok(disk)
-}
-
 /// Whether this may be left where so many of the opening and the deeds went well: the state that they
 /// made, or the next one; and before the opening all up to that.
 fn may_be(row: &Row, done: usize, left: &Seen) -> bool {
@@ -45,11 +33,7 @@ fn may_be(row: &Row, done: usize, left: &Seen) -> bool {
         Some(deeds) => (row.before.saturating_add(deeds), 2),
         None => (0, row.before.saturating_add(1)),
     };
-    row.states
-        .iter()
-        .skip(skipped)
-        .take(taken)
-        .any(|state| state == left)
+    is_among(row.states, skipped, taken, left)
 }
 
 /// Whether each image may be left.
@@ -72,24 +56,17 @@ fn are_kept(
 
 /// Goes through a row where this device call of a side is the last one. Whether that leaves what it
 /// may, and whether all went well.
-fn stop_at(alloc: Global, row: &Row, stops_b: bool, call: u64) -> Result<(bool, bool), Fail> {
-    let mut pair = DiskPair {
-        a: disk_of(alloc, &row.a)?,
-        b: disk_of(alloc, &row.b)?,
-    };
-    if stops_b {
-        pair.b.stop_at(call);
-    } else {
-        pair.a.stop_at(call);
-    }
-    let (pair, done) = run(alloc, pair, row.opened, row.deeds)?;
+fn stop(alloc: Global, row: &Row, stops_b: bool, call: u64) -> Result<(bool, bool), Fail> {
+    let mut pair = pair_of(alloc, row.a, row.b)?;
+    stop_at(&mut pair, stops_b, call);
+    let (pair, _seen, done) = run(alloc, pair, row.opened, row.deeds)?;
     Ok((are_kept(alloc, row, &pair, done)?, done > row.deeds.len()))
 }
 
 /// Whether that is so at each call.
 fn is_kept(alloc: Global, row: &Row, stops_b: bool) -> Result<bool, Fail> {
     for call in 0..200 {
-        let (kept, all) = stop_at(alloc, row, stops_b, call)?;
+        let (kept, all) = stop(alloc, row, stops_b, call)?;
         if !kept || all {
             return Ok(kept);
         }
@@ -132,62 +109,86 @@ fn stops(rt: HostRuntime) -> Result<(), Fail> {
         },
     ];
     for (number, row) in rows.iter().enumerate() {
-        assert!(rt; is_kept(alloc, row, false)?, "{number}");
-        assert!(rt; is_kept(alloc, row, true)?, "{number}");
+        for stops_b in [false, true] {
+            let kept = is_kept(alloc, row, stops_b)?;
+            assert!(rt; kept, "{number}, side b {stops_b}");
+        }
     }
     Ok(())
 }
 
-/// How many deeds are done, where this was read after so many went well.
-fn done_after(done: usize, left: &Seen) -> usize {
-    if is_at(done.saturating_add(2), left) {
-        done.saturating_add(1)
-    } else {
-        done
-    }
+/// Whether this is the state of this number, or the one after it.
+fn is_at(number: usize, left: &Seen) -> bool {
+    is_among(&STATES, number, 2, left)
 }
 
-/// The deeds from this number on.
-fn rest_from(deeds: &'static [(u64, Deed)], number: usize) -> &'static [(u64, Deed)] {
-    &deeds[number.min(deeds.len())..]
+/// The deeds that are left, where this was read after so many went well.
+fn rest_after(done: usize, left: &Seen) -> &'static [(u64, Deed)] {
+    let next = usize::from(is_at(done.saturating_add(2), left));
+    RUN.get(done.saturating_add(next)..).unwrap_or(&[])
 }
 
-/// Does the run, where one device call fails; reads the journal again, and does the rest. Whether
-/// the deeds that went well were read, and all others went well then.
-fn is_mended(alloc: Global, pair: DiskPair<MemoryDisk>) -> Result<bool, Fail> {
-    let mut replay = PlainReplay::new(alloc);
-    match Journal::recover(alloc, pair, moment(1000)?, &mut replay) {
-        Ok((mut journal, _found)) => {
-            let done = act_all(alloc, &mut journal, &mut replay, &RUN)?;
-            let Some(left) = read_again(alloc, &mut journal, &mut replay)? else {
-                return Ok(false);
-            };
-            if !is_at(done.saturating_add(1), &left) {
-                return Ok(false);
-            }
-            let rest = rest_from(&RUN, done_after(done, &left));
-            Ok(act_all(alloc, &mut journal, &mut replay, rest)? == rest.len())
-        }
+/// Does the run in an opened journal, one of whose device calls may fail; reads the journal again, and
+/// does the rest. Whether the deeds that went well were read, and all others went well then.
+fn is_resumed<D: LeaseDisk>(
+    alloc: Global,
+    journal: &mut Journal<D>,
+    replay: &mut PlainReplay,
+) -> Result<bool, Fail>
+    requires told { D.tells }
+    requires read { journal.old.unread ≡ false }
+    requires settled { IsSettled D.seen D.may_leave journal.old replay.old }
+{
+    let done = act_all(alloc, journal, replay, &RUN)?;
+    let Some(left) = read_again(alloc, journal, replay)? else {
+        return Ok(false);
+    };
+    let rest = rest_after(done, &left);
+    Ok(is_at(done.saturating_add(1), &left) && act_all(alloc, journal, replay, rest)? == rest.len())
+}
+
+/// The same with an opening at `m`, which is made again where it fails.
+fn is_mended<D: LeaseDisk + Drop>(
+    alloc: Global,
+    pair: DiskPair<D>,
+    m: Moment,
+    replay: &mut PlainReplay,
+) -> Result<bool, Fail>
+    requires told { D.tells }
+{
+    match Journal::recover(alloc, pair, m, replay) {
+        Ok((mut journal, _found)) => is_resumed(alloc, &mut journal, replay),
         Err(unopened) => {
-            let (_pair, done) = run(alloc, unopened.pair, 1000, &RUN)?;
+            let (_pair, _seen, done) = run(alloc, unopened.pair, m.get(), &RUN)?;
             Ok(done > RUN.len())
         }
     }
 }
 
+/// A blank pair of which this device call of a side fails.
+fn failing(alloc: Global, fails_b: bool, call: u64) -> Result<DiskPair<MemoryDisk>, Fail> {
+    let mut pair = blank(alloc)?;
+    if fails_b {
+        pair.b.fail_at(alloc, call)?;
+    } else {
+        pair.a.fail_at(alloc, call)?;
+    }
+    Ok(pair)
+}
+
+/// Whether the run goes on after a fault of this device call.
+fn goes_on(alloc: Global, fails_b: bool, call: u64) -> Result<bool, Fail> {
+    let m = moment(1000)?;
+    let pair = failing(alloc, fails_b, call)?;
+    is_mended(alloc, pair, m, &mut PlainReplay::new(alloc))
+}
+
 #[test]
 fn faults(rt: HostRuntime) -> Result<(), Fail> {
-    let alloc = rt.alloc();
     for fails_b in [false, true] {
         for call in 0..120 {
-            let mut pair = blank(alloc)?;
-            if fails_b {
-                pair.b.fail_at(alloc, call)?;
-            } else {
-                pair.a.fail_at(alloc, call)?;
-            }
-            let mended = is_mended(alloc, pair)?;
-            assert!(rt; mended, "side b {fails_b}, call {call}");
+            let goes_on = goes_on(rt.alloc(), fails_b, call)?;
+            assert!(rt; goes_on, "side b {fails_b}, call {call}");
         }
     }
     Ok(())
