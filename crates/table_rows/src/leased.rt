@@ -1,12 +1,12 @@
 //! Calls of the ports of an address, with answers that are worked out by hand: which are picked where
 //! others are held or rest.
 
-ghost use Rattle.std.specs.Prelude.{◌≡◌, ◌≤◌, OnOk, IfOk};
+ghost use Rattle.std.specs.Prelude.{◌≡◌, ◌≤◌, OnOk};
 ghost use Rattle.std.specs.Bool.{OnTrue};
 ghost use Rattle.external_pool.specs.Calls.{IsAsk};
 ghost use Rattle.leased_ports.specs.Leased.{IsLastEnd};
 
-use crate::making::{at, moment};
+use crate::making::{all_are_so, at, moment};
 use Call::{LastEnd, Pick, Put, Reach};
 use PickRefused::{CannotProvide, NoPort, Quota};
 use Protocol::{Tcp, Udp};
@@ -15,7 +15,6 @@ use external_pool::{PickAsk, PickRefused};
 use leased_ports::LeasedPorts;
 use pcp_base::{End, Endpoint, Memory, Protocol, REST_SECONDS};
 use std::alloc::Global;
-use std::process::Abort;
 
 /// What is wished of the ports that are asked for.
 #[derive(Clone, Copy)]
@@ -233,105 +232,140 @@ fn pick(
         must: matches!(wish, Must | Away),
         here: !matches!(wish, Away),
     };
-    ports
-        .pick(endpoint, &ask)
-        .map(|picked| (picked.start, picked.count))
+    let picked = ports.pick(endpoint, &ask)?;
+    Ok((picked.start, picked.count))
 }
 
-/// Makes a call at `now`, compares its answer, and tells the moment after it.
-fn make(
-    rt: &impl Abort,
+/// Moves on to a moment. Whether it isn't below the one reached.
+fn reaches(ports: &mut LeasedPorts, now: &mut u32, m: u32) -> bool
+    requires { ports.old.reached ≡ now.old }
+    ensures { ports.new.reached ≡ now.new }
+{
+    if m < *now {
+        return false;
+    }
+    ports.reach(moment(m));
+    *now = m;
+    true
+}
+
+/// The last end of an external port over UDP, for a port of the host 10.0.0.H.
+fn end_of(external: u16, row: Option<(u8, u16, u64)>) -> Option<End> {
+    let (host, internal, end) = row?;
+    Some(End {
+        endpoint: at(Udp, host, internal),
+        external,
+        end,
+    })
+}
+
+/// Makes a call at the moment reached. Whether it is answered so.
+fn is_answered(
     alloc: Global,
     ports: &mut LeasedPorts,
-    now: u32,
+    now: &mut u32,
     call: &Call,
-) -> Result<u32, Memory>
-    requires { ports.old.reached ≡ now }
-    ensures { IfOk result (λ m. ports.new.reached ≡ m) }
+) -> Result<bool, Memory>
+    requires { ports.old.reached ≡ now.old }
+    ensures { OnOk result (ports.new.reached ≡ now.new) }
 {
-    match *call {
+    Ok(match *call {
         Put(host, protocol, internal, external, n, end) => {
             let first = End {
                 endpoint: at(protocol, host, internal),
                 external,
                 end: u64::from(end),
             };
-            let put = put_all(alloc, ports, now, &first, n)?;
-            assert!(rt; put);
-            Ok(now)
+            put_all(alloc, ports, *now, &first, n)?
         }
-        Reach(m) => {
-            assert!(rt; now <= m);
-            ports.reach(moment(m));
-            Ok(m)
-        }
+        Reach(m) => reaches(ports, now, m),
         Pick(host, protocol, internal, suggested, asked, wish, wanted) => {
-            assert!(rt; asked >= 1);
             let endpoint = at(protocol, host, internal);
-            assert!(rt; pick(ports, &endpoint, suggested, asked, wish) == wanted);
-            Ok(now)
+            asked >= 1 && pick(ports, &endpoint, suggested, asked, wish) == wanted
         }
-        LastEnd(port, wanted) => {
-            let last = wanted.map(|(host, internal, end)| End {
-                endpoint: at(Udp, host, internal),
-                external: port,
-                end,
-            });
-            assert!(rt; ports.last_end(Udp, port) == last);
-            Ok(now)
-        }
-    }
+        LastEnd(port, wanted) => ports.last_end(Udp, port) == end_of(port, wanted),
+    })
 }
 
-/// Makes calls, one after the other, of the ports from `low` to `high`, from the moment 0 on.
-fn call_all(
-    rt: &impl Abort,
+/// Whether the ports are vacant when they were cleared.
+fn forgets(ports: &mut LeasedPorts, low: u16) -> bool {
+    ports.clear();
+    pick(ports, &at(Udp, 1, 1), 0, 1, Any) == Ok((low, 1))
+}
+
+/// Makes calls, one after the other, of ports from `low` on, from the moment 0 on, and clears them
+/// then. The first that is answered otherwise.
+fn first_other(
+    alloc: Global,
+    ports: &mut LeasedPorts,
+    low: u16,
+    calls: &[Call],
+) -> Result<Option<usize>, Memory>
+    requires { ports.old.reached ≡ 0 }
+{
+    let mut now = 0;
+    for (i, call) in calls.iter().enumerate() {
+        if !is_answered(alloc, ports, &mut now, call)? {
+            return Ok(Some(i));
+        }
+    }
+    if !forgets(ports, low) {
+        return Ok(Some(calls.len()));
+    }
+    Ok(None)
+}
+
+/// The same of the ports from `low` to `high`, of which none is held.
+fn first_other_of_new(
     alloc: Global,
     low: u16,
     high: u16,
     quota: u32,
     calls: &[Call],
-) -> Result<(), Memory>
+) -> Result<Option<usize>, Memory>
     requires some { 1 ≤ low }
     requires ordered { low ≤ high }
 {
     let mut ports = LeasedPorts::new(alloc, low, high, quota)?;
-    let mut now = 0;
-    for call in calls {
-        now = make(rt, alloc, &mut ports, now, call)?;
-    }
-    ports.clear();
-    assert!(rt; pick(&ports, &at(Udp, 1, 1), 0, 1, Any) == Ok((low, 1)));
-    Ok(())
+    first_other(alloc, &mut ports, low, calls)
 }
 
 #[test]
-fn a_taken_suggestion_gives_the_least_vacant_port(rt: HostRuntime) -> Result<(), Memory> {
-    call_all(&rt, rt.alloc(), 1024, 65535, 100, &SUGGESTED)
+fn a_taken_suggestion_gives_the_least_vacant_port(rt: HostRuntime) {
+    all_are_so(
+        &rt,
+        first_other_of_new(rt.alloc(), 1024, 65535, 100, &SUGGESTED),
+    );
 }
 
 #[test]
-fn the_longest_run_is_picked(rt: HostRuntime) -> Result<(), Memory> {
-    call_all(&rt, rt.alloc(), 10, 20, 100, &LONGEST)
+fn the_longest_run_is_picked(rt: HostRuntime) {
+    all_are_so(&rt, first_other_of_new(rt.alloc(), 10, 20, 100, &LONGEST));
 }
 
 #[test]
-fn the_quota_counts_ports(rt: HostRuntime) -> Result<(), Memory> {
-    call_all(&rt, rt.alloc(), 1024, 65535, 4, &QUOTA)
+fn the_quota_counts_ports(rt: HostRuntime) {
+    all_are_so(&rt, first_other_of_new(rt.alloc(), 1024, 65535, 4, &QUOTA));
 }
 
 #[test]
-fn a_port_is_held_and_rests_for_its_endpoint(rt: HostRuntime) -> Result<(), Memory> {
-    call_all(&rt, rt.alloc(), 1024, 65535, 100, &RESTS)
+fn a_port_is_held_and_rests_for_its_endpoint(rt: HostRuntime) {
+    all_are_so(
+        &rt,
+        first_other_of_new(rt.alloc(), 1024, 65535, 100, &RESTS),
+    );
 }
 
 #[test]
-fn sets_of_4096_ports_with_parity(rt: HostRuntime) -> Result<(), Memory> {
-    call_all(&rt, rt.alloc(), 1024, 65535, u32::MAX, &SETS)
+fn sets_of_4096_ports_with_parity(rt: HostRuntime) {
+    all_are_so(
+        &rt,
+        first_other_of_new(rt.alloc(), 1024, 65535, u32::MAX, &SETS),
+    );
 }
 
 #[test]
-fn a_whole_range_is_held_and_rests(rt: HostRuntime) -> Result<(), Memory> {
-    call_all(&rt, rt.alloc(), 1, 65535, 65535, &WHOLE)?;
-    call_all(&rt, rt.alloc(), 65533, 65535, 5, &LAST)
+fn a_whole_range_is_held_and_rests(rt: HostRuntime) {
+    all_are_so(&rt, first_other_of_new(rt.alloc(), 1, 65535, 65535, &WHOLE));
+    all_are_so(&rt, first_other_of_new(rt.alloc(), 65533, 65535, 5, &LAST));
 }

@@ -1,7 +1,8 @@
-//! Endpoints, moments and leases.
+//! Endpoints, moments and leases, and what a test says of a table of rows.
 ghost use Rattle.std.specs.Prelude.{◌≡◌};
 
-use pcp_base::{Address, Endpoint, Filters, MapLease, Moment, Nonce, PeerLease, Protocol};
+use pcp_base::{Address, Endpoint, Filters, MapLease, Memory, Moment, Nonce, PeerLease, Protocol};
+use std::process::Abort;
 
 /// An endpoint of the host 10.0.0.H.
 pub(crate) fn at(protocol: Protocol, host: u8, port: u16) -> Endpoint {
@@ -61,4 +62,9 @@ pub(crate) fn peer_of(
         granted,
         expiry,
     }
+}
+
+/// Ends the test where a row came out otherwise, by its number, or memory was wanting.
+pub(crate) fn all_are_so(rt: &impl Abort, other: Result<Option<usize>, Memory>) {
+    assert!(rt; other == Ok(None), "{other:?}");
 }

@@ -2,9 +2,9 @@
 
 ghost use Rattle.std.specs.Prelude.{◌≡◌, OnOk};
 
-use crate::making::{at, map_of, moment};
-use crate::sound_maps::{after_put, are_sound};
-use Call::{Ended, External, Find, Live, Next, Put, Remove};
+use crate::making::{all_are_so, at, map_of, moment};
+use crate::sound_maps::are_sound_with;
+use Call::{Copied, Ended, External, Find, Live, Next, Put, Remove};
 use mapping_table::MapTable;
 use mapping_table::plain::PlainMapTable;
 use pcp_base::Protocol::{Tcp, Udp};
@@ -14,21 +14,23 @@ use std::alloc::Global;
 /// A call, and the answer that is wanted. Leases are told by their first external ports.
 #[derive(Clone, Copy)]
 enum Call {
-    /// A host, its first port, how many, the first external port, and the expiry.
-    Put(u8, u16, u16, u16, u32),
+    /// Protocol, host, its first port, how many, the first external port, and the expiry.
+    Put(Protocol, u8, u16, u16, u16, u32),
     Find(u8, u16, Option<u16>),
     External(u16, Option<u16>),
     Next(u8, u16, Option<u16>),
     Remove(u8, u16, Option<u16>),
     Live(u32, u32),
     Ended(u32, Option<u16>),
+    /// The moments at which the one body and the plain one copy leases, and which come.
+    Copied(u32, u32, &'static [u16]),
 }
 
 static FOUND: [Call; 24] = [
     Find(5, 5000, None),
-    Put(5, 6000, 5, 1024, 4610),
-    Put(5, 5000, 1, 1029, 4610),
-    Put(6, 6000, 1, 1030, 1130),
+    Put(Udp, 5, 6000, 5, 1024, 4610),
+    Put(Udp, 5, 5000, 1, 1029, 4610),
+    Put(Udp, 6, 6000, 1, 1030, 1130),
     Find(5, 5999, None),
     Find(5, 6000, Some(1024)),
     Find(5, 6004, Some(1024)),
@@ -52,9 +54,9 @@ static FOUND: [Call; 24] = [
 ];
 
 static RENEWED: [Call; 19] = [
-    Put(5, 5000, 1, 1024, 1130),
-    Put(6, 5000, 1, 1025, 1120),
-    Put(7, 5000, 1, 1026, 4610),
+    Put(Udp, 5, 5000, 1, 1024, 1130),
+    Put(Udp, 6, 5000, 1, 1025, 1120),
+    Put(Udp, 7, 5000, 1, 1026, 4610),
     Live(1119, 3),
     Ended(1119, None),
     // A lease isn't live at its expiry.
@@ -64,16 +66,24 @@ static RENEWED: [Call; 19] = [
     Ended(1130, Some(1024)),
     Live(1130, 1),
     // Renewed: the same place, another expiry.
-    Put(5, 5000, 1, 1024, 1140),
+    Put(Udp, 5, 5000, 1, 1024, 1140),
     Ended(1139, Some(1025)),
     Ended(1140, Some(1024)),
-    Put(5, 5000, 1, 1030, 1140),
+    Put(Udp, 5, 5000, 1, 1030, 1140),
     External(1024, None),
     External(1030, Some(1030)),
     Ended(1140, Some(1030)),
     Remove(6, 5000, Some(1025)),
     Ended(1139, None),
     Live(1139, 2),
+];
+
+// In the order granted.
+static COPIED: [Call; 4] = [
+    Put(Udp, 5, 5000, 1, 1025, 1130),
+    Put(Tcp, 5, 5000, 1, 1024, 1131),
+    Put(Udp, 4, 5000, 1, 1026, 4610),
+    Copied(1130, 1131, &[1024, 1026, 1026]),
 ];
 
 /// A lease that was granted at 0.
@@ -96,13 +106,69 @@ fn put_both(
     requires { table.old ≡ plain.old }
     ensures { OnOk result (table.new ≡ plain.new) }
 {
-    let after = after_put(alloc, plain.leases(), lease)?;
-    if !are_sound(&after) {
+    if !are_sound_with(alloc, plain.leases(), lease)? {
         return Ok(false);
     }
     table.put(alloc, *lease)?;
     plain.put(alloc, *lease)?;
     Ok(true)
+}
+
+/// Takes a lease out of both bodies. Whether each tells the one that is wanted.
+fn is_removed(
+    table: &mut MapTable,
+    plain: &mut PlainMapTable,
+    key: &Endpoint,
+    wanted: Option<u16>,
+) -> bool
+    requires { table.old ≡ plain.old }
+    ensures { table.new ≡ plain.new }
+{
+    let (removed, plainly) = (table.remove(key), plain.remove(key));
+    (told(removed.as_ref()), told(plainly.as_ref())) == (wanted, wanted)
+}
+
+/// Whether both bodies copy the leases of these external ports.
+fn are_copied(
+    alloc: Global,
+    table: &MapTable,
+    plain: &PlainMapTable,
+    moments: (u32, u32),
+    wanted: &[u16],
+) -> Result<bool, Memory> {
+    let mut live = Vec::new(alloc);
+    table.copy_live(alloc, moment(moments.0), &mut live)?;
+    plain.copy_live(alloc, moment(moments.1), &mut live)?;
+    Ok(
+        live.iter()
+            .map(|lease| lease.external)
+            .eq(wanted.iter().copied()),
+    )
+}
+
+/// Whether both bodies answer so a call that changes nothing and copies nothing.
+fn is_told(table: &MapTable, plain: &PlainMapTable, call: &Call) -> bool {
+    match *call {
+        Find(host, port, wanted) => {
+            let endpoint = at(Udp, host, port);
+            (told(table.find(&endpoint)), told(plain.find(&endpoint))) == (wanted, wanted)
+        }
+        External(port, wanted) => {
+            let found = told(table.by_external(Udp, port));
+            (found, told(plain.by_external(Udp, port))) == (wanted, wanted)
+        }
+        Next(host, port, wanted) => {
+            let endpoint = at(Udp, host, port);
+            let next = table.next_internal(&endpoint);
+            (next, plain.next_internal(&endpoint)) == (wanted, wanted)
+        }
+        Live(m, wanted) => (table.live(moment(m)), plain.live(moment(m))) == (wanted, wanted),
+        Ended(m, wanted) => {
+            let ended = told(table.ended(moment(m)));
+            (ended, told(plain.ended(moment(m)))) == (wanted, wanted)
+        }
+        _ => false,
+    }
 }
 
 /// Makes a call of both bodies. Whether both give the answer that is wanted.
@@ -116,101 +182,63 @@ fn is_answered(
     ensures { OnOk result (table.new ≡ plain.new) }
 {
     Ok(match *call {
-        Put(host, internal, count, external, expiry) => {
-            let new = lease(&at(Udp, host, internal), count, external, expiry);
+        Put(protocol, host, internal, count, external, expiry) => {
+            let new = lease(&at(protocol, host, internal), count, external, expiry);
             put_both(alloc, table, plain, &new)?
         }
-        Find(host, port, wanted) => {
-            let endpoint = at(Udp, host, port);
-            told(table.find(&endpoint)) == wanted && told(plain.find(&endpoint)) == wanted
+        Remove(host, port, wanted) => is_removed(table, plain, &at(Udp, host, port), wanted),
+        Copied(first, second, wanted) => {
+            are_copied(alloc, table, plain, (first, second), wanted)?
         }
-        External(port, wanted) => {
-            told(table.by_external(Udp, port)) == wanted
-                && told(plain.by_external(Udp, port)) == wanted
-        }
-        Next(host, port, wanted) => {
-            let endpoint = at(Udp, host, port);
-            table.next_internal(&endpoint) == wanted && plain.next_internal(&endpoint) == wanted
-        }
-        Remove(host, port, wanted) => {
-            let key = at(Udp, host, port);
-            let (removed, plainly) = (table.remove(&key), plain.remove(&key));
-            told(removed.as_ref()) == wanted && told(plainly.as_ref()) == wanted
-        }
-        Live(m, wanted) => table.live(moment(m)) == wanted && plain.live(moment(m)) == wanted,
-        Ended(m, wanted) => {
-            told(table.ended(moment(m))) == wanted && told(plain.ended(moment(m))) == wanted
-        }
+        _ => is_told(table, plain, call),
     })
 }
 
-/// Makes calls, one after the other, of bodies without a lease. The first that is answered otherwise.
-fn first_other(alloc: Global, calls: &[Call]) -> Result<Option<usize>, Memory> {
-    let mut table = MapTable::new(alloc)?;
-    let mut plain = PlainMapTable::new(alloc)?;
+/// Whether the table forgets its leases.
+fn forgets(table: &mut MapTable) -> bool {
+    table.clear();
+    table.find(&at(Tcp, 5, 5000)).is_none() && table.live(moment(0)) == 0
+}
+
+/// Makes calls, one after the other, of bodies that hold the same, and clears the one then. The
+/// first that is answered otherwise.
+fn first_other(
+    alloc: Global,
+    table: &mut MapTable,
+    plain: &mut PlainMapTable,
+    calls: &[Call],
+) -> Result<Option<usize>, Memory>
+    requires { table.old ≡ plain.old }
+{
     for (number, call) in calls.iter().enumerate() {
-        if !is_answered(alloc, &mut table, &mut plain, call)? {
+        if !is_answered(alloc, table, plain, call)? {
             return Ok(Some(number));
         }
+    }
+    if !forgets(table) {
+        return Ok(Some(calls.len()));
     }
     Ok(None)
 }
 
-#[test]
-fn leases_are_found_by_all_their_ports(rt: HostRuntime) -> Result<(), Memory> {
-    let other = first_other(rt.alloc(), &FOUND)?;
-    assert!(rt; other.is_none(), "{other:?}");
-    Ok(())
-}
-
-#[test]
-fn a_renewal_keeps_its_place(rt: HostRuntime) -> Result<(), Memory> {
-    let other = first_other(rt.alloc(), &RENEWED)?;
-    assert!(rt; other.is_none(), "{other:?}");
-    Ok(())
-}
-
-// Leases of one port each, in the order granted: protocol, host, external port and expiry.
-static THREE: [(Protocol, u8, u16, u32); 3] = [
-    (Udp, 5, 1025, 1130),
-    (Tcp, 5, 1024, 1131),
-    (Udp, 4, 1026, 4610),
-];
-
-/// Puts the three into both bodies. Whether all were sound.
-fn put_three(alloc: Global, table: &mut MapTable, plain: &mut PlainMapTable) -> Result<bool, Memory>
-    requires { table.old ≡ plain.old }
-    ensures { OnOk result (table.new ≡ plain.new) }
-{
-    for (protocol, host, external, expiry) in THREE {
-        let new = lease(&at(protocol, host, 5000), 1, external, expiry);
-        if !put_both(alloc, table, plain, &new)? {
-            return Ok(false);
-        }
-    }
-    Ok(true)
-}
-
-/// Whether the bodies copy the leases that are live at 1130 and at 1131.
-fn copies(alloc: Global, table: &MapTable, plain: &PlainMapTable) -> Result<bool, Memory> {
-    let mut live = Vec::new(alloc);
-    table.copy_live(alloc, moment(1130), &mut live)?;
-    plain.copy_live(alloc, moment(1131), &mut live)?;
-    Ok(
-        live.iter()
-            .map(|lease| lease.external)
-            .eq([1024, 1026, 1026]),
-    )
-}
-
-#[test]
-fn live_leases_are_copied_in_order(rt: HostRuntime) -> Result<(), Memory> {
-    let alloc = rt.alloc();
-    let mut table = MapTable::new(alloc)?;
+/// The same of bodies without a lease.
+fn first_other_of_new(alloc: Global, calls: &[Call]) -> Result<Option<usize>, Memory> {
     let mut plain = PlainMapTable::new(alloc)?;
-    assert!(rt; put_three(alloc, &mut table, &mut plain)?);
-    assert!(rt; copies(alloc, &table, &plain)?);
-    table.clear();
-    assert!(rt; table.find(&at(Tcp, 5, 5000)).is_none());
-    Ok(())
+    let mut table = MapTable::new(alloc)?;
+    first_other(alloc, &mut table, &mut plain, calls)
+}
+
+#[test]
+fn leases_are_found_by_all_their_ports(rt: HostRuntime) {
+    all_are_so(&rt, first_other_of_new(rt.alloc(), &FOUND));
+}
+
+#[test]
+fn a_renewal_keeps_its_place(rt: HostRuntime) {
+    all_are_so(&rt, first_other_of_new(rt.alloc(), &RENEWED));
+}
+
+#[test]
+fn live_leases_are_copied_in_order(rt: HostRuntime) {
+    all_are_so(&rt, first_other_of_new(rt.alloc(), &COPIED));
 }

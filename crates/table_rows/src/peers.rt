@@ -2,11 +2,11 @@
 
 ghost use Rattle.std.specs.Prelude.{◌≡◌, OnOk};
 
-use crate::making::{at, moment, peer_of, remote};
-use crate::sound_peers::{after_put, are_sound};
-use Call::{Ended, External, Find, Live, Next, OfEndpoint, Put, Remove};
+use crate::making::{all_are_so, at, moment, peer_of, remote};
+use crate::sound_peers::are_sound_with;
+use Call::{Copied, Ended, External, Find, Last, Live, Next, OfEndpoint, Put, Remove, Unsound};
 use pcp_base::Protocol::Udp;
-use pcp_base::{Memory, PeerLease};
+use pcp_base::{Address, Endpoint, Memory, PeerLease};
 use peer_table::plain::PlainPeerTable;
 use peer_table::{PeerTable, PortUse};
 use std::alloc::Global;
@@ -17,6 +17,8 @@ use std::alloc::Global;
 enum Call {
     /// A host and its port, the external port, a remote and its port, and the expiry.
     Put(u8, u16, u16, u8, u16, u32),
+    /// The same, of a lease that may not stand beside the others.
+    Unsound(u8, u16, u16, u8, u16, u32),
     Find(u8, u16, u8, u16, Option<u64>),
     External(u16, u8, u16, Option<u64>),
     Next(u8, u16, Option<u16>),
@@ -25,6 +27,10 @@ enum Call {
     Remove(u8, u16, u8, u16, Option<u64>),
     Live(u32, u32),
     Ended(u32, Option<u64>),
+    /// An external port, of which the plain body doesn't tell it.
+    Last(u16, Option<u64>),
+    /// The moments at which the one body and the plain one copy leases, and how many come.
+    Copied(u32, u32, usize),
 }
 
 static OPENED: [Call; 26] = [
@@ -80,6 +86,35 @@ static RENEWED: [Call; 18] = [
     Live(1139, 2),
 ];
 
+// An endpoint has no more leases than sixteen.
+static SIXTEEN: [Call; 18] = [
+    Put(5, 5000, 1024, 0, 53, 4610),
+    Put(5, 5000, 1024, 1, 53, 4610),
+    Put(5, 5000, 1024, 2, 53, 4610),
+    Put(5, 5000, 1024, 3, 53, 4610),
+    Put(5, 5000, 1024, 4, 53, 4610),
+    Put(5, 5000, 1024, 5, 53, 4610),
+    Put(5, 5000, 1024, 6, 53, 4610),
+    Put(5, 5000, 1024, 7, 53, 4610),
+    Put(5, 5000, 1024, 8, 53, 4610),
+    Put(5, 5000, 1024, 9, 53, 4610),
+    Put(5, 5000, 1024, 10, 53, 4610),
+    Put(5, 5000, 1024, 11, 53, 4610),
+    Put(5, 5000, 1024, 12, 53, 4610),
+    Put(5, 5000, 1024, 13, 53, 4610),
+    Put(5, 5000, 1024, 14, 53, 4610),
+    Put(5, 5000, 1024, 15, 53, 4610),
+    OfEndpoint(5, 5000, 4609, Some((1024, 16))),
+    Unsound(5, 5000, 1024, 16, 53, 4610),
+];
+
+static COPIED: [Call; 4] = [
+    Put(5, 5000, 1024, 0, 53, 4610),
+    Put(5, 5000, 1024, 1, 53, 4610),
+    Copied(4609, 4610, 2),
+    Last(1024, Some(4610)),
+];
+
 /// A lease of the host over UDP that was granted at 0.
 fn lease(host: u8, port: u16, external: u16, remote: (u8, u16), expiry: u32) -> PeerLease {
     peer_of(
@@ -111,13 +146,77 @@ fn put_both(
     requires { table.old ≡ plain.old }
     ensures { OnOk result (table.new ≡ plain.new) }
 {
-    let after = after_put(alloc, plain.leases(), lease)?;
-    if !are_sound(&after) {
+    if !are_sound_with(alloc, plain.leases(), lease)? {
         return Ok(false);
     }
     table.put(alloc, *lease)?;
     plain.put(alloc, *lease)?;
     Ok(true)
+}
+
+/// Takes a lease out of both bodies. Whether each tells the one that is wanted.
+fn is_removed(
+    table: &mut PeerTable,
+    plain: &mut PlainPeerTable,
+    endpoint: &Endpoint,
+    remote: (&Address, u16),
+    wanted: Option<u64>,
+) -> bool
+    requires { table.old ≡ plain.old }
+    ensures { table.new ≡ plain.new }
+{
+    let removed = table.remove(endpoint, remote.0, remote.1);
+    let plainly = plain.remove(endpoint, remote.0, remote.1);
+    (told(removed.as_ref()), told(plainly.as_ref())) == (wanted, wanted)
+}
+
+/// How many leases both bodies copy.
+fn copied(
+    alloc: Global,
+    table: &PeerTable,
+    plain: &PlainPeerTable,
+    moments: (u32, u32),
+) -> Result<usize, Memory> {
+    let mut live = Vec::new(alloc);
+    table.copy_live(alloc, moment(moments.0), &mut live)?;
+    plain.copy_live(alloc, moment(moments.1), &mut live)?;
+    Ok(live.len())
+}
+
+/// Whether both bodies answer so a call that changes nothing and copies nothing.
+fn is_told(table: &PeerTable, plain: &PlainPeerTable, call: &Call) -> bool {
+    match *call {
+        Find(host, port, number, remote_port, wanted) => {
+            let (endpoint, remote) = (at(Udp, host, port), remote(number));
+            let found = told(table.find(&endpoint, &remote, remote_port));
+            let plainly = told(plain.find(&endpoint, &remote, remote_port));
+            (found, plainly) == (wanted, wanted)
+        }
+        External(port, number, remote_port, wanted) => {
+            let remote = remote(number);
+            let found = told(table.by_external(Udp, port, &remote, remote_port));
+            let plainly = told(plain.by_external(Udp, port, &remote, remote_port));
+            (found, plainly) == (wanted, wanted)
+        }
+        Next(host, port, wanted) => {
+            let endpoint = at(Udp, host, port);
+            let next = table.next_internal(&endpoint);
+            (next, plain.next_internal(&endpoint)) == (wanted, wanted)
+        }
+        OfEndpoint(host, port, m, wanted) => {
+            let endpoint = at(Udp, host, port);
+            let found = use_told(table.of_endpoint(&endpoint, moment(m)));
+            let plainly = use_told(plain.of_endpoint(&endpoint, moment(m)));
+            (found, plainly) == (wanted, wanted)
+        }
+        Live(m, wanted) => (table.live(moment(m)), plain.live(moment(m))) == (wanted, wanted),
+        Ended(m, wanted) => {
+            let ended = told(table.ended(moment(m)));
+            (ended, told(plain.ended(moment(m)))) == (wanted, wanted)
+        }
+        Last(port, wanted) => table.last_expiry(Udp, port) == wanted,
+        _ => false,
+    }
 }
 
 /// Makes a call of both bodies. Whether both give the answer that is wanted.
@@ -135,113 +234,75 @@ fn is_answered(
             let new = lease(host, port, external, (number, remote_port), expiry);
             put_both(alloc, table, plain, &new)?
         }
-        Find(host, port, number, remote_port, wanted) => {
-            let (endpoint, remote) = (at(Udp, host, port), remote(number));
-            told(table.find(&endpoint, &remote, remote_port)) == wanted
-                && told(plain.find(&endpoint, &remote, remote_port)) == wanted
-        }
-        External(port, number, remote_port, wanted) => {
-            let remote = remote(number);
-            told(table.by_external(Udp, port, &remote, remote_port)) == wanted
-                && told(plain.by_external(Udp, port, &remote, remote_port)) == wanted
-        }
-        Next(host, port, wanted) => {
-            let endpoint = at(Udp, host, port);
-            table.next_internal(&endpoint) == wanted && plain.next_internal(&endpoint) == wanted
-        }
-        OfEndpoint(host, port, m, wanted) => {
-            let endpoint = at(Udp, host, port);
-            use_told(table.of_endpoint(&endpoint, moment(m))) == wanted
-                && use_told(plain.of_endpoint(&endpoint, moment(m))) == wanted
+        Unsound(host, port, external, number, remote_port, expiry) => {
+            let new = lease(host, port, external, (number, remote_port), expiry);
+            !put_both(alloc, table, plain, &new)?
         }
         Remove(host, port, number, remote_port, wanted) => {
-            let (endpoint, remote) = (at(Udp, host, port), remote(number));
-            let removed = table.remove(&endpoint, &remote, remote_port);
-            let plainly = plain.remove(&endpoint, &remote, remote_port);
-            told(removed.as_ref()) == wanted && told(plainly.as_ref()) == wanted
+            let remote = remote(number);
+            is_removed(
+                table,
+                plain,
+                &at(Udp, host, port),
+                (&remote, remote_port),
+                wanted,
+            )
         }
-        Live(m, wanted) => table.live(moment(m)) == wanted && plain.live(moment(m)) == wanted,
-        Ended(m, wanted) => {
-            told(table.ended(moment(m))) == wanted && told(plain.ended(moment(m))) == wanted
-        }
+        Copied(first, second, count) => copied(alloc, table, plain, (first, second))? == count,
+        _ => is_told(table, plain, call),
     })
 }
 
-/// Makes calls, one after the other, of bodies without a lease. The first that is answered otherwise.
-fn first_other(alloc: Global, calls: &[Call]) -> Result<Option<usize>, Memory> {
-    let mut table = PeerTable::new(alloc)?;
-    let mut plain = PlainPeerTable::new(alloc)?;
+/// Whether the table forgets its leases.
+fn forgets(table: &mut PeerTable) -> bool {
+    table.clear();
+    table.last_expiry(Udp, 1024) == None && table.live(moment(0)) == 0
+}
+
+/// Makes calls, one after the other, of bodies that hold the same, and clears the one then. The
+/// first that is answered otherwise.
+fn first_other(
+    alloc: Global,
+    table: &mut PeerTable,
+    plain: &mut PlainPeerTable,
+    calls: &[Call],
+) -> Result<Option<usize>, Memory>
+    requires { table.old ≡ plain.old }
+{
     for (number, call) in calls.iter().enumerate() {
-        if !is_answered(alloc, &mut table, &mut plain, call)? {
+        if !is_answered(alloc, table, plain, call)? {
             return Ok(Some(number));
         }
+    }
+    if !forgets(table) {
+        return Ok(Some(calls.len()));
     }
     Ok(None)
 }
 
-#[test]
-fn a_lease_opens_its_port_to_its_remote(rt: HostRuntime) -> Result<(), Memory> {
-    let other = first_other(rt.alloc(), &OPENED)?;
-    assert!(rt; other.is_none(), "{other:?}");
-    Ok(())
-}
-
-#[test]
-fn a_renewed_lease_keeps_its_place(rt: HostRuntime) -> Result<(), Memory> {
-    let other = first_other(rt.alloc(), &RENEWED)?;
-    assert!(rt; other.is_none(), "{other:?}");
-    Ok(())
-}
-
-/// Puts leases of one endpoint to so many remotes into both bodies. Whether all were sound.
-fn put_many(
-    alloc: Global,
-    table: &mut PeerTable,
-    plain: &mut PlainPeerTable,
-    remotes: u8,
-) -> Result<bool, Memory>
-    requires { table.old ≡ plain.old }
-    ensures { OnOk result (table.new ≡ plain.new) }
-{
-    for number in 0..remotes {
-        let new = lease(5, 5000, 1024, (number, 53), 4610);
-        if !put_both(alloc, table, plain, &new)? {
-            return Ok(false);
-        }
-    }
-    Ok(true)
-}
-
-#[test]
-fn an_endpoint_has_sixteen_leases(rt: HostRuntime) -> Result<(), Memory> {
-    let alloc = rt.alloc();
-    let mut table = PeerTable::new(alloc)?;
+/// The same of bodies without a lease.
+fn first_other_of_new(alloc: Global, calls: &[Call]) -> Result<Option<usize>, Memory> {
     let mut plain = PlainPeerTable::new(alloc)?;
-    assert!(rt; put_many(alloc, &mut table, &mut plain, 16)?);
-    let found = table.of_endpoint(&at(Udp, 5, 5000), moment(4609));
-    assert!(rt; use_told(found) == Some((1024, 16)));
-    let new = lease(5, 5000, 1024, (16, 53), 4610);
-    assert!(rt; !put_both(alloc, &mut table, &mut plain, &new)?);
-    Ok(())
-}
-
-/// How many leases both bodies copy, the first at 4609, the second at 4610.
-fn copied(alloc: Global, table: &PeerTable, plain: &PlainPeerTable) -> Result<usize, Memory> {
-    let mut live = Vec::new(alloc);
-    table.copy_live(alloc, moment(4609), &mut live)?;
-    plain.copy_live(alloc, moment(4610), &mut live)?;
-    Ok(live.len())
+    let mut table = PeerTable::new(alloc)?;
+    first_other(alloc, &mut table, &mut plain, calls)
 }
 
 #[test]
-fn live_leases_are_copied(rt: HostRuntime) -> Result<(), Memory> {
-    let alloc = rt.alloc();
-    let mut table = PeerTable::new(alloc)?;
-    let mut plain = PlainPeerTable::new(alloc)?;
-    assert!(rt; put_many(alloc, &mut table, &mut plain, 2)?);
-    assert!(rt; copied(alloc, &table, &plain)? == 2);
-    let last = table.last_expiry(Udp, 1024);
-    table.clear();
-    assert!(rt; last == Some(4610) && table.last_expiry(Udp, 1024) == None);
-    Ok(())
+fn a_lease_opens_its_port_to_its_remote(rt: HostRuntime) {
+    all_are_so(&rt, first_other_of_new(rt.alloc(), &OPENED));
+}
+
+#[test]
+fn a_renewed_lease_keeps_its_place(rt: HostRuntime) {
+    all_are_so(&rt, first_other_of_new(rt.alloc(), &RENEWED));
+}
+
+#[test]
+fn an_endpoint_has_sixteen_leases(rt: HostRuntime) {
+    all_are_so(&rt, first_other_of_new(rt.alloc(), &SIXTEEN));
+}
+
+#[test]
+fn live_leases_are_copied(rt: HostRuntime) {
+    all_are_so(&rt, first_other_of_new(rt.alloc(), &COPIED));
 }

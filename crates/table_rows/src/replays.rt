@@ -2,13 +2,12 @@
 ghost use Rattle.std.specs.Prelude.{OnOk};
 ghost use Rattle.pcp_base.specs.Reached.{IsReached, IsReachedFirst};
 
-use crate::making::at;
+use crate::making::{all_are_so, at};
 use crate::records::{Act, Ports, record};
 use pcp_base::Protocol::Udp;
-use pcp_base::{Address, End, Replay};
+use pcp_base::{Address, End, Memory, Replay};
 use plain_replay::PlainReplay;
 use std::alloc::Global;
-use std::test::*;
 
 /// A record at a moment, whether it fits, and what the state is after it: the number of MAP and of PEER
 /// leases, the ends (host, external port, end), the base, and the N of the address.
@@ -287,71 +286,91 @@ fn is_told(replay: &PlainReplay, row: &Row) -> bool {
         && replay.address() == row.6.map(|n| Address::v4(192, 0, 2, n))
 }
 
-/// Whether the record of the row is admitted.
-fn admits(alloc: Global, replay: &mut PlainReplay, row: &Row) -> Result<bool, Fail>
+/// Whether the record of the row fits, as the row says, and leaves its state.
+fn is_so(alloc: Global, replay: &mut PlainReplay, row: &Row) -> Result<bool, Memory>
     requires { IsReached replay.old }
     ensures { OnOk result (IsReached replay.new) }
 {
     let kept = record(row.0, row.1);
-    Ok(replay.admit(alloc, &kept)?)
+    Ok(replay.admit(alloc, &kept)? == row.2 && is_told(replay, row))
 }
 
 /// The same by the rules of the first format.
-fn admits_first(alloc: Global, replay: &mut PlainReplay, row: &Row) -> Result<bool, Fail>
+fn is_so_in_first(alloc: Global, replay: &mut PlainReplay, row: &Row) -> Result<bool, Memory>
     requires { IsReachedFirst replay.old }
     ensures { OnOk result (IsReachedFirst replay.new) }
 {
     let kept = record(row.0, row.1);
-    Ok(replay.admit_first(alloc, &kept)?)
+    Ok(replay.admit_first(alloc, &kept)? == row.2 && is_told(replay, row))
 }
 
-/// The moment of the first row that comes out otherwise.
-fn first_other(alloc: Global, rows: &[Row]) -> Result<Option<u32>, Fail> {
-    let mut replay = PlainReplay::new(alloc);
-    for row in rows {
-        let fits = admits(alloc, &mut replay, row)?;
-        if fits != row.2 || !is_told(&replay, row) {
-            return Ok(Some(row.0));
+/// The first row that comes out otherwise.
+fn first_other(
+    alloc: Global,
+    replay: &mut PlainReplay,
+    rows: &[Row],
+) -> Result<Option<usize>, Memory>
+    requires { IsReached replay.old }
+{
+    for (i, row) in rows.iter().enumerate() {
+        if !is_so(alloc, replay, row)? {
+            return Ok(Some(i));
         }
     }
     Ok(None)
 }
 
-/// The same by the rules of the first format, in a replay that was cleared.
-fn first_other_in_first(alloc: Global, rows: &[Row]) -> Result<Option<u32>, Fail> {
-    let mut replay = PlainReplay::new(alloc);
-    admits(alloc, &mut replay, &ROWS[1])?;
+/// The same by the rules of the first format, in a replay that is cleared after a Start.
+fn first_other_in_first(
+    alloc: Global,
+    replay: &mut PlainReplay,
+    rows: &[Row],
+) -> Result<Option<usize>, Memory>
+    requires { IsReached replay.old }
+{
+    let start = record(1000, Act::Start);
+    replay.admit(alloc, &start)?;
     replay.clear();
-    for row in rows {
-        let fits = admits_first(alloc, &mut replay, row)?;
-        if fits != row.2 || !is_told(&replay, row) {
-            return Ok(Some(row.0));
+    for (i, row) in rows.iter().enumerate() {
+        if !is_so_in_first(alloc, replay, row)? {
+            return Ok(Some(i));
         }
     }
     Ok(None)
 }
 
-#[test]
-fn records_leave_these_states(rt: HostRuntime) -> Result<(), Fail> {
-    for rows in [ROWS.as_slice(), &FREED] {
-        let other = first_other(rt.alloc(), rows)?;
-        assert!(rt; other.is_none(), "{other:?}");
-    }
-    Ok(())
+/// The first row that comes out otherwise in a new replay.
+fn first_other_of_new(alloc: Global, rows: &[Row]) -> Result<Option<usize>, Memory> {
+    let mut replay = PlainReplay::new(alloc);
+    first_other(alloc, &mut replay, rows)
 }
 
 #[test]
-fn records_of_the_first_format_leave_these(rt: HostRuntime) -> Result<(), Fail> {
-    let other = first_other_in_first(rt.alloc(), &FIRST)?;
-    assert!(rt; other.is_none(), "{other:?}");
-    Ok(())
+fn records_leave_these_states(rt: HostRuntime) {
+    all_are_so(&rt, first_other_of_new(rt.alloc(), &ROWS));
+    all_are_so(&rt, first_other_of_new(rt.alloc(), &FREED));
 }
 
 #[test]
-fn a_start_begins(rt: HostRuntime) -> Result<(), Fail> {
+fn records_of_the_first_format_leave_these(rt: HostRuntime) {
     let mut replay = PlainReplay::new(rt.alloc());
-    assert!(rt; !replay.is_started() && replay.last().get() == 0);
-    let fits = admits(rt.alloc(), &mut replay, &ROWS[1])?;
-    assert!(rt; fits && replay.is_started() && replay.last().get() == 1000);
-    Ok(())
+    all_are_so(&rt, first_other_in_first(rt.alloc(), &mut replay, &FIRST));
+}
+
+/// Whether a Start begins.
+fn begins(alloc: Global, replay: &mut PlainReplay) -> Result<bool, Memory>
+    requires { IsReached replay.old }
+{
+    if replay.is_started() || replay.last().get() != 0 {
+        return Ok(false);
+    }
+    let start = record(1000, Act::Start);
+    let fits = replay.admit(alloc, &start)?;
+    Ok(fits && replay.is_started() && replay.last().get() == 1000)
+}
+
+#[test]
+fn a_start_begins(rt: HostRuntime) {
+    let mut replay = PlainReplay::new(rt.alloc());
+    assert!(rt; begins(rt.alloc(), &mut replay) == Ok(true));
 }

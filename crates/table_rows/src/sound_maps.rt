@@ -1,4 +1,4 @@
-//! Whether MAP leases may stand in a table together, and the leases with one more.
+//! Whether MAP leases may stand in a table together, and so with one more.
 ghost use Rattle.std.specs.Prelude.{◌≡◌, ◌+◌, ◌<◌, ◌≤◌, IsTrue, false, position, IfOk, OnOk, OnErr};
 ghost use Rattle.std.specs.Bool.{OnTrue};
 ghost use Rattle.std.specs.List.{AllByRecursion};
@@ -9,7 +9,7 @@ use pcp_base::{Endpoint, MOST_LEASES, MOST_PORTS, MapLease};
 use std::alloc::{AllocError, Global};
 
 /// Whether these leases, without filters, may be the MAP leases of a sound table.
-pub(crate) fn are_sound(leases: &[MapLease]) -> bool
+fn are_sound(leases: &[MapLease]) -> bool
     ensures { OnTrue result (AreSoundMaps leases.now) }
 {
     leases.len() <= MOST_LEASES && are_leases(leases) && are_all_separate(leases)
@@ -99,15 +99,15 @@ fn put_into(leases: &mut Vec<MapLease>, lease: MapLease) -> Result<(), AllocErro
     Ok(())
 }
 
-/// The leases with one more.
-pub(crate) fn after_put(
+/// Whether the leases are sound with one more.
+pub(crate) fn are_sound_with(
     alloc: Global,
     leases: &[MapLease],
     lease: &MapLease,
-) -> Result<Vec<MapLease>, AllocError>
-    ensures { IfOk result (λ after. after.items ≡ with_map lease.now leases.now) }
+) -> Result<bool, AllocError>
+    ensures { IfOk result (λ sound. OnTrue sound (AreSoundMaps (with_map lease.now leases.now))) }
 {
     let mut after = leases.to_vec(alloc)?;
     put_into(&mut after, *lease)?;
-    Ok(after)
+    Ok(are_sound(&after))
 }

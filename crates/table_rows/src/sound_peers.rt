@@ -1,4 +1,4 @@
-//! Whether PEER leases may stand in a table together, and the leases with one more.
+//! Whether PEER leases may stand in a table together, and so with one more.
 ghost use Rattle.std.specs.Prelude.{◌≡◌, ◌≤◌, length, count_by, position, IfOk, OnOk, OnErr};
 ghost use Rattle.std.specs.Bool.{OnTrue};
 ghost use Rattle.std.specs.List.{AllByRecursion};
@@ -11,7 +11,7 @@ use pcp_base::{MOST_LEASES, MOST_PEERS, PeerLease};
 use std::alloc::{AllocError, Global};
 
 /// Whether these leases may be the PEER leases of a sound table.
-pub(crate) fn are_sound(leases: &[PeerLease]) -> bool
+fn are_sound(leases: &[PeerLease]) -> bool
     ensures { OnTrue result (AreSoundPeers leases.now) }
 {
     leases.len() <= MOST_LEASES && are_leases(leases) && are_all_fellows(leases) && are_few(leases)
@@ -85,15 +85,15 @@ fn put_into(leases: &mut Vec<PeerLease>, lease: PeerLease) -> Result<(), AllocEr
     Ok(())
 }
 
-/// The leases with one more.
-pub(crate) fn after_put(
+/// Whether the leases are sound with one more.
+pub(crate) fn are_sound_with(
     alloc: Global,
     leases: &[PeerLease],
     lease: &PeerLease,
-) -> Result<Vec<PeerLease>, AllocError>
-    ensures { IfOk result (λ after. after.items ≡ with_peer lease.now leases.now) }
+) -> Result<bool, AllocError>
+    ensures { IfOk result (λ sound. OnTrue sound (AreSoundPeers (with_peer lease.now leases.now))) }
 {
     let mut after = leases.to_vec(alloc)?;
     put_into(&mut after, *lease)?;
-    Ok(after)
+    Ok(are_sound(&after))
 }

@@ -1,5 +1,5 @@
 //! A store that some records made, and what it tells at moments that come later.
-ghost use Rattle.std.specs.Prelude.{◌≡◌, OnOk, IfOk};
+ghost use Rattle.std.specs.Prelude.{◌≡◌, OnOk, IfOk, IfSome};
 ghost use Rattle.pcp_base.specs.Reached.{IsReached, IsReachedFirst};
 ghost use Rattle.lease_store.specs.LeaseTerms.{AreTerms};
 
@@ -9,10 +9,9 @@ use PickRefused::{CannotProvide, Quota};
 use Protocol::{Tcp, Udp};
 use external_pool::{PickAsk, PickRefused, Picked};
 use lease_store::{LeaseStore, Terms};
-use pcp_base::{Address, External, Protocol};
+use pcp_base::{Address, Endpoint, External, MapLease, Memory, PeerLease, Protocol};
 use plain_store::PlainStore;
 use std::alloc::Global;
-use std::test::*;
 
 static RECORDS: [(u32, Act); 10] = [
     (1000, Act::Start),
@@ -126,7 +125,7 @@ fn applies(
     store: &mut PlainStore,
     other: &mut PlainStore,
     row: &(u32, Act),
-) -> Result<bool, Fail>
+) -> Result<bool, Memory>
     requires reached { IsReached store.old.state }
     requires same { other.old.state ≡ store.old.state }
     requires moment { store.old.reached ≡ store.old.state.last }
@@ -145,28 +144,43 @@ fn applies(
     Ok(true)
 }
 
-/// Whether the record is admitted by the rules of the first format.
-fn admits_first(alloc: Global, store: &mut PlainStore, row: &(u32, Act)) -> Result<bool, Fail>
-    requires { IsReachedFirst store.old.state }
-    ensures { OnOk result (IsReachedFirst store.new.state) }
+/// Applies records, as long as they fit. Whether all did.
+fn apply_all(
+    alloc: Global,
+    store: &mut PlainStore,
+    other: &mut PlainStore,
+    rows: &[(u32, Act)],
+) -> Result<bool, Memory>
+    requires reached { IsReached store.old.state }
+    requires same { other.old.state ≡ store.old.state }
+    requires moment { store.old.reached ≡ store.old.state.last }
+    ensures reached { OnOk result (IsReached store.new.state) }
+    ensures moment { OnOk result (store.new.reached ≡ store.new.state.last) }
 {
-    let kept = record(row.0, row.1);
-    Ok(store.admit_first(alloc, &kept)?)
+    for row in rows {
+        if !applies(alloc, store, other, row)? {
+            return Ok(false);
+        }
+    }
+    Ok(true)
 }
 
-/// The store that these records made.
-fn made(alloc: Global, rows: &[(u32, Act)]) -> Result<PlainStore, Fail>
-    ensures reached { IfOk result (λ s. IsReached s.state) }
-    ensures moment { IfOk result (λ s. s.reached ≡ s.state.last) }
+/// The store that these records made; none where one doesn't fit.
+fn made(alloc: Global, rows: &[(u32, Act)]) -> Result<Option<PlainStore>, Memory>
+    ensures reached { IfOk result (λ made. IfSome made (λ s. IsReached s.state)) }
+    ensures moment { IfOk result (λ made. IfSome made (λ s. s.reached ≡ s.state.last)) }
 {
     let mut store = PlainStore::new(alloc, terms())?;
     let mut other = PlainStore::new(alloc, terms())?;
-    for row in rows {
-        if !applies(alloc, &mut store, &mut other, row)? {
-            return Err("a record doesn't fit".into());
-        }
+    if !apply_all(alloc, &mut store, &mut other, rows)? {
+        return Ok(None);
     }
-    Ok(store)
+    Ok(Some(store))
+}
+
+fn picked_of(row: Result<(u16, u32), PickRefused>) -> Result<Picked, PickRefused> {
+    let (start, count) = row?;
+    Ok(Picked { start, count })
 }
 
 /// Whether the ask is answered so.
@@ -189,82 +203,97 @@ fn is_answered(store: &PlainStore, ask: &Ask) -> bool
             here: true,
         },
     );
-    picked == ask.7.map(|(start, count)| Picked { start, count })
+    picked == picked_of(ask.7)
 }
 
 /// The first ask that is answered otherwise.
-fn first_other(store: &mut PlainStore, asks: &[Ask]) -> Result<Option<usize>, Fail>
+fn first_other(store: &mut PlainStore, asks: &[Ask]) -> Option<usize>
     requires reached { IsReached store.old.state }
     requires moment { store.old.reached ≡ store.old.state.last }
-    ensures { OnOk result (IsReached store.new.state) }
 {
     let mut now = store.last();
     for (i, ask) in asks.iter().enumerate() {
         let m = moment(ask.0);
         if m.get() < now.get() {
-            return Ok(Some(i));
+            return Some(i);
         }
         store.reach(m);
         now = m;
         if !is_answered(store, ask) {
-            return Ok(Some(i));
+            return Some(i);
         }
     }
-    Ok(None)
+    None
+}
+
+fn owner_of(row: Option<(u8, u16)>) -> Option<Endpoint> {
+    let (host, port) = row?;
+    Some(at(Udp, host, port))
 }
 
 /// The first remote peer that sees something else.
-fn first_unseen(store: &PlainStore, sights: &[Sight]) -> Result<Option<usize>, Fail>
+fn first_unseen(store: &PlainStore, sights: &[Sight]) -> Option<usize>
     requires { IsReached store.now.state }
 {
     for (i, sight) in sights.iter().enumerate() {
         let m = moment(sight.0);
         let seen = store.look(sight.1, sight.2, &remote(sight.3), 443, m);
-        if seen != sight.4.map(|(host, port)| at(Udp, host, port)) {
-            return Ok(Some(i));
+        if seen != owner_of(sight.4) {
+            return Some(i);
         }
     }
-    Ok(None)
+    None
+}
+
+fn map_told(lease: Option<MapLease>) -> Option<u16> {
+    Some(lease?.external)
+}
+
+fn peer_told(lease: Option<PeerLease>) -> Option<u16> {
+    Some(lease?.external)
 }
 
 /// Whether the leases are found that cover and name these endpoints.
 fn finds_leases(store: &PlainStore) -> bool
     requires { IsReached store.now.state }
 {
-    let (first, second) = (at(Udp, 5, 5000), at(Udp, 5, 5001));
+    let covered = map_told(store.covering(&at(Udp, 5, 5001)));
+    let uncovered = map_told(store.covering(&at(Udp, 5, 5002)));
     let other = at(Udp, 6, 6000);
-    store.covering(&second).map(|lease| lease.external) == Some(1024)
-        && store.covering(&at(Udp, 5, 5002)) == None
-        && store
-            .peering(&other, &remote(7), 443)
-            .map(|lease| lease.external)
-            == Some(1026)
-        && store.peering(&other, &remote(8), 443) == None
-        && store.named_port(&first) == Some(1024)
-        && store.named_port(&second) == None
-        && store.peer_count(&first) == 1
-        && store.peer_count(&second) == 0
+    let named = peer_told(store.peering(&other, &remote(7), 443));
+    let unnamed = peer_told(store.peering(&other, &remote(8), 443));
+    (covered, uncovered, named, unnamed) == (Some(1024), None, Some(1026), None)
+}
+
+/// Whether the PEER leases are told and counted that name these endpoints.
+fn tells_names(store: &PlainStore) -> bool
+    requires { IsReached store.now.state }
+{
+    let (first, second) = (at(Udp, 5, 5000), at(Udp, 5, 5001));
+    let named = (store.named_port(&first), store.named_port(&second));
+    let counts = (store.peer_count(&first), store.peer_count(&second));
+    named == (Some(1024), None) && counts == (1, 0)
 }
 
 /// Whether the ports inside and the leases are told and counted.
-fn tells_leases(store: &PlainStore) -> Result<bool, Fail>
+fn tells_leases(store: &PlainStore) -> bool
     requires { IsReached store.now.state }
 {
     let first = at(Udp, 5, 5000);
+    let next = store.next_inside(&at(Udp, 5, 4000));
+    let inside = (
+        next,
+        store.next_inside(&first),
+        store.next_inside(&at(Udp, 5, 5001)),
+    );
     let (live, over) = (moment(1139), moment(1140));
-    Ok(
-        store.next_inside(&at(Udp, 5, 4000)) == Some(5000)
-            && store.next_inside(&first) == Some(5001)
-            && store.next_inside(&at(Udp, 5, 5001)) == None
-            && store.covered(&first, live)
-            && !store.covered(&first, over)
-            && store.lease_count() == 5
-            && store.leases(over) == 3,
-    )
+    let covered = (store.covered(&first, live), store.covered(&first, over));
+    let counts = (store.lease_count(), store.leases(over));
+    inside == (Some(5000), Some(5001), None) && covered == (true, false) && counts == (5, 3)
 }
 
 /// Whether the lists are those of the records.
-fn tells_lists(alloc: Global, store: &PlainStore) -> Result<bool, Fail>
+fn tells_lists(alloc: Global, store: &PlainStore) -> Result<bool, Memory>
     requires { IsReached store.now.state }
 {
     let over = moment(1140);
@@ -279,7 +308,7 @@ fn tells_lists(alloc: Global, store: &PlainStore) -> Result<bool, Fail>
 }
 
 /// Whether the owned ports stand in their order.
-fn tells_owners(alloc: Global, store: &PlainStore) -> Result<bool, Fail>
+fn tells_owners(alloc: Global, store: &PlainStore) -> Result<bool, Memory>
     requires { IsReached store.now.state }
 {
     let owners = store.owners(alloc, moment(1060))?;
@@ -297,38 +326,76 @@ fn tells_owners(alloc: Global, store: &PlainStore) -> Result<bool, Fail>
 fn tells_the_rest(store: &PlainStore) -> bool
     requires { IsReached store.now.state }
 {
-    store.base().get() == 1000
-        && store.last().get() == 1055
+    let moments = (store.base().get(), store.last().get());
+    moments == (1000, 1055)
         && store.address() == Some(Address::v4(192, 0, 2, 1))
         && store.terms() == terms()
 }
 
-#[test]
-fn tells_the_state(rt: HostRuntime) -> Result<(), Fail> {
-    let store = made(rt.alloc(), &RECORDS)?;
-    assert!(rt; finds_leases(&store) && tells_leases(&store)?);
-    assert!(rt; tells_lists(rt.alloc(), &store)? && tells_owners(rt.alloc(), &store)?);
-    assert!(rt; tells_the_rest(&store));
-    Ok(())
+/// Whether the store that the records made tells its state.
+fn is_told(alloc: Global) -> Result<bool, Memory> {
+    let Some(store) = made(alloc, &RECORDS)? else {
+        return Ok(false);
+    };
+    tells_state(alloc, &store)
 }
 
-// A Start at 5 is admitted, a second record that names the external address isn't.
+fn tells_state(alloc: Global, store: &PlainStore) -> Result<bool, Memory>
+    requires { IsReached store.now.state }
+{
+    let finds = finds_leases(store) && tells_names(store) && tells_leases(store);
+    Ok(finds && tells_the_rest(store) && tells_lists(alloc, store)? && tells_owners(alloc, store)?)
+}
+
 #[test]
-fn forgets_and_begins_in_the_first_format(rt: HostRuntime) -> Result<(), Fail> {
-    let mut store = made(rt.alloc(), &RECORDS)?;
+fn tells_the_state(rt: HostRuntime) {
+    assert!(rt; is_told(rt.alloc()) == Ok(true));
+}
+
+/// Whether the record is admitted by the rules of the first format.
+fn admits_first(alloc: Global, store: &mut PlainStore, act: Act) -> Result<bool, Memory>
+    requires { IsReachedFirst store.old.state }
+    ensures { OnOk result (IsReachedFirst store.new.state) }
+{
+    let kept = record(5, act);
+    store.admit_first(alloc, &kept)
+}
+
+/// Whether the store forgets its state, and admits a Start by the first format then, and no second
+/// record, which names the external address.
+fn forgets(alloc: Global, store: &mut PlainStore) -> Result<bool, Memory> {
     store.clear();
-    assert!(rt; store.lease_count() == 0 && store.last().get() == 0);
-    let begins = admits_first(rt.alloc(), &mut store, &(5, Act::Start))?;
-    let renumbers = admits_first(rt.alloc(), &mut store, &(5, Act::Renumber(1)))?;
-    assert!(rt; begins && store.base().get() == 5);
-    assert!(rt; !renumbers && store.address() == None);
-    Ok(())
+    let none = store.lease_count() == 0 && store.last().get() == 0;
+    let begins = admits_first(alloc, store, Act::Start)?;
+    let renumbers = admits_first(alloc, store, Act::Renumber(1))?;
+    Ok(none && begins && !renumbers && store.base().get() == 5 && store.address() == None)
+}
+
+fn is_forgotten(alloc: Global) -> Result<bool, Memory> {
+    let Some(mut store) = made(alloc, &RECORDS)? else {
+        return Ok(false);
+    };
+    forgets(alloc, &mut store)
 }
 
 #[test]
-fn answers_by_the_state(rt: HostRuntime) -> Result<(), Fail> {
-    let mut store = made(rt.alloc(), &RECORDS)?;
-    assert!(rt; first_unseen(&store, &SIGHTS)? == None);
-    assert!(rt; first_other(&mut store, &ASKS)? == None);
-    Ok(())
+fn forgets_and_begins_in_the_first_format(rt: HostRuntime) {
+    assert!(rt; is_forgotten(rt.alloc()) == Ok(true));
+}
+
+/// The first remote peer that sees something else, and the first ask that is answered otherwise.
+fn first_others(alloc: Global) -> Result<(Option<usize>, Option<usize>), Memory> {
+    let Some(mut store) = made(alloc, &RECORDS)? else {
+        return Ok((Some(0), Some(0)));
+    };
+    Ok((
+        first_unseen(&store, &SIGHTS),
+        first_other(&mut store, &ASKS),
+    ))
+}
+
+#[test]
+fn answers_by_the_state(rt: HostRuntime) {
+    let others = first_others(rt.alloc());
+    assert!(rt; others == Ok((None, None)), "{others:?}");
 }
