@@ -1,0 +1,3 @@
+pub mod EpochLemmas
+pub mod EventLemmas
+pub mod SlotLemmas

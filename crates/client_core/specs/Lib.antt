@@ -1,0 +1,6 @@
+pub mod Clients
+pub mod EpochTests
+pub mod EventFolds
+pub mod Meanings
+pub mod Waits
+pub mod Wants
