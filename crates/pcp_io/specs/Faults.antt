@@ -1,5 +1,5 @@
 -- Counts of faults (our own). Each object of the outside has a count that never falls.
-use Rattle.std.specs.Prelude.{ℕ, ◌+◌, ◌-◌, ◌^◌, ◌<◌, ◌≤◌, ◌⊎◌, Result, IsErr}
+use Rattle.std.specs.Prelude.{ℕ, ◌-◌, ◌^◌, ◌<◌, ◌≤◌, ◌⊎◌, Result, IsErr}
 
 -- The count has risen. A count of 64 bits that stands at its end can rise no more, and says nothing
 -- then.
@@ -10,7 +10,3 @@ HasRisen before now = (before < now) ⊎ (2 ^ 64 - 1 ≤ now)
 pub record HasCause {T E : Type 0} (before now : ℕ) (result : Result T E) : Type 0 where
   pub later : before ≤ now
   pub failed : IsErr result → HasRisen before now
-
--- The count has risen by this much at least, or stands at its end.
-abbrev pub HasRisenBy : ℕ → ℕ → ℕ → Type 0
-HasRisenBy n before now = (before + n ≤ now) ⊎ (2 ^ 64 - 1 ≤ now)
