@@ -27,7 +27,7 @@ pub record OpensOne {D : Type 0} (tells : Type 0) (seen : D → List ℕ) (momen
     (config : Config) (m : ℕ) (x : External) (pair : DiskPair D) (book : BookView D)
     : Type 0 where
   pub found : Found
-  pub opened : IsOpened tells (seen pair.a) (seen pair.b) (terms_of x config) m book found
+  pub opened : IsOpened tells seen pair (terms_of x config) m book found
   pub moments : tells →
       OpensBook seen moment left_since may_leave m x.address pair book.journal.pair
   pub later : PairHasCause faults pair book.journal.pair ⊥

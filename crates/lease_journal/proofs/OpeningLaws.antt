@@ -1,5 +1,5 @@
 -- What opening a journal leaves, once both sides are synced.
-use Rattle.std.proofs.Common.{◌≡◌, inl, inr, Result, Ok, Err, ℕ, List, [], ◌∷◌, ◌≤◌, sym, ◌∙◌, subst}
+use Rattle.std.proofs.Common.{◌≡◌, inl, inr, ⊎_elim, Result, Ok, Err, ℕ, List, [], ◌∷◌, ◌≤◌, sym, ◌∙◌, subst}
 use Rattle.std.specs.Prelude.{◌⊎◌, OnOk}
 use Rattle.pcp_base.specs.States.{State}
 use Rattle.lease_disk.specs.declared.disks.DiskPair.{DiskPair}
@@ -14,11 +14,15 @@ use Rattle.journal_sides.specs.Formats.{IsReplaying}
 use Rattle.journal_sides.specs.Journals.{IsBlank, IsDamaged, IsStarting, IsStartingAnew}
 use Rattle.lease_journal.specs.declared.errors.Found.{Found}
 use Rattle.lease_journal.specs.declared.errors.Found.TheVariants.{Recovered, Blank, Damaged}
-use Rattle.lease_journal.specs.Openings.{IsStillUnless, LeavesOld, MayOpen, Opens}
+use Rattle.lease_journal.specs.Openings.{IsShutAnew, IsStillOrShut, LeavesOld, MayOpen, Opens}
 use Rattle.journal_sides.specs.Reads.{ArePairRead, AreSeenStill}
+use Rattle.journal_sides.specs.Sides.{IsClosedSide}
 use Rattle.journal_sides.specs.Verdicts.{AreFound}
-use Rattle.journal_sides.specs.Writes.{AreDurable}
-use Rattle.lease_journal.proofs.PrepareLaws.{pair_still}
+use Rattle.journal_sides.specs.declared.sides.Side.{Side}
+use Rattle.journal_sides.specs.declared.sides.Side.TheVariants.{B}
+use Rattle.journal_sides.specs.Writes.{AreDurable, ChangesSide}
+use Rattle.lease_journal.specs.Beginnings.{MayShut}
+use Rattle.lease_journal.proofs.PrepareLaws.{anew_closed, pair_still, prepare_still}
 use Rattle.lease_journal.proofs.StandingLaws.{stands_for}
 
 -- what both sides were is said of the same octets
@@ -54,6 +58,13 @@ may_open_now seen may_leave m pair now verdict durable found x y left_a left_b =
 pub blank_may : (m : ℕ) (a b : List ℕ) → IsBlank a b → (x y : List ℕ) → IsStarting m x y → MayOpen m a b x y
 blank_may m a b blank x y starting = inr (inl (blank, starting))
 
+-- while side b is shut before a blank start
+pub shut_starts : (m : ℕ) (a b : List ℕ) → IsBlank a b → (x y : List ℕ) → ChangesSide B MayShut a b x y → IsStarting m x y
+shut_starts m a b blank x y ch = inl (subst IsClosedSide (sym ch.unchanged) blank.0, ⊎_elim (λ (same : y ≡ b). subst IsClosedSide (sym same) blank.1) (λ (closed : IsClosedSide y). closed) ch.changed)
+
+pub shut_blank : (a b x y : List ℕ) → IsBlank a b → ChangesSide B IsShutAnew a b x y → IsBlank x y
+shut_blank a b x y blank ch = (subst IsClosedSide (sym ch.unchanged) blank.0, anew_closed b y ch.changed)
+
 pub damaged_may : (m : ℕ) (a b : List ℕ) → IsDamaged a b → (x y : List ℕ) → IsStartingAnew m x y → MayOpen m a b x y
 damaged_may m a b damaged x y starting = inr (inr (damaged, starting))
 
@@ -85,6 +96,15 @@ module _ {D : Type 0} (moment : D → ℕ) (left_since : D → ℕ → List ℕ 
       pair_goes_on moment left_since may_leave old synced new (λ x y. may_leave old.a x × may_leave old.b y) until
       (pair_still moment left_since may_leave counts_now only_now (λ x y. may_leave old.a x × may_leave old.b y) synced new (pair_now (λ x y. may_leave old.a x × may_leave old.b y) old synced until) read)
 
+  -- both sides were read, and then one was shut
+  pub read_shut : (seen : D → List ℕ) (side : Side) (old mid new : DiskPair D) → AreDurable seen may_leave old → ArePairRead moment left_since may_leave old mid → AreSeenStill seen old mid
+      → PairLeavesOnly moment left_since may_leave mid new (ChangesSide side MayShut (seen mid.a) (seen mid.b)) → PairLeavesOnly moment left_since may_leave old new (ChangesSide side MayShut (seen old.a) (seen old.b))
+  read_shut seen side old mid new durable read still run =
+      let P = ChangesSide side MayShut (seen old.a) (seen old.b) in
+      pair_goes_on moment left_since may_leave old mid new P
+      (prepare_still moment left_since may_leave counts_now only_now seen side old mid durable read)
+      (pair_weaker moment left_since may_leave mid new (ChangesSide side MayShut (seen mid.a) (seen mid.b)) P run (λ x y ch. same_octets (λ (a b : List ℕ). ChangesSide side MayShut a b x y) (seen old.a) (seen old.b) (seen mid.a) (seen mid.b) still.a still.b ch))
+
   module _ (seen : D → List ℕ) (m : ℕ) where
     -- both sides were synced and read, and then started where no records were found
     pub opened : (old synced judged new : DiskPair D) (now : State) (verdict : Verdict) → LeavesOld moment left_since may_leave old synced → AreDurable seen may_leave synced → AreSeenStill seen old synced
@@ -106,10 +126,10 @@ module _ {D : Type 0} (moment : D → ℕ) (left_since : D → ℕ → List ℕ 
         }
 
 -- reads gave the same before that too
-pub still_unless : {D : Type 0} (seen : D → List ℕ) (old mid new : DiskPair D) (found : Found) → AreSeenStill seen old mid → IsStillUnless seen mid new found → IsStillUnless seen old new found
-still_unless seen old mid new Recovered first is = record { a = is.a ∙ first.a; b = is.b ∙ first.b }
-still_unless seen old mid new Blank first is = tt
-still_unless seen old mid new Damaged first is = tt
+pub still_or_shut : {D : Type 0} (seen : D → List ℕ) (old mid new : DiskPair D) (found : Found) → AreSeenStill seen old mid → IsStillOrShut seen mid new found → IsStillOrShut seen old new found
+still_or_shut seen old mid new Recovered first is = record { a = is.a ∙ first.a; b = is.b ∙ first.b }
+still_or_shut seen old mid new Blank first is = subst (λ (l : List ℕ). IsShutAnew l (seen new.b)) first.b is
+still_or_shut seen old mid new Damaged first is = subst (λ (l : List ℕ). IsShutAnew l (seen new.b)) first.b is
 
 -- a replay that takes records of some format takes those of one of the two
 pub replays_by : {R : Type 0} (replaying replaying_first : R → Type 0) (replay : R) (f : Format) → IsReplaying f replaying replaying_first replay → replaying_first replay ⊎ replaying replay

@@ -2,7 +2,7 @@
 use Rattle.std.proofs.Common.{◌≡◌, inl, inr, ⊎_elim, ℕ, ◌<◌, ◌≤◌, max, List, [], ◌∷◌, ◌++◌, length, get_or, take, drop, refl, sym, ◌∙◌, ap, subst, arith, take_all, length-take, length-drop}
 use Rattle.std.specs.Prelude.{◌⊎◌}
 use Rattle.std.proofs.lemmas.Bool.{cases_eq}
-use Rattle.std.proofs.lemmas.List.{drop_more, get_or-take}
+use Rattle.std.proofs.lemmas.List.{drop_more, get_or-take, nil_from_length}
 use Rattle.lease_disk.specs.Contents.{after_write}
 use Rattle.lease_disk.specs.Images.{Torn}
 use Rattle.lease_disk.specs.Pairs.{HoldsNow, PairLeavesOnly}
@@ -15,6 +15,7 @@ use Rattle.journal_sides.specs.declared.sides.Side.TheVariants.{A, B}
 use Rattle.journal_sides.specs.declared.walks.Judged.{Judged}
 use Rattle.journal_sides.specs.declared.walks.Judged.TheVariants.{Closed, Bad, Good}
 use Rattle.lease_journal.specs.Beginnings.{IsPrepared, MayShut}
+use Rattle.lease_journal.specs.Openings.{IsShutAnew}
 use Rattle.journal_sides.specs.Judging.{IsSideJudged}
 use Rattle.journal_sides.specs.Reads.{IsRead, ArePairRead, AreSeenStill}
 use Rattle.journal_sides.specs.Shut.{IsShut}
@@ -46,11 +47,9 @@ shuts_torn : (octets image : List ℕ) → (length octets < 15) ⊎ (get_or octe
 shuts_torn octets image (inl short) torn = inr (short_torn octets image short torn)
 shuts_torn octets image (inr is) torn = ⊎_elim (λ (same : image ≡ octets). inl same) (λ (shut : IsShut image). inr (shut_closed image shut)) (open_torn octets image (has_gate octets is) is torn)
 
--- a write to the gate of a side that may be shut, after both sides were read
-pub prepared_torn : (side : Side) (a b c d x y : List ℕ) → c ≡ a → d ≡ b → (length (of_side side a b) < 15) ⊎ (get_or (of_side side a b) 0 0 ≡ 1) → ChangesSide side (Torn 0 1) c d x y → ChangesSide side MayShut a b x y
-prepared_torn side a b c d x y same_a same_b gate change =
-    let back : ChangesSide side (Torn 0 1) a b x y = subst (λ (l : List ℕ). ChangesSide side (Torn 0 1) l b x y) same_a (subst (λ (l : List ℕ). ChangesSide side (Torn 0 1) c l x y) same_b change) in
-    record { changed = shuts_torn (of_side side a b) (of_side side x y) gate back.changed; unchanged = back.unchanged }
+-- a write to the gate of a side that may be shut
+pub prepared_torn : (side : Side) (a b x y : List ℕ) → (length (of_side side a b) < 15) ⊎ (get_or (of_side side a b) 0 0 ≡ 1) → ChangesSide side (Torn 0 1) a b x y → ChangesSide side MayShut a b x y
+prepared_torn side a b x y gate change = record { changed = shuts_torn (of_side side a b) (of_side side x y) gate change.changed; unchanged = change.unchanged }
 
 pub same_sides : (side : Side) (a b x y : List ℕ) → x ≡ a → y ≡ b → ChangesSide side MayShut a b x y
 same_sides A a b x y same_a same_b = record { changed = inl same_a; unchanged = same_b }
@@ -59,15 +58,13 @@ same_sides B a b x y same_a same_b = record { changed = inl same_b; unchanged = 
 written_shut : (old new : List ℕ) → new ≡ after_write old 0 (0 ∷ []) → IsShut new
 written_shut old new is = record { some = omega (arith, ap length is); gate = λ e. omega (arith, e, ap (λ (l : List ℕ). get_or l 0 0) is) }
 
-pub prepared_written : (side : Side) (size now : ℕ) (a b c d x y : List ℕ) → c ≡ a → d ≡ b → size ≡ length (of_side side a b) → now ≡ max size 1 → ChangesSide side (λ old new. new ≡ after_write old 0 (0 ∷ [])) c d x y → IsPrepared side now a b x y
-prepared_written side size now a b c d x y same_a same_b long is wrote =
-    let back : ChangesSide side (λ old new. new ≡ after_write old 0 (0 ∷ [])) a b x y = subst (λ (l : List ℕ). ChangesSide side (λ old new. new ≡ after_write old 0 (0 ∷ [])) l b x y) same_a (subst (λ (l : List ℕ). ChangesSide side (λ old new. new ≡ after_write old 0 (0 ∷ [])) c l x y) same_b wrote) in
-    record {
-      front = inl back.changed;
-      shut = written_shut (of_side side a b) (of_side side x y) back.changed;
-      long = omega (arith, is, long, ap length back.changed, length-drop 1 (of_side side a b));
-      unchanged = back.unchanged;
-    }
+pub prepared_written : (side : Side) (size now : ℕ) (a b x y : List ℕ) → size ≡ length (of_side side a b) → now ≡ max size 1 → ChangesSide side (λ old new. new ≡ after_write old 0 (0 ∷ [])) a b x y → IsPrepared side now a b x y
+prepared_written side size now a b x y long is wrote = record {
+  front = inl wrote.changed;
+  shut = written_shut (of_side side a b) (of_side side x y) wrote.changed;
+  long = omega (arith, is, long, ap length wrote.changed, length-drop 1 (of_side side a b));
+  unchanged = wrote.unchanged;
+}
 
 -- one octet behind the gate of a shut side
 behind_gate : (old : List ℕ) → 0 < length old → after_write old 1 (0 ∷ []) ≡ get_or old 0 0 ∷ 0 ∷ drop 2 old
@@ -97,6 +94,20 @@ shut_again_written side size now a b x y shut long is wrote = record {
   unchanged = wrote.unchanged;
 }
 
+-- a side that was shut anew is closed
+pub anew_closed : (old new : List ℕ) → IsShutAnew old new → IsClosedSide new
+anew_closed old new (inl (none, same)) = inl (omega (arith, ap length same, ap length none))
+anew_closed old new (inr (some, inl is)) = shut_closed new (written_shut old new is)
+anew_closed old new (inr (some, inr (shut, is))) = shut_closed new (behind_shut old new shut is)
+
+-- a side without octets was only read
+pub shut_none : (side : Side) (a b x y : List ℕ) → x ≡ a → y ≡ b → length (of_side side a b) ≡ 0 → ChangesSide side IsShutAnew a b x y
+shut_none A a b x y same_a same_b none = record { changed = inl (nil_from_length a none, same_a); unchanged = same_b }
+shut_none B a b x y same_a same_b none = record { changed = inl (nil_from_length b none, same_b); unchanged = same_a }
+
+pub prepared_anew : (side : Side) (size : ℕ) (a b x y : List ℕ) → 0 < length (of_side side a b) → IsPrepared side size a b x y → ChangesSide side IsShutAnew a b x y
+prepared_anew side size a b x y some ready = record { changed = inr (some, ready.front); unchanged = ready.unchanged }
+
 -- a side that was judged and isn't closed has an open gate
 pub judged_gate : (parity : ℕ) (octets : List ℕ) (judged : Judged) → IsSideJudged parity octets judged → (judged ≡ Closed → ⊥) → get_or octets 0 0 ≡ 1
 judged_gate parity octets Closed is not = absurd (not refl)
@@ -106,13 +117,12 @@ judged_gate parity octets Bad is not = elim (cases_eq (get_or octets 0 0) 1) [
 ]
 judged_gate parity octets (Good standing) is not = ap (λ (l : List ℕ). get_or l 0 0) is.1.side.text
 
--- closing a judged side
-pub shut_still : (side : Side) (a b : List ℕ) (judged : Judged) → IsSideJudged (side_parity side) (of_side side a b) judged → judged ≡ Closed → ChangesSide side (λ old new. IsClosedSide new) a b a b
-shut_still A a b judged is closed = record { changed = subst (IsSideJudged 0 a) closed is; unchanged = refl }
-shut_still B a b judged is closed = record { changed = subst (IsSideJudged 1 b) closed is; unchanged = refl }
-
 pub shut_written : (side : Side) (a b x y : List ℕ) → ChangesSide side (λ old new. new ≡ after_write old 0 (0 ∷ [])) a b x y → ChangesSide side (λ old new. IsClosedSide new) a b x y
 shut_written side a b x y wrote = record { changed = shut_closed (of_side side x y) (written_shut (of_side side a b) (of_side side x y) wrote.changed); unchanged = wrote.unchanged }
+
+-- shutting a side that was judged to be open
+pub open_anew : (side : Side) (a b x y : List ℕ) → get_or (of_side side a b) 0 0 ≡ 1 → ChangesSide side (λ old new. new ≡ after_write old 0 (0 ∷ [])) a b x y → ChangesSide side IsShutAnew a b x y
+open_anew side a b x y is wrote = record { changed = inr (has_gate (of_side side a b) is, inl wrote.changed); unchanged = wrote.unchanged }
 
 module _ {D : Type 0} (moment : D → ℕ) (left_since : D → ℕ → List ℕ → Type 0) (may_leave : D → List ℕ → Type 0)
     (counts_now : (disk : D) (t : ℕ) (image : List ℕ) → t ≤ moment disk → may_leave disk image → left_since disk t image)

@@ -1,13 +1,13 @@
 -- A side that is written anew (our own).
-use Rattle.std.specs.Prelude.{◌≡◌, ◌⊎◌, ◌<◌, ℕ, Bool, true, false, List, [], ◌∷◌, length, get_or}
+use Rattle.std.specs.Prelude.{◌≡◌, ◌⊎◌, ◌<◌, ℕ, Bool, true, false, List, length, get_or}
 use Rattle.pcp_base.specs.declared.records.Record.{Record}
-use Rattle.lease_disk.specs.Contents.{after_write}
 use Rattle.journal_sides.specs.declared.layout.TheConstants.{SHORTEST_SIDE}
 use Rattle.journal_sides.specs.declared.formats.Format.TheVariants.{Second}
 use Rattle.journal_sides.specs.declared.sides.Side.{Side}
 use Rattle.journal_sides.specs.Shut.{IsShut}
 use Rattle.journal_sides.specs.Sides.{IsOpenSide, IsClosedSide}
 use Rattle.journal_sides.specs.Writes.{of_side, other, side_parity}
+use Rattle.lease_journal.specs.Openings.{IsFrontWritten}
 
 -- in the middle of it: what it was, closed, or open with these batches
 abbrev pub MayBegin : ℕ → ℕ → List (List Record) → List ℕ → List ℕ → Type 0
@@ -22,11 +22,6 @@ MayShut old new = (new ≡ old) ⊎ IsClosedSide new
 abbrev pub GateMeans : List ℕ → Bool → Type 0
 GateMeans octets true = IsShut octets
 GateMeans octets false = (length octets < SHORTEST_SIDE) ⊎ (get_or octets 0 0 ≡ 1)
-
--- A zero was written to the gate of a side or, where that was shut already, to the place behind it.
-abbrev pub IsFrontWritten : List ℕ → List ℕ → Type 0
-IsFrontWritten old new =
-    (new ≡ after_write old 0 (0 ∷ [])) ⊎ (IsShut old × (new ≡ after_write old 1 (0 ∷ [])))
 
 -- this side of what was a and b was written in front, is shut, and has so many octets
 pub record IsPrepared (side : Side) (size : ℕ) (a b x y : List ℕ) : Type 0 where

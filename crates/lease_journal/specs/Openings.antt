@@ -1,6 +1,7 @@
 -- What opening a journal may leave, moment by moment (our own).
-use Rattle.std.specs.Prelude.{◌≡◌, ◌⊎◌, ℕ, ⊤, List}
+use Rattle.std.specs.Prelude.{◌≡◌, ◌⊎◌, ℕ, ◌<◌, ⊤, List, [], ◌∷◌, length}
 use Rattle.pcp_base.specs.States.{State, empty_state}
+use Rattle.lease_disk.specs.Contents.{after_write}
 use Rattle.lease_disk.specs.declared.disks.DiskPair.{DiskPair}
 use Rattle.lease_disk.specs.Pairs.{PairLeavesOnly}
 use Rattle.lease_journal.specs.declared.errors.Found.{Found}
@@ -11,6 +12,7 @@ use Rattle.journal_sides.specs.declared.sides.Side.TheVariants.{A}
 use Rattle.journal_sides.specs.declared.walks.Standing.{Standing}
 use Rattle.journal_sides.specs.Journals.{IsBlank, IsDamaged, StandsFor, IsStarting, IsStartingAnew, fresh_state}
 use Rattle.journal_sides.specs.Reads.{AreSeenStill}
+use Rattle.journal_sides.specs.Shut.{IsShut}
 use Rattle.journal_sides.specs.Writes.{AreDurable}
 
 -- After sides that held a and b are read and opened at m, in the middle too, a crash may leave x
@@ -27,11 +29,21 @@ FoundMeans m a b now Recovered = StandsFor now a b
 FoundMeans m a b now Blank = IsBlank a b × (now ≡ fresh_state m)
 FoundMeans m a b now Damaged = IsDamaged a b × (now ≡ fresh_state m)
 
--- where records were found nothing is written
-abbrev pub IsStillUnless : {D : Type 0} → (D → List ℕ) → DiskPair D → DiskPair D → Found → Type 0
-IsStillUnless seen old new Recovered = AreSeenStill seen old new
-IsStillUnless seen old new Blank = ⊤
-IsStillUnless seen old new Damaged = ⊤
+-- A zero was written to the gate of a side or, where that was shut already, to the place behind it.
+abbrev pub IsFrontWritten : List ℕ → List ℕ → Type 0
+IsFrontWritten old new =
+    (new ≡ after_write old 0 (0 ∷ [])) ⊎ (IsShut old × (new ≡ after_write old 1 (0 ∷ [])))
+
+-- a side without octets has none still; any other was shut, whatever its gate was
+abbrev pub IsShutAnew : List ℕ → List ℕ → Type 0
+IsShutAnew old new =
+    ((old ≡ []) × (new ≡ old)) ⊎ ((0 < length old) × IsFrontWritten old new)
+
+-- where records were found nothing is written; else side b, beside the start, was shut
+abbrev pub IsStillOrShut : {D : Type 0} → (D → List ℕ) → DiskPair D → DiskPair D → Found → Type 0
+IsStillOrShut seen old new Recovered = AreSeenStill seen old new
+IsStillOrShut seen old new Blank = IsShutAnew (seen old.b) (seen new.b)
+IsStillOrShut seen old new Damaged = IsShutAnew (seen old.b) (seen new.b)
 
 -- the same where nothing is started: the state is then empty
 abbrev pub ViewMeans : List ℕ → List ℕ → State → Found → Type 0

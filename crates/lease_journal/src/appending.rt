@@ -10,6 +10,7 @@ ghost use Rattle.journal_sides.specs.declared.walks.Standing.{Standing};
 ghost use Rattle.journal_sides.specs.Frames.{IsBatch, frame_text};
 ghost use Rattle.journal_sides.specs.Journals.{StandsForWithOrWithout};
 ghost use Rattle.journal_sides.specs.Settled.{IsSettledBy, with_frame};
+ghost use Rattle.journal_sides.specs.Writes.{of_side, other};
 
 use crate::writes::write_side;
 use journal_sides::Side;
@@ -36,6 +37,9 @@ pub(crate) fn put_frame<D: LeaseDisk>(
         → frame.now ≡ frame_text batch ++ 0 ∷ []
         → OnOk result (IsSettledBy D.seen D.may_leave side
         (with_frame standing (length frame.now)) pair.new (apply_all s batch)) }
+    ensures beside { D.tells → OnOk result
+        (of_side (other side) (D.seen pair.new.a) (D.seen pair.new.b)
+        ≡ of_side (other side) (D.seen pair.old.a) (D.seen pair.old.b)) }
     ensures most { OnOk result (end + 1 + length frame.now ≤ 2 ^ 62) }
     ensures cause { PairHasCause D.faults pair.old pair.new (IsErr result) }
 {

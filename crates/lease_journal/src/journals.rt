@@ -55,7 +55,7 @@ impl<D: LeaseDisk> Journal<D> {
     ghost use Rattle.journal_sides.specs.Formats.{HasNext, IsReplaying, format_octet};
     ghost use Rattle.journal_sides.specs.Frames.{frame_text};
     ghost use Rattle.journal_sides.specs.Journals.{StandsFor, StandsForWithOrWithout};
-    ghost use Rattle.lease_journal.specs.Openings.{FoundMeans, HasStarted, IsClearedUnless, IsStillUnless, LeavesOld, Opens, ViewMeans, ViewReplays};
+    ghost use Rattle.lease_journal.specs.Openings.{FoundMeans, HasStarted, IsClearedUnless, IsStillOrShut, LeavesOld, Opens, ViewMeans, ViewReplays};
     ghost use Rattle.journal_sides.specs.Reads.{ArePairRead, AreSeenStill};
     ghost use Rattle.lease_journal.specs.Views.{IsSettled};
     ghost use Rattle.journal_sides.specs.Writes.{of_side, other};
@@ -82,6 +82,9 @@ impl<D: LeaseDisk> Journal<D> {
         ensures generation { OnOk result
             (self.new.standing.generation ≡ self.old.standing.generation) }
         ensures first_length { OnOk result (self.new.first_length ≡ self.old.first_length) }
+        ensures beside { D.tells → OnOk result
+            (of_side (other self.old.side) (D.seen self.new.pair.a) (D.seen self.new.pair.b)
+            ≡ of_side (other self.old.side) (D.seen self.old.pair.a) (D.seen self.old.pair.b)) }
         ensures grown { D.tells → (s : State) → IsSettled D.seen D.may_leave self.old s
             → OnOk result (self.new.standing.length
             ≤ self.old.standing.length + (1 + length (frame_text batch.now))) }
@@ -110,7 +113,7 @@ impl<D: LeaseDisk> Journal<D> {
             (λ opened. FoundMeans m (D.seen pair.a) (D.seen pair.b) (R.state replay.new)
             opened.1) }
         ensures still { D.tells → IfOk result
-            (λ opened. IsStillUnless D.seen pair opened.0.pair opened.1) }
+            (λ opened. IsStillOrShut D.seen pair opened.0.pair opened.1) }
         ensures started { IfOk result
             (λ opened. HasStarted m opened.0.side opened.0.standing (R.state replay.new)
             opened.1) }
@@ -162,7 +165,7 @@ impl<D: LeaseDisk> Journal<D> {
             (FoundMeans m (D.seen self.old.pair.a) (D.seen self.old.pair.b)
             (R.state replay.new)) }
         ensures still { D.tells → IfOk result
-            (IsStillUnless D.seen self.old.pair self.new.pair) }
+            (IsStillOrShut D.seen self.old.pair self.new.pair) }
         ensures started { IfOk result
             (HasStarted m self.new.side self.new.standing (R.state replay.new)) }
         ensures settled { D.tells → OnOk result

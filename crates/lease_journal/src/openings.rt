@@ -10,7 +10,7 @@ ghost use Rattle.lease_journal.specs.Beginnings.{GateMeans, IsBegun, IsPrepared,
 ghost use Rattle.journal_sides.specs.Formats.{HasNext, IsReplaying};
 ghost use Rattle.journal_sides.specs.Journals.{IsBlank, IsDamaged, IsStarting, IsStartingAnew, fresh_state};
 ghost use Rattle.journal_sides.specs.Judging.{IsSideJudged};
-ghost use Rattle.lease_journal.specs.Openings.{FoundMeans, HasStarted, IsNew, IsStillUnless, LeavesOld, MayOpen, Opens};
+ghost use Rattle.lease_journal.specs.Openings.{FoundMeans, HasStarted, IsNew, IsShutAnew, IsStillOrShut, LeavesOld, MayOpen, Opens};
 ghost use Rattle.journal_sides.specs.Reads.{ArePairRead, AreSeenStill, IsRead};
 ghost use Rattle.journal_sides.specs.Settled.{IsSettledBy, IsInReach};
 ghost use Rattle.journal_sides.specs.Shut.{IsShut, hidden_text};
@@ -98,9 +98,34 @@ fn shut_again<D: LeaseDisk>(pair: &mut DiskPair<D>, side: Side, size: u64) -> Re
     Ok(size.max(2))
 }
 
-/// Shuts a side that has no octets or an open gate, and says how many octets it has then. Where a
-/// gate that isn't open stands there already, the octet behind it is written: what was read of the
-/// gate may stand in the system's memory alone.
+/// Shuts a side in front of which this stands, and says how many octets it has then. Where a gate that
+/// isn't open stands there already, the octet behind it is written: what was read of the gate may
+/// stand in the system's memory alone.
+fn shut_front<D: LeaseDisk>(pair: &mut DiskPair<D>, side: Side, front: Front) -> Result<u64, Failed>
+    requires most { front.size ≤ 2 ^ 62 }
+    ensures moments { D.tells → AreDurable D.seen D.may_leave pair.old
+        → GateMeans (of_side side (D.seen pair.old.a) (D.seen pair.old.b)) front.is_shut
+        → PairLeavesOnly D.moment D.left_since D.may_leave pair.old pair.new
+        (ChangesSide side MayShut (D.seen pair.old.a) (D.seen pair.old.b)) }
+    ensures shut { D.tells
+        → GateMeans (of_side side (D.seen pair.old.a) (D.seen pair.old.b)) front.is_shut
+        → front.size ≡ length (of_side side (D.seen pair.old.a) (D.seen pair.old.b))
+        → IfOk result
+        (λ size. IsPrepared side size (D.seen pair.old.a) (D.seen pair.old.b)
+        (D.seen pair.new.a) (D.seen pair.new.b)) }
+    ensures durable { D.tells → AreDurable D.seen D.may_leave pair.old
+        → OnOk result (AreDurable D.seen D.may_leave pair.new) }
+    ensures most { IfOk result (λ size. size ≤ 2 ^ 62) }
+    ensures cause { PairHasCause D.faults pair.old pair.new (IsErr result) }
+{
+    if front.is_shut {
+        return shut_again(pair, side, front.size);
+    }
+    write_side(pair, side, 0, &[0])?;
+    Ok(front.size.max(1))
+}
+
+/// Shuts a side before it is filled, whatever its gate is, and says how many octets it has then.
 fn prepare<D: LeaseDisk>(pair: &mut DiskPair<D>, side: Side) -> Result<u64, Failed>
     ensures moments { D.tells → AreDurable D.seen D.may_leave pair.old
         → PairLeavesOnly D.moment D.left_since D.may_leave pair.old pair.new
@@ -114,11 +139,27 @@ fn prepare<D: LeaseDisk>(pair: &mut DiskPair<D>, side: Side) -> Result<u64, Fail
     ensures cause { PairHasCause D.faults pair.old pair.new (IsErr result) }
 {
     let front = front_of_side(pair, side)?;
-    if front.is_shut {
-        return shut_again(pair, side, front.size);
+    shut_front(pair, side, front)
+}
+
+/// Shuts a side that isn't to be filled, whatever its gate is, where it has octets.
+fn shut_beside<D: LeaseDisk>(pair: &mut DiskPair<D>, side: Side) -> Result<(), Failed>
+    ensures moments { D.tells → AreDurable D.seen D.may_leave pair.old
+        → PairLeavesOnly D.moment D.left_since D.may_leave pair.old pair.new
+        (ChangesSide side MayShut (D.seen pair.old.a) (D.seen pair.old.b)) }
+    ensures shut { D.tells → OnOk result
+        (ChangesSide side IsShutAnew (D.seen pair.old.a) (D.seen pair.old.b)
+        (D.seen pair.new.a) (D.seen pair.new.b)) }
+    ensures durable { D.tells → AreDurable D.seen D.may_leave pair.old
+        → OnOk result (AreDurable D.seen D.may_leave pair.new) }
+    ensures cause { PairHasCause D.faults pair.old pair.new (IsErr result) }
+{
+    let front = front_of_side(pair, side)?;
+    if front.size == 0 {
+        return Ok(());
     }
-    write_side(pair, side, 0, &[0])?;
-    Ok(front.size.max(1))
+    shut_front(pair, side, front)?;
+    Ok(())
 }
 
 /// Writes all that stands behind the gate of a side that gives way, and opens it. Says how many
@@ -171,6 +212,8 @@ fn start<D: LeaseDisk, R: Replay>(
         → IsBlank (D.seen pair.old.a) (D.seen pair.old.b)
         → IfOk result
         (λ standing. IsSettledBy D.seen D.may_leave A standing pair.new (fresh_state m)) }
+    ensures left { D.tells → AreDurable D.seen D.may_leave pair.old
+        → OnOk result (D.seen pair.new.b ≡ D.seen pair.old.b) }
     ensures reach { IfOk result IsInReach }
     ensures cause { PairHasCause D.faults pair.old pair.new (result ≡ Err Disk) }
     ensures lasting { R.lasting replay.new ≡ R.lasting replay.old }
@@ -191,30 +234,62 @@ fn start<D: LeaseDisk, R: Replay>(
     })
 }
 
-/// Shuts a side that was judged to be open.
-fn shut_open<D: LeaseDisk>(pair: &mut DiskPair<D>, side: Side, judged: Judged) -> Result<(), Failed>
+/// Starts a journal at `m` on side a, where both sides are closed: shuts side b first, if it has
+/// octets, since what was read of it may stand in the system's memory alone.
+fn start_blank<D: LeaseDisk, R: Replay>(
+    alloc: Global,
+    pair: &mut DiskPair<D>,
+    m: Moment,
+    replay: &mut R,
+) -> Result<Standing, JournalFault>
+    ensures replayed { OnOk result (R.state replay.new ≡ fresh_state m) }
+    ensures ready { OnOk result (R.replaying replay.new) }
+    ensures written { IfOk result IsNew }
+    ensures moments { D.tells → AreDurable D.seen D.may_leave pair.old
+        → IsBlank (D.seen pair.old.a) (D.seen pair.old.b)
+        → PairLeavesOnly D.moment D.left_since D.may_leave pair.old pair.new (IsStarting m) }
+    ensures settled { D.tells → AreDurable D.seen D.may_leave pair.old
+        → IsBlank (D.seen pair.old.a) (D.seen pair.old.b)
+        → IfOk result
+        (λ standing. IsSettledBy D.seen D.may_leave A standing pair.new (fresh_state m)) }
+    ensures shut { D.tells → AreDurable D.seen D.may_leave pair.old
+        → OnOk result (IsShutAnew (D.seen pair.old.b) (D.seen pair.new.b)) }
+    ensures reach { IfOk result IsInReach }
+    ensures cause { PairHasCause D.faults pair.old pair.new (result ≡ Err Disk) }
+    ensures lasting { R.lasting replay.new ≡ R.lasting replay.old }
+{
+    shut_beside(pair, Side::B)?;
+    start(alloc, pair, m, replay)
+}
+
+/// Shuts a side that was judged: an open one, or one that has octets.
+fn shut_judged<D: LeaseDisk>(
+    pair: &mut DiskPair<D>,
+    side: Side,
+    judged: Judged,
+) -> Result<(), Failed>
     ensures moments { D.tells → AreDurable D.seen D.may_leave pair.old
         → IsSideJudged (side_parity side) (of_side side (D.seen pair.old.a) (D.seen pair.old.b))
         judged
         → PairLeavesOnly D.moment D.left_since D.may_leave pair.old pair.new
         (ChangesSide side MayShut (D.seen pair.old.a) (D.seen pair.old.b)) }
-    ensures closed { D.tells
+    ensures shut { D.tells
         → IsSideJudged (side_parity side) (of_side side (D.seen pair.old.a) (D.seen pair.old.b))
         judged
         → OnOk result
-        (ChangesSide side (λ _ octets. IsClosedSide octets) (D.seen pair.old.a)
-        (D.seen pair.old.b) (D.seen pair.new.a) (D.seen pair.new.b)) }
-    ensures durable { AreDurable D.seen D.may_leave pair.old
+        (ChangesSide side IsShutAnew (D.seen pair.old.a) (D.seen pair.old.b)
+        (D.seen pair.new.a) (D.seen pair.new.b)) }
+    ensures durable { D.tells → AreDurable D.seen D.may_leave pair.old
         → OnOk result (AreDurable D.seen D.may_leave pair.new) }
     ensures cause { PairHasCause D.faults pair.old pair.new (IsErr result) }
 {
     if let Judged::Closed = judged {
-        return Ok(());
+        return shut_beside(pair, side);
     }
     write_side(pair, side, 0, &[0])
 }
 
-/// Shuts each open side: first the one in the grammar, then those that aren't, a before b.
+/// Shuts each side that is open or has octets: first one in the grammar, then a before b.
 fn shut_all<D: LeaseDisk>(pair: &mut DiskPair<D>, a: Judged, b: Judged) -> Result<(), Failed>
     ensures moments { D.tells → AreDurable D.seen D.may_leave pair.old
         → AreBroken (D.seen pair.old.a) (D.seen pair.old.b) a b
@@ -223,18 +298,20 @@ fn shut_all<D: LeaseDisk>(pair: &mut DiskPair<D>, a: Judged, b: Judged) -> Resul
     ensures blank { D.tells → AreDurable D.seen D.may_leave pair.old
         → AreBroken (D.seen pair.old.a) (D.seen pair.old.b) a b
         → OnOk result (IsBlank (D.seen pair.new.a) (D.seen pair.new.b)) }
-    ensures durable { AreDurable D.seen D.may_leave pair.old
+    ensures shut { D.tells → AreBroken (D.seen pair.old.a) (D.seen pair.old.b) a b
+        → OnOk result (IsShutAnew (D.seen pair.old.b) (D.seen pair.new.b)) }
+    ensures durable { D.tells → AreDurable D.seen D.may_leave pair.old
         → OnOk result (AreDurable D.seen D.may_leave pair.new) }
     ensures cause { PairHasCause D.faults pair.old pair.new (IsErr result) }
 {
     match b {
         Judged::Good(_) => {
-            shut_open(pair, Side::B, b)?;
-            shut_open(pair, Side::A, a)
+            shut_judged(pair, Side::B, b)?;
+            shut_judged(pair, Side::A, a)
         }
         _ => {
-            shut_open(pair, Side::A, a)?;
-            shut_open(pair, Side::B, b)
+            shut_judged(pair, Side::A, a)?;
+            shut_judged(pair, Side::B, b)
         }
     }
 }
@@ -251,8 +328,7 @@ fn sync_both<D: LeaseDisk>(pair: &mut DiskPair<D>) -> Result<(), Failed>
     Ok(())
 }
 
-/// Starts a journal at `m` on side a, where an open side isn't in the grammar: shuts each open side
-/// first.
+/// Starts a journal at `m` on side a, where an open side isn't in the grammar: shuts both sides first.
 fn start_anew<D: LeaseDisk, R: Replay>(
     alloc: Global,
     pair: &mut DiskPair<D>,
@@ -272,6 +348,9 @@ fn start_anew<D: LeaseDisk, R: Replay>(
         → AreBroken (D.seen pair.old.a) (D.seen pair.old.b) a b
         → IfOk result
         (λ standing. IsSettledBy D.seen D.may_leave A standing pair.new (fresh_state m)) }
+    ensures shut { D.tells → AreDurable D.seen D.may_leave pair.old
+        → AreBroken (D.seen pair.old.a) (D.seen pair.old.b) a b
+        → OnOk result (IsShutAnew (D.seen pair.old.b) (D.seen pair.new.b)) }
     ensures reach { IfOk result IsInReach }
     ensures cause { PairHasCause D.faults pair.old pair.new (result ≡ Err Disk) }
     ensures lasting { R.lasting replay.new ≡ R.lasting replay.old }
@@ -303,8 +382,10 @@ fn start_by<D: LeaseDisk, R: Replay>(
         → IfOk result
         (λ opened. FoundMeans m (D.seen pair.old.a) (D.seen pair.old.b)
         (R.state replay.new) opened.found) }
-    ensures still { IfOk result
-        (λ opened. IsStillUnless D.seen pair.old pair.new opened.found) }
+    ensures still { D.tells → AreDurable D.seen D.may_leave pair.old
+        → AreFound (D.seen pair.old.a) (D.seen pair.old.b) (R.state replay.old) verdict
+        → IfOk result
+        (λ opened. IsStillOrShut D.seen pair.old pair.new opened.found) }
     ensures settled { D.tells → AreDurable D.seen D.may_leave pair.old
         → AreFound (D.seen pair.old.a) (D.seen pair.old.b) (R.state replay.old) verdict
         → IfOk result
@@ -333,7 +414,7 @@ fn start_by<D: LeaseDisk, R: Replay>(
             found: Found::Recovered,
         }),
         Verdict::Neither => {
-            let standing = start(alloc, pair, m, replay)?;
+            let standing = start_blank(alloc, pair, m, replay)?;
             Ok(Opened {
                 side: Side::A,
                 standing,
@@ -362,7 +443,7 @@ pub(crate) fn open<D: LeaseDisk, R: Replay>(
         (λ opened. FoundMeans m (D.seen pair.old.a) (D.seen pair.old.b) (R.state replay.new)
         opened.found) }
     ensures still { D.tells → IfOk result
-        (λ opened. IsStillUnless D.seen pair.old pair.new opened.found) }
+        (λ opened. IsStillOrShut D.seen pair.old pair.new opened.found) }
     ensures started { IfOk result
         (λ opened. HasStarted m opened.side opened.standing (R.state replay.new) opened.found) }
     ensures settled { D.tells → IfOk result

@@ -15,7 +15,7 @@ use Rattle.journal_sides.specs.Laws.{OneState}
 use Rattle.lease_journal.specs.Views.{JournalView, IsSettled}
 use Rattle.lease_journal.proofs.StandingLaws.{settled_holds, stands_for}
 use Rattle.shard_book.specs.Books.{IsWritable}
-use Rattle.shard_book.specs.Keepings.{IsAppended, frame_octets}
+use Rattle.shard_book.specs.Keepings.{IsAppended, IsBeside, frame_octets}
 
 pub one_settled : {D : Type 0} → OneState → (seen : D → List ℕ) (may_leave : D → List ℕ → Type 0) (j : JournalView D) (s t : State) → IsSettled seen may_leave j s → IsSettled seen may_leave j t → s ≡ t
 one_settled one seen may_leave j s t is_s is_t =
@@ -53,14 +53,14 @@ pub none_left : {A : Type 0} (xs : List A) → length xs ≡ 0 → xs ≡ []
 none_left [] is = refl
 none_left (x ∷ xs) is = absurd (omega (arith, is))
 
-pub appended_ok : {D T E : Type 0} → (r : Result T E) (tells : Type 0) (rs : List Record) (old new : JournalView D) → (rs ≡ [] → new ≡ old) → OnOk r (new.side ≡ old.side) → OnOk r (new.standing.generation ≡ old.standing.generation) → OnOk r (new.first_length ≡ old.first_length)
-    → (tells → OnOk r (new.standing.length ≤ old.standing.length + frame_octets rs)) → OnOk r (IsAppended tells rs old new)
-appended_ok (Ok x) tells rs old new idle side generation first grown = record { idle = idle; side = side; generation = generation; first_length = first; grown = grown }
-appended_ok (Err e) tells rs old new idle side generation first grown = tt
+pub appended_ok : {D T E : Type 0} → (r : Result T E) (tells : Type 0) (seen : D → List ℕ) (rs : List Record) (old new : JournalView D) → (rs ≡ [] → new ≡ old) → OnOk r (new.side ≡ old.side) → OnOk r (new.standing.generation ≡ old.standing.generation) → OnOk r (new.first_length ≡ old.first_length)
+    → (tells → OnOk r (IsBeside seen old new)) → (tells → OnOk r (new.standing.length ≤ old.standing.length + frame_octets rs)) → OnOk r (IsAppended tells seen rs old new)
+appended_ok (Ok x) tells seen rs old new idle side generation first beside grown = record { idle = idle; side = side; generation = generation; first_length = first; beside = beside; grown = grown }
+appended_ok (Err e) tells seen rs old new idle side generation first beside grown = tt
 
 -- no record was
-pub none_appended : {D : Type 0} (tells : Type 0) (rs : List Record) (j : JournalView D) → IsAppended tells rs j j
-none_appended tells rs j = record { idle = λ _. refl; side = refl; generation = refl; first_length = refl; grown = λ _. omega arith }
+pub none_appended : {D : Type 0} (tells : Type 0) (seen : D → List ℕ) (rs : List Record) (j : JournalView D) → IsAppended tells seen rs j j
+none_appended tells seen rs j = record { idle = λ _. refl; side = refl; generation = refl; first_length = refl; beside = λ _. refl; grown = λ _. omega arith }
 
 pub writable_ok : {D T E : Type 0} → (r : Result T E) (tells : Type 0) (seen : D → List ℕ) (may_leave : D → List ℕ → Type 0) (j : JournalView D) (s : State) → OnOk r (j.unread ≡ false) → OnOk r (j.standing.format ≡ Second) → (tells → OnOk r (IsSettled seen may_leave j s)) → OnOk r (IsWritable tells seen may_leave j s)
 writable_ok (Ok x) tells seen may_leave j s read second settled = record { read = read; second = second; settled = settled }

@@ -1,5 +1,5 @@
 -- What a crash may leave while a journal is read again that stands for one of two states.
-use Rattle.std.proofs.Common.{◌≡◌, inl, ⊎_elim, ℕ, ◌-◌, ◌^◌, ◌<◌, List, refl, subst}
+use Rattle.std.proofs.Common.{◌≡◌, inl, ⊎_elim, ℕ, ◌-◌, ◌^◌, ◌<◌, List, refl, sym, subst}
 use Rattle.std.specs.Prelude.{◌⊎◌}
 use Rattle.pcp_base.specs.declared.records.Record.{Record}
 use Rattle.pcp_base.specs.Apply.{apply_all}
@@ -15,10 +15,12 @@ use Rattle.journal_sides.specs.declared.walks.Standing.{Standing}
 use Rattle.journal_sides.specs.Journals.{StandsFor, StandsForWithOrWithout}
 use Rattle.journal_sides.specs.Laws.{OneState, RecoveredAlone}
 use Rattle.journal_sides.specs.Settled.{StandsBy}
+use Rattle.journal_sides.specs.Writes.{of_side, other}
+use Rattle.shard_book.specs.Keepings.{IsBeside}
 use Rattle.lease_journal.specs.Views.{JournalView, IsSettled}
-use Rattle.lease_journal.specs.Openings.{HasStarted, IsStillUnless, LeavesOld, MayOpen, Opens}
+use Rattle.lease_journal.specs.Openings.{HasStarted, IsShutAnew, IsStillOrShut, LeavesOld, MayOpen, Opens}
 use Rattle.shard_book.specs.Addresses.{renumbering}
-use Rattle.shard_book.specs.Openings.{IsOnOther, IsStartUnless, IsWrittenAnewIf, MayOpenBook, OpensBook}
+use Rattle.shard_book.specs.Openings.{IsOnOther, IsOpenedAnew, IsStartUnless, MayOpenBook, OpensBook}
 use Rattle.pcp_base.specs.declared.addresses.Address.{Address}
 use Rattle.lease_journal.specs.Openings.{FoundMeans}
 use Rattle.shard_book.proofs.OpenLemmas.{may_known, one_of, opens_may}
@@ -33,10 +35,16 @@ second_unless m side standing s Recovered is not = absurd (not refl)
 second_unless m side standing s Blank is not = is.new.second
 second_unless m side standing s Damaged is not = is.new.second
 
--- what was found stands on the sides as they were
-pub written_anew : {D : Type 0} (tells : Type 0) (seen : D → List ℕ) (may_leave : D → List ℕ → Type 0) (old : DiskPair D) (mid new : JournalView D) (s : State) (found : Found) → (tells → IsStillUnless seen old mid.pair found) → (tells → IsSettled seen may_leave mid s)
-    → (found ≡ Recovered → mid.standing.generation < 2 ^ 64 - 1 → IsOnOther mid.side mid.standing.generation new) → IsWrittenAnewIf tells (seen old.a) (seen old.b) s new found
-written_anew tells seen may_leave old mid new s Recovered still settled goes = record {
+-- where no records were found the start stands on side a, and side b is beside it
+pub beside_start : {D : Type 0} (seen : D → List ℕ) (m : ℕ) (s : State) (found : Found) (old new : JournalView D) → HasStarted m old.side old.standing s found → (found ≡ Recovered → ⊥) → IsBeside seen old new → seen new.pair.b ≡ seen old.pair.b
+beside_start seen m s Recovered old new started not is = absurd (not refl)
+beside_start seen m s Blank old new started not is = subst (λ (side : Side). of_side (other side) (seen new.pair.a) (seen new.pair.b) ≡ of_side (other side) (seen old.pair.a) (seen old.pair.b)) started.on_a is
+beside_start seen m s Damaged old new started not is = subst (λ (side : Side). of_side (other side) (seen new.pair.a) (seen new.pair.b) ≡ of_side (other side) (seen old.pair.a) (seen old.pair.b)) started.on_a is
+
+-- what was found stands on the sides as they were, or side b is shut
+pub written_anew : {D : Type 0} (tells : Type 0) (seen : D → List ℕ) (may_leave : D → List ℕ → Type 0) (old : DiskPair D) (mid new : JournalView D) (s : State) (found : Found) → (tells → IsStillOrShut seen old mid.pair found) → (tells → IsSettled seen may_leave mid s)
+    → (found ≡ Recovered → mid.standing.generation < 2 ^ 64 - 1 → IsOnOther mid.side mid.standing.generation new) → (tells → (found ≡ Recovered → ⊥) → seen new.pair.b ≡ seen mid.pair.b) → IsOpenedAnew tells seen old s new found
+written_anew tells seen may_leave old mid new s Recovered still settled goes beside = record {
   side = mid.side;
   standing = mid.standing;
   stood = λ told.
@@ -44,8 +52,8 @@ written_anew tells seen may_leave old mid new s Recovered still settled goes = r
       subst (λ (l : List ℕ). StandsBy mid.side mid.standing s l (seen old.b)) is.a (subst (λ (l : List ℕ). StandsBy mid.side mid.standing s (seen mid.pair.a) l) is.b (settled told).sides);
   anew = goes refl;
 }
-written_anew tells seen may_leave old mid new s Blank still settled goes = tt
-written_anew tells seen may_leave old mid new s Damaged still settled goes = tt
+written_anew tells seen may_leave old mid new s Blank still settled goes beside = λ told. subst (λ (l : List ℕ). IsShutAnew (seen old.b) l) (sym (beside told (λ is. absurd cc))) (still told)
+written_anew tells seen may_leave old mid new s Damaged still settled goes beside = λ told. subst (λ (l : List ℕ). IsShutAnew (seen old.b) l) (sym (beside told (λ is. absurd cc))) (still told)
 
 module _ {D : Type 0} (seen : D → List ℕ) (moment : D → ℕ) (left_since : D → ℕ → List ℕ → Type 0) (may_leave : D → List ℕ → Type 0) where
   pub reading_runs : OneState → RecoveredAlone → (m : ℕ) (old new : DiskPair D) (s : State) (rs : List Record) → HoldsNow may_leave (StandsForWithOrWithout s rs) old → StandsForWithOrWithout s rs (seen old.a) (seen old.b)

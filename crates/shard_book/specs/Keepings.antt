@@ -10,6 +10,7 @@ use Rattle.journal_sides.specs.declared.errors.JournalFault.{JournalFault}
 use Rattle.journal_sides.specs.declared.errors.JournalFault.TheVariants.{Disk, Memory}
 use Rattle.journal_sides.specs.Frames.{frame_text}
 use Rattle.journal_sides.specs.Journals.{StandsForWithOrWithout}
+use Rattle.journal_sides.specs.Writes.{of_side, other}
 use Rattle.lease_journal.specs.Views.{JournalView}
 use Rattle.shard_book.specs.declared.batches.Answered.{Answered}
 use Rattle.shard_book.specs.declared.lengths.TheConstants.{LONGEST_SIDE}
@@ -82,13 +83,19 @@ abbrev pub frame_octets : List Record → ℕ
 frame_octets [] = 0
 frame_octets (r ∷ rs) = 1 + length (frame_text (r ∷ rs))
 
+-- the side beside the one that counted is as it was
+abbrev pub IsBeside : {D : Type 0} → (D → List ℕ) → JournalView D → JournalView D → Type 0
+IsBeside seen old new = of_side (other old.side) (seen new.pair.a) (seen new.pair.b)
+    ≡ of_side (other old.side) (seen old.pair.a) (seen old.pair.b)
+
 -- the records were appended to a journal in one frame, if there are any
-pub record IsAppended {D : Type 0} (tells : Type 0) (records : List Record)
+pub record IsAppended {D : Type 0} (tells : Type 0) (seen : D → List ℕ) (records : List Record)
     (old new : JournalView D) : Type 0 where
   pub idle : records ≡ [] → new ≡ old
   pub side : new.side ≡ old.side
   pub generation : new.standing.generation ≡ old.standing.generation
   pub first_length : new.first_length ≡ old.first_length
+  pub beside : tells → IsBeside seen old new
   pub grown : tells → new.standing.length ≤ old.standing.length + frame_octets records
 
 -- what a batch does to the journal

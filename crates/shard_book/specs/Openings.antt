@@ -12,7 +12,7 @@ use Rattle.lease_journal.specs.declared.errors.Found.TheVariants.{Recovered, Bla
 use Rattle.journal_sides.specs.declared.sides.Side.{Side}
 use Rattle.journal_sides.specs.declared.walks.Standing.{Standing}
 use Rattle.journal_sides.specs.Journals.{IsBlank, IsDamaged, StandsFor, fresh_state}
-use Rattle.lease_journal.specs.Openings.{FoundMeans, LeavesOld, MayOpen}
+use Rattle.lease_journal.specs.Openings.{FoundMeans, IsShutAnew, LeavesOld, MayOpen}
 use Rattle.lease_journal.specs.Views.{JournalView}
 use Rattle.journal_sides.specs.Reads.{AreSeenStill}
 use Rattle.journal_sides.specs.Settled.{StandsBy}
@@ -42,12 +42,15 @@ pub record IsWrittenAnew {D : Type 0} (tells : Type 0) (a b : List ℕ) (s : Sta
   pub stood : tells → StandsBy side standing s a b
   pub anew : standing.generation < 2 ^ 64 - 1 → IsOnOther side standing.generation journal
 
--- the same where records were found
-abbrev pub IsWrittenAnewIf : {D : Type 0} → Type 0 → (a b : List ℕ) → State → JournalView D → Found
-    → Type 0
-IsWrittenAnewIf tells a b s journal Recovered = IsWrittenAnew tells a b s journal
-IsWrittenAnewIf tells a b s journal Blank = ⊤
-IsWrittenAnewIf tells a b s journal Damaged = ⊤
+-- the same where records were found; else side b, beside the start, was shut anew
+abbrev pub IsOpenedAnew : {D : Type 0} → Type 0 → (D → List ℕ) → DiskPair D → State
+    → JournalView D → Found → Type 0
+IsOpenedAnew tells seen pair s journal Recovered =
+    IsWrittenAnew tells (seen pair.a) (seen pair.b) s journal
+IsOpenedAnew tells seen pair s journal Blank =
+    tells → IsShutAnew (seen pair.b) (seen journal.pair.b)
+IsOpenedAnew tells seen pair s journal Damaged =
+    tells → IsShutAnew (seen pair.b) (seen journal.pair.b)
 
 -- the first length is that of the side, but for a frame of these records
 pub record IsFirstLength {D : Type 0} (tells : Type 0) (records : List Record)
@@ -55,12 +58,12 @@ pub record IsFirstLength {D : Type 0} (tells : Type 0) (records : List Record)
   pub alone : records ≡ [] → journal.first_length ≡ journal.standing.length
   pub most : tells → journal.standing.length ≤ journal.first_length + frame_octets records
 
--- a book opened at m over a pair whose sides held a and b
-pub record IsOpened {D : Type 0} (tells : Type 0) (a b : List ℕ) (terms : Terms) (m : ℕ)
-    (book : BookView D) (found : Found) : Type 0 where
+-- a book opened at m over a pair
+pub record IsOpened {D : Type 0} (tells : Type 0) (seen : D → List ℕ) (pair : DiskPair D)
+    (terms : Terms) (m : ℕ) (book : BookView D) (found : Found) : Type 0 where
   -- the state of the records that were found, or of the start that was made
   pub opened : State
-  pub «from» : tells → FoundMeans m a b opened found
+  pub «from» : tells → FoundMeans m (seen pair.a) (seen pair.b) opened found
   pub start : IsStartUnless m opened found
   pub state : book.state ≡ apply_all opened (renumbering m terms.external.address opened)
   pub last : book.last ≡ book.state.last
@@ -69,7 +72,7 @@ pub record IsOpened {D : Type 0} (tells : Type 0) (a b : List ℕ) (terms : Term
   pub settled : book.fault ≡ None
   pub sure : book.unsure ≡ []
   -- nothing is believed that this opening hasn't written
-  pub anew : IsWrittenAnewIf tells a b opened book.journal found
+  pub anew : IsOpenedAnew tells seen pair opened book.journal found
   pub first_length :
       IsFirstLength tells (renumbering m terms.external.address opened) book.journal
 

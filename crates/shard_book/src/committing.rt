@@ -17,7 +17,7 @@ ghost use Rattle.journal_sides.specs.Journals.{StandsFor, StandsForWithOrWithout
 ghost use Rattle.lease_journal.specs.Views.{IsSettled};
 ghost use Rattle.shard_book.specs.Books.{IsWritable};
 ghost use Rattle.shard_book.specs.Insides.{IsKnownAs};
-ghost use Rattle.shard_book.specs.Keepings.{IsAppended, Journals, frame_octets, is_overlong, unsure_after};
+ghost use Rattle.shard_book.specs.Keepings.{IsAppended, IsBeside, Journals, frame_octets, is_overlong, unsure_after};
 ghost use Rattle.shard_book.specs.Openings.{IsOnOther};
 
 use crate::lengths::LONGEST_SIDE;
@@ -130,6 +130,7 @@ fn append_all<D: LeaseDisk>(
     ensures generation { OnOk result
         (journal.new.standing.generation ≡ journal.old.standing.generation) }
     ensures first_length { OnOk result (journal.new.first_length ≡ journal.old.first_length) }
+    ensures beside { D.tells → OnOk result (IsBeside D.seen journal.old journal.new) }
     ensures grown { D.tells → (s : State) → IsSettled D.seen D.may_leave journal.old s
         → OnOk result (journal.new.standing.length
         ≤ journal.old.standing.length + frame_octets records.now) }
@@ -301,6 +302,7 @@ pub(crate) fn write_anew<D: LeaseDisk, S: LeaseStore>(
     ensures anew { found ≡ Recovered → journal.old.standing.generation < 2 ^ 64 - 1
         → OnOk result
         (IsOnOther journal.old.side journal.old.standing.generation journal.new) }
+    ensures idle { found ≢ Recovered → journal.new ≡ journal.old }
     ensures first_length { OnOk result
         (journal.new.first_length ≡ journal.new.standing.length) }
     ensures moments { D.tells
@@ -338,7 +340,7 @@ pub(crate) fn keep<D: LeaseDisk, S: LeaseStore>(
     ensures writable { OnOk result (IsWritable D.tells D.seen D.may_leave journal.new
         (apply (S.state core.old) kept.now)) }
     ensures appended { OnOk result
-        (IsAppended D.tells (kept.now ∷ []) journal.old journal.new) }
+        (IsAppended D.tells D.seen (kept.now ∷ []) journal.old journal.new) }
     ensures moments { D.tells
         → PairLeavesOnly D.moment D.left_since D.may_leave journal.old.pair journal.new.pair
         (StandsForWithOrWithout (S.state core.old) (kept.now ∷ [])) }

@@ -1,5 +1,5 @@
 //! Opening a book.
-ghost use Rattle.std.specs.Prelude.{◌≡◌, ◌⊎◌, ◌≤◌, ◌<◌, ◌-◌, ◌^◌, ◌∷◌, [], max, length, true, false, None, Some, Ok, Err, IfOk, IfErr, OnOk};
+ghost use Rattle.std.specs.Prelude.{◌≡◌, ◌≢◌, ◌⊎◌, ◌≤◌, ◌<◌, ◌-◌, ◌^◌, ◌∷◌, [], max, length, true, false, None, Some, Ok, Err, IfOk, IfErr, OnOk};
 ghost use Rattle.pcp_base.specs.Apply.{apply, apply_all, is_another, state_of};
 ghost use Rattle.pcp_base.specs.Configs.{IsConfig, IsExternal};
 ghost use Rattle.pcp_base.specs.Fits.{AllFit, Fits};
@@ -39,8 +39,9 @@ pub type Book<D> = LeaseBook<D, IndexedStore>;
 impl<D: LeaseDisk> LeaseBook<D, IndexedStore> {
     /// Opens the journal of a pair, as [`Journal::recover`](lease_journal::Journal::recover) does,
     /// for this external address under the configuration. Records that are found, in either format,
-    /// are written anew on the other side, unless the generation is 2^64 - 1. Where the journal names
-    /// no address or another one, it is told this one. After a fault the pair is handed back.
+    /// are written anew on the other side, unless the generation is 2^64 - 1; where none are found, a
+    /// side b that has octets is shut anew. Where the journal names no address or another one, it is
+    /// told this one. After a fault the pair is handed back.
     pub fn begin(
         alloc: Global,
         external: &External,
@@ -51,8 +52,8 @@ impl<D: LeaseDisk> LeaseBook<D, IndexedStore> {
         requires external { IsExternal external.now }
         requires config { IsConfig config.now }
         ensures opened { IfOk result (λ opened.
-            IsOpened D.tells (D.seen pair.a) (D.seen pair.b) (terms_of external.now config.now) m
-            opened.0 opened.1) }
+            IsOpened D.tells D.seen pair (terms_of external.now config.now) m opened.0
+            opened.1) }
         ensures book { IfOk result (λ opened. IsBook D.tells D.seen D.may_leave opened.0) }
         ensures moments { D.tells → IfOk result (λ opened.
             OpensBook D.seen D.moment D.left_since D.may_leave m external.now.address pair
@@ -126,7 +127,7 @@ fn name_address<D: LeaseDisk, S: LeaseStore>(
     ensures terms { S.terms core.new ≡ S.terms core.old }
     ensures writable { OnOk result
         (IsWritable D.tells D.seen D.may_leave journal.new (S.state core.new)) }
-    ensures appended { OnOk result (IsAppended D.tells
+    ensures appended { OnOk result (IsAppended D.tells D.seen
         (renumbering m address.now (S.state core.old)) journal.old journal.new) }
     ensures moments { D.tells
         → PairLeavesOnly D.moment D.left_since D.may_leave journal.old.pair journal.new.pair
@@ -188,6 +189,8 @@ fn finish<D: LeaseDisk, S: LeaseStore>(
     ensures anew { found ≡ Recovered → journal.old.standing.generation < 2 ^ 64 - 1
         → OnOk result
         (IsOnOther journal.old.side journal.old.standing.generation journal.new) }
+    ensures beside { D.tells → found ≢ Recovered
+        → OnOk result (D.seen journal.new.pair.b ≡ D.seen journal.old.pair.b) }
     ensures first_length { OnOk result (IsFirstLength D.tells
         (renumbering m address.now (S.state core.old)) journal.new) }
     ensures moments { D.tells
@@ -216,8 +219,7 @@ impl<D: LeaseDisk, S: LeaseStore + Drop> LeaseBook<D, S> {
         requires terms { AreTerms (S.terms core) }
         requires address { address ≡ (S.terms core).external.address }
         ensures opened { IfOk result (λ opened.
-            IsOpened D.tells (D.seen pair.a) (D.seen pair.b) (S.terms core) m
-            opened.0 opened.1) }
+            IsOpened D.tells D.seen pair (S.terms core) m opened.0 opened.1) }
         ensures book { IfOk result (λ opened. IsBook D.tells D.seen D.may_leave opened.0) }
         ensures moments { D.tells → IfOk result (λ opened.
             OpensBook D.seen D.moment D.left_since D.may_leave m address pair

@@ -1,4 +1,4 @@
-use Rattle.std.proofs.Common.{inl, subst, ℕ, List, ◌+◌, length, ◌≡◌, ◌∷◌, []}
+use Rattle.std.proofs.Common.{inl, subst, ◌∙◌, ℕ, List, ◌+◌, length, ◌≡◌, ◌∷◌, []}
 use Rattle.lease_disk.specs.Contents.{after_write}
 use Rattle.lease_disk.specs.Images.{Torn}
 use Rattle.lease_disk.proofs.PairLemmas.{pair_goes_on, pair_weaker}
@@ -48,3 +48,9 @@ returns-clause-settled g c = λ told standing s batch is second place good fit f
       sides = appended c.args.side standing s batch (d.seen pair.a) (d.seen pair.b) is.sides second good fit c.args.frame.now frame (d.seen mid.a) (d.seen mid.b) wrote (d.seen last.a) (d.seen last.b) opened;
       durable = c.in_ok-write_side-2.ensures.durable (c.in_ok-write_side.ensures.durable is.durable);
     }
+
+pub returns-clause-beside : goal.returns-clause-beside
+returns-clause-beside g c = λ told.
+    let one = c.in_ok-write_side.ensures.written told in
+    let two = c.in_ok-write_side-2.ensures.written told in
+    two.unchanged ∙ one.unchanged

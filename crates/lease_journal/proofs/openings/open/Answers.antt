@@ -1,7 +1,7 @@
 use Rattle.std.proofs.Common.{inl, inr, ◌∙◌, ℕ, List}
 use Rattle.std.proofs.lemmas.Result.{IfOk-weaker}
 use Rattle.lease_journal.specs.Openings.{FoundMeans}
-use Rattle.lease_journal.proofs.OpeningLaws.{found_again, on_ok_always, only_read, opened, same_octets, still_unless}
+use Rattle.lease_journal.proofs.OpeningLaws.{found_again, on_ok_always, only_read, opened, same_octets, still_or_shut}
 use Rattle.lease_journal.proofs.PrepareLaws.{durable_still}
 use Rattle.lease_journal.proofs.openings.open.Goals as goal
 
@@ -26,10 +26,15 @@ returns-clause-found g c = λ told.
 pub returns-clause-still : goal.returns-clause-still
 returns-clause-still g c = λ told.
     let d = g.D.LeaseDisk in
+    let laws = g.met.D.LeaseDisk in
+    let synced = c.sync_both.new.pair in
     let judged = c.judge.new.pair in
     let first = c.in_ok-sync_both.ensures.seen told in
-    let still = c.in_ok-verdict.ensures.seen told in
-    IfOk-weaker c.start_by.result _ _ (λ o is. still_unless d.seen c.args.pair.now judged c.start_by.new.pair o.found (record { a = still.a ∙ first.a; b = still.b ∙ first.b }) is) c.start_by.ensures.still
+    let then_ = c.in_ok-verdict.ensures in
+    let still = then_.seen told in
+    let found = found_again (d.seen synced.a) (d.seen synced.b) (d.seen judged.a) (d.seen judged.b) (g.R.Replay.state c.judge.new.replay) c.in_ok-verdict.verdict still.a still.b (then_.found told) in
+    let durable = durable_still d.moment d.left_since d.may_leave laws.counts_now laws.only_now d.seen synced judged c.in_ok-sync_both.ensures.durable then_.read still in
+    IfOk-weaker c.start_by.result _ _ (λ o is. still_or_shut d.seen c.args.pair.now judged c.start_by.new.pair o.found (record { a = still.a ∙ first.a; b = still.b ∙ first.b }) is) (c.start_by.ensures.still told durable found)
 
 pub returns-clause-settled : goal.returns-clause-settled
 returns-clause-settled g c = λ told.

@@ -57,3 +57,9 @@ pub returns-clause-reach : goal.returns-clause-reach
 returns-clause-reach g c =
     let place : c.len.result ≡ length c.in_ok-text.text.items = search rules in
     record { ends = omega (arith, place, ap length c.deref.ensures.value, c.in_ok-length.ensures.within); long = c.in_ok-length.ensures.most }
+
+pub returns-clause-left : goal.returns-clause-left
+returns-clause-left g c = λ told durable.
+    let is = c.in_ok-text.ensures in
+    let within : c.args.m < 2 ^ 40 = search rules in
+    (c.in_ok-length.ensures.begun told 0 is.batches durable (start_batches c.args.m within c.in_ok-text.text.items is) (c.deref.ensures.value ∙ is.text)).unchanged

@@ -1,4 +1,7 @@
-use Rattle.std.proofs.Common.{subst}
+use Rattle.std.proofs.Common.{sym, subst}
+use Rattle.pcp_base.specs.States.{State}
+use Rattle.journal_sides.specs.declared.sides.Side.TheVariants.{A}
+use Rattle.journal_sides.specs.Settled.{IsSettledBy}
 use Rattle.lease_disk.proofs.PairLemmas.{pair_started, pair_weaker}
 use Rattle.journal_sides.specs.declared.judging.Verdict.{Verdict}
 use Rattle.lease_journal.specs.Openings.{MayOpen}
@@ -12,14 +15,14 @@ returns-in_err-standing-in-Neither-clause-moments g c = λ told durable found.
     let d = g.D.LeaseDisk in
     let pair = c.args.pair.now in
     let blank = subst (λ (v : Verdict). AreFound (d.seen pair.a) (d.seen pair.b) (g.R.Replay.state c.args.replay.now) v) c.in-Neither.is found in
-    pair_weaker d.moment d.left_since d.may_leave pair c.start.new.pair _ (MayOpen c.args.m (d.seen pair.a) (d.seen pair.b)) (c.start.ensures.moments told durable blank) (blank_may c.args.m (d.seen pair.a) (d.seen pair.b) blank)
+    pair_weaker d.moment d.left_since d.may_leave pair c.start_blank.new.pair _ (MayOpen c.args.m (d.seen pair.a) (d.seen pair.b)) (c.start_blank.ensures.moments told durable blank) (blank_may c.args.m (d.seen pair.a) (d.seen pair.b) blank)
 
 pub returns-in_ok-standing-in-Neither-clause-moments : goal.returns-in_ok-standing-in-Neither-clause-moments
 returns-in_ok-standing-in-Neither-clause-moments g c = λ told durable found.
     let d = g.D.LeaseDisk in
     let pair = c.args.pair.now in
     let blank = subst (λ (v : Verdict). AreFound (d.seen pair.a) (d.seen pair.b) (g.R.Replay.state c.args.replay.now) v) c.in-Neither.is found in
-    pair_weaker d.moment d.left_since d.may_leave pair c.start.new.pair _ (MayOpen c.args.m (d.seen pair.a) (d.seen pair.b)) (c.start.ensures.moments told durable blank) (blank_may c.args.m (d.seen pair.a) (d.seen pair.b) blank)
+    pair_weaker d.moment d.left_since d.may_leave pair c.start_blank.new.pair _ (MayOpen c.args.m (d.seen pair.a) (d.seen pair.b)) (c.start_blank.ensures.moments told durable blank) (blank_may c.args.m (d.seen pair.a) (d.seen pair.b) blank)
 
 pub returns-in_err-standing-in-Broken-clause-moments : goal.returns-in_err-standing-in-Broken-clause-moments
 returns-in_err-standing-in-Broken-clause-moments g c = λ told durable found.
@@ -47,3 +50,19 @@ returns-in-Counting-clause-moments g c = λ told durable found.
     let d = g.D.LeaseDisk in
     let pair = c.args.pair.now in
     pair_started d.moment d.left_since d.may_leave pair (MayOpen c.args.m (d.seen pair.a) (d.seen pair.b)) (may_open_now d.seen d.may_leave c.args.m pair (g.R.Replay.state c.args.replay.now) c.args.verdict durable found)
+
+pub returns-in_ok-standing-in-Broken-clause-still : goal.returns-in_ok-standing-in-Broken-clause-still
+returns-in_ok-standing-in-Broken-clause-still g c = λ told durable found.
+    let d = g.D.LeaseDisk in
+    let pair = c.args.pair.now in
+    let broken = subst (λ (v : Verdict). AreFound (d.seen pair.a) (d.seen pair.b) (g.R.Replay.state c.args.replay.now) v) c.in-Broken.is found in
+    c.in_ok-standing-in-Broken.ensures.shut told durable broken
+
+pub returns-in_ok-standing-in-Broken-clause-settled : goal.returns-in_ok-standing-in-Broken-clause-settled
+returns-in_ok-standing-in-Broken-clause-settled g c = λ told durable found.
+    let d = g.D.LeaseDisk in
+    let pair = c.args.pair.now in
+    let broken = subst (λ (v : Verdict). AreFound (d.seen pair.a) (d.seen pair.b) (g.R.Replay.state c.args.replay.now) v) c.in-Broken.is found in
+    let begun = c.in_ok-standing-in-Broken.ensures in
+    let new = c.start_anew.new.pair in
+    subst (λ (s : State). IsSettledBy d.seen d.may_leave A c.in_ok-standing-in-Broken.standing new s) (sym begun.replayed) (begun.settled told durable broken)

@@ -49,5 +49,5 @@ returns-clause-appended g c =
     let old = c.args.journal.now in
     let new = c.append_all.new.journal in
     let first = c.append_all.ensures in
-    subst (λ (l : List Record). OnOk c.append_all.result (IsAppended d.tells l old new)) c.from_ref.ensures.value
-    (appended_ok c.append_all.result d.tells c.from_ref.result.now old new first.idle first.side first.generation first.first_length (λ told. first.grown told s (c.requires.writable.settled told)))
+    subst (λ (l : List Record). OnOk c.append_all.result (IsAppended d.tells d.seen l old new)) c.from_ref.ensures.value
+    (appended_ok c.append_all.result d.tells d.seen c.from_ref.result.now old new first.idle first.side first.generation first.first_length first.beside (λ told. first.grown told s (c.requires.writable.settled told)))

@@ -4,7 +4,8 @@ use Rattle.journal_sides.specs.Journals.{StandsForWithOrWithout}
 use Rattle.shard_book.specs.Addresses.{renumbering}
 use Rattle.lease_journal.specs.Views.{JournalView}
 use Rattle.shard_book.proofs.JournalLemmas.{without}
-use Rattle.shard_book.proofs.ReadingRuns.{second_unless}
+use Rattle.shard_book.specs.Keepings.{IsBeside}
+use Rattle.shard_book.proofs.ReadingRuns.{beside_start, second_unless}
 use Rattle.shard_book.proofs.opening.finish.Goals as goal
 
 pub returns-in_err-write_anew-clause-moments : goal.returns-in_err-write_anew-clause-moments
@@ -56,3 +57,11 @@ returns-clause-first_length g c =
       alone = λ none. subst (λ (j : JournalView g.row.D.Denot). j.first_length ≡ j.standing.length) (sym (two.idle none)) first;
       most = λ told. omega (arith, first, two.first_length, two.grown told);
     }
+
+pub returns-clause-beside : goal.returns-clause-beside
+returns-clause-beside g c = λ told not.
+    let d = g.D.LeaseDisk in
+    let j = c.args.journal.now in
+    let same = c.in_ok-write_anew.ensures.idle not in
+    let is = subst (λ (k : JournalView g.row.D.Denot). IsBeside d.seen k c.name_address.new.journal) same (c.in_ok-name_address.ensures.appended.beside told) in
+    beside_start d.seen c.args.m (g.S.LeaseStore.state c.args.core.now) c.args.found j c.name_address.new.journal c.requires.start not is

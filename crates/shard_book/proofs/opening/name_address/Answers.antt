@@ -30,7 +30,7 @@ returns-clause-kept g c =
     map_ok c.keep.result _ _ c.keep.ensures.state (λ e. subst IsReached (sym e) (c.states_are_sound.ensures.kept s r c.requires.reached fits))
 
 pub returns-then-is_named-clause-appended : goal.returns-then-is_named-clause-appended
-returns-then-is_named-clause-appended g c = none_appended g.D.LeaseDisk.tells (renumbering c.args.m c.args.address.now (g.S.LeaseStore.state c.args.core.now)) c.args.journal.now
+returns-then-is_named-clause-appended g c = none_appended g.D.LeaseDisk.tells g.D.LeaseDisk.seen (renumbering c.args.m c.args.address.now (g.S.LeaseStore.state c.args.core.now)) c.args.journal.now
 
 pub returns-clause-appended : goal.returns-clause-appended
 returns-clause-appended g c =
@@ -38,4 +38,4 @@ returns-clause-appended g c =
     let told : is_named c.args.address.now s.address ≡ false = search rules in
     let at : max c.args.m s.last ≡ c.later.result = sym (c.later.ensures.value ∙ ap (λ (k : ℕ). max c.args.m k) c.last.ensures.value) in
     let one = one_renumbering c.args.m c.args.address.now s told ∙ ap (λ (k : ℕ). renumber_at k c.args.address.now ∷ []) at in
-    subst (λ (l : List Record). OnOk c.keep.result (IsAppended g.D.LeaseDisk.tells l c.args.journal.now c.keep.new.journal)) (sym one) c.keep.ensures.appended
+    subst (λ (l : List Record). OnOk c.keep.result (IsAppended g.D.LeaseDisk.tells g.D.LeaseDisk.seen l c.args.journal.now c.keep.new.journal)) (sym one) c.keep.ensures.appended

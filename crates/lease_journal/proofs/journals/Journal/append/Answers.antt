@@ -49,3 +49,6 @@ returns-clause-grown g c =
     rw (← c.self.view_is) (λ told s is.
     let ends = ends_within (side_parity inside.side) (of_side inside.side (d.seen inside.pair.a) (d.seen inside.pair.b)) inside.standing s is.sides.counts in
     omega (arith, ends, ap (λ (x : Standing). x.length) same))
+
+pub returns-clause-beside : goal.returns-clause-beside
+returns-clause-beside g c = rw (← c.self.view_is) c.in_ok-put_frame.ensures.beside

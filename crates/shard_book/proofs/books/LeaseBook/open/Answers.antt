@@ -98,7 +98,7 @@ returns-in-Ok-clause-opened g c =
       renumbered = c.in-Ok.ensures.renumbered ∙ ap (λ (a : Address). is_another a opened.address) c.requires.address;
       settled = refl;
       sure = none;
-      anew = written_anew d.tells d.seen d.may_leave c.args.pair c.in_ok-journal.journal c.finish.new.journal opened c.in_ok-journal.found c.in_ok-journal.ensures.still c.in_ok-journal.ensures.settled c.in-Ok.ensures.anew;
+      anew = written_anew d.tells d.seen d.may_leave c.args.pair c.in_ok-journal.journal c.finish.new.journal opened c.in_ok-journal.found c.in_ok-journal.ensures.still c.in_ok-journal.ensures.settled c.in-Ok.ensures.anew c.in-Ok.ensures.beside;
       first_length = subst (λ (a : Address). IsFirstLength d.tells (renumbering c.args.m a opened) c.finish.new.journal) c.requires.address c.in-Ok.ensures.first_length;
     }
 
