@@ -1,0 +1,14 @@
+mod LinkLemmas
+mod ChainLemmas
+mod WalkLemmas
+mod ListLemmas
+mod PortLemmas
+mod LeaseCellLemmas
+mod RecordLemmas
+mod LookLemmas
+mod HistoryLemmas
+mod ShownSteps
+mod WriterLemmas
+mod OperationLemmas
+mod PublishLemmas
+mod TableLookLemmas

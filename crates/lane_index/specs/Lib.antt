@@ -1,0 +1,17 @@
+pub mod Nonces
+pub mod Ports
+pub mod Slots
+pub mod Keys
+pub mod Links
+pub mod Openings
+pub mod Applying
+pub mod Chains
+pub mod LeaseCells
+pub mod CellLaws
+pub mod Lanes
+pub mod Histories
+pub mod Replicas
+pub mod Shown
+pub mod Operations
+pub mod Keeping
+pub mod Laws
