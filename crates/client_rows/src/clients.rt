@@ -13,7 +13,7 @@ use std::alloc::{AllocError, Global};
 use std::test::Fail;
 
 // MAP of UDP port 5000 from 10.0.0.5, for an hour
-static REQUEST: [u8; 60] = [
+pub(crate) static REQUEST: [u8; 60] = [
     2, 1, 0, 0, 0, 0, 0x0e, 0x10, 0, 0, 0, 0, 0, 0, 0, 0, 0, 0, 0xff, 0xff, 10, 0, 0, 5, 0, 1, 2,
     3, 4, 5, 6, 7, 8, 9, 10, 11, 17, 0, 0, 0, 0x13, 0x88, 0, 0, 0, 0, 0, 0, 0, 0, 0, 0, 0, 0, 0xff,
     0xff, 0, 0, 0, 0,
@@ -34,23 +34,23 @@ static REMOTE: [u8; 20] = [
 ];
 
 // the reply to the first: 192.0.2.1, port 1024, for an hour, at epoch 10
-static REPLY: [u8; 60] = [
+pub(crate) static REPLY: [u8; 60] = [
     2, 0x81, 0, 0, 0, 0, 0x0e, 0x10, 0, 0, 0, 10, 0, 0, 0, 0, 0, 0, 0, 0, 0, 0, 0, 0, 0, 1, 2, 3,
     4, 5, 6, 7, 8, 9, 10, 11, 17, 0, 0, 0, 0x13, 0x88, 4, 0, 0, 0, 0, 0, 0, 0, 0, 0, 0, 0, 0xff,
     0xff, 192, 0, 2, 1,
 ];
 
-const OWN: Address = Address([0, 0, 0, 0, 0, 0, 0, 0, 0, 0, 0xff, 0xff, 10, 0, 0, 5]);
+pub(crate) const OWN: Address = Address([0, 0, 0, 0, 0, 0, 0, 0, 0, 0, 0xff, 0xff, 10, 0, 0, 5]);
 
 const THIRD: Address = Address([0, 0, 0, 0, 0, 0, 0, 0, 0, 0, 0xff, 0xff, 10, 0, 0, 9]);
 
 const PEER: Address = Address([0, 0, 0, 0, 0, 0, 0, 0, 0, 0, 0xff, 0xff, 198, 51, 100, 7]);
 
-const NONE: Address = Address([0, 0, 0, 0, 0, 0, 0, 0, 0, 0, 0xff, 0xff, 0, 0, 0, 0]);
+pub(crate) const NONE: Address = Address([0, 0, 0, 0, 0, 0, 0, 0, 0, 0, 0xff, 0xff, 0, 0, 0, 0]);
 
-const NONCE: Nonce = Nonce([0, 1, 2, 3, 4, 5, 6, 7, 8, 9, 10, 11]);
+pub(crate) const NONCE: Nonce = Nonce([0, 1, 2, 3, 4, 5, 6, 7, 8, 9, 10, 11]);
 
-const FILTER: Filter = Filter {
+pub(crate) const FILTER: Filter = Filter {
     prefix: 128,
     port: 53,
     remote: PEER,
@@ -71,7 +71,7 @@ const TOLD: Common = Common {
     address: Address([0, 0, 0, 0, 0, 0, 0, 0, 0, 0, 0xff, 0xff, 192, 0, 2, 1]),
 };
 
-fn endpoint(address: Address) -> Endpoint {
+pub(crate) fn endpoint(address: Address) -> Endpoint {
     Endpoint {
         address,
         protocol: Protocol::Udp,
@@ -124,7 +124,7 @@ fn requests_with_options(rt: HostRuntime) -> Result<(), Fail> {
     Ok(())
 }
 
-fn joined(alloc: Global, parts: &[&[u8]]) -> Result<Vec<u8>, AllocError> {
+pub(crate) fn joined(alloc: Global, parts: &[&[u8]]) -> Result<Vec<u8>, AllocError> {
     let mut octets = Vec::new(alloc);
     for part in parts {
         octets.extend_from_slice(part)?;
