@@ -12,7 +12,7 @@ use std::alloc::Global;
 use std::test::Fail;
 
 /// What is done, and what comes of it.
-#[derive(Clone, Copy, Debug)]
+#[derive(Clone, Copy)]
 pub(crate) enum Step {
     /// A request alone, what is answered, and the epoch that is told.
     Asked(Request, Told, u32),
@@ -23,7 +23,7 @@ pub(crate) enum Step {
 }
 
 /// What came of a step.
-#[derive(Clone, Copy, Debug, PartialEq, Eq)]
+#[derive(Clone, Copy, PartialEq, Eq)]
 pub(crate) enum Went {
     AsSaid,
     Otherwise,
@@ -32,7 +32,7 @@ pub(crate) enum Went {
 
 /// What stands in a book: of its state the base, the last moment, how many leases there are, when
 /// the first of them ends, and how many ends there are.
-#[derive(Clone, Copy, Debug, PartialEq, Eq)]
+#[derive(Clone, Copy, PartialEq, Eq)]
 pub(crate) struct Seen(
     pub(crate) u64,
     pub(crate) u64,

@@ -3,14 +3,14 @@ ghost use Rattle.std.specs.Prelude.{◌≡◌, None, IfOk};
 
 use crate::acts::{Seen, Step, Went, act_all, what_stands};
 use crate::opening::{Opened, open};
-use lease_disk::{DiskPair, MemoryDisk};
+use lease_disk::{DiskPair, LeaseDisk};
 use lease_store::LeaseStore;
 use shard_book::{Found, LeaseBook};
 use std::alloc::Global;
 use std::test::Fail;
 
 /// What came of a run.
-#[derive(Drop)]
+#[derive(Clone, Copy)]
 pub(crate) struct Done {
     /// what was found, if the opening went well
     pub(crate) found: Option<Found>,
@@ -21,67 +21,73 @@ pub(crate) struct Done {
     pub(crate) went: Went,
     /// what stands after all steps, if they went as said
     pub(crate) stands: Option<Seen>,
-    pub(crate) pair: DiskPair<MemoryDisk>,
 }
 
-fn do_steps<S: LeaseStore + Drop>(
+fn do_steps<D: LeaseDisk, S: LeaseStore + Drop>(
     alloc: Global,
-    book: LeaseBook<MemoryDisk, S>,
+    book: &mut LeaseBook<D, S>,
     found: Found,
     steps: &[(u64, Step)],
 ) -> Result<Done, Fail>
-    requires { book.fault ≡ None }
+    requires { book.old.fault ≡ None }
 {
-    let mut book = book;
     let renumbered = book.renumbered();
-    let (done, went) = act_all(alloc, &mut book, steps)?;
-    if went != Went::AsSaid {
-        return Ok(Done {
-            found: Some(found),
-            renumbered,
-            done,
-            went,
-            stands: None,
-            pair: book.close(),
-        });
-    }
-    let stands = what_stands(alloc, &book)?;
-    Ok(Done {
+    let (done, went) = act_all(alloc, book, steps)?;
+    let mut done = Done {
         found: Some(found),
         renumbered,
         done,
         went,
-        stands: Some(stands),
-        pair: book.close(),
-    })
+        stands: None,
+    };
+    if went == Went::AsSaid {
+        done.stands = Some(what_stands(alloc, book)?);
+    }
+    Ok(done)
 }
 
-fn do_all<S: LeaseStore + Drop>(
+fn do_all<D: LeaseDisk + Drop, S: LeaseStore + Drop>(
     alloc: Global,
-    opened: Opened<S>,
+    opened: Opened<D, S>,
     steps: &[(u64, Step)],
-) -> Result<Done, Fail>
+) -> Result<(Done, DiskPair<D>), Fail>
     requires { IfOk opened (λ opened. opened.0.fault ≡ None) }
 {
     match opened {
-        Ok((book, found)) => do_steps(alloc, book, found, steps),
-        Err(unopened) => Ok(Done {
-            found: None,
-            renumbered: false,
-            done: 0,
-            went: Went::Refused(unopened.fault),
-            stands: None,
-            pair: unopened.pair,
-        }),
+        Ok((mut book, found)) => {
+            let done = do_steps(alloc, &mut book, found, steps)?;
+            Ok((done, book.close()))
+        }
+        Err(unopened) => {
+            let done = Done {
+                found: None,
+                renumbered: false,
+                done: 0,
+                went: Went::Refused(unopened.fault),
+                stands: None,
+            };
+            Ok((done, unopened.pair))
+        }
     }
 }
 
-/// Opens a book at `m`, and does the steps until one goes otherwise.
-pub(crate) fn run(
+/// Opens a book at `m`, and does the steps until one goes otherwise. What came of that, and the pair.
+pub(crate) fn run<D: LeaseDisk + Drop>(
     alloc: Global,
-    pair: DiskPair<MemoryDisk>,
+    pair: DiskPair<D>,
+    m: u64,
+    steps: &[(u64, Step)],
+) -> Result<(Done, DiskPair<D>), Fail> {
+    do_all(alloc, open(alloc, pair, m)?, steps)
+}
+
+/// The same without the pair.
+pub(crate) fn done_of<D: LeaseDisk + Drop>(
+    alloc: Global,
+    pair: DiskPair<D>,
     m: u64,
     steps: &[(u64, Step)],
 ) -> Result<Done, Fail> {
-    do_all(alloc, open(alloc, pair, m)?, steps)
+    let (done, _pair) = run(alloc, pair, m, steps)?;
+    Ok(done)
 }

@@ -2,12 +2,12 @@
 ghost use Rattle.std.specs.Prelude.{◌≡◌, None, IfOk, IsSome};
 
 use crate::acts::{Seen, Step, Went, act_all, what_stands};
-use crate::doings::run;
+use crate::doings::done_of;
 use crate::opening::{Opened, moment, open};
 use crate::requests::{Request, asks_of};
 use crate::runs::{Run, long, short};
-use crate::sides::{NOTHING, fail_at, pair_of};
-use lease_disk::{LeaseDisk, MemoryDisk};
+use crate::sides::failing;
+use lease_disk::LeaseDisk;
 use lease_store::LeaseStore;
 use pcp_base::Moment;
 use shard_book::{BookFault, LeaseBook, Standing, Unopened};
@@ -116,7 +116,7 @@ fn is_resumed<D: LeaseDisk, S: LeaseStore + Drop>(
 }
 
 /// What comes of a run in which a device call fails.
-#[derive(Clone, Copy, Debug, PartialEq, Eq)]
+#[derive(Clone, Copy)]
 enum Came {
     /// No call was refused.
     Unharmed,
@@ -125,8 +125,8 @@ enum Came {
     Otherwise,
 }
 
-fn came_if(holds: bool, came: Came) -> Came {
-    if holds { came } else { Came::Otherwise }
+fn mended_if(holds: bool) -> Came {
+    if holds { Came::Mended } else { Came::Otherwise }
 }
 
 /// Does the steps in a book that was opened.
@@ -142,44 +142,44 @@ fn do_steps<D: LeaseDisk, S: LeaseStore + Drop>(
     match went {
         Went::AsSaid => Ok(Came::Unharmed),
         Went::Refused(BookFault::Disk) => {
-            Ok(came_if(is_resumed(alloc, book, run, done, asks)?, Came::Mended))
+            Ok(mended_if(is_resumed(alloc, book, run, done, asks)?))
         }
         _ => Ok(Came::Otherwise),
     }
 }
 
-/// Does the steps in a book, if it was opened; else hands the pair back.
-fn do_opened<S: LeaseStore + Drop>(
-    alloc: Global,
-    opened: Opened<S>,
-    run: &Run,
-    asks: bool,
-) -> Result<Result<Came, Unopened<MemoryDisk>>, Fail>
-    requires { IfOk opened (λ opened. opened.0.fault ≡ None) }
-{
-    match opened {
-        Ok((mut book, _found)) => Ok(Ok(do_steps(alloc, &mut book, run, asks)?)),
-        Err(unopened) => Ok(Err(unopened)),
-    }
-}
-
 /// Opens the sides, where that was refused, and does the run.
-fn open_again(alloc: Global, unopened: Unopened<MemoryDisk>, tried: &Run) -> Result<Came, Fail> {
+fn open_again<D: LeaseDisk + Drop>(
+    alloc: Global,
+    unopened: Unopened<D>,
+    run: &Run,
+) -> Result<Came, Fail> {
     if unopened.fault != BookFault::Disk {
         return Ok(Came::Otherwise);
     }
-    let stands = run(alloc, unopened.pair, tried.at, tried.steps)?.stands;
-    Ok(came_if(stands.as_ref() == tried.states.last(), Came::Mended))
+    let done = done_of(alloc, unopened.pair, run.at, run.steps)?;
+    Ok(mended_if(done.stands.as_ref() == run.states.last()))
+}
+
+/// Does the steps in a book, if it was opened.
+fn do_opened<D: LeaseDisk + Drop, S: LeaseStore + Drop>(
+    alloc: Global,
+    opened: Opened<D, S>,
+    run: &Run,
+    asks: bool,
+) -> Result<Came, Fail>
+    requires { IfOk opened (λ opened. opened.0.fault ≡ None) }
+{
+    match opened {
+        Ok((mut book, _found)) => do_steps(alloc, &mut book, run, asks),
+        Err(unopened) => open_again(alloc, unopened, run),
+    }
 }
 
 /// Does the run where this device call of a side fails.
-fn fail(alloc: Global, tried: &Run, fails_b: bool, call: u64, asks: bool) -> Result<Came, Fail> {
-    let mut pair = pair_of(alloc, tried.side, NOTHING)?;
-    fail_at(alloc, &mut pair, fails_b, call)?;
-    match do_opened(alloc, open(alloc, pair, tried.at)?, tried, asks)? {
-        Ok(came) => Ok(came),
-        Err(unopened) => open_again(alloc, unopened, tried),
-    }
+fn fail(alloc: Global, run: &Run, fails_b: bool, call: u64, asks: bool) -> Result<Came, Fail> {
+    let pair = failing(alloc, run.side, fails_b, call)?;
+    do_opened(alloc, open(alloc, pair, run.at)?, run, asks)
 }
 
 /// Lets each device call of a side fail, and settles by a request or alone. The first one of which

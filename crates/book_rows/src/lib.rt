@@ -5,9 +5,13 @@
 #[cfg(test)]
 mod acts;
 #[cfg(test)]
+mod cuts;
+#[cfg(test)]
 mod doings;
 #[cfg(test)]
 mod faults;
+#[cfg(test)]
+mod lengths;
 #[cfg(test)]
 mod octets;
 #[cfg(test)]

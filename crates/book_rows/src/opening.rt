@@ -4,14 +4,14 @@ ghost use Rattle.std.specs.Prelude.{◌≡◌, None, IfOk};
 ghost use Rattle.pcp_base.specs.Configs.{IsConfig, IsExternal};
 
 use indexed_store::IndexedStore;
-use lease_disk::{DiskPair, MemoryDisk};
+use lease_disk::{DiskPair, LeaseDisk};
 use pcp_base::{Address, Config, External, Externals, Moment, Prefixes, Subscribers};
 use shard_book::{Book, Found, LeaseBook, Unopened};
 use std::alloc::Global;
 use std::test::Fail;
 
 /// What an opening gives.
-pub(crate) type Opened<S> = Result<(LeaseBook<MemoryDisk, S>, Found), Unopened<MemoryDisk>>;
+pub(crate) type Opened<D, S> = Result<(LeaseBook<D, S>, Found), Unopened<D>>;
 
 pub(crate) fn moment(seconds: u64) -> Result<Moment, Fail>
     ensures { IfOk result (λ m. m ≡ seconds) }
@@ -35,26 +35,27 @@ fn config(alloc: Global, external: &External) -> Result<Config, Fail>
     requires { IsExternal external.now }
     ensures { IfOk result IsConfig }
 {
+    let externals = Vec::from_array(alloc, [*external])?;
     Ok(Config {
         quota: 64,
         lifetime_min: 120,
         lifetime_max: 86_400,
         third_party: Prefixes::of(Vec::new(alloc)),
-        externals: Externals::of(Vec::from_array(alloc, [*external])?),
+        externals: Externals::of(externals),
         subscribers: Subscribers::of(Vec::new(alloc)),
     })
 }
 
 /// Opens a book at `m`.
-pub(crate) fn open(
+pub(crate) fn open<D: LeaseDisk + Drop>(
     alloc: Global,
-    pair: DiskPair<MemoryDisk>,
+    pair: DiskPair<D>,
     m: u64,
-) -> Result<Opened<IndexedStore>, Fail>
+) -> Result<Opened<D, IndexedStore>, Fail>
     ensures { IfOk result (λ opened. IfOk opened (λ opened. opened.0.fault ≡ None)) }
 {
+    let m = moment(m)?;
     let external = external();
     let config = config(alloc, &external)?;
-    let m = moment(m)?;
     Ok(Book::begin(alloc, &external, &config, pair, m))
 }

@@ -11,7 +11,7 @@ use std::alloc::Global;
 use std::test::Fail;
 
 /// A request over UDP.
-#[derive(Clone, Copy, Debug)]
+#[derive(Clone, Copy)]
 pub(crate) enum Request {
     Announce,
     /// A MAP request: the number H of the host 10.0.0.H, its port, seconds, the suggested port, and
@@ -20,7 +20,7 @@ pub(crate) enum Request {
 }
 
 /// What is answered.
-#[derive(Clone, Copy, Debug, PartialEq, Eq)]
+#[derive(Clone, Copy, PartialEq, Eq)]
 pub(crate) enum Told {
     Announced,
     Gone,

@@ -1,9 +1,9 @@
 //! Runs of which each device call in turn is the last one.
 
 use crate::acts::{Seen, Went};
-use crate::doings::run;
+use crate::doings::{Done, done_of, run};
 use crate::runs::{Run, long, short};
-use crate::sides::{NOTHING, pair_of, stop_at, stopped};
+use crate::sides::{NOTHING, stopped, stopping};
 use lease_disk::{DiskPair, MemoryDisk};
 use std::alloc::Global;
 use std::test::Fail;
@@ -34,7 +34,8 @@ fn are_left(
     done: Option<usize>,
 ) -> Result<bool, Fail> {
     for choice in 0..3 {
-        let Some(stands) = run(alloc, stopped(alloc, pair, choice)?, 2000, &[])?.stands else {
+        let image = stopped(alloc, pair, choice)?;
+        let Some(stands) = done_of(alloc, image, 2000, &[])?.stands else {
             return Ok(false);
         };
         if !may_stand(tried, done, &stands) {
@@ -44,14 +45,20 @@ fn are_left(
     Ok(true)
 }
 
+/// How many steps were answered, if the opening went well.
+fn answered(done: &Done) -> Option<usize> {
+    match done.found {
+        Some(_) => Some(done.done),
+        None => None,
+    }
+}
+
 /// Does the run where this device call of a side is the last one. Whether that leaves what it may,
 /// and whether the run went to its end.
 fn stop(alloc: Global, tried: &Run, stops_b: bool, call: u64) -> Result<(bool, bool), Fail> {
-    let mut pair = pair_of(alloc, tried.side, NOTHING)?;
-    stop_at(&mut pair, stops_b, call);
-    let done = run(alloc, pair, tried.at, tried.steps)?;
-    let answered = done.found.map(|_| done.done);
-    let kept = done.went != Went::Otherwise && are_left(alloc, tried, &done.pair, answered)?;
+    let pair = stopping(alloc, tried.side, NOTHING, stops_b, call)?;
+    let (done, pair) = run(alloc, pair, tried.at, tried.steps)?;
+    let kept = done.went != Went::Otherwise && are_left(alloc, tried, &pair, answered(&done))?;
     Ok((kept, done.went == Went::AsSaid))
 }
 
