@@ -1,6 +1,7 @@
 //! A disk in memory: what is read after each call, and what each image then holds.
 
 use lease_disk::{LeaseDisk, MemoryDisk};
+use pcp_base::Failed;
 use std::alloc::Global;
 use std::test::Fail;
 
@@ -15,29 +16,31 @@ pub(crate) enum Call {
 /// A call, and what the images of the choices 0, 1 and 2 hold after it.
 struct After(Call, [&'static [u8]; 3]);
 
-/// The octets from the first on, at most eight, of which a failed read is written as "!".
-pub(crate) fn front<D: LeaseDisk>(alloc: Global, disk: &mut D) -> Result<Vec<u8>, Fail> {
+/// Whether the octets from the first on, at most eight, are these; "!" stands for a read that fails.
+pub(crate) fn reads<D: LeaseDisk>(disk: &mut D, octets: &[u8]) -> bool {
     let mut piece = [b'.'; 8];
-    let mut seen = Vec::new(alloc);
     match disk.read_at(0, &mut piece) {
-        Ok(count) => seen.extend_from_slice(&piece[..count])?,
-        Err(_) => seen.push(b'!')?,
+        Ok(count) => &piece[..count] == octets,
+        Err(_) => octets == b"!".as_slice(),
     }
-    Ok(seen)
+}
+
+/// Writes these octets, and syncs them.
+fn keep<D: LeaseDisk>(disk: &mut D, octets: &[u8]) -> Result<(), Failed> {
+    disk.write_at(0, octets)?;
+    disk.sync()
 }
 
 /// A disk of so much room that holds "abcd", synced.
 fn synced_disk(alloc: Global, room: u64) -> Result<MemoryDisk, Fail> {
     let mut disk = MemoryDisk::new(alloc, room)?;
-    disk.write_at(0, b"abcd")?;
-    disk.sync()?;
+    keep(&mut disk, b"abcd")?;
     Ok(disk)
 }
 
 /// Whether the image of this choice holds these octets.
 fn leaves(alloc: Global, disk: &MemoryDisk, choice: u8, octets: &[u8]) -> Result<bool, Fail> {
-    let mut stopped = disk.stopped(alloc, choice)?;
-    Ok(front(alloc, &mut stopped)?.as_slice() == octets)
+    Ok(reads(&mut disk.stopped(alloc, choice)?, octets))
 }
 
 /// Makes a call. Whether it went well.
@@ -53,7 +56,7 @@ pub(crate) fn is_made<D: LeaseDisk>(disk: &mut D, call: Call) -> bool {
 /// a read gives.
 fn is_left_after(alloc: Global, disk: &mut MemoryDisk, after: &After) -> Result<bool, Fail> {
     let After(call, images) = after;
-    if !is_made(disk, *call) || front(alloc, disk)?.as_slice() != images[1] {
+    if !is_made(disk, *call) || !reads(disk, images[1]) {
         return Ok(false);
     }
     for (choice, octets) in images.iter().enumerate() {
@@ -77,23 +80,31 @@ static CALLS: [After; 6] = [
     After(Call::Write(3, b"z"), [b"a", b"a\0\0z", b"a\0\0\xff"]),
 ];
 
+/// The number of the first of the calls that goes otherwise.
+fn first_other(alloc: Global, disk: &mut MemoryDisk) -> Result<Option<usize>, Fail> {
+    for (number, after) in CALLS.iter().enumerate() {
+        if !is_left_after(alloc, disk, after)? {
+            return Ok(Some(number));
+        }
+    }
+    Ok(None)
+}
+
 #[test]
 fn images(rt: HostRuntime) -> Result<(), Fail> {
-    let alloc = rt.alloc();
-    let mut disk = synced_disk(alloc, 100)?;
-    assert!(rt; disk.len().ok() == Some(4));
-    for (number, after) in CALLS.iter().enumerate() {
-        assert!(rt; is_left_after(alloc, &mut disk, after)?, "{number}");
-    }
-    assert!(rt; disk.starved() == 0);
+    let mut disk = synced_disk(rt.alloc(), 100)?;
+    let length = disk.len();
+    let other = first_other(rt.alloc(), &mut disk)?;
+    assert!(rt; other == None, "{other:?}");
+    assert!(rt; length.ok() == Some(4) && disk.starved() == 0);
     Ok(())
 }
 
 #[test]
 fn a_write_past_the_room(rt: HostRuntime) -> Result<(), Fail> {
     let mut disk = synced_disk(rt.alloc(), 6)?;
-    assert!(rt; !is_made(&mut disk, Call::Write(4, b"efg")));
-    assert!(rt; is_made(&mut disk, Call::Write(4, b"ef")));
+    let past = is_made(&mut disk, Call::Write(4, b"efg"));
+    assert!(rt; !past && is_made(&mut disk, Call::Write(4, b"ef")));
     Ok(())
 }
 
@@ -108,19 +119,18 @@ fn failing_disk(alloc: Global) -> Result<MemoryDisk, Fail> {
     Ok(disk)
 }
 
-/// Whether the octets from the first on are these.
-fn is_read_as<D: LeaseDisk>(alloc: Global, disk: &mut D, octets: &[u8]) -> Result<bool, Fail> {
-    Ok(front(alloc, disk)?.as_slice() == octets)
+/// Whether a write fails, a read goes well then, and no later call does.
+fn fails_and_stops<D: LeaseDisk>(disk: &mut D) -> bool {
+    !is_made(disk, Call::Write(0, b"x"))
+        && reads(disk, b"abcdef")
+        && !is_made(disk, Call::Sync)
+        && disk.len().is_err()
+        && reads(disk, b"!")
 }
 
 #[test]
 fn failing_calls(rt: HostRuntime) -> Result<(), Fail> {
-    let alloc = rt.alloc();
-    let mut disk = failing_disk(alloc)?;
-    let failed = !is_made(&mut disk, Call::Write(0, b"x"));
-    assert!(rt; failed && is_read_as(alloc, &mut disk, b"abcdef")?);
-    let stopped = !is_made(&mut disk, Call::Sync) && disk.len().is_err();
-    assert!(rt; stopped && is_read_as(alloc, &mut disk, b"!")?);
+    assert!(rt; fails_and_stops(&mut failing_disk(rt.alloc())?));
     Ok(())
 }
 
@@ -128,8 +138,7 @@ fn failing_calls(rt: HostRuntime) -> Result<(), Fail> {
 fn a_disk_that_stopped_leaves_its_images(rt: HostRuntime) -> Result<(), Fail> {
     let alloc = rt.alloc();
     let disk = failing_disk(alloc)?;
-    for (choice, octets) in [b"abcd".as_slice(), b"abcdef"].iter().enumerate() {
-        assert!(rt; leaves(alloc, &disk, choice as u8, octets)?, "{choice}");
-    }
+    let left = leaves(alloc, &disk, 0, b"abcd")? && leaves(alloc, &disk, 1, b"abcdef")?;
+    assert!(rt; left);
     Ok(())
 }

@@ -1,9 +1,10 @@
 //! Records octet by octet: what is written is read again, and what isn't well formed is refused.
 
-use lease_records::{NotRecord, read_record, write_record};
+use lease_records::{read_record, write_record};
 use pcp_base::{
     Address, Change, Endpoint, Filter, Filters, MapLease, Moment, Nonce, PeerLease, Protocol,
 };
+use std::alloc::{AllocError, Global};
 use std::test::Fail;
 
 // Start at 1000.
@@ -124,6 +125,19 @@ fn two_filters() -> Filters {
     filters
 }
 
+/// Whether the whole text is read as this record, and the record is written so.
+fn is_text(alloc: Global, text: &[u8], seconds: u64, change: &Change) -> Result<bool, Fail> {
+    let (kept, length) = read_record(text)?;
+    let mut out = Vec::new(alloc);
+    write_record(alloc, &mut out, &kept)?;
+    Ok(
+        kept.moment.get() == seconds
+            && kept.change == *change
+            && length == text.len()
+            && out.as_slice() == text,
+    )
+}
+
 #[test]
 fn records_of_each_kind(rt: HostRuntime) -> Result<(), Fail> {
     let remote = Address::v4(198, 51, 100, 7);
@@ -147,19 +161,23 @@ fn records_of_each_kind(rt: HostRuntime) -> Result<(), Fail> {
         ),
         (&RENUMBER, 1000, Change::Renumber(Address::v4(192, 0, 2, 1))),
     ];
-    for (text, seconds, change) in cases {
-        let (kept, length) = read_record(text)?;
-        assert!(rt; kept.moment.get() == seconds && kept.change == change);
-        assert!(rt; length == text.len());
-        let mut out = Vec::new(rt.alloc());
-        write_record(rt.alloc(), &mut out, &kept)?;
-        assert!(rt; out.as_slice() == text);
+    for (number, (text, seconds, change)) in cases.iter().enumerate() {
+        assert!(rt; is_text(rt.alloc(), text, *seconds, change)?, "{number}");
     }
     Ok(())
 }
 
+/// Whether this isn't a record with this octet at this place.
+fn is_refused(alloc: Global, text: &[u8], place: usize, octet: u8) -> Result<bool, AllocError> {
+    let mut changed = text.to_vec(alloc)?;
+    if let Some(there) = changed.get_mut(place) {
+        *there = octet;
+    }
+    Ok(read_record(&changed).is_err())
+}
+
 #[test]
-fn records_not_well_formed(rt: HostRuntime) {
+fn records_not_well_formed(rt: HostRuntime) -> Result<(), Fail> {
     // a text, the place of an octet in it, and what stands there instead
     let cases: [(&[u8], usize, u8); 16] = [
         // the kind
@@ -189,10 +207,8 @@ fn records_not_well_formed(rt: HostRuntime) {
         (&REST, 30, 1),
     ];
     for (text, place, octet) in cases {
-        let mut changed = [0; 99];
-        changed[..text.len()].copy_from_slice(text);
-        changed[place] = octet;
-        let read = read_record(&changed[..text.len()]);
-        assert!(rt; read == Err(NotRecord), "{place}");
+        let refused = is_refused(rt.alloc(), text, place, octet)?;
+        assert!(rt; refused, "{octet} at {place}");
     }
+    Ok(())
 }
