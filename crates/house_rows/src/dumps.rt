@@ -1,22 +1,15 @@
-//! A dump of journals in memory of which a device call fails. Octets are written as hexadecimal digits.
+//! A dump of journals in memory of which a device call fails.
 
+use crate::disks::{NEVER, pair, three, written};
+use crate::opening::LEASED;
 use journal_dump::{DumpFault, dump};
 use lease_disk::{DiskPair, LeaseDisk, MemoryDisk};
-use pcp_base::{Address, External};
+use pcp_base::{Address, External, Memory};
 use pcp_io::MemorySink;
 use std::alloc::Global;
-use std::test::Fail;
-
-// A Start and a Renumber at 1000, and a lease granted at 1010.
-const LEASED: &str = "015043504a020000000000000000\
-    01000000090100000000000003e8\
-    01000000190900000000000003e800000000000000000000ffffc0000201\
-    010000003d0200000000000003f200000000000000000000ffff0a000005\
-    11138800010400000102030405060708090a0b00000000000003f2000000000000120200\
-    00";
 
 // An open side with another format.
-const DAMAGED: &str = "015043504a030000000000000000000000";
+static DAMAGED: &[u8] = b"\x01PCPJ\x03\0\0\0\0\0\0\0\0\0\0\0";
 
 fn external(last: u8) -> External {
     External {
@@ -26,49 +19,31 @@ fn external(last: u8) -> External {
     }
 }
 
-// A disk that holds these octets.
-fn disk(alloc: Global, digits: &str) -> Result<MemoryDisk, Fail> {
-    let octets = hex::decode(alloc, digits.as_bytes())?;
-    let mut disk = MemoryDisk::new(alloc, 4_096)?;
-    if disk.write_at(0, &octets).is_err() || disk.sync().is_err() {
-        return Err("the disk failed".into());
-    }
-    Ok(disk)
+// A journal with leases, a blank one of which the next device call of side b fails, and a damaged one.
+fn pairs(alloc: Global) -> Result<Vec<DiskPair<MemoryDisk>>, Memory> {
+    three(
+        alloc,
+        pair(written(alloc, &LEASED, NEVER), written(alloc, &[], NEVER)),
+        pair(written(alloc, &[], NEVER), written(alloc, &[], 2)),
+        pair(written(alloc, DAMAGED, NEVER), written(alloc, &[], NEVER)),
+    )
 }
 
-fn pairs(alloc: Global) -> Result<Vec<DiskPair<MemoryDisk>>, Fail> {
-    let mut pairs = Vec::new(alloc);
-    for digits in [LEASED, "", DAMAGED] {
-        pairs.push(DiskPair {
-            a: disk(alloc, digits)?,
-            b: disk(alloc, "")?,
-        })?;
-    }
-    Ok(pairs)
-}
-
-// A dump of three pairs, one for each of three external addresses.
-fn dump_three(
-    alloc: Global,
-    pairs: &mut [DiskPair<MemoryDisk>],
-    sink: &mut MemorySink,
-) -> Result<Result<(), DumpFault>, Fail> {
-    let externals = [external(1), external(2), external(3)];
+// Whether the disk of the second of three pairs fails a dump, one for each of three external
+// addresses, and nothing is put out.
+fn is_refused<D: LeaseDisk>(alloc: Global, pairs: &mut [DiskPair<D>]) -> Result<bool, Memory> {
+    let mut sink = MemorySink::new(alloc, 4_096)?;
     if pairs.len() != 3 {
-        return Err("not three pairs".into());
+        return Ok(false);
     }
-    Ok(dump(alloc, &externals, pairs, sink))
+    let externals = [external(1), external(2), external(3)];
+    let done = dump(alloc, &externals, pairs, &mut sink);
+    Ok(done == Err(DumpFault::Disk(1)) && sink.held().is_empty())
 }
 
 #[test]
-fn faults_leave_the_sink_as_it_is(rt: HostRuntime) -> Result<(), Fail> {
+fn faults_leave_the_sink_as_it_is(rt: HostRuntime) -> Result<(), Memory> {
     let mut pairs = pairs(rt.alloc())?;
-    if let Some(pair) = pairs.get_mut(1) {
-        pair.b.stop_at(0);
-    }
-    let mut sink = MemorySink::new(rt.alloc(), 4_096)?;
-    let done = dump_three(rt.alloc(), &mut pairs, &mut sink)?;
-    assert!(rt; done == Err(DumpFault::Disk(1)));
-    assert!(rt; sink.held().is_empty());
+    assert!(rt; is_refused(rt.alloc(), &mut pairs) == Ok(true));
     Ok(())
 }

@@ -5,6 +5,8 @@
 #[cfg(test)]
 mod configs;
 #[cfg(test)]
+mod disks;
+#[cfg(test)]
 mod dumps;
 mod histories;
 #[cfg(test)]

@@ -3,17 +3,16 @@
 ghost use Rattle.std.specs.Prelude.{IfOk, IfSome};
 ghost use Rattle.house_lines.specs.Rests.{IsAtRest};
 
-use crate::configs::one_address;
+use crate::configs::{begun, moment};
+use crate::disks::{NEVER, blank, one, pair};
 use house_lines::HouseLines;
-use lease_disk::{DiskPair, LeaseDisk, MemoryDisk};
-use lease_house::{SoloHouse, opened_houses_begin};
-use load_player::{LoadStatus, play_load};
-use pcp_base::{Memory, Moment};
+use lease_disk::{LeaseDisk, MemoryDisk};
+use load_player::{LoadAnswerer, LoadStatus, play_load};
+use pcp_base::Memory;
 use pcp_io::{MemorySink, MemorySource};
-use script_player::{PlayStatus, play};
+use script_player::{LineAnswerer, PlayStatus, play};
 use server_commands::LoadPlan;
 use std::alloc::Global;
-use std::test::Fail;
 
 // A request over one journal that begins at 1000.
 static SCRIPT: &str = "packet 1010 10.0.0.5 40000 \
@@ -26,31 +25,28 @@ fn opened(alloc: Global, room: u64) -> Result<Option<HouseLines<MemoryDisk>>, Me
     ensures { IfOk result (λ lines. IfSome lines (IsAtRest ⟦<MemoryDisk as LeaseDisk>⟧.tells
         ⟦<MemoryDisk as LeaseDisk>⟧.seen ⟦<MemoryDisk as LeaseDisk>⟧.may_leave)) }
 {
-    opened_houses_begin::<MemoryDisk>();
-    let config = one_address(alloc)?;
-    let pair = DiskPair {
-        a: MemoryDisk::new(alloc, room)?,
-        b: MemoryDisk::new(alloc, 4_096)?,
-    };
-    let pairs = vec![in alloc; pair]?;
-    let Some(start) = Moment::of(1_000) else {
+    let sides = pair(blank(alloc, room, NEVER), blank(alloc, 4_096, NEVER));
+    let Some(house) = begun(alloc, one(alloc, sides)?)? else {
         return Ok(None);
     };
-    match SoloHouse::begin(alloc, &config, pairs, start) {
-        Ok(house) => Ok(Some(HouseLines::of(house))),
-        Err(_) => Ok(None),
-    }
+    Ok(Some(HouseLines::of(house)))
 }
 
-// How a script is played, and what it puts out; nothing where the house isn't opened.
-fn played(alloc: Global, room: u64, script: &str) -> Result<Option<(PlayStatus, Vec<u8>)>, Memory> {
-    let Some(mut lines) = opened(alloc, room)? else {
-        return Ok(None);
+// Whether a script ends so and puts nothing out; no status where no lines are answered.
+fn is_played<A: LineAnswerer + Drop>(
+    alloc: Global,
+    lines: Result<Option<A>, Memory>,
+    want: Option<PlayStatus>,
+) -> Result<bool, Memory>
+    requires { IfOk lines (λ lines. IfSome lines (λ a. A.rests a)) }
+{
+    let Some(mut lines) = lines? else {
+        return Ok(want.is_none());
     };
-    let mut input = MemorySource::new(alloc, script.as_bytes().to_vec(alloc)?)?;
+    let mut input = MemorySource::new(alloc, SCRIPT.as_bytes().to_vec(alloc)?)?;
     let mut out = MemorySink::new(alloc, 4_096)?;
     let status = play(alloc, &mut input, &mut lines, &mut out);
-    Ok(Some((status, out.held().to_vec(alloc)?)))
+    Ok(Some(status) == want && out.held().is_empty())
 }
 
 // How much room side a has, and how the script is then played.
@@ -61,47 +57,36 @@ static RUNS: [(u64, Option<PlayStatus>); 3] = [
 ];
 
 #[test]
-fn scripts(rt: HostRuntime) -> Result<(), Fail> {
+fn scripts(rt: HostRuntime) -> Result<(), Memory> {
     for (room, want) in &RUNS {
-        let run = played(rt.alloc(), *room, SCRIPT)?;
-        match run {
-            Some((status, held)) => {
-                assert!(rt; Some(status) == *want, "{room}");
-                assert!(rt; held.is_empty(), "{room}");
-            }
-            None => assert!(rt; want.is_none(), "{room}"),
-        }
+        let so = is_played(rt.alloc(), opened(rt.alloc(), *room), *want)?;
+        assert!(rt; so, "{room}");
     }
     Ok(())
 }
 
-// How a load of number 7 from 1000 on is played, and what it puts out; nothing where the house isn't
-// opened.
-fn loaded(alloc: Global, room: u64) -> Result<Option<(LoadStatus, Vec<u8>)>, Memory> {
-    let Some(mut lines) = opened(alloc, room)? else {
-        return Ok(None);
-    };
-    let Some(start) = Moment::of(1_000) else {
-        return Ok(None);
+// Whether a load of number 7 from 1000 on ends by a fault of the disk, and puts nothing out.
+fn is_refused<A: LoadAnswerer + Drop>(
+    alloc: Global,
+    lines: Result<Option<A>, Memory>,
+) -> Result<bool, Memory>
+    requires { IfOk lines (λ lines. IfSome lines (λ a. A.rests a)) }
+{
+    let Some(mut lines) = lines? else {
+        return Ok(false);
     };
     let plan = LoadPlan {
-        start,
+        start: moment(1_000),
         number: 7,
         count: 8,
     };
     let mut out = MemorySink::new(alloc, 4_096)?;
     let status = play_load(alloc, plan, &mut lines, &mut out);
-    Ok(Some((status, out.held().to_vec(alloc)?)))
+    Ok(status == LoadStatus::DiskFault(0) && out.held().is_empty())
 }
 
 #[test]
-fn loads(rt: HostRuntime) -> Result<(), Fail> {
-    match loaded(rt.alloc(), 70)? {
-        Some((status, held)) => {
-            assert!(rt; status == LoadStatus::DiskFault(0));
-            assert!(rt; held.is_empty());
-        }
-        None => assert!(rt; false),
-    }
-    Ok(())
+fn loads(rt: HostRuntime) {
+    let refused = is_refused(rt.alloc(), opened(rt.alloc(), 70));
+    assert!(rt; refused == Ok(true));
 }

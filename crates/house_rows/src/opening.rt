@@ -2,9 +2,11 @@
 ghost use Rattle.std.specs.Prelude.{◌≡◌, ◌≤◌, length, IfOk};
 ghost use Rattle.pcp_base.specs.Configs.{IsConfig, IsExternal};
 
+use crate::configs::moment;
+use crate::disks::{NEVER, pair, three, two, written};
 use lease_disk::{DiskPair, LeaseDisk, MemoryDisk};
 use lease_house::{HouseFault, SoloHouse, opened_houses_begin};
-use pcp_base::{Address, Config, Datagram, External, Externals, Moment, Prefixes, Subscribers};
+use pcp_base::{Address, Config, Datagram, External, Externals, Memory, Prefixes, Subscribers};
 use std::alloc::Global;
 use std::test::Fail;
 
@@ -26,7 +28,7 @@ static SECOND: [u8; 59] = [
 
 // A journal of 192.0.2.1 with a MAP lease and a PEER lease of one endpoint,
 // from 1010 to 4610.
-static LEASED: [u8; 206] = [
+pub(crate) static LEASED: [u8; 206] = [
     0x01, 0x50, 0x43, 0x50, 0x4a, 0x02, 0x00, 0x00, 0x00, 0x00, 0x00, 0x00, 0x00, 0x00, 0x01, 0x00,
     0x00, 0x00, 0x09, 0x01, 0x00, 0x00, 0x00, 0x00, 0x00, 0x00, 0x03, 0xe8, 0x01, 0x00, 0x00, 0x00,
     0x19, 0x09, 0x00, 0x00, 0x00, 0x00, 0x00, 0x00, 0x03, 0xe8, 0x00, 0x00, 0x00, 0x00, 0x00, 0x00,
@@ -88,88 +90,60 @@ fn config(alloc: Global, last: u8) -> Result<Config, Fail>
     })
 }
 
-/// A disk that holds these octets. Its next device call fails where that is asked for.
-fn disk(alloc: Global, octets: &[u8], fails: bool) -> Result<MemoryDisk, Fail> {
-    let mut disk = MemoryDisk::new(alloc, 4_096)?;
-    disk.write_at(0, octets)?;
-    disk.sync()?;
-    if fails {
-        disk.fail_at(alloc, 2)?;
-    }
-    Ok(disk)
-}
-
 /// A pair whose side a holds these octets. The next device call of side b fails where that is asked
 /// for.
-fn pair(alloc: Global, octets: &[u8], fails: bool) -> Result<DiskPair<MemoryDisk>, Fail> {
-    Ok(DiskPair {
-        a: disk(alloc, octets, false)?,
-        b: disk(alloc, &[], fails)?,
-    })
+fn holding(alloc: Global, octets: &[u8], fails: bool) -> Result<DiskPair<MemoryDisk>, Memory> {
+    let failing = if fails { 2 } else { NEVER };
+    pair(written(alloc, octets, NEVER), written(alloc, &[], failing))
 }
 
-/// The octets of a disk, at most 300.
-fn octets(alloc: Global, disk: &mut MemoryDisk) -> Result<Vec<u8>, Fail> {
+/// Whether the disk holds these octets, at most 299.
+fn holds<D: LeaseDisk>(disk: &mut D, octets: &[u8]) -> bool {
     let mut piece = [0; 300];
-    let count = disk.read_at(0, &mut piece)?;
-    Ok(piece[..count].to_vec(alloc)?)
+    match disk.read_at(0, &mut piece) {
+        Ok(count) => &piece[..count] == octets,
+        Err(_) => false,
+    }
 }
 
-/// Opens a house at `m` and ends it: the updates, and the pairs.
-fn updates<D: LeaseDisk + Drop>(
+/// Whether these pairs hold these octets on side a.
+fn hold<D: LeaseDisk + Drop>(disks: Vec<DiskPair<D>>, texts: &[&[u8]]) -> bool {
+    if disks.len() != texts.len() {
+        return false;
+    }
+    for (mut pair, text) in disks.into_iter().zip(texts) {
+        if !holds(&mut pair.a, text) {
+            return false;
+        }
+    }
+    true
+}
+
+/// Opens a house at 1000 and ends it: the fault, and the pairs.
+fn begun<D: LeaseDisk + Drop>(
     alloc: Global,
     config: &Config,
     disks: Vec<DiskPair<D>>,
-    m: u64,
-) -> Result<(Vec<Datagram>, Vec<DiskPair<D>>), Fail>
+) -> (Option<HouseFault>, Vec<DiskPair<D>>)
     requires config { IsConfig config.now }
     requires enough { length config.now.externals ≤ length disks.items }
 {
-    opened_houses_begin::<D>();
-    let m = Moment::of(m).ok_or("no moment")?;
-    let Ok(house) = SoloHouse::begin(alloc, config, disks, m) else {
-        return Err("not begun".into());
-    };
-    let updates = house.updates(alloc)?;
-    Ok((updates, house.end()))
+    match SoloHouse::begin(alloc, config, disks, moment(1_000)) {
+        Ok(house) => (None, house.end()),
+        Err(refused) => (Some(refused.fault), refused.disks),
+    }
 }
 
-/// Opens a house at 1000 over three blank pairs, of which the second may fail, and ends it: the fault,
-/// and what the pairs hold then.
-fn begun(
-    alloc: Global,
-    config: &Config,
-    fails: bool,
-) -> Result<(Option<HouseFault>, Vec<Vec<u8>>), Fail>
-    requires config { IsConfig config.now }
-    requires few { length config.now.externals ≤ 3 }
+/// Three blank pairs, of which the second may fail.
+fn blank_pairs(alloc: Global, fails: bool) -> Result<Vec<DiskPair<MemoryDisk>>, Memory>
+    ensures { IfOk result (λ disks. length disks.items ≡ 3) }
 {
-    let first = pair(alloc, &[], false)?;
-    let second = pair(alloc, &[], fails)?;
-    let third = pair(alloc, &[], false)?;
-    let disks = Vec::from_array(alloc, [first, second, third])?;
-    let m = Moment::of(1_000).ok_or("no moment")?;
-    match SoloHouse::begin(alloc, config, disks, m) {
-        Ok(house) => Ok((None, held(alloc, house.end())?)),
-        Err(refused) => Ok((Some(refused.fault), held(alloc, refused.disks)?)),
-    }
-}
-
-/// What these pairs hold on side a.
-fn held(alloc: Global, pairs: Vec<DiskPair<MemoryDisk>>) -> Result<Vec<Vec<u8>>, Fail> {
-    let mut held = Vec::new(alloc);
-    for mut pair in pairs {
-        held.push(octets(alloc, &mut pair.a)?)?;
-    }
-    Ok(held)
-}
-
-fn are_these(held: &[Vec<u8>], wanted: &[&[u8]]) -> bool {
-    held.len() == wanted.len()
-        && held
-            .iter()
-            .zip(wanted)
-            .all(|(held, wanted)| held.as_slice() == *wanted)
+    three(
+        alloc,
+        holding(alloc, &[], false),
+        holding(alloc, &[], fails),
+        holding(alloc, &[], false),
+    )
 }
 
 /// Whether an opening of three blank pairs, of which the second may fail, ends so.
@@ -180,8 +154,8 @@ fn is_begun(
     texts: &[&[u8]],
 ) -> Result<bool, Fail> {
     let config = config(alloc, 77)?;
-    let (fault, held) = begun(alloc, &config, fails)?;
-    Ok(fault == wanted && are_these(&held, texts))
+    let (fault, disks) = begun(alloc, &config, blank_pairs(alloc, fails)?);
+    Ok(fault == wanted && hold(disks, texts))
 }
 
 #[test]
@@ -194,46 +168,73 @@ fn opened(rt: HostRuntime) -> Result<(), Fail> {
     Ok(())
 }
 
-/// The octets of updates that are all for this port of 10.0.0.5.
-fn texts_of(alloc: Global, updates: &[Datagram], port: u16) -> Result<Vec<Vec<u8>>, Fail> {
-    let mut texts = Vec::new(alloc);
-    for update in updates {
-        if update.peer != Address::v4(10, 0, 0, 5) || update.port != port {
-            return Err("an update for another".into());
-        }
-        texts.push(update.octets.items().to_vec(alloc)?)?;
+/// Opens a house at `m` and ends it: the updates, and the pairs.
+fn updates<D: LeaseDisk + Drop>(
+    alloc: Global,
+    config: &Config,
+    disks: Vec<DiskPair<D>>,
+    m: u32,
+) -> Result<(Vec<Datagram>, Vec<DiskPair<D>>), Fail>
+    requires config { IsConfig config.now }
+    requires enough { length config.now.externals ≤ length disks.items }
+{
+    opened_houses_begin::<D>();
+    let Ok(house) = SoloHouse::begin(alloc, config, disks, moment(m)) else {
+        return Err("not begun".into());
+    };
+    let updates = house.updates(alloc);
+    let disks = house.end();
+    Ok((updates?, disks))
+}
+
+/// Whether this is an update of 10.0.0.5 in these octets.
+fn is_update(update: &Datagram, octets: &[u8]) -> bool {
+    update.peer == Address::v4(10, 0, 0, 5)
+        && update.port == 5_350
+        && update.octets.items() == octets
+}
+
+/// Whether the first opening makes these two updates, and a later one makes none.
+fn are_made_once<D: LeaseDisk + Drop>(
+    alloc: Global,
+    config: &Config,
+    disks: Vec<DiskPair<D>>,
+) -> Result<bool, Fail>
+    requires config { IsConfig config.now }
+    requires two { length config.now.externals ≡ 2 }
+    requires enough { 2 ≤ length disks.items }
+{
+    let (first, disks) = updates(alloc, config, disks, 1_500)?;
+    if disks.len() != 2 {
+        return Err("pairs are missing".into());
     }
-    Ok(texts)
+    let (second, _disks) = updates(alloc, config, disks, 1_600)?;
+    Ok(second.is_empty() && are_two(&first))
+}
+
+fn are_two(updates: &[Datagram]) -> bool {
+    match updates {
+        [map, peer] => is_update(map, &MAP_UPDATE) && is_update(peer, &PEER_UPDATE),
+        _ => false,
+    }
 }
 
 /// A pair that holds two leases of another external address, and a blank one.
-fn renumbered_pairs(alloc: Global) -> Result<Vec<DiskPair<MemoryDisk>>, Fail>
+fn renumbered_pairs(alloc: Global) -> Result<Vec<DiskPair<MemoryDisk>>, Memory>
     ensures { IfOk result (λ disks. length disks.items ≡ 2) }
 {
-    let leased = pair(alloc, &LEASED, false)?;
-    let blank = pair(alloc, &[], false)?;
-    Ok(Vec::from_array(alloc, [leased, blank])?)
+    two(
+        alloc,
+        holding(alloc, &LEASED, false),
+        holding(alloc, &[], false),
+    )
 }
 
 #[test]
 fn renumbered(rt: HostRuntime) -> Result<(), Fail> {
     let alloc = rt.alloc();
     let config = config(alloc, 77)?;
-    let (told, _disks) = updates(alloc, &config, renumbered_pairs(alloc)?, 1_500)?;
-    let texts = texts_of(alloc, &told, 5_350)?;
-    assert!(rt; are_these(&texts, &[MAP_UPDATE.as_slice(), PEER_UPDATE.as_slice()]));
-    Ok(())
-}
-
-#[test]
-fn each_update_is_made_once(rt: HostRuntime) -> Result<(), Fail> {
-    let alloc = rt.alloc();
-    let config = config(alloc, 77)?;
-    let (_told, disks) = updates(alloc, &config, renumbered_pairs(alloc)?, 1_500)?;
-    if disks.len() != 2 {
-        return Err("pairs are missing".into());
-    }
-    let (told, _disks) = updates(alloc, &config, disks, 1_600)?;
-    assert!(rt; told.is_empty());
+    let made = are_made_once(alloc, &config, renumbered_pairs(alloc)?)?;
+    assert!(rt; made);
     Ok(())
 }

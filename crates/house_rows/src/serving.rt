@@ -1,9 +1,10 @@
 //! A house of one external address over disks in memory, with the octets of its replies.
 
-use crate::configs::one_address;
-use lease_disk::{DiskPair, MemoryDisk};
+use crate::configs::{begun, moment};
+use crate::disks::{NEVER, blank, one, pair};
+use lease_disk::{LeaseDisk, MemoryDisk};
 use lease_house::{HouseFault, SoloHouse};
-use pcp_base::{Address, Datagram, Moment, Octets};
+use pcp_base::{Address, Datagram, Memory, Octets};
 use std::alloc::Global;
 use std::test::Fail;
 
@@ -16,7 +17,7 @@ const REPLY: &str = "0281000000000e100000000a000000000000000000000000\
 
 // A datagram at a moment, and what it is told; nothing where it is silent.
 struct Line {
-    now: u64,
+    now: u32,
     request: &'static str,
     reply: &'static str,
 }
@@ -70,42 +71,34 @@ static LINES: [Line; 8] = [
     },
 ];
 
-fn moment(seconds: u64) -> Result<Moment, Fail> {
-    Ok(Moment::of(seconds).ok_or("no moment")?)
-}
-
 /// A house over a blank pair, of which disk a fails at a call, at 1000; none where that call is one
 /// of the opening.
-fn house(alloc: Global, failing: u64) -> Result<Option<SoloHouse<MemoryDisk>>, Fail> {
-    let mut pair = DiskPair {
-        a: MemoryDisk::new(alloc, 4_096)?,
-        b: MemoryDisk::new(alloc, 4_096)?,
-    };
-    pair.a.fail_at(alloc, failing)?;
-    let config = one_address(alloc)?;
-    let disks = Vec::from_array(alloc, [pair])?;
-    match SoloHouse::begin(alloc, &config, disks, moment(1_000)?) {
-        Ok(house) => Ok(Some(house)),
-        Err(_) => Ok(None),
-    }
+fn house(alloc: Global, failing: u64) -> Result<Option<SoloHouse<MemoryDisk>>, Memory> {
+    let sides = pair(blank(alloc, 4_096, failing), blank(alloc, 4_096, NEVER));
+    begun(alloc, one(alloc, sides)?)
 }
 
-/// What a request of 10.0.0.5 in these octets is told at `now`.
-fn told(
-    alloc: Global,
-    house: &mut SoloHouse<MemoryDisk>,
-    now: u64,
-    request: &str,
-) -> Result<Result<Option<Octets>, HouseFault>, Fail> {
-    let datagram = Datagram {
+/// A request of 10.0.0.5 in these octets.
+fn datagram(alloc: Global, request: &str) -> Result<Datagram, Fail> {
+    Ok(Datagram {
         peer: Address::v4(10, 0, 0, 5),
         port: 40_000,
         octets: Octets::of(hex::decode(alloc, request.as_bytes())?),
-    };
-    Ok(house.serve(alloc, &datagram, moment(now)?))
+    })
 }
 
-/// Whether it is told these octets; none where they are empty.
+/// What it is told at `now`.
+fn told<D: LeaseDisk + Drop>(
+    alloc: Global,
+    house: &mut SoloHouse<D>,
+    now: u32,
+    request: &str,
+) -> Result<Result<Option<Octets>, HouseFault>, Fail> {
+    let datagram = datagram(alloc, request)?;
+    Ok(house.serve(alloc, &datagram, moment(now)))
+}
+
+/// Whether these octets are told; none where they are empty.
 fn is_told(
     alloc: Global,
     told: &Result<Option<Octets>, HouseFault>,
@@ -119,27 +112,29 @@ fn is_told(
     })
 }
 
-/// How many leases are lost at `now`.
-fn lost(
+/// Whether the request is told these octets at `now`.
+fn is_answered<D: LeaseDisk + Drop>(
     alloc: Global,
-    house: &mut SoloHouse<MemoryDisk>,
-    now: u64,
-) -> Result<Result<u32, HouseFault>, Fail> {
-    if house.config().externals.items().is_empty() {
-        return Err("no external address".into());
-    }
-    Ok(house.lose(alloc, 0, moment(now)?))
+    house: &mut SoloHouse<D>,
+    now: u32,
+    request: &str,
+    reply: &str,
+) -> Result<bool, Fail> {
+    let told = told(alloc, house, now, request)?;
+    is_told(alloc, &told, reply)
 }
 
-/// Whether each line is told what stands there.
-fn are_told(alloc: Global, house: &mut SoloHouse<MemoryDisk>) -> Result<bool, Fail> {
-    for line in &LINES {
-        let told = told(alloc, house, line.now, line.request)?;
-        if !is_told(alloc, &told, line.reply)? {
-            return Ok(false);
-        }
+/// Whether so many leases are lost at `now`.
+fn loses<D: LeaseDisk + Drop>(
+    alloc: Global,
+    house: &mut SoloHouse<D>,
+    now: u32,
+    count: u32,
+) -> bool {
+    if house.config().externals.items().is_empty() {
+        return false;
     }
-    Ok(true)
+    house.lose(alloc, 0, moment(now)) == Ok(count)
 }
 
 // It is told 3 seconds after its leases were lost.
@@ -147,46 +142,65 @@ const AFTER_LOSS: &str = "028000000000000000000003000000000000000000000000";
 
 const ANNOUNCE: &str = "020000000000000000000000000000000000ffff0a000005";
 
-/// A house over a blank pair that doesn't fail, at 1000, after the lines.
-fn asked_house(alloc: Global) -> Result<SoloHouse<MemoryDisk>, Fail> {
-    let Some(mut house) = house(alloc, u64::MAX)? else {
+/// Whether the one lease is lost, and none is left then.
+fn is_lost<D: LeaseDisk + Drop>(alloc: Global, house: &mut SoloHouse<D>) -> Result<bool, Fail> {
+    if !loses(alloc, house, 1_030, 1) || !loses(alloc, house, 2_000, 0) {
+        return Ok(false);
+    }
+    is_answered(alloc, house, 2_003, ANNOUNCE, AFTER_LOSS)
+}
+
+/// The first line that is told something else; the number of all, where the loss goes otherwise.
+fn first_other<D: LeaseDisk + Drop>(
+    alloc: Global,
+    house: &mut SoloHouse<D>,
+) -> Result<Option<usize>, Fail> {
+    for (i, line) in LINES.iter().enumerate() {
+        if !is_answered(alloc, house, line.now, line.request, line.reply)? {
+            return Ok(Some(i));
+        }
+    }
+    if !is_lost(alloc, house)? {
+        return Ok(Some(LINES.len()));
+    }
+    Ok(None)
+}
+
+fn first_other_of_new(alloc: Global) -> Result<Option<usize>, Fail> {
+    let Some(mut house) = house(alloc, NEVER)? else {
         return Err("no house".into());
     };
-    if !are_told(alloc, &mut house)? {
-        return Err("another reply".into());
-    }
-    Ok(house)
+    first_other(alloc, &mut house)
 }
 
 #[test]
 fn answers_and_loses(rt: HostRuntime) -> Result<(), Fail> {
-    let alloc = rt.alloc();
-    let mut house = asked_house(alloc)?;
-    for (now, count) in [(1_030, 1), (2_000, 0)] {
-        assert!(rt; lost(alloc, &mut house, now)?.ok() == Some(count));
-    }
-    let told = told(alloc, &mut house, 2_003, ANNOUNCE)?;
-    assert!(rt; is_told(alloc, &told, AFTER_LOSS)?);
+    let other = first_other_of_new(rt.alloc())?;
+    assert!(rt; other.is_none(), "{other:?}");
     Ok(())
 }
 
-/// Whether the request, for which a call of disk a fails, is answered when it comes again.
-fn settles(alloc: Global, failing: u64) -> Result<bool, Fail> {
+/// Whether the request meets a fault of a disk, and is answered when it comes again.
+fn settles<D: LeaseDisk + Drop>(alloc: Global, house: &mut SoloHouse<D>) -> Result<bool, Fail> {
+    let Err(HouseFault::Disk(_)) = told(alloc, house, 1_010, REQUEST)? else {
+        return Ok(false);
+    };
+    is_answered(alloc, house, 1_010, REQUEST, REPLY)
+}
+
+/// The same of a house of which a call of disk a fails.
+fn settles_at(alloc: Global, failing: u64) -> Result<bool, Fail> {
     let Some(mut house) = house(alloc, failing)? else {
         return Ok(false);
     };
-    let Err(HouseFault::Disk(_)) = told(alloc, &mut house, 1_010, REQUEST)? else {
-        return Ok(false);
-    };
-    let told = told(alloc, &mut house, 1_010, REQUEST)?;
-    is_told(alloc, &told, REPLY)
+    settles(alloc, &mut house)
 }
 
 #[test]
 fn settles_after_a_fault(rt: HostRuntime) -> Result<(), Fail> {
     let mut settled = 0_u32;
     for failing in 0..32 {
-        if settles(rt.alloc(), failing)? {
+        if settles_at(rt.alloc(), failing)? {
             settled = settled.saturating_add(1);
         }
     }
