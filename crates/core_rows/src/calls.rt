@@ -14,8 +14,8 @@ use Wish::{Nothing, Peer};
 use lease_core::LeaseCore;
 use lease_store::LeaseStore;
 use pcp_base::{
-    Address, Ask, Change, End, Endpoint, Filters, MapLease, Moment, Nonce, Owner, PeerLease,
-    Protocol, Record, Replay,
+    Address, Ask, Change, End, Endpoint, Filters, MapLease, Memory, Moment, Nonce, Owner,
+    PeerLease, Protocol, Record, Replay,
 };
 use std::alloc::Global;
 use std::test::Fail;
@@ -86,10 +86,10 @@ fn served<S: LeaseStore + Drop>(
 }
 
 /// The core's leases after the steps are these two.
-fn has_leases<S: LeaseStore>(alloc: Global, core: &LeaseCore<S>, m: Moment) -> Result<bool, Fail>
+fn has_leases<S: LeaseStore>(alloc: Global, core: &LeaseCore<S>, m: Moment) -> Result<bool, Memory>
     requires { MayServe (S.state core.now) (S.terms core.now) }
 {
-    let granted = moment(1010)?;
+    let granted = moment(1010);
     let maps = core.maps(alloc, m)?;
     let peers = core.peers(alloc, m)?;
     Ok(
@@ -104,7 +104,7 @@ fn has_owner_and_end<S: LeaseStore>(
     alloc: Global,
     core: &LeaseCore<S>,
     m: Moment,
-) -> Result<bool, Fail>
+) -> Result<bool, Memory>
     requires { MayServe (S.state core.now) (S.terms core.now) }
 {
     let owner = Owner {
@@ -130,7 +130,7 @@ fn is_served<S: LeaseStore + Drop>(
     requires { IfOk made (λ core. AreTerms (S.terms core)) }
 {
     let core = served(alloc, made)?;
-    let m = moment(1020)?;
+    let m = moment(1020);
     Ok(
         has_leases(alloc, &core, m)?
             && has_owner_and_end(alloc, &core, m)?
@@ -183,7 +183,7 @@ fn begins_in_first<S: LeaseStore + Drop>(
 {
     let mut core = made?;
     core.clear();
-    let moment = moment(1500)?;
+    let moment = moment(1500);
     let start = Record {
         moment,
         change: Change::Start,
@@ -212,7 +212,7 @@ fn announced_by<S: LeaseStore + Drop>(
     requires { IfOk made (λ core. AreTerms (S.terms core)) }
 {
     let mut core = begun(alloc, made)?;
-    let answer = serve(alloc, &mut core, &Ask::Announce, moment(1010)?)?;
+    let answer = serve(alloc, &mut core, &Ask::Announce, moment(1010))?;
     Ok(told_of(&answer))
 }
 

@@ -11,7 +11,7 @@ use Told::{Gone, Leased, LeasedSet, Refused};
 use Wish::{AllOrNothing, Filters, Nothing, Peer, Set};
 use lease_core::LeaseCore;
 use lease_store::LeaseStore;
-use pcp_base::{End, Endpoint, MapLease, Moment, Owner, PeerLease, Protocol};
+use pcp_base::{End, Endpoint, MapLease, Memory, Moment, Owner, PeerLease, Protocol};
 use std::alloc::Global;
 use std::test::Fail;
 
@@ -99,15 +99,15 @@ fn any_request(state: &mut u64) -> Request {
     Request(host, port, nonce, lifetime, any_suggested(state), wish)
 }
 
-/// `m`, or up to 15 seconds later, or, in one of 32, a time in which leases and rests end.
-fn any_later(state: &mut u64, m: Moment) -> Result<Moment, Fail>
-    ensures { IfOk result (λ later. m ≤ later) }
+/// `now`, or up to 15 seconds later, or, in one of 32, a time in which leases and rests end.
+fn any_later(state: &mut u64, now: u32) -> u32
+    ensures { now ≤ result }
 {
     let passed = match below(state, 32) {
         0 => below(state, 500),
         n => n / 2,
     };
-    moment(m.get() + u64::from(passed))
+    now.saturating_add(u32::from(passed))
 }
 
 /// What is answered, and then how many leases there are, and who has an external port.
@@ -153,23 +153,55 @@ fn turns_of<S: LeaseStore>(
     ensures may { OnOk result (MayServe (S.state core.new) (S.terms core.new)) }
 {
     let mut state = seed;
-    let mut m = moment(1000)?;
+    let mut now = 1000;
     let mut turns = Vec::new(alloc);
     for _ in 0..count {
-        m = any_later(&mut state, m)?;
-        turns.push(next_turn(alloc, core, m, &mut state)?)?;
+        now = any_later(&mut state, now);
+        turns.push(next_turn(alloc, core, moment(now), &mut state)?)?;
     }
     Ok(turns)
+}
+
+/// The leases that are live.
+#[derive(Drop)]
+struct Leases {
+    maps: Vec<MapLease>,
+    peers: Vec<PeerLease>,
+}
+
+/// The ports that are owned, and those that may rest.
+#[derive(Drop)]
+struct Ports {
+    owners: Vec<Owner>,
+    ends: Vec<End>,
 }
 
 /// What comes of requests, and what stands then.
 #[derive(Drop)]
 struct Run {
     turns: Vec<Turn>,
-    maps: Vec<MapLease>,
-    peers: Vec<PeerLease>,
-    owners: Vec<Owner>,
-    ends: Vec<End>,
+    leases: Leases,
+    ports: Ports,
+}
+
+fn leases_of<S: LeaseStore>(alloc: Global, core: &LeaseCore<S>) -> Result<Leases, Memory>
+    requires { MayServe (S.state core.now) (S.terms core.now) }
+{
+    let m = core.last();
+    Ok(Leases {
+        maps: core.maps(alloc, m)?,
+        peers: core.peers(alloc, m)?,
+    })
+}
+
+fn ports_of<S: LeaseStore>(alloc: Global, core: &LeaseCore<S>) -> Result<Ports, Memory>
+    requires { MayServe (S.state core.now) (S.terms core.now) }
+{
+    let m = core.last();
+    Ok(Ports {
+        owners: core.owners(alloc, m)?,
+        ends: core.ends(alloc)?,
+    })
 }
 
 fn run_on<S: LeaseStore + Drop>(
@@ -181,14 +213,10 @@ fn run_on<S: LeaseStore + Drop>(
     requires { IfOk made (λ core. AreTerms (S.terms core)) }
 {
     let mut core = begun(alloc, made)?;
-    let turns = turns_of(alloc, &mut core, seed, count)?;
-    let m = core.last();
     Ok(Run {
-        turns,
-        maps: core.maps(alloc, m)?,
-        peers: core.peers(alloc, m)?,
-        owners: core.owners(alloc, m)?,
-        ends: core.ends(alloc)?,
+        turns: turns_of(alloc, &mut core, seed, count)?,
+        leases: leases_of(alloc, &core)?,
+        ports: ports_of(alloc, &core)?,
     })
 }
 
@@ -210,12 +238,19 @@ fn first_difference(run: &Run, other: &Run) -> Option<usize> {
         .position(|(a, b)| a != b)
 }
 
+fn have_same_leases(leases: &Leases, others: &Leases) -> bool {
+    leases.maps.as_slice() == others.maps.as_slice()
+        && leases.peers.as_slice() == others.peers.as_slice()
+}
+
+fn have_same_ports(ports: &Ports, others: &Ports) -> bool {
+    ports.owners.as_slice() == others.owners.as_slice()
+        && ports.ends.as_slice() == others.ends.as_slice()
+}
+
 /// Whether the runs leave the same.
 fn leave_same(run: &Run, other: &Run) -> bool {
-    run.maps.as_slice() == other.maps.as_slice()
-        && run.peers.as_slice() == other.peers.as_slice()
-        && run.owners.as_slice() == other.owners.as_slice()
-        && run.ends.as_slice() == other.ends.as_slice()
+    have_same_leases(&run.leases, &other.leases) && have_same_ports(&run.ports, &other.ports)
 }
 
 /// How many turns are answered so.

@@ -58,7 +58,7 @@ fn is_filled<S: LeaseStore + Drop>(
     requires { IfOk made (λ core. AreTerms (S.terms core)) }
 {
     let mut core = begun(alloc, made)?;
-    let m = moment(1010)?;
+    let m = moment(1010);
     if first_ungranted(alloc, &mut core, m)?.is_some() {
         return Ok(false);
     }

@@ -11,7 +11,7 @@ use std::alloc::Global;
 use std::test::Fail;
 
 /// What a request asks for beside a lease.
-#[derive(Clone, Copy, Debug)]
+#[derive(Clone, Copy)]
 pub(crate) enum Wish {
     Nothing,
     /// PREFER_FAILURE
@@ -25,7 +25,7 @@ pub(crate) enum Wish {
 }
 
 /// What is answered, with lifetimes in seconds.
-#[derive(Clone, Copy, Debug, PartialEq, Eq)]
+#[derive(Clone, Copy, PartialEq, Eq)]
 pub(crate) enum Told {
     /// lifetime and external port
     Leased(u32, u16),
@@ -39,7 +39,7 @@ pub(crate) enum Told {
 
 /// A request over UDP: the number H of the host 10.0.0.H, its port, each octet of the nonce, the
 /// lifetime, the suggested port, and what else it wishes.
-#[derive(Clone, Copy, Debug)]
+#[derive(Clone, Copy)]
 pub(crate) struct Request(
     pub(crate) u8,
     pub(crate) u16,

@@ -15,20 +15,20 @@ use std::alloc::Global;
 use std::test::Fail;
 
 /// What is done, and what comes of it.
-#[derive(Clone, Copy, Debug)]
+#[derive(Clone, Copy)]
 pub(crate) enum Step {
     /// A request over UDP: when, the number H of the host 10.0.0.H, its port, each octet of the nonce,
     /// the lifetime, the suggested port, what else it wishes, and the answer.
-    Ask(u64, u8, u16, u8, u32, u16, Wish, Told),
+    Ask(u32, u8, u16, u8, u32, u16, Wish, Told),
     /// A packet to an external UDP port: when, the port, the remote IPv4 address and port, and the
     /// host and the port of the owner.
-    Look(u64, u16, [u8; 4], u16, Option<(u8, u16)>),
+    Look(u32, u16, [u8; 4], u16, Option<(u8, u16)>),
 }
 
 use Step::{Ask, Look};
 
 impl Step {
-    fn at(&self) -> u64 {
+    fn at(&self) -> u32 {
         match *self {
             Ask(at, ..) => at,
             Look(at, ..) => at,
@@ -301,7 +301,7 @@ fn is_so<S: LeaseStore>(
     }
 }
 
-/// The place of the first step of which something else comes.
+/// The place of the first step of which something else comes, or which comes before the last one.
 pub(crate) fn first_other<S: LeaseStore>(
     alloc: Global,
     core: &mut LeaseCore<S>,
@@ -311,16 +311,16 @@ pub(crate) fn first_other<S: LeaseStore>(
     requires reached { S.reached core.old ≡ 1000 }
     ensures may { OnOk result (MayServe (S.state core.new) (S.terms core.new)) }
 {
-    let mut now = moment(1000)?;
+    let mut now = 1000;
     for (i, step) in steps.iter().enumerate() {
-        let m = moment(step.at())?;
-        if m.get() < now.get() {
-            return Err("moments fall".into());
-        }
-        if !is_so(alloc, core, m, step)? {
+        let at = step.at();
+        if at < now {
             return Ok(Some(i));
         }
-        now = m;
+        if !is_so(alloc, core, moment(at), step)? {
+            return Ok(Some(i));
+        }
+        now = at;
     }
     Ok(None)
 }

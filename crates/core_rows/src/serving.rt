@@ -12,10 +12,10 @@ use pcp_base::{Address, Answer, Ask, Change, Memory, Moment, Record, Replay, sta
 use std::alloc::Global;
 use std::test::Fail;
 
-pub(crate) fn moment(seconds: u64) -> Result<Moment, Fail>
-    ensures { IfOk result (λ m. m ≡ seconds) }
+pub(crate) fn moment(seconds: u32) -> Moment
+    ensures { result ≡ seconds }
 {
-    Ok(Moment::of(seconds).ok_or("no moment")?)
+    Moment::of(u64::from(seconds)).unwrap()
 }
 
 /// Admits a record of this change at 1000, which fits.
@@ -29,7 +29,7 @@ fn begin<S: LeaseStore>(alloc: Global, core: &mut LeaseCore<S>, change: Change) 
     ensures terms { S.terms core.new ≡ S.terms core.old }
 {
     let kept = Record {
-        moment: moment(1000)?,
+        moment: moment(1000),
         change,
     };
     if !core.admit(alloc, &kept)? {

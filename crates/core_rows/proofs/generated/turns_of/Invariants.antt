@@ -6,4 +6,4 @@ use Rattle.core_rows.proofs.generated.turns_of.Given as goal
 abbrev pub invariant-loop : goal.invariant-loop
 invariant-loop g l =
     MayServe (g.S.LeaseStore.state l.core) (g.S.LeaseStore.terms l.core)
-    × (g.S.LeaseStore.reached l.core ≤ l.m)
+    × (g.S.LeaseStore.reached l.core ≤ l.now)
