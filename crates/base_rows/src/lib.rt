@@ -7,6 +7,8 @@ mod options;
 #[cfg(test)]
 mod packets;
 #[cfg(test)]
+mod rows;
+#[cfg(test)]
 mod streams;
 #[cfg(test)]
 mod texts;

@@ -1,4 +1,5 @@
 //! That verdicts and replies mean these octets, and that calls succeed with ample memory.
+use crate::rows::none_other;
 use pcp_base::{
     Address, Answer, Code, Config, Externals, Memory, PortSet, Prefix, Prefixes, Subscriber,
     Subscribers,
@@ -77,10 +78,21 @@ fn config(alloc: Global, third_party: Vec<Prefix>) -> Result<Config, AllocError>
     })
 }
 
-// The verdict on a datagram from 10.0.0.H, of the number H.
-fn judged(alloc: Global, config: &Config, from: u8, message: &[u8]) -> Result<Outcome, Memory> {
+// The same, where 10.0.0.5 may ask for others.
+fn host_config(alloc: Global) -> Result<Config, AllocError> {
+    config(alloc, host(alloc)?)
+}
+
+// Whether this is the verdict on a datagram from 10.0.0.H, of the number H.
+fn is_judged(
+    alloc: Global,
+    config: &Config,
+    from: u8,
+    message: &[u8],
+    want: Outcome,
+) -> Result<bool, Memory> {
     let verdict = judge(alloc, config, &Address::v4(10, 0, 0, from), message)?;
-    Ok(outcome_of(&verdict))
+    Ok(outcome_of(&verdict) == want)
 }
 
 // The request with these octets behind it.
@@ -88,6 +100,17 @@ fn behind(alloc: Global, options: &[u8]) -> Result<Vec<u8>, AllocError> {
     let mut message = REQUEST.to_vec(alloc)?;
     message.extend_from_slice(options)?;
     Ok(message)
+}
+
+// Whether this is the verdict on the request of 10.0.0.5 with these octets behind it.
+fn is_judged_with(
+    alloc: Global,
+    config: &Config,
+    options: &[u8],
+    want: Outcome,
+) -> Result<bool, Memory> {
+    let message = behind(alloc, options)?;
+    is_judged(alloc, config, 5, &message, want)
 }
 
 // What stands behind the request, and the verdict; the last is THIRD_PARTY of the source.
@@ -108,105 +131,150 @@ static BEHIND: [(&[u8], Outcome); 5] = [
     ),
 ];
 
-#[test]
-fn verdicts(rt: HostRuntime) -> Result<(), Fail> {
-    let alloc = rt.alloc();
-    let config = config(alloc, host(alloc)?)?;
-    for (options, want) in &BEHIND {
-        let verdict = judged(alloc, &config, 5, &behind(alloc, options)?)?;
-        assert!(rt; verdict == *want, "{}", options.escape_ascii());
+// The first row with another verdict.
+fn first_other(alloc: Global, config: &Config) -> Result<Option<usize>, Memory> {
+    for (i, (options, want)) in BEHIND.iter().enumerate() {
+        if !is_judged_with(alloc, config, options, *want)? {
+            return Ok(Some(i));
+        }
     }
+    Ok(None)
+}
+
+#[test]
+fn verdicts(rt: HostRuntime) -> Result<(), Memory> {
+    let config = host_config(rt.alloc())?;
+    none_other(&rt, first_other(rt.alloc(), &config));
     Ok(())
 }
 
-// The request with this octet behind it up to a length.
-fn filled(alloc: Global, length: usize, octet: u8) -> Result<Vec<u8>, AllocError> {
+// Whether the request with this octet behind it, up to a length, is refused by this code.
+fn is_refused(
+    alloc: Global,
+    config: &Config,
+    length: usize,
+    octet: u8,
+    code: Code,
+) -> Result<bool, Memory> {
     let mut message = behind(alloc, b"")?;
     message.resize(length, octet)?;
-    Ok(message)
+    is_judged(alloc, config, 5, &message, Outcome::Refused(code, false))
 }
 
 // 1040 octets of THIRD_PARTY's code, and a request of 1104 octets
 #[test]
-fn verdicts_on_long_requests(rt: HostRuntime) -> Result<(), Fail> {
+fn verdicts_on_long_requests(rt: HostRuntime) -> Result<(), Memory> {
     let alloc = rt.alloc();
-    let config = config(alloc, host(alloc)?)?;
-    for (length, octet, code) in [
-        (1100, 1, Code::MalformedOption),
-        (1104, 0, Code::MalformedRequest),
-    ] {
-        let verdict = judged(alloc, &config, 5, &filled(alloc, length, octet)?)?;
-        assert!(rt; verdict == Outcome::Refused(code, false), "{length}");
-    }
+    let config = host_config(alloc)?;
+    let malformed = is_refused(alloc, &config, 1100, 1, Code::MalformedOption);
+    let long = is_refused(alloc, &config, 1104, 0, Code::MalformedRequest);
+    assert!(rt; (malformed, long) == (Ok(true), Ok(true)));
     Ok(())
 }
 
 // Where whole options end in the request with options: behind 0, 20, 28, 52, 56 and 68 octets.
-#[test]
-fn cut_requests(rt: HostRuntime) -> Result<(), Fail> {
-    let alloc = rt.alloc();
-    let config = config(alloc, host(alloc)?)?;
-    let message = behind(alloc, &OPTIONS)?;
-    for n in 0..=128 {
-        let cut = message.get(..n).ok_or("short")?;
-        let verdict = judged(alloc, &config, 5, cut)?;
-        let want = match n {
-            0..=23 => Outcome::Silent,
-            60 | 80 | 88 | 112 | 116 | 128 => Outcome::Asked(0),
-            64.. if n % 4 == 0 => Outcome::Refused(Code::MalformedOption, false),
-            _ => Outcome::Refused(Code::MalformedRequest, false),
-        };
-        assert!(rt; verdict == want, "cut to {n}");
+fn verdict_at(length: usize) -> Outcome {
+    match length {
+        0..=23 => Outcome::Silent,
+        60 | 80 | 88 | 112 | 116 | 128 => Outcome::Asked(0),
+        64.. if length % 4 == 0 => Outcome::Refused(Code::MalformedOption, false),
+        _ => Outcome::Refused(Code::MalformedRequest, false),
     }
+}
+
+// The first length to which the message is cut with another verdict.
+fn first_other_cut(
+    alloc: Global,
+    config: &Config,
+    message: &[u8],
+) -> Result<Option<usize>, Memory> {
+    for length in 0..=128 {
+        let Some(cut) = message.get(..length) else {
+            return Ok(Some(length));
+        };
+        if !is_judged(alloc, config, 5, cut, verdict_at(length))? {
+            return Ok(Some(length));
+        }
+    }
+    Ok(None)
+}
+
+#[test]
+fn cut_requests(rt: HostRuntime) -> Result<(), Memory> {
+    let alloc = rt.alloc();
+    let config = host_config(alloc)?;
+    let message = behind(alloc, &OPTIONS)?;
+    none_other(&rt, first_other_cut(alloc, &config, &message));
     Ok(())
 }
 
-// Nobody may ask for others.
+// Whether these are refused where nobody may ask for others.
+fn are_refused(alloc: Global, config: &Config) -> Result<bool, Memory> {
+    let old = Outcome::Refused(Code::UnsuppVersion, false);
+    let another = Outcome::Refused(Code::AddressMismatch, false);
+    let third = Outcome::Refused(Code::UnsuppOption, true);
+    Ok(
+        is_judged(alloc, config, 5, b"\x01\x01", old)?
+            && is_judged(alloc, config, 6, &REQUEST, another)?
+            && is_judged_with(alloc, config, &OPTIONS[..20], third)?,
+    )
+}
+
 #[test]
-fn hosts(rt: HostRuntime) -> Result<(), Fail> {
-    let alloc = rt.alloc();
-    let config = config(alloc, Vec::new(alloc))?;
-    for (from, message, code) in [
-        (5, b"\x01\x01".as_slice(), Code::UnsuppVersion),
-        (6, REQUEST.as_slice(), Code::AddressMismatch),
-    ] {
-        let verdict = judged(alloc, &config, from, message)?;
-        assert!(rt; verdict == Outcome::Refused(code, false), "{from}");
-    }
-    let third = behind(alloc, &OPTIONS[..20])?;
-    let verdict = judged(alloc, &config, 5, &third)?;
-    assert!(rt; verdict == Outcome::Refused(Code::UnsuppOption, true));
+fn hosts(rt: HostRuntime) -> Result<(), Memory> {
+    let config = config(rt.alloc(), Vec::new(rt.alloc()))?;
+    assert!(rt; are_refused(rt.alloc(), &config) == Ok(true));
     Ok(())
+}
+
+fn count_of(alloc: Global, octets: &[u8]) -> Result<usize, Fail> {
+    let source = Address::v4(10, 0, 0, 5);
+    if let Framed::Whole(frame) = read_request(octets, &source) {
+        return Ok(read_options(alloc, &frame, octets)?.items().len());
+    }
+    Ok(0)
 }
 
 #[test]
 fn four_options(rt: HostRuntime) -> Result<(), Fail> {
-    let alloc = rt.alloc();
-    let source = Address::v4(10, 0, 0, 5);
-    let message = behind(alloc, &OPTIONS)?;
-    let mut count = 0;
-    let octets = message.as_slice();
-    if let Framed::Whole(frame) = read_request(octets, &source) {
-        count = read_options(alloc, &frame, octets)?.items().len();
-    }
-    assert!(rt; count == 4);
+    let message = behind(rt.alloc(), &OPTIONS)?;
+    assert!(rt; count_of(rt.alloc(), &message)? == 4);
     Ok(())
 }
 
-fn reply_to(alloc: Global, message: &[u8], answer: &Answer) -> Result<Vec<u8>, Fail> {
-    let config = config(alloc, host(alloc)?)?;
-    let source = Address::v4(10, 0, 0, 5);
+// The reply to a request of 10.0.0.5; empty where there is none.
+fn reply_to(
+    alloc: Global,
+    config: &Config,
+    message: &[u8],
+    answer: &Answer,
+) -> Result<Vec<u8>, Memory> {
     let mut out = Vec::new(alloc);
-    if let Verdict::Asked { ask, items, .. } = judge(alloc, &config, &source, message)? {
-        if message.len() >= 2 {
-            write_reply(alloc, &mut out, message, &ask, &items, answer, 10)?;
-        }
+    if message.len() < 2 {
+        return Ok(out);
+    }
+    let source = Address::v4(10, 0, 0, 5);
+    if let Verdict::Asked { ask, items, .. } = judge(alloc, config, &source, message)? {
+        write_reply(alloc, &mut out, message, &ask, &items, answer, 10)?;
     }
     Ok(out)
 }
 
+// Whether the reply is in these octets.
+fn is_replied(
+    alloc: Global,
+    message: Result<Vec<u8>, AllocError>,
+    answer: &Answer,
+    want: &[u8],
+) -> Result<bool, Memory> {
+    let message = message?;
+    let config = host_config(alloc)?;
+    let reply = reply_to(alloc, &config, &message, answer)?;
+    Ok(reply.as_slice() == want)
+}
+
 #[test]
-fn replies(rt: HostRuntime) -> Result<(), Fail> {
+fn replies(rt: HostRuntime) {
     let alloc = rt.alloc();
     let answer = Answer::Mapped {
         lifetime: 3600,
@@ -218,9 +286,8 @@ fn replies(rt: HostRuntime) -> Result<(), Fail> {
             parity: true,
         }),
     };
-    let message = behind(alloc, &OPTIONS)?;
-    assert!(rt; reply_to(alloc, &message, &answer)?.as_slice() == REPLY.as_slice());
-    Ok(())
+    let replied = is_replied(alloc, behind(alloc, &OPTIONS), &answer, &REPLY);
+    assert!(rt; replied == Ok(true));
 }
 
 // PEER towards 198.51.100.7, port 53: the octets of MAP with this opcode, and the remote behind them.
@@ -233,7 +300,7 @@ fn of_peer(alloc: Global, map: &[u8; 60], opcode: u8) -> Result<Vec<u8>, AllocEr
 }
 
 #[test]
-fn replies_to_peer(rt: HostRuntime) -> Result<(), Fail> {
+fn replies_to_peer(rt: HostRuntime) -> Result<(), Memory> {
     let alloc = rt.alloc();
     let answer = Answer::Peered {
         lifetime: 3600,
@@ -242,20 +309,21 @@ fn replies_to_peer(rt: HostRuntime) -> Result<(), Fail> {
     };
     let mut front = [0; 60];
     front.copy_from_slice(&REPLY[..60]);
-    let reply = reply_to(alloc, &of_peer(alloc, &REQUEST, 2)?, &answer)?;
-    assert!(rt; reply == of_peer(alloc, &front, 0x82)?);
+    let want = of_peer(alloc, &front, 0x82)?;
+    let replied = is_replied(alloc, of_peer(alloc, &REQUEST, 2), &answer, &want);
+    assert!(rt; replied == Ok(true));
     Ok(())
 }
 
 #[test]
-fn replies_to_announce(rt: HostRuntime) -> Result<(), Fail> {
+fn replies_to_announce(rt: HostRuntime) {
+    let alloc = rt.alloc();
     let mut announce = [0; 24];
     announce.copy_from_slice(&REQUEST[..24]);
     announce[1] = 0;
     let head = [
         2, 0x80, 0, 0, 0, 0, 0, 0, 0, 0, 0, 10, 0, 0, 0, 0, 0, 0, 0, 0, 0, 0, 0, 0,
     ];
-    let reply = reply_to(rt.alloc(), &announce, &Answer::Announced)?;
-    assert!(rt; reply.as_slice() == head.as_slice());
-    Ok(())
+    let replied = is_replied(alloc, announce.to_vec(alloc), &Answer::Announced, &head);
+    assert!(rt; replied == Ok(true));
 }

@@ -1,10 +1,10 @@
 //! What the clauses don't say: that they mean these octets, and that calls succeed with ample memory.
-use pcp_base::{Address, Code, Nonce, Refusal};
+use crate::rows::none_other;
+use pcp_base::{Address, Code, Memory, Nonce, Refusal};
 use pcp_codec::{
     Body, Common, Frame, Framed, read_common, read_request, write_head, write_refusal,
 };
 use std::alloc::Global;
-use std::test::Fail;
 
 // A MAP request of 10.0.0.5 for UDP port 5000, for an hour.
 const REQUEST: [u8; 60] = [
@@ -53,26 +53,41 @@ fn requests(rt: HostRuntime) {
     assert!(rt; read_common(&REQUEST) == COMMON);
 }
 
+// What the request is when it is cut to this length.
+fn framed_at(length: usize) -> Framed {
+    match length {
+        0..=23 => Framed::Silent,
+        24..=59 => refused(Code::MalformedRequest),
+        _ => WHOLE,
+    }
+}
+
+// The same of version 1.
+fn old_framed_at(length: usize) -> Framed {
+    match length {
+        0..=1 => Framed::Silent,
+        _ => refused(Code::UnsuppVersion),
+    }
+}
+
+// The first length to which the request or the old one is cut and is another.
+fn first_other_cut(old: &[u8; 60]) -> Option<usize> {
+    for length in 0..=60 {
+        if read_request(&REQUEST[..length], &CLIENT) != framed_at(length) {
+            return Some(length);
+        }
+        if read_request(&old[..length], &CLIENT) != old_framed_at(length) {
+            return Some(length);
+        }
+    }
+    None
+}
+
 #[test]
 fn cut_requests(rt: HostRuntime) {
     let mut old = REQUEST;
     old[0] = 1;
-    for n in 0..=60 {
-        let want = match n {
-            0..=23 => Framed::Silent,
-            24..=59 => refused(Code::MalformedRequest),
-            _ => WHOLE,
-        };
-        assert!(rt; read_request(&REQUEST[..n], &CLIENT) == want, "cut to {n}");
-        let want = match n {
-            0..=1 => Framed::Silent,
-            _ => refused(Code::UnsuppVersion),
-        };
-        assert!(rt;
-            read_request(&old[..n], &CLIENT) == want,
-            "version 1, cut to {n}"
-        );
-    }
+    none_other(&rt, Ok(first_other_cut(&old)));
 }
 
 #[test]
@@ -85,34 +100,33 @@ fn heads(rt: HostRuntime) {
     assert!(rt; head == want);
 }
 
-fn refusal_of(alloc: Global, request: &[u8]) -> Result<Vec<u8>, Fail> {
-    if request.len() < 2 {
-        return Err("a silent request".into());
+// The refusal of a request behind these octets; nothing more where the request is silent.
+fn refusal_behind(alloc: Global, front: &[u8], request: &[u8]) -> Result<Vec<u8>, Memory> {
+    let mut out = front.to_vec(alloc)?;
+    if request.len() >= 2 {
+        let refusal = unparsed(Code::UnsuppVersion);
+        write_refusal(alloc, &mut out, request, refusal, 10)?;
     }
-    let mut out = Vec::new(alloc);
-    let refusal = unparsed(Code::UnsuppVersion);
-    write_refusal(alloc, &mut out, request, refusal, 10)?;
     Ok(out)
 }
 
 // of a request of 2 octets of version 1
 #[test]
-fn refusal_of_a_short_request(rt: HostRuntime) -> Result<(), Fail> {
+fn refusal_of_a_short_request(rt: HostRuntime) -> Result<(), Memory> {
     let want = [
         2, 0x81, 0, 1, 0, 0, 7, 8, 0, 0, 0, 10, 0, 0, 0, 0, 0, 0, 0, 0, 0, 0, 0, 0,
     ];
-    assert!(rt; refusal_of(rt.alloc(), &[1, 1])?.as_slice() == want.as_slice());
+    let refusal = refusal_behind(rt.alloc(), b"", &[1, 1])?;
+    assert!(rt; refusal.as_slice() == want.as_slice());
     Ok(())
 }
 
 // of a whole request of version 1, behind what was there
 #[test]
-fn refusal_of_a_whole_request(rt: HostRuntime) -> Result<(), Fail> {
-    let alloc = rt.alloc();
+fn refusal_of_a_whole_request(rt: HostRuntime) -> Result<(), Memory> {
     let mut old = REQUEST;
     old[0] = 1;
-    let mut out = b"front".to_vec(alloc)?;
-    write_refusal(alloc, &mut out, &old, unparsed(Code::UnsuppVersion), 10)?;
+    let out = refusal_behind(rt.alloc(), b"front", &old)?;
     let head = [
         b'f', b'r', b'o', b'n', b't', 2, 0x81, 0, 1, 0, 0, 7, 8, 0, 0, 0, 10, 0, 0, 0, 0, 0, 0,
         0xff, 0xff, 10, 0, 0, 5,
@@ -121,15 +135,15 @@ fn refusal_of_a_whole_request(rt: HostRuntime) -> Result<(), Fail> {
     Ok(())
 }
 
+// How long the refusal of a request of so many octets is.
+fn refusal_length(alloc: Global, length: usize) -> Result<usize, Memory> {
+    let request = vec![in alloc; 1u8; length]?;
+    Ok(refusal_behind(alloc, b"", &request)?.len())
+}
+
 #[test]
-fn refusals_are_padded_and_cut(rt: HostRuntime) -> Result<(), Fail> {
-    let alloc = rt.alloc();
-    for (length, want) in [(26, 28), (1102, 1100)] {
-        let request = vec![in alloc; 1u8; length]?;
-        assert!(rt;
-            refusal_of(alloc, &request)?.len() == want,
-            "for {length} octets"
-        );
-    }
-    Ok(())
+fn refusals_are_padded_and_cut(rt: HostRuntime) {
+    let padded = refusal_length(rt.alloc(), 26);
+    let cut = refusal_length(rt.alloc(), 1102);
+    assert!(rt; (padded, cut) == (Ok(28), Ok(1100)));
 }

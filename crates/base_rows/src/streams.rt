@@ -10,19 +10,24 @@ use std::process::Abort;
 use std::test::Fail;
 use std::{fs, io};
 
-// The octets of four reads in pieces of three, of which a failed one is written as "!", each
-// followed by a bar.
-fn four_reads<S: Source>(alloc: Global, source: &mut S) -> Result<Vec<u8>, AllocError> {
+// Reads a piece of three, and writes its octets, or "!" where it failed, and a bar behind them.
+fn read_one<S: Source>(source: &mut S, seen: &mut Vec<u8>) -> Result<(), AllocError> {
+    let mut piece = [b'.'; 3];
+    match source.read(&mut piece) {
+        Ok(count) => seen.extend_from_slice(&piece[..count])?,
+        Err(_) => seen.push(b'!')?,
+    }
+    seen.push(b'|')?;
+    Ok(())
+}
+
+// Whether this is written of four reads.
+fn reads<S: Source>(alloc: Global, source: &mut S, want: &[u8]) -> Result<bool, AllocError> {
     let mut seen = Vec::new(alloc);
     for _ in 0..4 {
-        let mut piece = [b'.'; 3];
-        match source.read(&mut piece) {
-            Ok(count) => seen.extend_from_slice(&piece[..count])?,
-            Err(_) => seen.push(b'!')?,
-        }
-        seen.push(b'|')?;
+        read_one(source, &mut seen)?;
     }
-    Ok(seen)
+    Ok(seen.as_slice() == want)
 }
 
 #[test]
@@ -30,10 +35,9 @@ fn sources_in_memory(rt: HostRuntime) -> Result<(), Fail> {
     let alloc = rt.alloc();
     let mut source = MemorySource::new(alloc, b"abcdefgh".to_vec(alloc)?)?;
     source.fail_at(alloc, 1)?;
-    for want in [b"abc|!|def|gh|".as_slice(), b"||||"] {
-        assert!(rt; four_reads(alloc, &mut source)?.as_slice() == want);
-    }
-    assert!(rt; source.starved() == 0);
+    let whole = reads(alloc, &mut source, b"abc|!|def|gh|");
+    let nothing = reads(alloc, &mut source, b"||||");
+    assert!(rt; (whole, nothing, source.starved()) == (Ok(true), Ok(true), 0));
     Ok(())
 }
 
@@ -58,15 +62,12 @@ impl Read for RoughReader {
 }
 
 #[test]
-fn reader_that_fails(rt: HostRuntime) -> Result<(), Fail> {
-    let alloc = rt.alloc();
+fn reader_that_fails(rt: HostRuntime) {
     let mut source = ReadSource::of(RoughReader {
         octets: b"abcde",
         reads: 0,
     });
-    let seen = four_reads(alloc, &mut source)?;
-    assert!(rt; seen.as_slice() == b"abc|!|de||".as_slice());
-    Ok(())
+    assert!(rt; reads(rt.alloc(), &mut source, b"abc|!|de||") == Ok(true));
 }
 
 // A writer whose second write fails and whose third takes nothing. The others take at most two
@@ -97,7 +98,7 @@ impl Write for RoughWriter {
 }
 
 #[test]
-fn writer_that_fails(rt: HostRuntime) -> Result<(), Fail> {
+fn writer_that_fails(rt: HostRuntime) {
     let mut writer = RoughWriter {
         taken: Vec::new(rt.alloc()),
         writes: 0,
@@ -109,7 +110,6 @@ fn writer_that_fails(rt: HostRuntime) -> Result<(), Fail> {
     let rest = write_all(&mut sink, b"cde").ok();
     assert!(rt; (part, failed, nothing, rest) == (Some(2), None, None, Some(())));
     assert!(rt; writer.taken.as_slice() == b"abcde".as_slice());
-    Ok(())
 }
 
 fn script(rt: &HostRuntime, path: &str) -> Result<FileSource<HostRuntime>, Fail> {
@@ -119,31 +119,34 @@ fn script(rt: &HostRuntime, path: &str) -> Result<FileSource<HostRuntime>, Fail>
 // A folder can be opened, and not be read.
 #[test]
 fn a_folder_is_no_file(rt: HostRuntime) -> Result<(), Fail> {
-    let seen = four_reads(rt.alloc(), &mut script(&rt, ".")?)?;
-    assert!(rt; seen.as_slice() == b"!|!|!|!|".as_slice());
+    let mut source = script(&rt, ".")?;
+    assert!(rt; reads(rt.alloc(), &mut source, b"!|!|!|!|") == Ok(true));
     Ok(())
+}
+
+// Whether a read fails and leaves the piece.
+fn fails<S: Source>(source: &mut S) -> bool {
+    let mut piece = [b'.'; 3];
+    source.read(&mut piece).is_err() && piece == *b"..."
 }
 
 // A file that isn't there when it is read first may be there later.
 #[test]
 fn a_file_is_opened_when_it_is_read(rt: HostRuntime) -> Result<(), Fail> {
     let mut source = script(&rt, "script")?;
-    let mut piece = [b'.'; 3];
-    assert!(rt; source.read(&mut piece).is_err() && piece == *b"...");
+    assert!(rt; fails(&mut source));
     fs::write(&rt, "script", "abcde")?;
-    let seen = four_reads(rt.alloc(), &mut source)?;
-    assert!(rt; seen.as_slice() == b"abc|de|||".as_slice());
+    assert!(rt; reads(rt.alloc(), &mut source, b"abc|de|||") == Ok(true));
     Ok(())
 }
 
 #[test]
-fn standard_streams(rt: HostRuntime) -> Result<(), Fail> {
+fn standard_streams(rt: HostRuntime) {
     let mut source = StdSource::new(rt.stdin());
     let mut sink = StdSink::new(rt.stdout());
-    assert!(rt; source.read(&mut [b'.'; 3]).ok() == Some(0));
-    assert!(rt; write_all(&mut sink, b"written\n").is_ok());
-    assert!(rt; sink.write(b"").ok() == Some(0));
-    Ok(())
+    let read = source.read(&mut [b'.'; 3]).ok();
+    let written = write_all(&mut sink, b"written\n").ok();
+    assert!(rt; (read, written, sink.write(b"").ok()) == (Some(0), Some(()), Some(0)));
 }
 
 // A sink in memory that takes at most two octets a write.
@@ -168,17 +171,22 @@ impl Sink for SlowSink {
 // Pieces, and whether each is written whole where the second write fails.
 static PIECES: [(&[u8], bool); 2] = [(b"abcde", false), (b"fghij", true)];
 
+fn are_written<W: Sink>(sink: &mut W) -> bool {
+    for (piece, whole) in PIECES {
+        if write_all(sink, piece).is_ok() != whole {
+            return false;
+        }
+    }
+    true
+}
+
 #[test]
 fn writing_in_parts(rt: HostRuntime) -> Result<(), Fail> {
-    let alloc = rt.alloc();
     let mut slow = SlowSink {
-        sink: MemorySink::new(alloc, 100)?,
+        sink: MemorySink::new(rt.alloc(), 100)?,
     };
-    slow.sink.fail_at(alloc, 1)?;
-    for (piece, whole) in PIECES {
-        assert!(rt; write_all(&mut slow, piece).is_ok() == whole);
-    }
-    assert!(rt; slow.sink.held() == b"abfghij".as_slice());
+    slow.sink.fail_at(rt.alloc(), 1)?;
+    assert!(rt; are_written(&mut slow) && slow.sink.held() == b"abfghij".as_slice());
     Ok(())
 }
 
@@ -189,12 +197,20 @@ static TAKEN: [(&[u8], Option<usize>); 3] = [
     (b"fgh", Some(3)),
 ];
 
+fn are_taken<W: Sink>(sink: &mut W) -> bool {
+    for (piece, count) in TAKEN {
+        if sink.write(piece).ok() != count {
+            return false;
+        }
+    }
+    true
+}
+
 #[test]
 fn sinks_in_memory(rt: HostRuntime) -> Result<(), Fail> {
     let mut sink = MemorySink::new(rt.alloc(), 8)?;
-    for (piece, count) in TAKEN {
-        assert!(rt; sink.write(piece).ok() == count);
-    }
-    assert!(rt; sink.held() == b"abcdefgh".as_slice() && sink.starved() == 0);
+    assert!(rt;
+        are_taken(&mut sink) && sink.held() == b"abcdefgh".as_slice() && sink.starved() == 0
+    );
     Ok(())
 }

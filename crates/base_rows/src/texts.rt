@@ -1,6 +1,7 @@
 //! What texts of addresses, prefixes and numbers mean, and that calls succeed with ample memory.
-use pcp_base::{Address, Prefix, read_number};
-use std::test::Fail;
+use crate::rows::none_other;
+use pcp_base::{Address, Memory, Prefix, read_number};
+use std::alloc::Global;
 
 // 2001:db8::af
 const LONG: Address = Address([
@@ -52,19 +53,29 @@ static NO_ADDRESSES: [&[u8]; 10] = [
     b"",
 ];
 
-#[test]
-fn addresses_in_texts(rt: HostRuntime) -> Result<(), Fail> {
-    for (text, want, printed) in &ADDRESSES {
-        let address = Address::read(text).ok().ok_or("refused")?;
-        assert!(rt; address == *want, "{}", text.escape_ascii());
-        let mut out = Vec::new(rt.alloc());
-        address.write(rt.alloc(), &mut out)?;
-        assert!(rt; out.as_slice() == *printed, "{}", text.escape_ascii());
+// Whether the address is written so.
+fn is_written(alloc: Global, address: &Address, printed: &[u8]) -> Result<bool, Memory> {
+    let mut out = Vec::new(alloc);
+    address.write(alloc, &mut out)?;
+    Ok(out.as_slice() == printed)
+}
+
+// The first text that is read otherwise, or whose address is written otherwise.
+fn first_other_address(alloc: Global) -> Result<Option<usize>, Memory> {
+    for (i, (text, want, printed)) in ADDRESSES.iter().enumerate() {
+        if Address::read(text).ok() != Some(*want) || !is_written(alloc, want, printed)? {
+            return Ok(Some(i));
+        }
     }
+    Ok(None)
+}
+
+#[test]
+fn addresses_in_texts(rt: HostRuntime) {
+    none_other(&rt, first_other_address(rt.alloc()));
     for text in &NO_ADDRESSES {
         assert!(rt; Address::read(text).is_err(), "{}", text.escape_ascii());
     }
-    Ok(())
 }
 
 // A text, the address and the bits of the prefix that it writes, an address that it holds, and one
@@ -125,24 +136,36 @@ static NO_PREFIXES: [&[u8]; 8] = [
     b"/8",
 ];
 
-#[test]
-fn prefixes_in_texts(rt: HostRuntime) -> Result<(), Fail> {
-    for (text, address, bits, inside, outside) in &PREFIXES {
-        let prefix = Prefix::read(text).ok().ok_or("refused")?;
-        let same = prefix.address == *address && prefix.bits == *bits;
-        assert!(rt; same, "{}", text.escape_ascii());
+// The first text that is read otherwise, or whose prefix holds otherwise.
+fn first_other_prefix() -> Option<usize> {
+    for (i, (text, address, bits, inside, outside)) in PREFIXES.iter().enumerate() {
+        let prefix = Prefix {
+            bits: *bits,
+            address: *address,
+        };
         let holds = prefix.holds(inside) && !prefix.holds(outside);
-        assert!(rt; holds, "{}", text.escape_ascii());
+        if !holds || Prefix::read(text).ok() != Some(prefix) {
+            return Some(i);
+        }
     }
+    None
+}
+
+#[test]
+fn prefixes_in_texts(rt: HostRuntime) {
+    none_other(&rt, Ok(first_other_prefix()));
     for text in &NO_PREFIXES {
         assert!(rt; Prefix::read(text).is_err(), "{}", text.escape_ascii());
     }
+}
+
+#[test]
+fn a_prefix_of_no_bits_holds_all(rt: HostRuntime) {
     let all = Prefix {
         bits: 0,
         address: LONG,
     };
     assert!(rt; all.holds(&Address([0xff; 16])) && all.holds(&Address([0; 16])));
-    Ok(())
 }
 
 // A text, the greatest number that it may write, and what it writes.

@@ -1,21 +1,25 @@
 //! What moments, codes, leases and pairs mean, and that calls succeed with ample memory.
+use crate::rows::none_other;
 use pcp_base::{
-    Address, Change, Code, Config, Endpoint, Externals, Filter, Filters, MapLease, Moment, Nonce,
-    PeerLease, Prefix, Prefixes, Protocol, Record, Subscriber, Subscribers, epoch, pair,
+    Address, Change, Code, Config, Endpoint, Externals, Filter, Filters, MapLease, Memory, Moment,
+    Nonce, PeerLease, Prefix, Prefixes, Protocol, Record, Subscriber, Subscribers, epoch, pair,
 };
-use std::test::Fail;
+use std::alloc::{AllocError, Global};
 
 // 2001:db8::af
 const LONG: Address = Address([
     0x20, 0x01, 0x0d, 0xb8, 0, 0, 0, 0, 0, 0, 0, 0, 0, 0, 0, 0xaf,
 ]);
 
+fn seconds_of(seconds: u64) -> Option<u64> {
+    Some(Moment::of(seconds)?.get())
+}
+
 #[test]
-fn moments_are_below_2_to_the_40(rt: HostRuntime) -> Result<(), Fail> {
-    assert!(rt; Moment::of(1_099_511_627_776).is_none());
-    let last = Moment::of(1_099_511_627_775).ok_or("last")?;
-    assert!(rt; last.get() == 1_099_511_627_775);
-    Ok(())
+fn moments_are_below_2_to_the_40(rt: HostRuntime) {
+    let last = seconds_of(1_099_511_627_775);
+    assert!(rt; last == Some(1_099_511_627_775));
+    assert!(rt; seconds_of(1_099_511_627_776).is_none());
 }
 
 // A moment, and the epoch that is told there where the base is 5.
@@ -28,14 +32,15 @@ static EPOCHS: [(u64, u32); 6] = [
     (1_099_511_627_775, 4_294_967_295),
 ];
 
+fn epoch_at(seconds: u64) -> Option<u32> {
+    Some(epoch(Moment::of(seconds)?, Moment::of(5)?))
+}
+
 #[test]
-fn epochs(rt: HostRuntime) -> Result<(), Fail> {
-    let base = Moment::of(5).ok_or("base")?;
-    for (seconds, told) in EPOCHS {
-        let m = Moment::of(seconds).ok_or("seconds")?;
-        assert!(rt; epoch(m, base) == told, "at {seconds}");
+fn epochs(rt: HostRuntime) {
+    for (seconds, told) in &EPOCHS {
+        assert!(rt; epoch_at(*seconds) == Some(*told), "at {seconds}");
     }
-    Ok(())
 }
 
 // A code, its number, and the seconds that an error reply tells of it.
@@ -56,12 +61,18 @@ static CODES: [(Code, u8, u32); 14] = [
     (Code::ExcessiveRemotePeers, 13, 1800),
 ];
 
+fn first_other_code() -> Option<usize> {
+    for (i, (code, number, lifetime)) in CODES.iter().enumerate() {
+        if code.number() != *number || code.lifetime() != *lifetime {
+            return Some(i);
+        }
+    }
+    None
+}
+
 #[test]
 fn codes_on_the_wire(rt: HostRuntime) {
-    for (code, number, lifetime) in &CODES {
-        let same = code.number() == *number && code.lifetime() == *lifetime;
-        assert!(rt; same, "{number}");
-    }
+    none_other(&rt, Ok(first_other_code()));
 }
 
 #[test]
@@ -79,9 +90,8 @@ fn eight_filters(rt: HostRuntime) {
     assert!(rt; filters.items().iter().map(|filter| filter.port).eq(ports));
 }
 
-#[test]
-fn pairs_by_the_first_row(rt: HostRuntime) -> Result<(), Fail> {
-    let alloc = rt.alloc();
+// Of 10.1.0.0/16, and then of 10.0.0.0/8.
+fn subscribers(alloc: Global) -> Result<Vec<Subscriber>, AllocError> {
     let near = Subscriber {
         prefix: Prefix {
             bits: 112,
@@ -96,17 +106,24 @@ fn pairs_by_the_first_row(rt: HostRuntime) -> Result<(), Fail> {
         },
         external: 0,
     };
+    Ok(vec![in alloc; near, wide]?)
+}
+
+#[test]
+fn pairs_by_the_first_row(rt: HostRuntime) -> Result<(), Memory> {
+    let alloc = rt.alloc();
     let config = Config {
         quota: 16,
         lifetime_min: 120,
         lifetime_max: 86400,
         third_party: Prefixes::of(Vec::new(alloc)),
         externals: Externals::of(Vec::new(alloc)),
-        subscribers: Subscribers::of(vec![in alloc; near, wide]?),
+        subscribers: Subscribers::of(subscribers(alloc)?),
     };
-    assert!(rt; pair(&config, &Address::v4(10, 1, 255, 7)) == Some(1));
-    assert!(rt; pair(&config, &Address::v4(10, 2, 0, 7)) == Some(0));
-    assert!(rt; pair(&config, &Address::v4(11, 0, 0, 7)) == None);
+    let near = pair(&config, &Address::v4(10, 1, 255, 7));
+    let wide = pair(&config, &Address::v4(10, 2, 0, 7));
+    let other = pair(&config, &Address::v4(11, 0, 0, 7));
+    assert!(rt; (near, wide, other) == (Some(1), Some(0), None));
     Ok(())
 }
 
@@ -121,77 +138,76 @@ fn endpoint_of(port: u16) -> Endpoint {
     }
 }
 
-// Of the ports 65534 and 65535, from 10 to 130.
-fn map_lease() -> Result<MapLease, Fail> {
-    Ok(MapLease {
+fn moment(seconds: u32) -> Moment {
+    Moment::of(u64::from(seconds)).unwrap()
+}
+
+// Of the ports 65534 and 65535, to 130.
+fn map_lease(granted: Moment) -> MapLease {
+    MapLease {
         address: HOST,
         protocol: Protocol::Udp,
         internal: 65534,
         count: 2,
         external: 1024,
         nonce: Nonce([7; 12]),
-        granted: Moment::of(10).ok_or("granted")?,
+        granted,
         expiry: 130,
         filters: Filters::none(),
-    })
+    }
 }
 
-// Of the port 5000 towards port 53, from 10 to 130.
-fn peer_lease() -> Result<PeerLease, Fail> {
-    Ok(PeerLease {
+// Of the port 5000 towards port 53, to 130.
+fn peer_lease(granted: Moment) -> PeerLease {
+    PeerLease {
         endpoint: endpoint_of(5000),
         external: 1024,
         remote: LONG,
         remote_port: 53,
         nonce: Nonce([7; 12]),
-        granted: Moment::of(10).ok_or("granted")?,
+        granted,
         expiry: 130,
-    })
+    }
 }
 
 #[test]
-fn ports_of_a_lease(rt: HostRuntime) -> Result<(), Fail> {
-    let map = map_lease()?;
+fn ports_of_a_lease(rt: HostRuntime) {
+    let map = map_lease(moment(10));
     assert!(rt; map.first_endpoint() == endpoint_of(65534));
     for (port, covered) in [(65533, false), (65534, true), (65535, true)] {
         assert!(rt; map.covers(&endpoint_of(port)) == covered);
     }
-    Ok(())
 }
 
 #[test]
-fn keys_of_a_peer_lease(rt: HostRuntime) -> Result<(), Fail> {
-    let peer = peer_lease()?;
+fn keys_of_a_peer_lease(rt: HostRuntime) {
+    let peer = peer_lease(moment(10));
     for (port, remote_port, same) in [(5000, 53, true), (5001, 53, false), (5000, 54, false)] {
         assert!(rt; peer.is_of(&endpoint_of(port), &LONG, remote_port) == same);
     }
-    Ok(())
 }
 
 #[test]
-fn leases_are_live_until_their_expiry(rt: HostRuntime) -> Result<(), Fail> {
-    let (map, peer) = (map_lease()?, peer_lease()?);
+fn leases_are_live_until_their_expiry(rt: HostRuntime) {
+    let (map, peer) = (map_lease(moment(10)), peer_lease(moment(10)));
     for (seconds, live) in [(129, true), (130, false)] {
-        let m = Moment::of(seconds).ok_or("seconds")?;
+        let m = moment(seconds);
         assert!(rt; map.is_live(m) == live && peer.is_live(m) == live);
     }
-    Ok(())
 }
 
 #[test]
-fn well_formed_records(rt: HostRuntime) -> Result<(), Fail> {
-    let map = map_lease()?;
-    let moment = map.granted;
+fn well_formed_records(rt: HostRuntime) {
+    let moment = moment(10);
     let granted = Record {
         moment,
-        change: Change::Map(map),
+        change: Change::Map(map_lease(moment)),
     };
     let without_port = Record {
         moment,
         change: Change::DropMap(endpoint_of(0)),
     };
     assert!(rt; granted.is_well_formed() && !without_port.is_well_formed());
-    Ok(())
 }
 
 #[test]
