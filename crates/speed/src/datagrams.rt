@@ -35,41 +35,55 @@ fn answer(
         address: Address::v4(192, 0, 2, 1),
         set: None,
     };
-    write_reply(alloc, out, message, &ask, &items, &answer, epoch)?;
-    Ok(())
+    Ok(write_reply(alloc, out, message, &ask, &items, &answer, epoch)?)
 }
 
-/// Adds up octet 11 of each reply, the last of its epoch, and its length.
-fn replies(alloc: Global, options: &[u8], count: u32) -> anyhow::Result<u64> {
-    let config = served(alloc)?;
-    let mut message = REQUEST.to_vec(alloc)?;
-    message.extend_from_slice(options)?;
-    let mut out = Vec::new(alloc);
+/// Octet 11, the last of a reply's epoch, and the length.
+fn told(out: &[u8]) -> u64 {
+    let last = out.get(11).copied().unwrap_or(0);
+    u64::from(last).wrapping_add(out.len() as u64)
+}
+
+/// Adds up what so many replies tell.
+fn sum_of_replies(
+    alloc: Global,
+    config: &Config,
+    message: &[u8],
+    count: u32,
+    out: &mut Vec<u8>,
+) -> anyhow::Result<u64> {
     let mut sum = 0u64;
     for epoch in 0..count {
         out.clear();
-        answer(alloc, &config, &message, epoch, &mut out)?;
-        let last = out.get(11).copied().unwrap_or(0);
-        sum = sum
-            .wrapping_add(u64::from(last))
-            .wrapping_add(out.len() as u64);
+        answer(alloc, config, message, epoch, out)?;
+        sum = sum.wrapping_add(told(out));
     }
     Ok(sum)
 }
 
 /// The same over copies of the request.
-fn copies(alloc: Global, count: u32) -> anyhow::Result<u64> {
-    let mut out = Vec::new(alloc);
+fn sum_of_copies(count: u32, out: &mut Vec<u8>) -> anyhow::Result<u64> {
     let mut sum = 0u64;
     for _ in 0..count {
         out.clear();
         out.extend_from_slice(&REQUEST)?;
-        let last = out.get(11).copied().unwrap_or(0);
-        sum = sum
-            .wrapping_add(u64::from(last))
-            .wrapping_add(out.len() as u64);
+        sum = sum.wrapping_add(told(out));
     }
     Ok(sum)
+}
+
+/// The request with these options.
+fn message_of(alloc: Global, options: &[u8]) -> anyhow::Result<Vec<u8>> {
+    let mut message = REQUEST.to_vec(alloc)?;
+    message.extend_from_slice(options)?;
+    Ok(message)
+}
+
+/// Judges the request with these options, and replies to it.
+fn replies(alloc: Global, options: &[u8], count: u32) -> anyhow::Result<u64> {
+    let message = message_of(alloc, options)?;
+    let config = served(alloc)?;
+    sum_of_replies(alloc, &config, &message, count, &mut Vec::new(alloc))
 }
 
 /// Does what a name stands for.
@@ -77,7 +91,7 @@ fn sum_of(alloc: Global, name: &str, count: u32) -> anyhow::Result<u64> {
     match name {
         "plain" => replies(alloc, &[], count),
         "options" => replies(alloc, &OPTIONS, count),
-        "copies" => copies(alloc, count),
+        "copies" => sum_of_copies(count, &mut Vec::new(alloc)),
         _ => bail!("{name:?} is not one of the names"),
     }
 }

@@ -30,18 +30,22 @@ fn append_all<D: LeaseDisk>(disk: &mut D, records: u32, record: &[u8]) -> Result
     Ok(place)
 }
 
+/// Appends so many records of so many octets to a new file, which is removed.
+fn append_to(rt: &HostRuntime, path: &str, records: u32, octets: u16) -> anyhow::Result<u64> {
+    let record = vec![in rt.alloc(); 0u8; usize::from(octets)]?;
+    let path_of_disk = String::from_str(rt.alloc(), path)?;
+    let written = append_all(&mut FileDisk::new(rt, path_of_disk), records, &record)?;
+    fs::remove_file(rt, path)?;
+    Ok(written)
+}
+
 /// Appends the records that the words tell of.
 pub(crate) fn run(rt: &HostRuntime, words: &[String]) -> anyhow::Result<()> {
-    let alloc = rt.alloc();
     let [path, records, octets] = words else {
         bail!("a path, a count of records and a count of octets are wanted");
     };
     let records = records.parse::<u32>().context("reading the records")?;
     let octets = octets.parse::<u16>().context("reading the octets")?;
-    let record = vec![in alloc; 0u8; usize::from(octets)]?;
-    let mut disk = FileDisk::new(rt, path.clone()?);
-    let written = append_all(&mut disk, records, &record)?;
-    fs::remove_file(rt, path)?;
-    println!(rt; "{records} {written}")?;
+    println!(rt; "{records} {}", append_to(rt, path, records, octets)?)?;
     Ok(())
 }

@@ -22,13 +22,14 @@ pub(crate) fn served(alloc: Global) -> anyhow::Result<Config> {
         },
         external: 0,
     };
+    let subscribers = vec![in alloc; hosts]?;
     Ok(Config {
         quota: 64,
         lifetime_min: 120,
         lifetime_max: 86400,
         third_party: Prefixes::of(Vec::new(alloc)),
         externals: Externals::of(Vec::new(alloc)),
-        subscribers: Subscribers::of(vec![in alloc; hosts]?),
+        subscribers: Subscribers::of(subscribers),
     })
 }
 
@@ -48,15 +49,19 @@ fn lifetime_of(alloc: Global, config: &Config, message: &[u8]) -> anyhow::Result
 }
 
 /// Judges five datagrams a round, and adds up the lifetimes that they ask for.
+fn sum_of(alloc: Global, config: &Config, rounds: u32) -> anyhow::Result<u64> {
+    let mut sum = 0u64;
+    for _ in 0..u64::from(rounds) * 5 {
+        let lifetime = lifetime_of(alloc, config, &REQUEST)?;
+        sum = sum.wrapping_add(u64::from(lifetime));
+    }
+    Ok(sum)
+}
+
+/// Times that.
 pub fn judged<C: CpuClock>(clock: &C, alloc: Global, rounds: u32) -> anyhow::Result<Timed> {
     let config = served(alloc)?;
     let start = clock.process_cpu_time()?;
-    let mut sum = 0u64;
-    for _ in 0..rounds {
-        for _ in 0..5 {
-            let lifetime = lifetime_of(alloc, &config, &REQUEST)?;
-            sum = sum.wrapping_add(u64::from(lifetime));
-        }
-    }
+    let sum = sum_of(alloc, &config, rounds)?;
     Timed::since(clock, start, sum)
 }

@@ -6,7 +6,7 @@ use pcp_base::{Address, Ask, Endpoint, FilterList, MapAsk, Nonce, Protocol};
 use std::alloc::Global;
 
 /// In which order leases come.
-#[derive(Clone, Copy, Debug, PartialEq, Eq)]
+#[derive(Clone, Copy)]
 pub enum Order {
     /// One behind the other, as they were granted first.
     Granted,

@@ -1,7 +1,6 @@
 //! Rounds of requests, of which what is decided is applied.
 ghost use Rattle.std.specs.Prelude.{◌≡◌, ◌≤◌, ◌<◌, IfSome, IfOk, OnOk};
 ghost use Rattle.pcp_base.specs.Apply.{apply};
-ghost use Rattle.pcp_base.specs.Asks.{IsWellFormedAsk};
 ghost use Rattle.pcp_base.specs.Configs.{IsConfig, IsExternal};
 ghost use Rattle.pcp_base.specs.Fits.{Fits};
 ghost use Rattle.lease_store.specs.LeaseTerms.{AreTerms};
@@ -13,8 +12,8 @@ use anyhow::{Context, bail};
 use lease_core::{Core, LeaseCore, decisions_fit};
 use lease_store::LeaseStore;
 use pcp_base::{
-    Address, Answer, Ask, Change, Config, External, Externals, Memory, Moment, Prefixes, Record,
-    Replay, Subscribers, states_are_sound,
+    Address, Answer, Change, Config, External, Externals, Memory, Moment, Prefixes, Record, Replay,
+    Subscribers, states_are_sound,
 };
 use std::alloc::Global;
 use std::time::CpuClock;
@@ -36,12 +35,13 @@ fn config(alloc: Global, external: &External) -> anyhow::Result<Config>
     requires { IsExternal external.now }
     ensures { IfOk result IsConfig }
 {
+    let externals = Vec::from_array(alloc, [*external])?;
     Ok(Config {
         quota: 512,
         lifetime_min: 120,
         lifetime_max: 86_400,
         third_party: Prefixes::of(Vec::new(alloc)),
-        externals: Externals::of(Vec::from_array(alloc, [*external])?),
+        externals: Externals::of(externals),
         subscribers: Subscribers::of(Vec::new(alloc)),
     })
 }
@@ -125,23 +125,24 @@ fn told(answer: &Answer) -> u64 {
     }
 }
 
-/// Answers a request at `m`, applies what is kept of it, and adds what is told to the checksum.
+/// Answers a request of an endpoint for so many seconds at `m`, applies what is kept of it, and adds
+/// what is told to the checksum.
 fn serve<S: LeaseStore>(
     alloc: Global,
     core: &mut LeaseCore<S>,
-    ask: &Ask,
+    number: u32,
+    lifetime: u32,
     m: Moment,
     sum: &mut u64,
 ) -> Result<(), Memory>
     requires may { MayServe (S.state core.old) (S.terms core.old) }
     requires later { S.reached core.old ≤ m }
-    requires ask { IsWellFormedAsk ask.now }
     ensures may { OnOk result (MayServe (S.state core.new) (S.terms core.new)) }
     ensures reached { OnOk result (S.reached core.new ≡ m) }
 {
     decisions_fit();
     let _last = core.last();
-    let decided = core.decide(alloc, ask, m)?;
+    let decided = core.decide(alloc, &map_ask(alloc, number, lifetime), m)?;
     keep(alloc, core, decided.kept, m)?;
     *sum = 31u64.wrapping_mul(*sum).wrapping_add(told(&decided.answer));
     Ok(())
@@ -164,14 +165,14 @@ fn round<S: LeaseStore>(
     ensures reached { OnOk result (S.reached core.new ≡ m) }
 {
     let number = next_number(order, leases, state);
-    serve(alloc, core, &map_ask(alloc, number, 3600), m, sum)?;
+    serve(alloc, core, number, 3600, m, sum)?;
     let number = next_number(order, leases, state);
-    serve(alloc, core, &map_ask(alloc, number, 7200), m, sum)?;
+    serve(alloc, core, number, 7200, m, sum)?;
     let number = next_number(order, leases, state);
-    serve(alloc, core, &map_ask(alloc, number, 86_400), m, sum)?;
+    serve(alloc, core, number, 86_400, m, sum)?;
     let number = next_number(order, leases, state);
-    serve(alloc, core, &map_ask(alloc, number, 0), m, sum)?;
-    serve(alloc, core, &map_ask(alloc, number, 86_400), m, sum)
+    serve(alloc, core, number, 0, m, sum)?;
+    serve(alloc, core, number, 86_400, m, sum)
 }
 
 /// Grants the leases, at 1000.
@@ -188,7 +189,7 @@ fn fill<S: LeaseStore>(
 {
     let mut sum = 0;
     for number in 0..leases {
-        serve(alloc, core, &map_ask(alloc, number, 86_400), m, &mut sum)?;
+        serve(alloc, core, number, 86_400, m, &mut sum)?;
     }
     Ok(())
 }
@@ -229,24 +230,42 @@ fn sum_of<S: LeaseStore>(
     Ok(sum)
 }
 
-/// Grants the leases, and makes the rounds, which alone are timed.
-pub fn decided<S: LeaseStore, C: CpuClock>(
+/// Makes the rounds, and times them.
+fn timed<S: LeaseStore, C: CpuClock>(
     clock: &C,
     alloc: Global,
     core: &mut LeaseCore<S>,
     order: Order,
     leases: u32,
     rounds: u32,
+    m: Moment,
 ) -> anyhow::Result<Timed>
-    requires { AreTerms (S.terms core.old) }
+    requires may { MayServe (S.state core.old) (S.terms core.old) }
+    requires later { S.reached core.old ≤ m }
+    requires some { 0 < leases }
+{
+    let start = clock.process_cpu_time()?;
+    let sum = sum_of(alloc, core, order, leases, rounds, m)?;
+    Timed::since(clock, start, sum)
+}
+
+/// Grants the leases, and makes the rounds, which alone are timed.
+pub fn decided<S: LeaseStore + Drop, C: CpuClock>(
+    clock: &C,
+    alloc: Global,
+    core: LeaseCore<S>,
+    order: Order,
+    leases: u32,
+    rounds: u32,
+) -> anyhow::Result<Timed>
+    requires { AreTerms (S.terms core) }
 {
     if leases == 0 {
         bail!("there is no lease to renew");
     }
-    start(alloc, core)?;
     let m = moment(1000)?;
-    fill(alloc, core, leases, m)?;
-    let start = clock.process_cpu_time()?;
-    let sum = sum_of(alloc, core, order, leases, rounds, m)?;
-    Timed::since(clock, start, sum)
+    let mut core = core;
+    start(alloc, &mut core)?;
+    fill(alloc, &mut core, leases, m)?;
+    timed(clock, alloc, &mut core, order, leases, rounds, m)
 }

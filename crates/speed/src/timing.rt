@@ -6,7 +6,7 @@ use std::time::{CpuClock, Duration};
 pub const DECISIONS: u64 = 5;
 
 /// A checksum of answers, and the processor time that they took.
-#[derive(Clone, Copy, Debug)]
+#[derive(Clone, Copy)]
 pub struct Timed {
     pub sum: u64,
     pub took: Duration,
