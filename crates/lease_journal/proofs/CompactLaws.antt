@@ -117,7 +117,7 @@ module _ (side : Side) (standing : Standing) (s : State) (a b : List ℕ) (stand
       begun_gate = ap (λ (l : List ℕ). get_or l 0 0) same_side ∙ open_gate (side_parity side) (of_side side a b) standing s stands.counts
 
 -- records that stand for the same, with the next generation
-pub next_over : (side : Side) (standing : Standing) (s : State) (a b : List ℕ) (records : List Record) (text octets : List ℕ) → StandsBy side standing s a b → standing.generation < 2 ^ 64 - 1 → AllFit empty_state records → state_of records ≡ s → IsHidden (standing.generation + 1) records text → octets ≡ text
+abbrev pub next_over : (side : Side) (standing : Standing) (s : State) (a b : List ℕ) (records : List Record) (text octets : List ℕ) → StandsBy side standing s a b → standing.generation < 2 ^ 64 - 1 → AllFit empty_state records → state_of records ≡ s → IsHidden (standing.generation + 1) records text → octets ≡ text
     → TakesOver side standing.generation (standing.generation + 1) s octets
 next_over side standing s a b records text octets stands next fit same is whole = record {
   batches = is.batches;

@@ -1,10 +1,15 @@
 -- A journal as contracts see it (our own).
-use Rattle.std.specs.Prelude.{ℕ, Bool, List}
+use Rattle.std.specs.Prelude.{◌≡◌, ℕ, Bool, List}
+use Rattle.pcp_base.specs.declared.records.Record.{Record}
 use Rattle.pcp_base.specs.States.{State}
 use Rattle.lease_disk.specs.declared.disks.DiskPair.{DiskPair}
+use Rattle.journal_sides.specs.declared.formats.Format.TheVariants.{Second}
 use Rattle.journal_sides.specs.declared.sides.Side.{Side}
 use Rattle.journal_sides.specs.declared.walks.Standing.{Standing}
+use Rattle.journal_sides.specs.Frames.{records_of}
 use Rattle.journal_sides.specs.Settled.{IsSettledBy}
+use Rattle.journal_sides.specs.Shut.{AreFull}
+use Rattle.journal_sides.specs.Sides.{IsOpenSide}
 
 pub record JournalView (D : Type 0) : Type 0 where
   pub pair : DiskPair D
@@ -21,3 +26,11 @@ abbrev pub IsSettled : {D : Type 0} → (D → List ℕ) → (D → List ℕ →
     → State → Type 0
 IsSettled seen may_leave journal s =
     IsSettledBy seen may_leave journal.side journal.standing journal.pair s
+
+-- a side that is open with these records, in frames that are full but for the last
+pub record IsFilled (parity generation : ℕ) (records : List Record) (octets : List ℕ)
+    : Type 0 where
+  pub batches : List (List Record)
+  pub opened : IsOpenSide Second parity octets generation batches
+  pub full : AreFull batches
+  pub holds : records_of batches ≡ records

@@ -7,7 +7,8 @@ ghost use Rattle.journal_sides.specs.declared.walks.Standing.{Standing};
 ghost use Rattle.lease_journal.specs.Compactions.{TakesOver};
 ghost use Rattle.journal_sides.specs.Journals.{StandsFor};
 ghost use Rattle.journal_sides.specs.Settled.{IsSettledBy};
-ghost use Rattle.journal_sides.specs.Writes.{of_side, other};
+ghost use Rattle.journal_sides.specs.Sides.{IsOpenSide};
+ghost use Rattle.journal_sides.specs.Writes.{of_side, other, side_parity};
 
 use crate::openings::begin_side;
 use crate::writes::{cut_side, write_side};
@@ -26,6 +27,9 @@ fn retire_side<D: LeaseDisk>(pair: &mut DiskPair<D>, side: Side) -> Result<(), F
         → OnOk result (IsSettledBy D.seen D.may_leave (other side) standing pair.new s) }
     ensures cut { D.tells → OnOk result
         (of_side side (D.seen pair.new.a) (D.seen pair.new.b) ≡ 0 ∷ []) }
+    ensures beside { D.tells → OnOk result
+        (of_side (other side) (D.seen pair.new.a) (D.seen pair.new.b)
+        ≡ of_side (other side) (D.seen pair.old.a) (D.seen pair.old.b)) }
     ensures cause { PairHasCause D.faults pair.old pair.new (IsErr result) }
 {
     write_side(pair, side, 0, &[0])?;
@@ -54,6 +58,12 @@ pub(crate) fn take_over<D: LeaseDisk>(
           end = length text.now;
           length = size;
         }) pair.new s) }
+    ensures filled { D.tells → (standing : Standing) (s : State) (generation : ℕ)
+        → IsSettledBy D.seen D.may_leave side standing pair.old s
+        → (over : TakesOver side standing.generation generation s text.now)
+        → OnOk result (IsOpenSide Second (side_parity (other side))
+        (of_side (other side) (D.seen pair.new.a) (D.seen pair.new.b)) generation
+        over.batches) }
     ensures cut { D.tells → OnOk result
         (of_side side (D.seen pair.new.a) (D.seen pair.new.b) ≡ 0 ∷ []) }
     ensures most { IfOk result (λ size. size ≤ 2 ^ 62) }

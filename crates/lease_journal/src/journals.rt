@@ -57,8 +57,8 @@ impl<D: LeaseDisk> Journal<D> {
     ghost use Rattle.journal_sides.specs.Journals.{StandsFor, StandsForWithOrWithout};
     ghost use Rattle.lease_journal.specs.Openings.{FoundMeans, HasStarted, IsClearedUnless, IsStillOrShut, LeavesOld, Opens, ViewMeans, ViewReplays};
     ghost use Rattle.journal_sides.specs.Reads.{ArePairRead, AreSeenStill};
-    ghost use Rattle.lease_journal.specs.Views.{IsSettled};
-    ghost use Rattle.journal_sides.specs.Writes.{of_side, other};
+    ghost use Rattle.lease_journal.specs.Views.{IsFilled, IsSettled};
+    ghost use Rattle.journal_sides.specs.Writes.{of_side, other, side_parity};
 
     /// Appends 1 to [`MOST_RECORDS`] well formed records that fit, in one frame, to a journal of
     /// format 2. At each moment a crash leaves all of them or none; from `Ok` on all. After
@@ -100,9 +100,10 @@ impl<D: LeaseDisk> Journal<D> {
         Ok(())
     }
 
-    /// Opens the journal of a pair: syncs both sides, reads them, and makes a start at `m` where
-    /// they are blank or damaged. After `Ok` the replay stands for the journal and takes more records
-    /// of its format; after a fault it is to be cleared, and the pair is handed back.
+    /// Opens the journal of a pair: syncs both sides, reads them, and where they are blank or damaged
+    /// makes a start at `m` on side a, beside a side b that is shut anew if it has octets. After `Ok`
+    /// the replay stands for the journal and takes more records of its format; after a fault it is to
+    /// be cleared, and the pair is handed back.
     pub fn recover<R: Replay>(
         alloc: Global,
         pair: DiskPair<D>,
@@ -224,8 +225,8 @@ impl<D: LeaseDisk> Journal<D> {
         }
     }
 
-    /// Writes the snapshot to the other side, with the next generation, and shuts the side that
-    /// counted. At each moment the journal stands for the same state. After `Memory` nothing has
+    /// Writes the snapshot to the other side, with the next generation and in frames of
+    /// [`MOST_RECORDS`] records but for the last, and shuts the side that counted. At each moment the journal stands for the same state. After `Memory` nothing has
     /// changed; after `Disk` the journal is to be read `again`.
     pub fn compact(&mut self, alloc: Global, snapshot: &[Record]) -> Result<(), JournalFault>
         requires some { 1 ≤ length snapshot.now }
@@ -246,6 +247,10 @@ impl<D: LeaseDisk> Journal<D> {
         ensures generation { OnOk result
             (self.new.standing.generation ≡ self.old.standing.generation + 1) }
         ensures first_length { OnOk result (self.new.first_length ≡ self.new.standing.length) }
+        ensures filled { D.tells → (s : State) → IsSettled D.seen D.may_leave self.old s
+            → OnOk result (IsFilled (side_parity (other self.old.side))
+            (self.old.standing.generation + 1) snapshot.now
+            (of_side (other self.old.side) (D.seen self.new.pair.a) (D.seen self.new.pair.b))) }
         ensures cut { D.tells → (s : State) → IsSettled D.seen D.may_leave self.old s
             → OnOk result
             (of_side self.old.side (D.seen self.new.pair.a) (D.seen self.new.pair.b)
