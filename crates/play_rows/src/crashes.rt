@@ -2,8 +2,10 @@
 use crate::configs::PROFILE;
 use crate::in_memory::{Ended, Failing};
 use crate::octets::{DAMAGED, FIRST_FORMAT};
-use crate::runs::{NEVER, NO_FAULT, Step, pair_of, pairs_behind, run};
-use lease_disk::{DiskPair, MemoryDisk};
+use crate::runs::{
+    NEVER, NO_FAULT, Step, failing, holding, image, pair, pairs_behind, run, stopping,
+};
+use lease_disk::{DiskPair, LeaseDisk, MemoryDisk};
 use pcp_base::Memory;
 use pcp_server::Status;
 use std::alloc::Global;
@@ -155,45 +157,42 @@ static DUMP: Step = Step {
     output: "",
 };
 
-/// A device: a side of the first journal.
-#[derive(Clone, Copy, Debug, PartialEq, Eq)]
-enum Side {
-    A,
-    B,
+// The journal before the play.
+fn before(alloc: Global, play: &Play) -> Result<Vec<u8>, Fail> {
+    Ok(hex::decode(alloc, play.before.as_bytes())?)
 }
 
-// How the play ends where the calls of this side from this number on fail.
-fn stopped_at(
-    alloc: Global,
+fn disk(alloc: Global) -> Result<MemoryDisk, Memory> {
+    MemoryDisk::new(alloc, 4_194_304)
+}
+
+// How the play ends where the calls from these on fail, of side a and of side b.
+fn stopped_at(alloc: Global, play: &Play, calls: (u64, u64)) -> Result<Ended<MemoryDisk>, Fail> {
+    let octets = before(alloc, play)?;
+    let a = stopping(holding(disk(alloc), &octets), calls.0);
+    let sides = pair(a, stopping(disk(alloc), calls.1));
+    Ok(run(alloc, &play.step, pairs_behind(alloc, sides), NO_FAULT)?)
+}
+
+// The place among the dumps of what a dump told.
+fn place_of<D: LeaseDisk + Drop>(
     play: &Play,
-    side: Side,
-    call: u64,
-) -> Result<Ended<MemoryDisk>, Fail> {
-    let mut pair = pair_of(alloc, play.before)?;
-    match side {
-        Side::A => pair.a.stop_at(call),
-        Side::B => pair.b.stop_at(call),
-    }
-    Ok(run(alloc, &play.step, pairs_behind(alloc, pair)?, NO_FAULT)?)
+    ended: Result<Ended<D>, Memory>,
+) -> Result<Option<usize>, Memory> {
+    let ended = ended?;
+    let told = ended.out.held();
+    Ok(play.dumps.iter().position(|dump| dump.as_bytes() == told))
 }
 
-// The place among the dumps of what an image of the pair holds.
+// The same of an image of the pair.
 fn dumped(
     alloc: Global,
     play: &Play,
     pair: &DiskPair<MemoryDisk>,
     choice: u8,
 ) -> Result<Option<usize>, Memory> {
-    let a = pair.a.stopped(alloc, choice)?;
-    let b = pair.b.stopped(alloc, choice)?;
-    let ended = run(
-        alloc,
-        &DUMP,
-        pairs_behind(alloc, DiskPair { a, b })?,
-        NO_FAULT,
-    )?;
-    let told = ended.out.held();
-    Ok(play.dumps.iter().position(|dump| dump.as_bytes() == told))
+    let pairs = pairs_behind(alloc, image(alloc, pair, choice));
+    place_of(play, run(alloc, &DUMP, pairs, NO_FAULT))
 }
 
 // Whether an image may hold what the dump at this place tells, once so many lines were told: what
@@ -207,36 +206,63 @@ fn may_hold(play: &Play, place: usize, lines: usize) -> bool {
     least <= place && place <= play.opened.saturating_add(lines).saturating_add(1)
 }
 
-// What an image of a play that ended so holds wrongly, if anything.
+// An image: its choice, how many lines were told, and the place of its dump.
+type Image = (u8, usize, Option<usize>);
+
+// The first image of the pair that holds something wrong, once so many lines were told.
 fn wrong_image(
     alloc: Global,
     play: &Play,
-    ended: &Ended<MemoryDisk>,
-) -> Result<Option<String>, Fail> {
-    let told = ended.out.held();
-    let lines = told.iter().filter(|octet| **octet == b'\n').count();
-    let pair = ended.pairs.first().ok_or("no pair")?;
+    pair: &DiskPair<MemoryDisk>,
+    lines: usize,
+) -> Result<Option<Image>, Memory> {
     for choice in 0..3 {
         let place = dumped(alloc, play, pair, choice)?;
         if !place.is_some_and(|place| may_hold(play, place, lines)) {
-            return Ok(Some(format!(in alloc; "choice {choice}, lines {lines}: {place:?}")?));
+            return Ok(Some((choice, lines, place)));
         }
     }
     Ok(None)
 }
 
-// What the first stop at a call of this side leaves wrongly, if any does. The last is past the end.
-fn wrong_stop(alloc: Global, play: &Play, side: Side) -> Result<Option<String>, Fail> {
+// The same of a play that ended so.
+fn wrong_image_of(
+    alloc: Global,
+    play: &Play,
+    ended: &Ended<MemoryDisk>,
+) -> Result<Option<Image>, Fail> {
+    let told = ended.out.held();
+    let lines = told.iter().filter(|octet| **octet == b'\n').count();
+    let pair = ended.pairs.first().ok_or("no pair")?;
+    Ok(wrong_image(alloc, play, pair, lines)?)
+}
+
+// How the play ends where the calls from these on fail, and what it leaves wrongly.
+fn stop(alloc: Global, play: &Play, calls: (u64, u64)) -> Result<(Status, Option<Image>), Fail> {
+    let ended = stopped_at(alloc, play, calls)?;
+    let wrong = wrong_image_of(alloc, play, &ended)?;
+    Ok((ended.status, wrong))
+}
+
+// A stop: its call, how the play ended, and the wrong image.
+type Stop = (u64, Status, Option<Image>);
+
+// The first stop at a call of side a, or else of side b, that leaves something wrong or is told
+// wrongly, if any is. The last is past the end.
+fn wrong_stop(alloc: Global, play: &Play, is_of_a: bool) -> Result<Option<Stop>, Fail> {
     for call in 0..1_000 {
-        let ended = stopped_at(alloc, play, side, call)?;
-        if let Some(wrong) = wrong_image(alloc, play, &ended)? {
-            return Ok(Some(format!(in alloc; "{side:?} {call}, {wrong}")?));
+        let calls = if is_of_a {
+            (call, NEVER)
+        } else {
+            (NEVER, call)
+        };
+        let (status, wrong) = stop(alloc, play, calls)?;
+        let is_done = status == Status::Done;
+        if wrong.is_some() || !is_done && status != Status::DiskFault(0) {
+            return Ok(Some((call, status, wrong)));
         }
-        if ended.status == Status::Done {
+        if is_done {
             return Ok(None);
-        }
-        if ended.status != Status::DiskFault(0) {
-            return Ok(Some(format!(in alloc; "{side:?} {call}: {}", ended.status)?));
         }
     }
     Err("no end".into())
@@ -245,16 +271,16 @@ fn wrong_stop(alloc: Global, play: &Play, side: Side) -> Result<Option<String>, 
 #[test]
 fn stops_at_each_device_call(rt: HostRuntime) -> Result<(), Fail> {
     for play in &PLAYS {
-        for side in [Side::A, Side::B] {
-            let wrong = wrong_stop(rt.alloc(), play, side)?;
-            assert!(rt; wrong.is_none(), "{wrong:?}");
+        for is_of_a in [true, false] {
+            let wrong = wrong_stop(rt.alloc(), play, is_of_a)?;
+            assert!(rt; wrong.is_none(), "side a: {is_of_a}, {wrong:?}");
         }
     }
     Ok(())
 }
 
 /// What fails.
-#[derive(Clone, Copy, Debug, PartialEq, Eq)]
+#[derive(Clone, Copy, Debug)]
 enum Part {
     A,
     B,
@@ -262,23 +288,38 @@ enum Part {
     Output,
 }
 
+// The call of side a, of side b, and the read and the write that fail where this call of the part
+// does.
+fn failures(part: Part, call: u64) -> (u64, u64, Failing) {
+    match part {
+        Part::A => (call, NEVER, NO_FAULT),
+        Part::B => (NEVER, call, NO_FAULT),
+        Part::Script => (
+            NEVER,
+            NEVER,
+            Failing {
+                read: call,
+                write: NEVER,
+            },
+        ),
+        Part::Output => (
+            NEVER,
+            NEVER,
+            Failing {
+                read: NEVER,
+                write: call,
+            },
+        ),
+    }
+}
+
 // How the play ends where this call of this part fails.
 fn failed_at(alloc: Global, play: &Play, part: Part, call: u64) -> Result<Ended<MemoryDisk>, Fail> {
-    let mut pair = pair_of(alloc, play.before)?;
-    let mut failing = NO_FAULT;
-    match part {
-        Part::A => pair.a.fail_at(alloc, call)?,
-        Part::B => pair.b.fail_at(alloc, call)?,
-        Part::Script => failing = Failing {
-            read: call,
-            write: NEVER,
-        },
-        Part::Output => failing = Failing {
-            read: NEVER,
-            write: call,
-        },
-    }
-    Ok(run(alloc, &play.step, pairs_behind(alloc, pair)?, failing)?)
+    let octets = before(alloc, play)?;
+    let (a_call, b_call, faults) = failures(part, call);
+    let a = failing(alloc, holding(disk(alloc), &octets), a_call);
+    let sides = pair(a, failing(alloc, disk(alloc), b_call));
+    Ok(run(alloc, &play.step, pairs_behind(alloc, sides), faults)?)
 }
 
 fn status_of(part: Part) -> Status {
@@ -289,19 +330,32 @@ fn status_of(part: Part) -> Status {
     }
 }
 
-// How the play ends wrongly where some call of this part fails, if it does. What is put out is a
-// first part of the whole.
-fn wrong_failure(alloc: Global, play: &Play, part: Part) -> Result<Option<String>, Fail> {
-    let output = play.step.output.as_bytes();
+// How a play ended; whether it put out the output, and whether a first part of it.
+fn seen<D: LeaseDisk + Drop>(ended: &Ended<D>, output: &[u8]) -> (Status, bool, bool) {
+    let told = ended.out.held();
+    (ended.status, told == output, output.starts_with(told))
+}
+
+fn failure(
+    alloc: Global,
+    play: &Play,
+    part: Part,
+    call: u64,
+) -> Result<(Status, bool, bool), Fail> {
+    let ended = failed_at(alloc, play, part, call)?;
+    Ok(seen(&ended, play.step.output.as_bytes()))
+}
+
+// The first failure of a call of this part by which the play ends wrongly, if any does: the call and
+// how it ended. What is put out is a first part of the whole.
+fn wrong_failure(alloc: Global, play: &Play, part: Part) -> Result<Option<(u64, Status)>, Fail> {
     for call in 0..1_000 {
-        let ended = failed_at(alloc, play, part, call)?;
-        let told = ended.out.held();
-        if ended.status == Status::Done && told == output {
+        let (status, is_whole, is_part) = failure(alloc, play, part, call)?;
+        if status == Status::Done && is_whole {
             return Ok(None);
         }
-        if ended.status != status_of(part) || !output.starts_with(told) {
-            let status = ended.status;
-            return Ok(Some(format!(in alloc; "{part:?} {call}: {status}")?));
+        if status != status_of(part) || !is_part {
+            return Ok(Some((call, status)));
         }
     }
     Err("no end".into())
@@ -312,7 +366,7 @@ fn each_call_fails(rt: HostRuntime) -> Result<(), Fail> {
     for play in &PLAYS {
         for part in [Part::A, Part::B, Part::Script, Part::Output] {
             let wrong = wrong_failure(rt.alloc(), play, part)?;
-            assert!(rt; wrong.is_none(), "{wrong:?}");
+            assert!(rt; wrong.is_none(), "{part:?} {wrong:?}");
         }
     }
     Ok(())

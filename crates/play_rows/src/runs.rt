@@ -1,10 +1,9 @@
 //! Commands over journals in memory.
 use crate::in_memory::{Ended, Failing, run_in_memory};
 use lease_disk::{DiskPair, LeaseDisk, MemoryDisk};
-use pcp_base::{MOST_EXTERNALS, Memory};
+use pcp_base::{Failed, MOST_EXTERNALS, Memory};
 use pcp_server::Status;
 use std::alloc::Global;
-use std::test::Fail;
 
 /// A command: its words with a space between each two, what it reads, how it ends and what it puts
 /// out.
@@ -37,40 +36,90 @@ fn words_of(alloc: Global, line: &str) -> Result<Vec<String>, Memory> {
 pub(crate) fn run<D: LeaseDisk + Drop>(
     alloc: Global,
     step: &Step,
-    pairs: Vec<DiskPair<D>>,
+    pairs: Result<Vec<DiskPair<D>>, Memory>,
     failing: Failing,
 ) -> Result<Ended<D>, Memory> {
-    let words = words_of(alloc, step.words)?;
-    let config = step.config.as_bytes().to_vec(alloc)?;
-    let script = step.script.as_bytes().to_vec(alloc)?;
+    let pairs = pairs?;
     if pairs.len() < MOST_EXTERNALS {
         return Err(Memory);
     }
+    let words = words_of(alloc, step.words)?;
+    let config = step.config.as_bytes().to_vec(alloc)?;
+    let script = step.script.as_bytes().to_vec(alloc)?;
     run_in_memory(alloc, &words, config, script, pairs, failing)
 }
 
-/// A pair whose side a has these octets, in hexadecimal digits.
-pub(crate) fn pair_of(alloc: Global, digits: &str) -> Result<DiskPair<MemoryDisk>, Fail> {
-    let octets = hex::decode(alloc, digits.as_bytes())?;
-    let mut a = MemoryDisk::new(alloc, 4_194_304)?;
-    a.write_at(0, &octets)?;
-    a.sync()?;
-    let b = MemoryDisk::new(alloc, 4_194_304)?;
-    Ok(DiskPair { a, b })
+fn write<D: LeaseDisk>(disk: &mut D, octets: &[u8]) -> Result<(), Failed> {
+    disk.write_at(0, octets)?;
+    disk.sync()
+}
+
+/// The disk after these octets were written at its beginning and synced.
+pub(crate) fn holding<D: LeaseDisk + Drop>(
+    disk: Result<D, Memory>,
+    octets: &[u8],
+) -> Result<D, Memory> {
+    let mut disk = disk?;
+    if write(&mut disk, octets).is_err() {
+        return Err(Memory);
+    }
+    Ok(disk)
+}
+
+/// The disk, of which this call fails.
+pub(crate) fn failing(
+    alloc: Global,
+    disk: Result<MemoryDisk, Memory>,
+    call: u64,
+) -> Result<MemoryDisk, Memory> {
+    let mut disk = disk?;
+    disk.fail_at(alloc, call)?;
+    Ok(disk)
+}
+
+/// The disk, of which the calls from this one on fail.
+pub(crate) fn stopping(disk: Result<MemoryDisk, Memory>, call: u64) -> Result<MemoryDisk, Memory> {
+    let mut disk = disk?;
+    disk.stop_at(call);
+    Ok(disk)
+}
+
+pub(crate) fn pair<D: Drop>(
+    a: Result<D, Memory>,
+    b: Result<D, Memory>,
+) -> Result<DiskPair<D>, Memory> {
+    Ok(DiskPair { a: a?, b: b? })
+}
+
+/// An image of both sides.
+pub(crate) fn image(
+    alloc: Global,
+    pair: &DiskPair<MemoryDisk>,
+    choice: u8,
+) -> Result<DiskPair<MemoryDisk>, Memory> {
+    self::pair(pair.a.stopped(alloc, choice), pair.b.stopped(alloc, choice))
+}
+
+fn push<T: Drop>(items: &mut Vec<T>, item: Result<T, Memory>) -> Result<(), Memory> {
+    items.push(item?)?;
+    Ok(())
+}
+
+fn fill(alloc: Global, pairs: &mut Vec<DiskPair<MemoryDisk>>) -> Result<(), Memory> {
+    for _ in 1..MOST_EXTERNALS {
+        let a = MemoryDisk::new(alloc, 4_096);
+        push(pairs, pair(a, MemoryDisk::new(alloc, 4_096)))?;
+    }
+    Ok(())
 }
 
 /// Blank journals behind this pair.
 pub(crate) fn pairs_behind(
     alloc: Global,
-    first: DiskPair<MemoryDisk>,
+    first: Result<DiskPair<MemoryDisk>, Memory>,
 ) -> Result<Vec<DiskPair<MemoryDisk>>, Memory> {
     let mut pairs = Vec::new(alloc);
-    pairs.push(first)?;
-    for _ in 1..MOST_EXTERNALS {
-        pairs.push(DiskPair {
-            a: MemoryDisk::new(alloc, 4_096)?,
-            b: MemoryDisk::new(alloc, 4_096)?,
-        })?;
-    }
+    push(&mut pairs, first)?;
+    fill(alloc, &mut pairs)?;
     Ok(pairs)
 }

@@ -1,8 +1,9 @@
 //! A play is stopped, and what a crash leaves is played on.
 use crate::configs::PROFILE;
 use crate::faults::REQUEST;
-use crate::runs::{NO_FAULT, Step, pairs_behind, run};
-use lease_disk::{DiskPair, MemoryDisk};
+use crate::in_memory::Ended;
+use crate::runs::{NO_FAULT, Step, image, pair, pairs_behind, run, stopping};
+use lease_disk::{DiskPair, LeaseDisk, MemoryDisk};
 use pcp_base::Memory;
 use pcp_server::Status;
 use std::alloc::Global;
@@ -35,55 +36,57 @@ static STOPS: [(u64, [bool; 3]); 4] = [
     (0, [true, true, true]),
 ];
 
-// How the request ends where the device calls of side a from this number on fail, and its pair.
-fn stopped_at(alloc: Global, call: u64) -> Result<(Status, Option<DiskPair<MemoryDisk>>), Memory> {
-    let mut a = MemoryDisk::new(alloc, 4_096)?;
-    a.stop_at(call);
-    let b = MemoryDisk::new(alloc, 4_096)?;
-    let ended = run(
-        alloc,
-        &REQUEST,
-        pairs_behind(alloc, DiskPair { a, b })?,
-        NO_FAULT,
-    )?;
-    let mut pairs = ended.pairs.into_iter();
-    Ok((ended.status, pairs.next()))
+// How the request ends where the device calls of side a from this number on fail.
+fn stopped_at(alloc: Global, call: u64) -> Result<Ended<MemoryDisk>, Memory> {
+    let a = stopping(MemoryDisk::new(alloc, 4_096), call);
+    let sides = pair(a, MemoryDisk::new(alloc, 4_096));
+    run(alloc, &REQUEST, pairs_behind(alloc, sides), NO_FAULT)
+}
+
+fn status_of<D: LeaseDisk + Drop>(ended: Result<Ended<D>, Memory>) -> Result<Status, Memory> {
+    Ok(ended?.status)
 }
 
 // How many device calls of side a the request takes.
 fn calls(alloc: Global) -> Result<u64, Fail> {
     for call in 0..200 {
-        let (status, _) = stopped_at(alloc, call)?;
-        if status == Status::Done {
+        if status_of(stopped_at(alloc, call))? == Status::Done {
             return Ok(call);
         }
     }
     Err("no end".into())
 }
 
-// What a play over an image of each side puts out otherwise, if anything.
-fn other_on(
+// Whether a play over a pair put out what it does where the lease is kept, or where it isn't.
+fn is_played<D: LeaseDisk + Drop>(
+    ended: Result<Ended<D>, Memory>,
+    kept: bool,
+) -> Result<bool, Memory> {
+    let ended = ended?;
+    let output = if kept { KEPT.output } else { LOST };
+    Ok(ended.status == Status::Done && ended.out.held() == output.as_bytes())
+}
+
+// The first choice of which a play over its image of the pair goes otherwise, if any.
+fn other_of(
     alloc: Global,
     pair: &DiskPair<MemoryDisk>,
-    choice: u8,
-    kept: bool,
-) -> Result<Option<String>, Fail> {
-    let a = pair.a.stopped(alloc, choice)?;
-    let b = pair.b.stopped(alloc, choice)?;
-    let ended = run(
-        alloc,
-        &KEPT,
-        pairs_behind(alloc, DiskPair { a, b })?,
-        NO_FAULT,
-    )?;
-    let output = if kept { KEPT.output } else { LOST };
-    let told = ended.out.held();
-    if ended.status != Status::Done || told != output.as_bytes() {
-        let status = ended.status;
-        let told = told.escape_ascii();
-        return Ok(Some(format!(in alloc; "{choice}: {status}, {told}")?));
+    kept: &[bool; 3],
+) -> Result<Option<u8>, Memory> {
+    for (choice, kept) in (0..3).zip(kept) {
+        let pairs = pairs_behind(alloc, image(alloc, pair, choice));
+        if !is_played(run(alloc, &KEPT, pairs, NO_FAULT), *kept)? {
+            return Ok(Some(choice));
+        }
     }
     Ok(None)
+}
+
+// The same of what the request leaves where the device calls of side a from this number on fail.
+fn other_at(alloc: Global, stop: u64, kept: &[bool; 3]) -> Result<Option<u8>, Fail> {
+    let ended = stopped_at(alloc, stop)?;
+    let pair = ended.pairs.first().ok_or("no pair")?;
+    Ok(other_of(alloc, pair, kept)?)
 }
 
 #[test]
@@ -91,12 +94,8 @@ fn stops(rt: HostRuntime) -> Result<(), Fail> {
     let calls = calls(rt.alloc())?;
     for (before, kept) in &STOPS {
         let stop = calls.checked_sub(*before).ok_or("too few calls")?;
-        let (_, pair) = stopped_at(rt.alloc(), stop)?;
-        let pair = pair.ok_or("no pair")?;
-        for (choice, kept) in (0..3).zip(kept) {
-            let other = other_on(rt.alloc(), &pair, choice, *kept)?;
-            assert!(rt; other.is_none(), "{before} {other:?}");
-        }
+        let other = other_at(rt.alloc(), stop, kept)?;
+        assert!(rt; other.is_none(), "{before}: {other:?}");
     }
     Ok(())
 }
