@@ -22,7 +22,7 @@ use std::marker::Model;
 
 /// A client of one server. It keeps at most [`MOST_WANTS`] wants, each under an id, and says when each is
 /// to be asked for. Times are in milliseconds, below 1000 * 2^40; one that is smaller than the last one
-/// handed in counts as that one. Notices are random.
+/// handed in counts as that one. Words are random ones.
 #[derive(Drop)]
 pub struct Client {
     server: Address,
