@@ -6,6 +6,7 @@ mod cores;
 mod datagrams;
 mod device;
 mod judging;
+mod lanes;
 mod requests;
 mod serving;
 mod timing;
@@ -15,12 +16,15 @@ use std::process::ExitCode;
 const USAGE: &str = "usage: speed core [times] NAME LEASES ROUNDS ..
        speed datagrams NAME .. COUNT
        speed device PATH RECORDS OCTETS
+       speed lanes [times] LOOKUPS RENEWALS
 
 core       Decisions on a core: NAME is core, chance or judge. After the word
            times the nanoseconds of a decision are told.
 datagrams  Requests that are judged and replied to: NAME is plain, options or
            copies.
 device     The device calls of records that are appended to a journal.
+lanes      Lookups in a lane, alone and beside a thread that publishes renewals.
+           After the word times their nanoseconds are told.
 ";
 
 /// Makes the calls that the words ask for. Whether the first word is one of those known.
@@ -39,6 +43,12 @@ fn run(rt: &HostRuntime, words: &[String]) -> anyhow::Result<bool> {
 
 fn main(rt: HostRuntime) -> anyhow::Result<ExitCode> {
     let words: Vec<String> = std::env::args(&rt)?.skip(1).collect(rt.alloc())?;
+    if let Some((word, rest)) = words.split_first()
+        && word.as_str() == "lanes"
+    {
+        lanes::run(&rt, rt.alloc(), rest)?;
+        return Ok(ExitCode::SUCCESS);
+    }
     if run(&rt, &words)? {
         return Ok(ExitCode::SUCCESS);
     }
