@@ -14,7 +14,7 @@ pub(crate) fn later(m: Moment, other: Moment) -> Moment
 }
 
 /// The greatest base of these books, of which there is one at least.
-pub(crate) fn greatest_base<D: LeaseDisk + Drop>(books: &[Book<D>]) -> Moment
+pub fn greatest_base<D: LeaseDisk + Drop>(books: &[Book<D>]) -> Moment
     requires { 0 < length books.now }
     ensures { result ≡ greatest (map (λ b. b.state.base) books.now) }
 {

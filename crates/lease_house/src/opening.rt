@@ -17,7 +17,7 @@ use shard_book::Book;
 use std::alloc::Global;
 
 /// The fault of the external address with this index.
-pub(crate) fn fault_at(place: u32, fault: JournalFault) -> HouseFault
+pub fn fault_at(place: u32, fault: JournalFault) -> HouseFault
     ensures { result ≡ fault_at place fault }
 {
     match fault {
@@ -27,7 +27,7 @@ pub(crate) fn fault_at(place: u32, fault: JournalFault) -> HouseFault
 }
 
 /// The same configuration.
-pub(crate) fn copy_of(alloc: Global, config: &Config) -> Result<Config, Memory>
+pub fn copy_of(alloc: Global, config: &Config) -> Result<Config, Memory>
     ensures { IfOk result (λ copy. copy ≡ config.now) }
 {
     let third_party: Vec<Prefix> = Vec::from_slice(alloc, config.third_party.items())?;
@@ -44,7 +44,7 @@ pub(crate) fn copy_of(alloc: Global, config: &Config) -> Result<Config, Memory>
 }
 
 /// Puts a pair before others. There is room for it.
-fn put_first<D: LeaseDisk + Drop>(pairs: &mut Vec<DiskPair<D>>, pair: DiskPair<D>)
+pub fn put_first<D: LeaseDisk + Drop>(pairs: &mut Vec<DiskPair<D>>, pair: DiskPair<D>)
     requires { length pairs.old.items < vec_capacity pairs.old }
     ensures items { pairs.new.items ≡ pair ∷ pairs.old.items }
     ensures capacity { vec_capacity pairs.new ≡ vec_capacity pairs.old }
@@ -55,7 +55,7 @@ fn put_first<D: LeaseDisk + Drop>(pairs: &mut Vec<DiskPair<D>>, pair: DiskPair<D
 }
 
 /// The pairs of these books, before others, in the vector that has those.
-pub(crate) fn hand_back<D: LeaseDisk + Drop>(
+pub fn hand_back<D: LeaseDisk + Drop>(
     books: Vec<Book<D>>,
     pairs: Vec<DiskPair<D>>,
 ) -> Vec<DiskPair<D>>
@@ -109,14 +109,14 @@ fn open_next<D: LeaseDisk + Drop>(
 
 /// Books that were opened, and the pairs that are left.
 #[derive(Drop)]
-pub(crate) struct Opened<D: LeaseDisk> {
-    pub(crate) books: Vec<Book<D>>,
-    pub(crate) spare: Vec<DiskPair<D>>,
+pub struct Opened<D: LeaseDisk> {
+    pub books: Vec<Book<D>>,
+    pub spare: Vec<DiskPair<D>>,
 }
 
 /// Opens a book for each external address, over the first pairs in order. The vector of the pairs has
 /// room to take those of the books back.
-pub(crate) fn open_books<D: LeaseDisk + Drop>(
+pub fn open_books<D: LeaseDisk + Drop>(
     alloc: Global,
     config: &Config,
     disks: Vec<DiskPair<D>>,

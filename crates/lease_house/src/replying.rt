@@ -12,7 +12,7 @@ use shard_book::Answered;
 use std::alloc::Global;
 
 /// The external address at this place.
-pub(crate) fn address_at(config: &Config, place: u32) -> Address
+pub fn address_at(config: &Config, place: u32) -> Address
     requires { place < length config.now.externals }
     ensures { option_map (λ x. x.address) (slice_get config.now.externals place) ≡ Some result }
 {
@@ -20,7 +20,7 @@ pub(crate) fn address_at(config: &Config, place: u32) -> Address
 }
 
 /// The reply to a request of these octets that was answered so, to an external address.
-pub(crate) fn reply_of(
+pub fn reply_of(
     alloc: Global,
     request: &[u8],
     address: &Address,

@@ -111,7 +111,7 @@ fn push_updates<D: LeaseDisk + Drop>(
 }
 
 /// The updates of all these external addresses, in order.
-pub(crate) fn updates_of<D: LeaseDisk + Drop>(
+pub fn updates_of<D: LeaseDisk + Drop>(
     alloc: Global,
     books: &[Book<D>],
     base: Moment,
