@@ -73,7 +73,7 @@ reached = record {
   last = omega arith;
 }
 
-opens : IsOpening served opening
+pub opens : IsOpening served opening
 opens = record { config = allowed; there = refl; reached = reached; started = refl }
 
 module _ (nothing : NothingIsLegal) (next : NextIsLegal) (servers : ServersComeNext) (faults : FaultsComeNext) where
@@ -88,7 +88,7 @@ module _ (nothing : NothingIsLegal) (next : NextIsLegal) (servers : ServersComeN
       next served opening (failed 1000 900 ∷ []) lost first
       (servers served opening (failed 1000 900 ∷ []) lost (record { moment = 1100; change = Lose }) first less refl refl refl (omega arith))
 
-  third : IsLegal served opening (failed 1000 900 ∷ lost ∷ failed 1100 1100 ∷ [])
+  pub third : IsLegal served opening (failed 1000 900 ∷ lost ∷ failed 1100 1100 ∷ [])
   third =
       next served opening (failed 1000 900 ∷ lost ∷ []) (failed 1100 1100) second
       (faults served opening (failed 1000 900 ∷ lost ∷ []) (failed 1100 1100) opens second refl refl refl)
