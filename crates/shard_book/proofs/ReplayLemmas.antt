@@ -1,5 +1,5 @@
 -- Handing the records of texts to a replay one by one.
-use Rattle.std.proofs.Common.{◌≡◌, ℕ, ◌<◌, ◌≤◌, List, [], ◌∷◌, length, drop, sym, ◌∙◌, ap, arith, length-drop, length-append}
+use Rattle.std.proofs.Common.{◌≡◌, ℕ, ◌<◌, ◌≤◌, List, [], ◌∷◌, ◌++◌, refl, length, drop, sym, ◌∙◌, ap, arith, length-drop, length-append}
 use Rattle.std.proofs.lemmas.List.{drop_all}
 use Rattle.pcp_base.specs.declared.records.Record.{Record}
 use Rattle.pcp_base.specs.States.{State}
@@ -40,3 +40,17 @@ all_read octets at first now all is done = by is.left is.texts is.leads
     by : (left : List Record) → AreTexts (drop at octets) left → apply_all now left ≡ apply_all first all → now ≡ apply_all first all
     by [] texts leads = leads
     by (r ∷ rs) texts leads = absurd (omega (arith, ap length (sym (drop_all at octets done) ∙ texts.text), length-append (record_text r) (records_text rs)))
+
+-- from this place on the octets are the texts of those records that weren't read yet
+pub record AreRead (octets : List ℕ) (at : ℕ) (read all : List Record) : Type 0 where
+  pub left : List Record
+  pub texts : AreTexts (drop at octets) left
+  pub whole : read ++ left ≡ all
+
+pub next_left : (octets : List ℕ) (at : ℕ) (left : List Record) → AreTexts (drop at octets) left → at < length octets → (r : Record) × (rs : List Record) × (left ≡ r ∷ rs)
+next_left octets at [] texts less = absurd (omega (arith, ap length texts.text, length-drop at octets, less))
+next_left octets at (r ∷ rs) texts less = (r, rs, refl)
+
+pub none_left : (octets : List ℕ) (at : ℕ) (left : List Record) → AreTexts (drop at octets) left → length octets ≤ at → left ≡ []
+none_left octets at [] texts done = refl
+none_left octets at (r ∷ rs) texts done = absurd (omega (arith, ap length (sym (drop_all at octets done) ∙ texts.text), length-append (record_text r) (records_text rs)))

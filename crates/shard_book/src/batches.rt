@@ -55,7 +55,7 @@ fn apply_kept<S: LeaseStore>(
 }
 
 /// Appends a record.
-fn push(records: &mut Vec<Record>, kept: &Record) -> Result<(), Memory>
+pub(crate) fn push(records: &mut Vec<Record>, kept: &Record) -> Result<(), Memory>
     ensures { OnOk result (records.new.items ≡ records.old.items ++ kept.now ∷ []) }
 {
     records.extend_from_slice(slice::from_ref(kept))?;

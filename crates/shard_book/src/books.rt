@@ -9,7 +9,7 @@ use lease_core::LeaseCore;
 use lease_disk::{DiskPair, LeaseDisk};
 use lease_journal::{Journal, JournalFault};
 use lease_store::LeaseStore;
-use pcp_base::{Address, Ask, Moment};
+use pcp_base::{Address, Ask, Memory, Moment, Record};
 use std::alloc::Global;
 use std::marker::Model;
 
@@ -244,6 +244,14 @@ impl<D: LeaseDisk, S: LeaseStore + Drop> LeaseBook<D, S> {
         ensures reached { self.now.fault ≡ None → IsReached (S.state result.now) }
     {
         &self.core
+    }
+
+    /// The records of the last call that answered `Disk` and wasn't settled since: the journal has all
+    /// of them or none.
+    pub fn unsure(&self, alloc: Global) -> Result<Vec<Record>, Memory>
+        ensures { IfOk result (λ records. records.items ≡ self.now.unsure) }
+    {
+        self.texts.added(alloc)
     }
 
     /// Whether the opening of this book told its journal another address than it named before.

@@ -7,6 +7,7 @@ ghost use Rattle.pcp_base.specs.Fits.{AllFit, Fits};
 ghost use Rattle.pcp_base.specs.Records.{IsWellFormedRecord};
 ghost use Rattle.shard_book.specs.KeptTexts.{AreTexts, records_in};
 
+use crate::batches::push;
 use lease_records::{read_record, write_record};
 use pcp_base::{Memory, Record, Replay};
 use std::alloc::Global;
@@ -46,6 +47,20 @@ fn texts_of(alloc: Global, records: &[Record]) -> Result<Vec<u8>, Memory>
     Ok(texts)
 }
 
+/// The record that stands in front of texts, and how long its text is.
+fn read_first(texts: &[u8]) -> (Record, usize)
+    requires { (r : Record) × (rs : List Record) × AreTexts texts.now (r ∷ rs) }
+    ensures first { (r : Record) (rs : List Record) → AreTexts texts.now (r ∷ rs) →
+        (result.0 ≡ r) × AreTexts (drop result.1 texts.now) rs }
+    ensures some { 0 < result.1 }
+    ensures within { result.1 ≤ length texts.now }
+{
+    let Ok(first) = read_record(texts) else {
+        unreachable!()
+    };
+    first
+}
+
 /// Hands the record that stands in front of texts to a replay that it fits, and says how long its
 /// text is.
 fn replay_first<R: Replay>(alloc: Global, texts: &[u8], replay: &mut R) -> Result<usize, Memory>
@@ -61,9 +76,7 @@ fn replay_first<R: Replay>(alloc: Global, texts: &[u8], replay: &mut R) -> Resul
     ensures ready { OnOk result (R.replaying replay.new) }
     ensures lasting { R.lasting replay.new ≡ R.lasting replay.old }
 {
-    let Ok((record, size)) = read_record(texts) else {
-        unreachable!()
-    };
+    let (record, size) = read_first(texts);
     let _fits = replay.admit(alloc, &record)?;
     Ok(size)
 }
@@ -83,6 +96,33 @@ fn replay_all<R: Replay>(alloc: Global, texts: &[u8], replay: &mut R) -> Result<
         at += replay_first(alloc, &texts[at..], replay)?;
     }
     Ok(())
+}
+
+/// Appends the record that stands in front of texts to others, and says how long its text is.
+fn push_first(texts: &[u8], records: &mut Vec<Record>) -> Result<usize, Memory>
+    requires { (r : Record) × (rs : List Record) × AreTexts texts.now (r ∷ rs) }
+    ensures first { IfOk result (λ size. (r : Record) → (rs : List Record)
+        → AreTexts texts.now (r ∷ rs)
+        → (records.new.items ≡ records.old.items ++ r ∷ []) × AreTexts (drop size texts.now) rs) }
+    ensures some { IfOk result (λ size. 0 < size) }
+    ensures within { IfOk result (λ size. size ≤ length texts.now) }
+{
+    let (record, size) = read_first(texts);
+    push(records, &record)?;
+    Ok(size)
+}
+
+/// The records of texts.
+fn records_of(alloc: Global, texts: &[u8]) -> Result<Vec<Record>, Memory>
+    requires { AreTexts texts.now (records_in texts.now) }
+    ensures { IfOk result (λ records. records.items ≡ records_in texts.now) }
+{
+    let mut records = Vec::new(alloc);
+    let mut at = 0;
+    while at < texts.len() {
+        at += push_first(&texts[at..], &mut records)?;
+    }
+    Ok(records)
 }
 
 /// Whether the octets are the same.
@@ -155,6 +195,13 @@ impl KeptTexts {
         ensures lasting { R.lasting replay.new ≡ R.lasting replay.old }
     {
         replay_all(alloc, &self.octets[self.place..], replay)
+    }
+
+    /// The records that were added.
+    pub(crate) fn added(&self, alloc: Global) -> Result<Vec<Record>, Memory>
+        ensures { IfOk result (λ records. records.items ≡ self.now.added) }
+    {
+        records_of(alloc, &self.octets[self.place..])
     }
 
     /// Whether the two keep the same records, where none were added.

@@ -248,6 +248,13 @@ impl<V: Kept> Turn<V> {
         value.unwrap()
     }
 
+    /// What is behind a turn that nobody shares any more: its value, or none where that was taken out
+    /// and not given back. It waits for nobody and takes no memory.
+    pub fn into_slot(self) -> Option<V> {
+        let Turn { table } = self;
+        only_slot(table.close())
+    }
+
     /// Another pass, which has seen as much and noted nothing. It takes no memory. It is refused, as
     /// for want of memory, where this pass's share of the 2^64 passes that a turn may have is used
     /// up: the first pass has all, and one that is split off gets 2^32, but at most a half.
