@@ -25,27 +25,106 @@ static VALUES: [(&[u8], (u32, u32, u32)); 8] = [
     (b"lifetime_max = 1\nlifetime_min = 1", (64, 1, 1)),
 ];
 
+// What stands before that table and behind it, where the quota and both lifetimes stay the usual ones.
+static USUAL: [(&[u8], &[u8]); 18] = [
+    (b"# quota = 0", b""),
+    (b"lifetime_max = 86400", b""),
+    (b"third_party = []", b""),
+    (b"third_party = [\"10.0.0.0/8\", \"10.0.0.0/8\"]", b""),
+    (
+        b"third_party = [\"20010db8000000000000000000000000/128\"]",
+        b"",
+    ),
+    (b"third_party = [\"10.0.0.0/0\", \"10.0.0.0/32\"]", b""),
+    (
+        b"third_party = [\"20010db8000000000000000000000000/0\"]",
+        b"",
+    ),
+    (
+        b"",
+        b"[[external]]\naddress = \"192.0.2.2\"\nlow = 1\nhigh = 1",
+    ),
+    (
+        b"",
+        b"[[external]]\nhigh = 65535\nlow = 65535\naddress = \"192.0.2.2\"",
+    ),
+    (
+        b"",
+        b"[[external]]\naddress = \"20010db8000000000000000000000001\"\nlow = 1\nhigh = 2",
+    ),
+    (b"subscriber = []", b""),
+    (
+        b"quota = 64\nlifetime_min = 120\nlifetime_max = 86400\nthird_party = []",
+        b"",
+    ),
+    (
+        b"",
+        b"[[subscriber]]\nprefix = \"10.0.0.0/8\"\nexternal = \"192.0.2.1\"",
+    ),
+    (
+        b"",
+        b"[[subscriber]]\nexternal = \"00000000000000000000FFFFC0000201\"\nprefix = \"10.0.0.0/0\"",
+    ),
+    (
+        b"",
+        b"[[subscriber]]\nprefix = \"10.0.0.0/8\"\nexternal = \"192.0.2.1\"\n[[subscriber]]
+prefix = \"10.0.0.0/8\"\nexternal = \"192.0.2.1\"",
+    ),
+    (
+        b"",
+        b"[[subscriber]]\nprefix = \"10.0.0.0/32\"\nexternal = \"192.0.2.1\"",
+    ),
+    (
+        b"",
+        b"[[subscriber]]\nprefix = \"20010db8000000000000000000000000/128\"\nexternal = \"192.0.2.1\"",
+    ),
+    (b"", b"# quota = 0"),
+];
+
+// An external address in the other form of a table.
+const INLINE: &[u8] = b"external = [{address = \"192.0.2.1\", low = 1, high = 1}]";
+
 fn values_of(config: &Config) -> (u32, u32, u32) {
     (config.quota, config.lifetime_min, config.lifetime_max)
 }
 
-// What is read where this text stands before the table of an external address.
-fn read_before(alloc: Global, text: &[u8]) -> Result<Option<(u32, u32, u32)>, AllocError> {
-    let mut whole = Vec::new(alloc);
-    whole.extend_from_slice(text)?;
-    whole.extend_from_slice(EXTERNAL)?;
-    Ok(match read_config(alloc, &whole) {
+fn values_in(alloc: Global, text: &[u8]) -> Option<(u32, u32, u32)> {
+    match read_config(alloc, text) {
         Ok(config) => Some(values_of(&config)),
         Err(_) => None,
-    })
+    }
+}
+
+// What is read where these texts stand before the table of an external address and behind it.
+fn read_around(
+    alloc: Global,
+    before: &[u8],
+    behind: &[u8],
+) -> Result<Option<(u32, u32, u32)>, AllocError> {
+    let mut whole = Vec::new(alloc);
+    whole.extend_from_slice(before)?;
+    whole.extend_from_slice(EXTERNAL)?;
+    whole.extend_from_slice(behind)?;
+    Ok(values_in(alloc, &whole))
 }
 
 #[test]
 fn values_of_keys(rt: HostRuntime) -> Result<(), Fail> {
+    let alloc = rt.alloc();
     for (text, want) in &VALUES {
-        let found = read_before(rt.alloc(), text)?;
+        let found = read_around(alloc, text, b"")?;
         assert!(rt; found == Some(*want), "{}", text.escape_ascii());
     }
+    for (before, behind) in &USUAL {
+        let found = read_around(alloc, before, behind)?;
+        assert!(rt;
+            found == Some((64, 120, 86_400)),
+            "{}{}",
+            before.escape_ascii(),
+            behind.escape_ascii()
+        );
+    }
+    assert!(rt; values_in(alloc, INLINE) == Some((64, 120, 86_400)));
     Ok(())
 }
 
