@@ -108,6 +108,17 @@ datagram-within config source message place ask items is h = by (is_front messag
         (source-within (length config.externals) found is.external_count.0 (λ p at. row-within (length config.externals) source config.subscribers p is.subscribers at))
     by false none = asked-within config source message place ask items is (ap (λ b. cond b front (verdict_of config source message)) (sym none) ∙ h)
 
+-- every datagram goes to one of the external addresses
+pub route-within : (config : Config) (from : Datagram) (v : Verdict) → judged config from ≡ v → IsConfig config → place_by config from.peer v < length config.externals
+route-within config from Silent is good =
+    source-within (length config.externals) (place_of config.subscribers from.peer) good.external_count.0
+    (λ place found. row-within (length config.externals) from.peer config.subscribers place good.subscribers found)
+route-within config from (Refuse refusal) is good =
+    source-within (length config.externals) (place_of config.subscribers from.peer) good.external_count.0
+    (λ place found. row-within (length config.externals) from.peer config.subscribers place good.subscribers found)
+route-within config from (Asked place ask items) is good =
+    datagram-within config from.peer from.octets place ask items good is
+
 -- ---- octets
 
 long-unless : (config : Config) (source : Address) (message : List ℕ) → (verdict_of_datagram config source message ≡ Silent → ⊥) → 2 ≤ length message

@@ -9,12 +9,14 @@ use Rattle.pcp_base.specs.Configs.{IsConfig}
 use Rattle.lease_disk.specs.declared.disks.DiskPair.{DiskPair}
 use Rattle.lease_store.specs.declared.terms.Terms.{Terms}
 use Rattle.lease_store.specs.LeaseTerms.{terms_of}
+use Rattle.lease_journal.specs.declared.errors.Found.{Found}
 use Rattle.shard_book.specs.Books.{BookView, IsBook}
+use Rattle.shard_book.specs.Openings.{IsOpened}
 use Rattle.lease_house.specs.declared.faults.HouseFault.{HouseFault}
 use Rattle.lease_house.specs.declared.faults.HouseFault.TheVariants.{Disk}
 use Rattle.lease_house.specs.SoloCalls.{fault_at}
 use Rattle.lease_house.specs.SoloHouses.{IsHouse}
-use Rattle.lease_house.specs.SoloOpenings.{HandsBackAll, HandsBackOne, OpensAll, OpensOne}
+use Rattle.lease_house.specs.SoloOpenings.{AreFound, HandsBackAll, HandsBackOne, OpensAll, OpensOne}
 use Rattle.lease_house.specs.Turns.{OpensNext, RefusesNext}
 use Rattle.lease_house.proofs.HandingBack.{IsFrom, fault_is_there, refused_one, untouched}
 
@@ -23,9 +25,11 @@ pairs_of books = map (λ b. b.journal.pair) books
 
 -- after books were opened for the external addresses before the rest
 pub record IsUnderway {D : Type 0} (tells : Type 0) (seen : D → List ℕ) (moment : D → ℕ) (left_since : D → ℕ → List ℕ → Type 0) (may_leave : D → List ℕ → Type 0) (faults : D → ℕ)
-    (config : Config) (m : ℕ) (xs : List External) (start : List (DiskPair D)) (rest : List External) (place : ℕ) (books : List (BookView D)) (pairs : List (DiskPair D)) : Type 0 where
+    (config : Config) (m : ℕ) (xs : List External) (start : List (DiskPair D)) (rest : List External) (place : ℕ) (books : List (BookView D)) (founds : List Found) (pairs : List (DiskPair D)) : Type 0 where
   pub opens : (more : List (BookView D)) (spare : List (DiskPair D)) → OpensAll tells seen moment left_since may_leave faults config m rest pairs more spare
       → OpensAll tells seen moment left_since may_leave faults config m xs start (books ++ more) spare
+  pub found : (more : List (BookView D)) (others : List Found) → AreFound tells seen config m rest pairs more others
+      → AreFound tells seen config m xs start (books ++ more) (founds ++ others)
   pub hands : (fault : HouseFault) (new : List (DiskPair D)) → IsFrom place fault → HandsBackAll tells seen moment left_since may_leave faults m place fault rest pairs new
       → HandsBackAll tells seen moment left_since may_leave faults m 0 fault xs start (pairs_of books ++ new)
   pub are_books : AllByRecursion (IsBook tells seen may_leave) books
@@ -40,9 +44,10 @@ pairs-added (b ∷ bs) book new = ap (λ (ps : List (DiskPair _)). b.journal.pai
 
 module _ {D : Type 0} (tells : Type 0) (seen : D → List ℕ) (moment : D → ℕ) (left_since : D → ℕ → List ℕ → Type 0) (may_leave : D → List ℕ → Type 0) (faults : D → ℕ)
     (config : Config) (m : ℕ) (xs : List External) (start : List (DiskPair D)) where
-  pub underway_start : IsUnderway tells seen moment left_since may_leave faults config m xs start xs 0 [] start
+  pub underway_start : IsUnderway tells seen moment left_since may_leave faults config m xs start xs 0 [] [] start
   underway_start = record {
     opens = λ more spare all. all;
+    found = λ more others all. all;
     hands = λ fault new «from» all. all;
     are_books = tt;
   }
@@ -54,11 +59,13 @@ module _ {D : Type 0} (tells : Type 0) (seen : D → List ℕ) (moment : D → �
     cause = record { later_a = one.later.later_a; later_b = one.later.later_b; risen = λ fails. absurd (none fails) };
   }
 
-  next_at : (x : External) (rest : List External) (place : ℕ) (books : List (BookView D)) (pair : DiskPair D) (pairs : List (DiskPair D)) (book : BookView D)
-      → IsUnderway tells seen moment left_since may_leave faults config m xs start (x ∷ rest) place books (pair ∷ pairs)
-      → OpensOne tells seen moment left_since may_leave faults config m x pair book → IsBook tells seen may_leave book
-      → IsUnderway tells seen moment left_since may_leave faults config m xs start rest (place + 1) (books ++ book ∷ []) pairs
-  next_at x rest place books pair pairs book u one is_book = record {
+  next_at : (x : External) (rest : List External) (place : ℕ) (books : List (BookView D)) (founds : List Found) (pair : DiskPair D) (pairs : List (DiskPair D)) (book : BookView D) (found : Found)
+      → IsUnderway tells seen moment left_since may_leave faults config m xs start (x ∷ rest) place books founds (pair ∷ pairs)
+      → OpensOne tells seen moment left_since may_leave faults config m x pair book → IsOpened tells seen pair (terms_of x config) m book found → IsBook tells seen may_leave book
+      → IsUnderway tells seen moment left_since may_leave faults config m xs start rest (place + 1) (books ++ book ∷ []) (founds ++ found ∷ []) pairs
+  next_at x rest place books founds pair pairs book found u one is_found is_book = record {
+    found = λ more others all. subst (λ (bs : List (BookView D)). AreFound tells seen config m xs start bs ((founds ++ found ∷ []) ++ others)) (sym (append_assoc books (book ∷ []) more))
+        (subst (λ (fs : List Found). AreFound tells seen config m xs start (books ++ book ∷ more) fs) (sym (append_assoc founds (found ∷ []) others)) (u.found (book ∷ more) (found ∷ others) (is_found, all)));
     opens = λ more spare all. subst (λ (bs : List (BookView D)). OpensAll tells seen moment left_since may_leave faults config m xs start bs spare) (sym (append_assoc books (book ∷ []) more)) (u.opens (book ∷ more) spare (one, all));
     hands = λ fault new «from» all. subst (λ (ps : List (DiskPair D)). HandsBackAll tells seen moment left_since may_leave faults m 0 fault xs start ps) (pairs-added books book new)
         (u.hands fault (book.journal.pair ∷ new) (λ j e. let less : place + 1 ≤ j = «from» j e in omega arith)
@@ -66,25 +73,31 @@ module _ {D : Type 0} (tells : Type 0) (seen : D → List ℕ) (moment : D → �
     are_books = all-added (IsBook tells seen may_leave) books book u.are_books is_book;
   }
 
-  pub underway_next : (x : External) (rest : List External) (place : ℕ) (books new_books : List (BookView D)) (pairs new_pairs : List (DiskPair D))
-      → IsUnderway tells seen moment left_since may_leave faults config m xs start (x ∷ rest) place books pairs
-      → OpensNext tells seen moment left_since may_leave faults config m x books new_books pairs new_pairs
-      → IsUnderway tells seen moment left_since may_leave faults config m xs start rest (place + 1) new_books new_pairs
-  underway_next x rest place books new_books pairs new_pairs u n =
-      subst (λ (bs : List (BookView D)). IsUnderway tells seen moment left_since may_leave faults config m xs start rest (place + 1) bs new_pairs) (sym n.added)
-      (next_at x rest place books n.pair new_pairs n.book (subst (λ (ps : List (DiskPair D)). IsUnderway tells seen moment left_since may_leave faults config m xs start (x ∷ rest) place books ps) n.taken u) n.opens n.is_book)
+  pub underway_next : (x : External) (rest : List External) (place : ℕ) (books new_books : List (BookView D)) (founds new_founds : List Found) (pairs new_pairs : List (DiskPair D))
+      → IsUnderway tells seen moment left_since may_leave faults config m xs start (x ∷ rest) place books founds pairs
+      → OpensNext tells seen moment left_since may_leave faults config m x books new_books founds new_founds pairs new_pairs
+      → IsUnderway tells seen moment left_since may_leave faults config m xs start rest (place + 1) new_books new_founds new_pairs
+  underway_next x rest place books new_books founds new_founds pairs new_pairs u n =
+      subst (λ (bs : List (BookView D)). IsUnderway tells seen moment left_since may_leave faults config m xs start rest (place + 1) bs new_founds new_pairs) (sym n.added)
+      (subst (λ (fs : List Found). IsUnderway tells seen moment left_since may_leave faults config m xs start rest (place + 1) (books ++ n.book ∷ []) fs new_pairs) (sym n.noted)
+      (next_at x rest place books founds n.pair new_pairs n.book n.found (subst (λ (ps : List (DiskPair D)). IsUnderway tells seen moment left_since may_leave faults config m xs start (x ∷ rest) place books founds ps) n.taken u) n.opens n.is_found n.is_book))
 
-  pub underway_end : (place : ℕ) (books : List (BookView D)) (pairs : List (DiskPair D)) → IsUnderway tells seen moment left_since may_leave faults config m xs start [] place books pairs
+  pub underway_found : (place : ℕ) (books : List (BookView D)) (founds : List Found) (pairs : List (DiskPair D)) → IsUnderway tells seen moment left_since may_leave faults config m xs start [] place books founds pairs
+      → AreFound tells seen config m xs start books founds
+  underway_found place books founds pairs u = subst (λ (bs : List (BookView D)). AreFound tells seen config m xs start bs founds) (append-nil books)
+      (subst (λ (fs : List Found). AreFound tells seen config m xs start (books ++ []) fs) (append-nil founds) (u.found [] [] tt))
+
+  pub underway_end : (place : ℕ) (books : List (BookView D)) (founds : List Found) (pairs : List (DiskPair D)) → IsUnderway tells seen moment left_since may_leave faults config m xs start [] place books founds pairs
       → OpensAll tells seen moment left_since may_leave faults config m xs start books pairs
-  underway_end place books pairs u = subst (λ (bs : List (BookView D)). OpensAll tells seen moment left_since may_leave faults config m xs start bs pairs) (append-nil books) (u.opens [] pairs refl)
+  underway_end place books founds pairs u = subst (λ (bs : List (BookView D)). OpensAll tells seen moment left_since may_leave faults config m xs start bs pairs) (append-nil books) (u.opens [] pairs refl)
 
-  pub underway_refused : (x : External) (rest : List External) (place : ℕ) (books new_books : List (BookView D)) (pairs new_pairs : List (DiskPair D)) (fault : HouseFault)
-      → IsUnderway tells seen moment left_since may_leave faults config m xs start (x ∷ rest) place books pairs → length (x ∷ rest) ≤ length pairs
+  pub underway_refused : (x : External) (rest : List External) (place : ℕ) (books new_books : List (BookView D)) (founds : List Found) (pairs new_pairs : List (DiskPair D)) (fault : HouseFault)
+      → IsUnderway tells seen moment left_since may_leave faults config m xs start (x ∷ rest) place books founds pairs → length (x ∷ rest) ≤ length pairs
       → RefusesNext tells seen moment left_since may_leave faults m x place books new_books pairs new_pairs fault
       → HandsBackAll tells seen moment left_since may_leave faults m 0 fault xs start (pairs_of new_books ++ new_pairs)
-  underway_refused x rest place books new_books pairs new_pairs fault u enough r =
+  underway_refused x rest place books new_books founds pairs new_pairs fault u enough r =
       let count : length (x ∷ rest) ≤ length (r.pair ∷ r.rest) = subst (λ (ps : List (DiskPair D)). length (x ∷ rest) ≤ length ps) r.taken enough in
-      let at : IsUnderway tells seen moment left_since may_leave faults config m xs start (x ∷ rest) place books (r.pair ∷ r.rest) = subst (λ (ps : List (DiskPair D)). IsUnderway tells seen moment left_since may_leave faults config m xs start (x ∷ rest) place books ps) r.taken u in
+      let at : IsUnderway tells seen moment left_since may_leave faults config m xs start (x ∷ rest) place books founds (r.pair ∷ r.rest) = subst (λ (ps : List (DiskPair D)). IsUnderway tells seen moment left_since may_leave faults config m xs start (x ∷ rest) place books founds ps) r.taken u in
       let told = fault_at place r.cause in
       let all : HandsBackAll tells seen moment left_since may_leave faults m 0 told xs start (pairs_of books ++ r.handed ∷ r.rest) = at.hands told (r.handed ∷ r.rest)
       (λ j e. let same : place ≡ j = fault_is_there place r.cause j e in omega arith) (
@@ -128,40 +141,41 @@ same_count xs left x ys new y xs_are new_is = omega (arith, ap length xs_are, ap
 
 module _ {D : Type 0} (tells : Type 0) (seen : D → List ℕ) (moment : D → ℕ) (left_since : D → ℕ → List ℕ → Type 0) (may_leave : D → List ℕ → Type 0) (faults : D → ℕ)
     (config : Config) (m : ℕ) (xs : List External) (start : List (DiskPair D)) where
-  pub underway_begins : (rest : List External) (books : List (BookView D)) → rest ≡ xs → books ≡ []
-      → IsUnderway tells seen moment left_since may_leave faults config m xs start rest 0 books start
-  underway_begins rest books rest_is none =
-      subst (λ (r : List External). IsUnderway tells seen moment left_since may_leave faults config m xs start r 0 books start) (sym rest_is)
-      (subst (λ (bs : List (BookView D)). IsUnderway tells seen moment left_since may_leave faults config m xs start xs 0 bs start) (sym none) (underway_start tells seen moment left_since may_leave faults config m xs start))
+  pub underway_begins : (rest : List External) (books : List (BookView D)) (founds : List Found) → rest ≡ xs → books ≡ [] → founds ≡ []
+      → IsUnderway tells seen moment left_since may_leave faults config m xs start rest 0 books founds start
+  underway_begins rest books founds rest_is none none_found =
+      subst (λ (r : List External). IsUnderway tells seen moment left_since may_leave faults config m xs start r 0 books founds start) (sym rest_is)
+      (subst (λ (bs : List (BookView D)). IsUnderway tells seen moment left_since may_leave faults config m xs start xs 0 bs founds start) (sym none)
+      (subst (λ (fs : List Found). IsUnderway tells seen moment left_since may_leave faults config m xs start xs 0 [] fs start) (sym none_found) (underway_start tells seen moment left_since may_leave faults config m xs start)))
 
   -- at the external address with this index
-  pub underway_on : (all : List External) (i : ℕ) (d : External) (books new_books : List (BookView D)) (pairs new_pairs : List (DiskPair D)) → i < length all
-      → IsUnderway tells seen moment left_since may_leave faults config m xs start (drop i all) i books pairs
-      → OpensNext tells seen moment left_since may_leave faults config m (get_or all i d) books new_books pairs new_pairs
-      → IsUnderway tells seen moment left_since may_leave faults config m xs start (drop (i + 1) all) (i + 1) new_books new_pairs
-  underway_on all i d books new_books pairs new_pairs within u next =
-      underway_next tells seen moment left_since may_leave faults config m xs start (get_or all i d) (drop (i + 1) all) i books new_books pairs new_pairs
-      (subst (λ (r : List External). IsUnderway tells seen moment left_since may_leave faults config m xs start r i books pairs) (drop_more all i d within) u) next
+  pub underway_on : (all : List External) (i : ℕ) (d : External) (books new_books : List (BookView D)) (founds new_founds : List Found) (pairs new_pairs : List (DiskPair D)) → i < length all
+      → IsUnderway tells seen moment left_since may_leave faults config m xs start (drop i all) i books founds pairs
+      → OpensNext tells seen moment left_since may_leave faults config m (get_or all i d) books new_books founds new_founds pairs new_pairs
+      → IsUnderway tells seen moment left_since may_leave faults config m xs start (drop (i + 1) all) (i + 1) new_books new_founds new_pairs
+  underway_on all i d books new_books founds new_founds pairs new_pairs within u next =
+      underway_next tells seen moment left_since may_leave faults config m xs start (get_or all i d) (drop (i + 1) all) i books new_books founds new_founds pairs new_pairs
+      (subst (λ (r : List External). IsUnderway tells seen moment left_since may_leave faults config m xs start r i books founds pairs) (drop_more all i d within) u) next
 
-  pub underway_stops : (all : List External) (i place : ℕ) (d : External) (books new_books : List (BookView D)) (pairs new_pairs back : List (DiskPair D)) (fault : HouseFault) → i < length all → place ≡ i
+  pub underway_stops : (all : List External) (i place : ℕ) (d : External) (books new_books : List (BookView D)) (founds : List Found) (pairs new_pairs back : List (DiskPair D)) (fault : HouseFault) → i < length all → place ≡ i
       → length (drop i all) ≤ length pairs
-      → IsUnderway tells seen moment left_since may_leave faults config m xs start (drop i all) i books pairs
+      → IsUnderway tells seen moment left_since may_leave faults config m xs start (drop i all) i books founds pairs
       → RefusesNext tells seen moment left_since may_leave faults m (get_or all i d) place books new_books pairs new_pairs fault
       → back ≡ pairs_of new_books ++ new_pairs
       → HandsBackAll tells seen moment left_since may_leave faults m 0 fault xs start back
-  underway_stops all i place d books new_books pairs new_pairs back fault within same enough u refused back_is =
+  underway_stops all i place d books new_books founds pairs new_pairs back fault within same enough u refused back_is =
       subst (λ (ps : List (DiskPair D)). HandsBackAll tells seen moment left_since may_leave faults m 0 fault xs start ps) (sym back_is)
-      (underway_refused tells seen moment left_since may_leave faults config m xs start (get_or all i d) (drop (i + 1) all) i books new_books pairs new_pairs fault
-      (subst (λ (r : List External). IsUnderway tells seen moment left_since may_leave faults config m xs start r i books pairs) (drop_more all i d within) u)
+      (underway_refused tells seen moment left_since may_leave faults config m xs start (get_or all i d) (drop (i + 1) all) i books new_books founds pairs new_pairs fault
+      (subst (λ (r : List External). IsUnderway tells seen moment left_since may_leave faults config m xs start r i books founds pairs) (drop_more all i d within) u)
       (subst (λ (r : List External). length r ≤ length pairs) (drop_more all i d within) enough)
       (subst (λ (n : ℕ). RefusesNext tells seen moment left_since may_leave faults m (get_or all i d) n books new_books pairs new_pairs fault) same refused))
 
-  pub underway_done : (all : List External) (i place : ℕ) (books : List (BookView D)) (pairs : List (DiskPair D)) → length all ≤ i
-      → IsUnderway tells seen moment left_since may_leave faults config m xs start (drop i all) place books pairs
-      → OpensAll tells seen moment left_since may_leave faults config m xs start books pairs
-  underway_done all i place books pairs past u =
-      underway_end tells seen moment left_since may_leave faults config m xs start place books pairs
-      (subst (λ (r : List External). IsUnderway tells seen moment left_since may_leave faults config m xs start r place books pairs) (drop_of_length-le all past) u)
+  pub underway_done : (all : List External) (i place : ℕ) (books : List (BookView D)) (founds : List Found) (pairs : List (DiskPair D)) → length all ≤ i
+      → IsUnderway tells seen moment left_since may_leave faults config m xs start (drop i all) place books founds pairs
+      → OpensAll tells seen moment left_since may_leave faults config m xs start books pairs × AreFound tells seen config m xs start books founds
+  underway_done all i place books founds pairs past u =
+      let last : IsUnderway tells seen moment left_since may_leave faults config m xs start [] place books founds pairs = subst (λ (r : List External). IsUnderway tells seen moment left_since may_leave faults config m xs start r place books founds pairs) (drop_of_length-le all past) u in
+      (underway_end tells seen moment left_since may_leave faults config m xs start place books founds pairs last, underway_found tells seen moment left_since may_leave faults config m xs start place books founds pairs last)
 
 -- the house of opened books
 pub opened_house : {D : Type 0} (tells : Type 0) (seen : D → List ℕ) (moment : D → ℕ) (left_since : D → ℕ → List ℕ → Type 0) (may_leave : D → List ℕ → Type 0) (faults : D → ℕ)

@@ -1,5 +1,5 @@
 -- Opening a house on one thread, and what clients are told then (our own).
-use Rattle.std.specs.Prelude.{◌≡◌, ◌⊎◌, ◌<◌, ◌+◌, ℕ, List, [], ◌∷◌, ◌++◌, map, flat_map, if◌then◌else◌}
+use Rattle.std.specs.Prelude.{◌≡◌, ◌⊎◌, ◌<◌, ◌+◌, ⊤, ℕ, List, [], ◌∷◌, ◌++◌, map, flat_map, if◌then◌else◌}
 use Rattle.pcp_base.specs.declared.addresses.Address.{Address}
 use Rattle.pcp_base.specs.declared.configs.Config.{Config}
 use Rattle.pcp_base.specs.declared.configs.External.{External}
@@ -41,6 +41,15 @@ OpensAll tells seen moment left_since may_leave faults config m (x ∷ xs) (p �
     OpensOne tells seen moment left_since may_leave faults config m x p b
     × OpensAll tells seen moment left_since may_leave faults config m xs ps bs spare
 OpensAll tells seen moment left_since may_leave faults config m xs pairs bs spare = ⊥
+
+-- what the journal of each was found to be
+abbrev pub AreFound : {D : Type 0} → (tells : Type 0) → (D → List ℕ) → Config → ℕ → List External
+    → List (DiskPair D) → List (BookView D) → List Found → Type 0
+AreFound tells seen config m [] pairs [] [] = ⊤
+AreFound tells seen config m (x ∷ xs) (p ∷ ps) (b ∷ bs) (found ∷ founds) =
+    IsOpened tells seen p (terms_of x config) m b found
+    × AreFound tells seen config m xs ps bs founds
+AreFound tells seen config m xs pairs bs founds = ⊥
 
 -- ---- an opening that is refused
 

@@ -5,7 +5,10 @@ use Rattle.pcp_base.specs.declared.configs.External.{External}
 use Rattle.lease_disk.specs.declared.disks.DiskPair.{DiskPair}
 use Rattle.journal_sides.specs.declared.errors.JournalFault.{JournalFault}
 use Rattle.journal_sides.specs.declared.errors.JournalFault.TheVariants as Journals
+use Rattle.lease_journal.specs.declared.errors.Found.{Found}
+use Rattle.lease_store.specs.LeaseTerms.{terms_of}
 use Rattle.shard_book.specs.Books.{BookView, IsBook}
+use Rattle.shard_book.specs.Openings.{IsOpened}
 use Rattle.lease_house.specs.declared.faults.HouseFault.{HouseFault}
 use Rattle.lease_house.specs.SoloCalls.{fault_at}
 use Rattle.lease_house.specs.SoloOpenings.{HandsBackOne, OpensOne}
@@ -14,12 +17,15 @@ use Rattle.lease_house.specs.SoloOpenings.{HandsBackOne, OpensOne}
 pub record OpensNext {D : Type 0} (tells : Type 0) (seen : D → List ℕ) (moment : D → ℕ)
     (left_since : D → ℕ → List ℕ → Type 0) (may_leave : D → List ℕ → Type 0) (faults : D → ℕ)
     (config : Config) (m : ℕ) (x : External) (old_books new_books : List (BookView D))
-    (old_pairs new_pairs : List (DiskPair D)) : Type 0 where
+    (old_founds new_founds : List Found) (old_pairs new_pairs : List (DiskPair D)) : Type 0 where
   pub pair : DiskPair D
   pub book : BookView D
   pub taken : old_pairs ≡ pair ∷ new_pairs
   pub added : new_books ≡ old_books ++ book ∷ []
   pub opens : OpensOne tells seen moment left_since may_leave faults config m x pair book
+  pub found : Found
+  pub noted : new_founds ≡ old_founds ++ found ∷ []
+  pub is_found : IsOpened tells seen pair (terms_of x config) m book found
   pub is_book : IsBook tells seen may_leave book
 
 -- the first of the pairs wasn't opened, and stands there again

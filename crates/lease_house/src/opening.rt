@@ -1,10 +1,10 @@
 //! Opening the books of a house, and handing their pairs back.
-ghost use Rattle.std.specs.Prelude.{◌≡◌, ◌+◌, ◌<◌, ◌≤◌, ◌∷◌, ◌++◌, length, map, vec_capacity, IfOk, IfErr, OnOk};
+ghost use Rattle.std.specs.Prelude.{◌≡◌, ◌+◌, ◌<◌, ◌≤◌, [], ◌∷◌, ◌++◌, length, map, vec_capacity, IfOk, IfErr, OnOk};
 ghost use Rattle.std.specs.List.{AllByRecursion};
 ghost use Rattle.pcp_base.specs.Configs.{IsConfig, IsExternal};
 ghost use Rattle.shard_book.specs.Books.{IsBook};
 ghost use Rattle.lease_house.specs.SoloCalls.{fault_at};
-ghost use Rattle.lease_house.specs.SoloOpenings.{HandsBackAll, IsOfPlace, OpensAll};
+ghost use Rattle.lease_house.specs.SoloOpenings.{AreFound, HandsBackAll, IsOfPlace, OpensAll};
 ghost use Rattle.lease_house.specs.Turns.{OpensNext, RefusesNext};
 
 use crate::faults::{HouseFault, Unbegun};
@@ -13,7 +13,7 @@ use lease_journal::JournalFault;
 use pcp_base::{
     Config, External, Externals, Memory, Moment, Prefix, Prefixes, Subscriber, Subscribers,
 };
-use shard_book::Book;
+use shard_book::{Book, Found};
 use std::alloc::Global;
 
 /// The fault of the external address with this index.
@@ -70,11 +70,12 @@ pub fn hand_back<D: LeaseDisk + Drop>(
     pairs
 }
 
-/// Opens a book for the external address at this place, over the first of the pairs. After a fault
-/// that pair is put back.
+/// Opens a book for the external address at this place, over the first of the pairs, and says what its
+/// journal was found to be. After a fault that pair is put back.
 fn open_next<D: LeaseDisk + Drop>(
     alloc: Global,
     books: &mut Vec<Book<D>>,
+    founds: &mut Vec<Found>,
     pairs: &mut Vec<DiskPair<D>>,
     external: &External,
     config: &Config,
@@ -83,21 +84,24 @@ fn open_next<D: LeaseDisk + Drop>(
 ) -> Result<(), HouseFault>
     requires some { 0 < length pairs.old.items }
     requires room { length books.old.items < vec_capacity books.old }
+    requires founds_room { length founds.old.items < vec_capacity founds.old }
     requires spare { length pairs.old.items ≤ vec_capacity pairs.old }
     requires external { IsExternal external.now }
     requires config { IsConfig config.now }
     ensures opened { OnOk result (OpensNext D.tells D.seen D.moment D.left_since D.may_leave
-        D.faults config.now m external.now books.old.items books.new.items
-        pairs.old.items pairs.new.items) }
+        D.faults config.now m external.now books.old.items books.new.items founds.old.items
+        founds.new.items pairs.old.items pairs.new.items) }
     ensures refused { IfErr result (RefusesNext D.tells D.seen D.moment D.left_since D.may_leave
         D.faults m external.now place books.old.items books.new.items
         pairs.old.items pairs.new.items) }
     ensures books_room { vec_capacity books.new ≡ vec_capacity books.old }
+    ensures founds_kept { vec_capacity founds.new ≡ vec_capacity founds.old }
     ensures pairs_room { vec_capacity pairs.new ≡ vec_capacity pairs.old }
 {
     match Book::begin(alloc, external, config, pairs.remove(0), m) {
-        Ok((book, _found)) => {
+        Ok((book, found)) => {
             books.push_reserved(book);
+            founds.push_reserved(found);
             Ok(())
         }
         Err(refused) => {
@@ -107,11 +111,27 @@ fn open_next<D: LeaseDisk + Drop>(
     }
 }
 
-/// Books that were opened, and the pairs that are left.
+/// Books that were opened, what their journals were found to be, and the pairs that are left.
 #[derive(Drop)]
 pub struct Opened<D: LeaseDisk> {
     pub books: Vec<Book<D>>,
+    pub founds: Vec<Found>,
     pub spare: Vec<DiskPair<D>>,
+}
+
+/// Room for so many books, and for what their journals are found to be.
+fn room_for<D: LeaseDisk + Drop>(
+    alloc: Global,
+    count: usize,
+) -> Result<(Vec<Book<D>>, Vec<Found>), Memory>
+    ensures books { IfOk result
+        (λ room. (room.0.items ≡ []) × (count ≤ vec_capacity room.0)) }
+    ensures founds { IfOk result
+        (λ room. (room.1.items ≡ []) × (count ≤ vec_capacity room.1)) }
+{
+    let books = Vec::with_capacity(alloc, count)?;
+    let founds = Vec::with_capacity(alloc, count)?;
+    Ok((books, founds))
 }
 
 /// Opens a book for each external address, over the first pairs in order. The vector of the pairs has
@@ -127,6 +147,8 @@ pub fn open_books<D: LeaseDisk + Drop>(
     ensures opened { IfOk result (λ opened. OpensAll D.tells D.seen D.moment D.left_since
         D.may_leave D.faults config.now m config.now.externals disks.items opened.books.items
         opened.spare.items) }
+    ensures founds { IfOk result (λ opened. AreFound D.tells D.seen config.now m
+        config.now.externals disks.items opened.books.items opened.founds.items) }
     ensures books { IfOk result
         (λ opened. AllByRecursion (IsBook D.tells D.seen D.may_leave) opened.books.items) }
     ensures room { IfOk result (λ opened. length opened.books.items + length opened.spare.items
@@ -139,7 +161,7 @@ pub fn open_books<D: LeaseDisk + Drop>(
 {
     let mut pairs = disks;
     let externals = config.externals.items();
-    let Ok(mut books) = Vec::with_capacity(alloc, externals.len()) else {
+    let Ok((mut books, mut founds)) = room_for(alloc, externals.len()) else {
         return Err(Unbegun {
             fault: HouseFault::Memory,
             disks: pairs,
@@ -147,7 +169,16 @@ pub fn open_books<D: LeaseDisk + Drop>(
     };
     let mut place = 0;
     for external in externals {
-        let next = open_next(alloc, &mut books, &mut pairs, external, config, m, place);
+        let next = open_next(
+            alloc,
+            &mut books,
+            &mut founds,
+            &mut pairs,
+            external,
+            config,
+            m,
+            place,
+        );
         if let Err(fault) = next {
             return Err(Unbegun {
                 fault,
@@ -158,6 +189,7 @@ pub fn open_books<D: LeaseDisk + Drop>(
     }
     Ok(Opened {
         books,
+        founds,
         spare: pairs,
     })
 }

@@ -1,5 +1,5 @@
 //! To which external address a datagram goes, and what it asks there.
-ghost use Rattle.std.specs.Prelude.{◌≡◌, [], true, Ok, Option, None, Some, option_map, unwrap_or, IsOk, IfOk, IfSome, OnErr};
+ghost use Rattle.std.specs.Prelude.{◌≡◌, ◌<◌, [], true, length, Ok, Option, None, Some, option_map, unwrap_or, IsOk, IfOk, IfSome, OnErr};
 ghost use Rattle.pcp_base.specs.Configs.{IsConfig};
 ghost use Rattle.pcp_base.specs.Pairing.{place_of};
 ghost use Rattle.pcp_options.specs.Responses.{AreOctets};
@@ -40,6 +40,9 @@ pub fn route(alloc: Global, config: &Config, datagram: &Datagram) -> Result<u32,
     ensures ok { IfOk result (λ place. place ≡ route_of config.now datagram.now) }
     ensures memory { OnErr result (IsAsked (judged config.now datagram.now)) }
     ensures front { is_front datagram.now.octets ≡ true → IsOk result }
+    // So it is that of one that there is.
+    ensures inside { IsConfig config.now →
+        route_of config.now datagram.now < length config.now.externals }
 {
     match judge_octets(alloc, config, &datagram.peer, datagram.octets.items())? {
         Verdict::Asked { shard, .. } => Ok(shard),
