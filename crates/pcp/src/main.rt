@@ -1,5 +1,8 @@
 //! `pcp`: answers Port Control Protocol requests (RFC 6887).
 #![tactic(auto)]
+ghost use Rattle.std.specs.Prelude.{◌≡◌, ◌≢◌};
+ghost use Rattle.std.specs.declared.io.ErrorKind.TheVariants.{OutOfMemory};
+ghost use Rattle.server_commands.specs.declared.statuses.Status.TheVariants.{Memory, WordsRefused};
 
 mod kept;
 mod places;
@@ -108,7 +111,10 @@ fn words(rt: &HostRuntime) -> Result<Vec<String>, Status> {
 }
 
 /// How the program ends where its words can't be had.
-fn status_of(kind: ErrorKind) -> Status {
+fn status_of(kind: ErrorKind) -> Status
+    ensures memory { kind ≡ OutOfMemory → result ≡ Memory }
+    ensures words { kind ≢ OutOfMemory → result ≡ WordsRefused }
+{
     match kind {
         ErrorKind::OutOfMemory => Status::Memory,
         _ => Status::WordsRefused,
