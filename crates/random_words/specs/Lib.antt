@@ -1,0 +1,2 @@
+pub mod ListEntropies
+pub mod RandomWords
