@@ -1,0 +1,180 @@
+-- Each step keeps the rule of a queue of jobs.
+use Rattle.std.proofs.Common.{◌≡◌, ◌≢◌, ℕ, zero, suc, true, false, true≢false, List, [], ◌∷◌, ◌++◌, length, set, sym, refl, ap, ◌∙◌, subst, ⊎_elim, append_assoc, Bool, Option, None}
+use Rattle.std.specs.List.{AllByRecursion}
+use Rattle.std.proofs.lemmas.List.{append-nil, nil_from_length}
+use mathlib.Core.Option.{some, some-ne-none}
+use lib.ListN.{get_elem?}
+use Rattle.crossbeam_queue.specs.Fifo.{Pushes, Pops, Forks, Merges, Learns, Held}
+use Rattle.crossbeam_queue.proofs.Lists.{at_set, at_snoc}
+use Rattle.job_queue.specs.declared.jobs.Job.{Job}
+use Rattle.job_queue.specs.declared.jobs.JobsRoute.{JobsRoute}
+use Rattle.job_queue.specs.declared.jobs.JobsView.{JobsView}
+use Rattle.job_queue.specs.Queues.{jobs_view, FitsEnd, AreInOrder, IsJobFor, IsLastOf, WasFull}
+use Rattle.job_queue.specs.declared.jobs.TheConstants.{MOST_JOBS}
+
+at_end : (l : List JobsView) (a b : JobsView) (j : ℕ) → get_elem? l j ≢ some b → get_elem? (l ++ a ∷ []) j ≡ some b → j ≡ length l
+at_end [] a b zero n e = refl
+at_end [] a b (suc j) n e = absurd (some-ne-none b (sym e))
+at_end (x ∷ xs) a b zero n e = absurd (n e)
+at_end (x ∷ xs) a b (suc j) n e = ap suc (at_end xs a b j n e)
+
+abbrev Each : (ℕ → JobsView → Type 0) → List JobsView → Type 0
+Each F views = (seat : ℕ) (v : JobsView) → get_elem? views seat ≡ some v → F seat v
+
+each_set : (F : ℕ → JobsView → Type 0) (views : List JobsView) (seat : ℕ) (w : JobsView) → F seat w → ((j : ℕ) (u : JobsView) → j ≢ seat → get_elem? views j ≡ some u → F j u) → Each F (set views seat w)
+each_set F views seat w mine others j u e = ⊎_elim (λ (x : (j ≡ seat) × (w ≡ u)). subst (λ (y : ℕ × JobsView). F y.0 y.1) (λ i. (sym x.0 i, x.1 i)) mine)
+    (λ (x : (j ≢ seat) × (get_elem? views j ≡ some u)). others j u x.0 x.1) (at_set views seat j w u e)
+
+all_push : (P : Job → Type 0) (xs : List Job) (x : Job) → AllByRecursion P xs → P x → AllByRecursion P (xs ++ x ∷ [])
+all_push P [] x h p = (p, tt)
+all_push P (y ∷ ys) x h p = (h.0, all_push P ys x h.1 p)
+
+pub begins : AreInOrder [] (jobs_view true true None [] [] ∷ [])
+begins = record {
+  putter = 0;
+  taker = 0;
+  route = None;
+  put = [];
+  taken = [];
+  order = refl;
+  jobs = tt;
+  ends = each_set (FitsEnd 0 0 None [] []) (jobs_view true true None [] [] ∷ []) 0 (jobs_view true true None [] [])
+      (record { puts = λ _. (refl, refl, refl); takes = λ _. (refl, refl, refl) })
+      (λ j u other e. absurd (other (at_end [] _ u j (λ x. some-ne-none u (sym x)) e)));
+}
+
+pub puts : (n seat : ℕ) (v : JobsView) (x : Job) → v.puts ≡ true → IsJobFor v.route x → Pushes AreInOrder n seat v x (λ w. w ≡ jobs_view v.puts v.takes v.route (v.put ++ x ∷ []) v.taken)
+puts n seat v x may job items views _ h at =
+    let w : JobsView = jobs_view v.puts v.takes v.route (v.put ++ x ∷ []) v.taken in
+    let mine = h.ends seat v at in
+    let put : List Job = h.put ++ x ∷ [] in
+    let for_it : IsJobFor h.route x = subst (λ (r : Option JobsRoute). IsJobFor r x) (mine.puts may).1 job in (
+      w,
+      record {
+        putter = h.putter;
+        taker = h.taker;
+        route = h.route;
+        put = put;
+        taken = h.taken;
+        order = ap (λ l. l ++ x ∷ []) h.order ∙ append_assoc h.taken items (x ∷ []);
+        jobs = all_push (IsJobFor h.route) items x h.jobs for_it;
+        ends = each_set (FitsEnd h.putter h.taker h.route put h.taken) views seat w
+            (record {
+              puts = λ _. ((mine.puts may).0, (mine.puts may).1, ap (λ l. l ++ x ∷ []) (mine.puts may).2);
+              takes = mine.takes;
+            })
+            (λ j u other e. record {
+              puts = λ p. absurd (other (((h.ends j u e).puts p).0 ∙ sym (mine.puts may).0));
+              takes = (h.ends j u e).takes;
+            });
+      },
+      refl,
+    )
+
+pub takes : (seat : ℕ) (v : JobsView) → v.takes ≡ true → Pops AreInOrder seat v (λ x w. (w ≡ jobs_view v.puts v.takes v.route v.put (v.taken ++ x ∷ [])) × IsJobFor v.route x)
+takes seat v may x items views h at =
+    let w : JobsView = jobs_view v.puts v.takes v.route v.put (v.taken ++ x ∷ []) in
+    let mine = h.ends seat v at in
+    let taken : List Job = h.taken ++ x ∷ [] in
+    let for_it : IsJobFor v.route x = subst (λ (r : Option JobsRoute). IsJobFor r x) (sym (mine.takes may).1) h.jobs.0 in (
+      w,
+      record {
+        putter = h.putter;
+        taker = h.taker;
+        route = h.route;
+        put = h.put;
+        taken = taken;
+        order = h.order ∙ sym (append_assoc h.taken (x ∷ []) items);
+        jobs = h.jobs.1;
+        ends = each_set (FitsEnd h.putter h.taker h.route h.put taken) views seat w
+            (record {
+              puts = mine.puts;
+              takes = λ _. ((mine.takes may).0, (mine.takes may).1, ap (λ l. l ++ x ∷ []) (mine.takes may).2);
+            })
+            (λ j u other e. record {
+              puts = (h.ends j u e).puts;
+              takes = λ p. absurd (other (((h.ends j u e).takes p).0 ∙ sym (mine.takes may).0));
+            });
+      },
+      (refl, for_it),
+    )
+
+-- the ends part before anything is put, and may then be for any external address
+pub parts : (seat : ℕ) (v : JobsView) (route : Option JobsRoute) → v.puts ≡ true → v.takes ≡ true → v.put ≡ [] → v.taken ≡ []
+    → Forks AreInOrder seat v (jobs_view true false route v.put []) (jobs_view false true route [] v.taken)
+parts seat v route a b none_put none_taken items views h at =
+    let l : JobsView = jobs_view true false route v.put [] in
+    let r : JobsView = jobs_view false true route [] v.taken in
+    let mine = h.ends seat v at in
+    let vs : List JobsView = set views seat l in
+    let no_put : h.put ≡ [] = sym (mine.puts a).2 ∙ none_put in
+    let no_taken : h.taken ≡ [] = sym (mine.takes b).2 ∙ none_taken in
+    let empty : items ≡ [] = ap (λ (xs : List Job). xs ++ items) (sym no_taken) ∙ (sym h.order ∙ no_put) in
+    let Old : ℕ → JobsView → Type 0 = λ j u. (u.puts ≡ true → (j ≡ h.putter) × (u.route ≡ route) × (u.put ≡ h.put)) × (u.takes ≢ true) in
+    let old : Each Old vs = each_set Old views seat l ((λ _. ((mine.puts a).0, refl, (mine.puts a).2)), λ p. true≢false (sym p))
+    (λ j u other e. ((λ p. absurd (other (((h.ends j u e).puts p).0 ∙ sym (mine.puts a).0))), λ p. other (((h.ends j u e).takes p).0 ∙ sym (mine.takes b).0))) in
+    record {
+      putter = h.putter;
+      taker = length vs;
+      route = route;
+      put = h.put;
+      taken = h.taken;
+      order = h.order;
+      jobs = subst (λ (xs : List Job). AllByRecursion (IsJobFor route) xs) (sym empty) tt;
+      ends = λ j u e. ⊎_elim
+          (λ x. record { puts = (old j u x).0; takes = λ p. absurd ((old j u x).1 p) })
+          (λ (is : r ≡ u). record {
+            puts = λ p. absurd (true≢false (sym (ap (λ (y : JobsView). y.puts) is ∙ p)));
+            takes = λ p. (at_end vs r u j (λ x. (old j u x).1 p) e, ap (λ (y : JobsView). y.route) (sym is), ap (λ (y : JobsView). y.taken) (sym is) ∙ (mine.takes b).2);
+          })
+          (at_snoc vs r u j e);
+    }
+
+pub meets : (seat : ℕ) (v : JobsView) (other : ℕ) (u : JobsView) → v.puts ≡ true → u.takes ≡ true
+    → Merges AreInOrder seat v other u (jobs_view true true v.route v.put u.taken) (jobs_view false false None [] [])
+meets seat v other u a b items views h at two at' =
+    let both : JobsView = jobs_view true true v.route v.put u.taken in
+    let mine = h.ends seat v at in
+    let vs : List JobsView = set views seat both in
+    let was : get_elem? views other ≡ some u = ⊎_elim (λ x. absurd (two x.0)) (λ x. x.1) (at_set views seat other both u at') in
+    let theirs = (h.ends other u was).takes b in
+    let Now : ℕ → JobsView → Type 0 = λ j y. j ≢ other → FitsEnd h.putter seat h.route h.put h.taken j y in
+    let now : Each Now vs = each_set Now views seat both (λ _. record { puts = λ _. mine.puts a; takes = λ _. (refl, (mine.puts a).1, theirs.2) })
+    (λ j y _ e apart. record {
+      puts = (h.ends j y e).puts;
+      takes = λ p. absurd (apart (((h.ends j y e).takes p).0 ∙ sym theirs.0));
+    }) in
+    record {
+      putter = h.putter;
+      taker = seat;
+      route = h.route;
+      put = h.put;
+      taken = h.taken;
+      order = h.order;
+      jobs = h.jobs;
+      ends = each_set (FitsEnd h.putter seat h.route h.put h.taken) vs other (jobs_view false false None [] [])
+          (record { puts = λ p. absurd (true≢false (sym p)); takes = λ p. absurd (true≢false (sym p)) })
+          (λ j y apart e. now j y e apart);
+    }
+
+-- what the putter learns: the queue holds the last of what it has put
+pub learns_last : (seat : ℕ) (v : JobsView) → v.puts ≡ true → Learns AreInOrder seat v (λ items. IsLastOf items v.put)
+learns_last seat v a items views h at =
+    let mine = h.ends seat v at in
+    record { before = h.taken; parted = (mine.puts a).2 ∙ h.order }
+
+-- what the taker learns, where it knows what was put
+pub learns_rest : (seat : ℕ) (v : JobsView) → v.takes ≡ true → Learns AreInOrder seat v (λ items. v.puts ≡ true → v.put ≡ v.taken ++ items)
+learns_rest seat v b items views h at a =
+    let mine = h.ends seat v at in
+    (mine.puts a).2 ∙ (h.order ∙ ap (λ (l : List Job). l ++ items) (sym (mine.takes b).2))
+
+-- at an empty queue
+pub none_left : (put taken : List Job) (puts : Bool) → Held 0 (λ (items : List Job). puts ≡ true → put ≡ taken ++ items) → puts ≡ true → put ≡ taken
+none_left put taken puts h a =
+    let none : h.0 ≡ [] = nil_from_length h.0 h.1 in
+    h.2 a ∙ (ap (λ (l : List Job). taken ++ l) none ∙ append-nil taken)
+
+-- at a full one
+pub was_full : (put : List Job) → Held MOST_JOBS (λ items. IsLastOf items put) → WasFull put
+was_full put h = record { items = h.0; full = h.1; last = h.2 }

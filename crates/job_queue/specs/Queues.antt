@@ -1,0 +1,95 @@
+-- The rule of a queue of jobs, and what its ends know (our own).
+use Rattle.std.specs.Prelude.{◌≡◌, ℕ, Bool, true, false, List, [], ◌++◌, length, Option, Some, None}
+use Rattle.std.specs.List.{AllByRecursion}
+use mathlib.Core.Option.{some}
+use mathlib.Core.List.{IsPrefix}
+use lib.ListN.{get_elem?}
+use Rattle.atomic_table.specs.Seated.{TableId}
+use Rattle.lease_histories.specs.Routes.{route_of}
+use Rattle.job_queue.specs.declared.jobs.Job.{Job}
+use Rattle.job_queue.specs.declared.jobs.Job.TheVariants.{Packet, Lose}
+use Rattle.job_queue.specs.declared.jobs.JobsRoute.{JobsRoute}
+use Rattle.job_queue.specs.declared.jobs.JobsView.{JobsView}
+use Rattle.job_queue.specs.declared.jobs.TheConstants.{MOST_JOBS}
+
+abbrev pub jobs_view : Bool → Bool → Option JobsRoute → List Job → List Job → JobsView
+jobs_view puts takes route put taken =
+    record { puts = puts; takes = takes; route = route; put = put; taken = taken }
+
+-- the job is one for this external address
+abbrev pub IsJobFor : Option JobsRoute → Job → Type 0
+IsJobFor None job = Unit {0}
+IsJobFor (Some r) (Packet d) = route_of r.config d ≡ r.shard
+IsJobFor (Some r) Lose = Unit {0}
+
+-- One pass at most puts, and it has the list of what was put; one takes, and has that of what was taken.
+pub record FitsEnd (putter taker : ℕ) (route : Option JobsRoute) (put taken : List Job) (seat : ℕ)
+    (v : JobsView) : Type 0 where
+  pub puts : v.puts ≡ true → (seat ≡ putter) × (v.route ≡ route) × (v.put ≡ put)
+  pub takes : v.takes ≡ true → (seat ≡ taker) × (v.route ≡ route) × (v.taken ≡ taken)
+
+-- What was put is what was taken and then what the queue holds. All are jobs for one external address.
+pub record AreInOrder (items : List Job) (views : List JobsView) : Type 0 where
+  pub putter : ℕ
+  pub taker : ℕ
+  pub route : Option JobsRoute
+  pub put : List Job
+  pub taken : List Job
+  pub order : put ≡ taken ++ items
+  pub jobs : AllByRecursion (IsJobFor route) items
+  pub ends : (seat : ℕ) (v : JobsView) → get_elem? views seat ≡ some v →
+      FitsEnd putter taker route put taken seat v
+
+-- the items are the last of what was put
+pub record IsLastOf (items put : List Job) : Type 0 where
+  pub before : List Job
+  pub parted : put ≡ before ++ items
+
+-- at some moment the last of what was put filled the queue
+pub record WasFull (put : List Job) : Type 0 where
+  pub items : List Job
+  pub full : length items ≡ MOST_JOBS
+  pub last : IsLastOf items put
+
+-- ---- the two ends
+
+pub record PutterKnowledge : Type 0 where
+  pub queue : TableId
+  -- the external address of its jobs
+  pub route : Option JobsRoute
+  -- all that was put
+  pub put : List Job
+
+pub record TakerKnowledge : Type 0 where
+  pub queue : TableId
+  -- the external address of its jobs
+  pub route : Option JobsRoute
+  -- whether it has met the end that puts, and then what that has put
+  pub knows_put : Bool
+  pub put : List Job
+  -- all that was taken
+  pub taken : List Job
+
+-- nothing was put and nothing taken
+pub record AreEnds (route : JobsRoute) (queue : TableId) (putter : PutterKnowledge)
+    (taker : TakerKnowledge) : Type 0 where
+  pub putter_of : putter.queue ≡ queue
+  pub taker_of : taker.queue ≡ queue
+  pub putter_route : putter.route ≡ Some route
+  pub taker_route : taker.route ≡ Some route
+  pub put : putter.put ≡ []
+  pub apart : taker.knows_put ≡ false
+  pub taken : taker.taken ≡ []
+
+-- where it knows what was put, all of it was taken
+abbrev pub MayBeEmpty : TakerKnowledge → Type 0
+MayBeEmpty taker = taker.knows_put ≡ true → taker.put ≡ taker.taken
+
+-- the taker knows what was put, which begins with what was taken
+pub record HasMet (putter : PutterKnowledge) (taker both : TakerKnowledge) : Type 0 where
+  pub queue : both.queue ≡ putter.queue
+  pub route : both.route ≡ putter.route
+  pub knows : both.knows_put ≡ true
+  pub put : both.put ≡ putter.put
+  pub taken : both.taken ≡ taker.taken
+  pub begins : IsPrefix taker.taken putter.put

@@ -1,0 +1,256 @@
+//! The jobs of a worker, and the queue through which it gets them.
+ghost use Rattle.std.specs.Prelude.{◌≡◌, ◌++◌, ◌∷◌, [], true, false, length, IfOk, IfErr, IfSome, IfNone, OnOk, Some};
+ghost use Rattle.crossbeam_queue.specs.Passes.{view, IsPassOf};
+ghost use Rattle.job_queue.specs.Queues.{WasFull, jobs_view};
+
+use crossbeam_queue::protocol::{Join, Lesson, Outcome, Protocol, Split};
+use crossbeam_queue::{Pass, RuledArrayQueue};
+use pcp_base::{Config, Datagram, Memory};
+use std::alloc::Global;
+use std::collections::LinkedList;
+use std::marker::{Brand, Model, PhantomData};
+use std::sync::Wait;
+
+/// How many jobs a queue holds at most.
+pub const MOST_JOBS: usize = 1024;
+
+/// What a worker is to do for its external address.
+#[derive(Debug, Drop)]
+pub enum Job {
+    /// To answer a datagram.
+    Packet(Datagram),
+    /// To lose all leases.
+    Lose,
+}
+
+/// The external address of a configuration for which jobs are. No value of it is made.
+pub struct JobsRoute {
+    pub config: Config,
+    pub shard: u32,
+}
+
+/// What a pass of a queue knows. No value of it is made.
+pub struct JobsView {
+    /// It may put jobs, and knows all that were put.
+    pub puts: bool,
+    /// It may take jobs, and knows all that were taken.
+    pub takes: bool,
+    pub route: Option<JobsRoute>,
+    pub put: LinkedList<Job>,
+    pub taken: LinkedList<Job>,
+}
+
+/// The rule of a queue: what was put is what was taken and then what the queue holds.
+pub struct InOrder;
+
+impl Protocol<Job, JobsView> for InOrder {
+    ghost use Rattle.std.specs.Prelude.{true, [], None};
+    ghost use Rattle.job_queue.specs.Queues.{AreInOrder, jobs_view};
+
+    ghost holds = { AreInOrder };
+
+    ghost first = { jobs_view true true None [] [] };
+}
+
+// Names the external address of a queue, which no step can tell. Each call picks it.
+trait Routing {
+    ghost use Rattle.std.specs.Prelude.{Option};
+    ghost use Rattle.job_queue.specs.declared.jobs.JobsRoute.{JobsRoute};
+
+    ghost route: { Option JobsRoute };
+}
+
+impl Routing for Brand {
+    ghost use Rattle.std.specs.Prelude.{None};
+
+    ghost route = { None };
+}
+
+// One end puts, the other takes, for this external address.
+struct Ends<N> {
+    of: PhantomData<N>,
+}
+
+impl<N: Routing> Split<JobsView> for Ends<N> {
+    ghost use Rattle.std.specs.Prelude.{true, false, []};
+    ghost use Rattle.job_queue.specs.Queues.{jobs_view};
+
+    ghost left = { λ v. jobs_view true false N.route v.put [] };
+
+    ghost right = { λ v. jobs_view false true N.route [] v.taken };
+}
+
+// Both ends are one again.
+struct Meets;
+
+impl Join<JobsView> for Meets {
+    ghost use Rattle.std.specs.Prelude.{true, false, [], None};
+    ghost use Rattle.job_queue.specs.Queues.{jobs_view};
+
+    ghost both = { λ v w. jobs_view true true v.route v.put w.taken };
+
+    ghost spent = { jobs_view false false None [] [] };
+}
+
+// A job is put behind the others; where it isn't, the queue is full.
+struct Puts;
+
+impl Outcome<Job, JobsView> for Puts {
+    ghost use Rattle.job_queue.specs.Queues.{jobs_view};
+
+    ghost then = { λ v x w. w ≡ jobs_view v.puts v.takes v.route (v.put ++ x ∷ []) v.taken };
+}
+
+impl Lesson<Job, JobsView> for Puts {
+    ghost use Rattle.job_queue.specs.Queues.{IsLastOf};
+
+    ghost fact = { λ v items. IsLastOf items v.put };
+}
+
+// The first job is taken; where none is, the queue holds none.
+struct Takes;
+
+impl Outcome<Job, JobsView> for Takes {
+    ghost use Rattle.job_queue.specs.Queues.{IsJobFor, jobs_view};
+
+    ghost then = { λ v x w.
+        (w ≡ jobs_view v.puts v.takes v.route v.put (v.taken ++ x ∷ [])) × IsJobFor v.route x };
+}
+
+impl Lesson<Job, JobsView> for Takes {
+    ghost use Rattle.std.specs.Prelude.{◌≡◌, ◌++◌, true};
+
+    ghost fact = { λ v items. v.puts ≡ true → v.put ≡ v.taken ++ items };
+}
+
+/// A queue of jobs, of which one thread puts and one takes. To contracts it is a name.
+#[derive(Drop)]
+pub struct JobQueue {
+    queue: RuledArrayQueue<Job, JobsView, InOrder>,
+}
+
+impl Model for JobQueue {
+    ghost use Rattle.std.specs.Prelude.{◌≡◌};
+    ghost use Rattle.atomic_table.specs.Seated.{TableId, table_id_coded};
+    ghost use Rattle.crossbeam_queue.specs.Passes.{ruled_capacity};
+    ghost use Rattle.job_queue.specs.declared.jobs.TheConstants.{MOST_JOBS};
+
+    ghost Value = { TableId };
+
+    ghost coded = { table_id_coded };
+
+    ghost view = { λ q. q.queue.table.shared.table_id };
+
+    ghost invariant = { λ q. ruled_capacity q.queue ≡ MOST_JOBS };
+}
+
+/// The end that puts jobs.
+#[derive(Drop)]
+pub struct Putter {
+    pass: Pass<Job, JobsView>,
+}
+
+impl Model for Putter {
+    ghost use Rattle.std.specs.Prelude.{◌≡◌, true, []};
+    ghost use Rattle.job_queue.specs.Queues.{PutterKnowledge};
+
+    ghost Value = { PutterKnowledge };
+
+    ghost view = { λ p. record {
+      queue = p.pass.table_id;
+      route = p.pass.me.0.client.route;
+      put = p.pass.me.0.client.put;
+    } };
+
+    ghost invariant = { λ p. (p.pass.me.1 ≡ []) × (p.pass.me.0.client.puts ≡ true) };
+}
+
+/// The end that takes jobs. Once it has met the other end it knows all that were put.
+#[derive(Drop)]
+pub struct Taker {
+    pass: Pass<Job, JobsView>,
+}
+
+impl Model for Taker {
+    ghost use Rattle.std.specs.Prelude.{◌≡◌, true, []};
+    ghost use Rattle.job_queue.specs.Queues.{TakerKnowledge};
+
+    ghost Value = { TakerKnowledge };
+
+    ghost view = { λ t. record {
+      queue = t.pass.table_id;
+      route = t.pass.me.0.client.route;
+      knows_put = t.pass.me.0.client.puts;
+      put = t.pass.me.0.client.put;
+      taken = t.pass.me.0.client.taken;
+    } };
+
+    ghost invariant = { λ t. (t.pass.me.1 ≡ []) × (t.pass.me.0.client.takes ≡ true) };
+}
+
+impl JobQueue {
+    ghost use Rattle.job_queue.specs.Queues.{AreEnds, HasMet, IsJobFor, MayBeEmpty};
+
+    /// An empty queue of jobs for this external address, and its two ends.
+    pub fn new(
+        alloc: Global,
+        config: &Config,
+        shard: u32,
+    ) -> Result<(JobQueue, Putter, Taker), Memory>
+        ensures { IfOk result (λ made. AreEnds (record { config = config.now; shard = shard })
+            made.0 made.1 made.2) }
+    {
+        JobQueue::new_for::<Brand>(alloc, config, shard)
+    }
+
+    // It doesn't read the configuration, which names the external address.
+    fn new_for<N: Routing>(
+        alloc: Global,
+        config: &Config,
+        shard: u32,
+    ) -> Result<(JobQueue, Putter, Taker), Memory>
+        requires { N.route ≡ Some (record { config = config.now; shard = shard }) }
+        ensures { IfOk result (λ made. AreEnds (record { config = config.now; shard = shard })
+            made.0 made.1 made.2) }
+    {
+        let (queue, mut pass) = RuledArrayQueue::<Job, JobsView, InOrder>::ruled(alloc, MOST_JOBS)?;
+        let taking = queue.another::<Ends<N>>(&mut pass);
+        Ok((JobQueue { queue }, Putter { pass }, Taker { pass: taking }))
+    }
+
+    /// Puts a job behind the others. It comes back only where the queue held `MOST_JOBS` at a moment of
+    /// this call.
+    pub fn put<R: Wait>(&self, rt: &R, putter: &mut Putter, job: Job) -> Result<(), Job>
+        requires queue { putter.old.queue ≡ self.now }
+        requires job { IsJobFor putter.old.route job }
+        ensures put { OnOk result
+            (putter.new ≡ record putter.old { put = putter.old.put ++ job ∷ [] }) }
+        ensures full { IfErr result (λ back.
+            (back ≡ job) × (putter.new ≡ putter.old) × WasFull putter.old.put) }
+    {
+        self.queue.push_as::<Puts, R>(rt, &mut putter.pass, job)
+    }
+
+    /// Takes the first job. There is none only where the queue was empty at a moment of this call.
+    pub fn take<R: Wait>(&self, rt: &R, taker: &mut Taker) -> Option<Job>
+        requires { taker.old.queue ≡ self.now }
+        ensures taken { IfSome result (λ job.
+            (taker.new ≡ record taker.old { taken = taker.old.taken ++ job ∷ [] })
+            × IsJobFor taker.old.route job) }
+        ensures none { IfNone result ((taker.new ≡ taker.old) × MayBeEmpty taker.old) }
+    {
+        self.queue.pop_as::<Takes, R>(rt, &mut taker.pass)
+    }
+
+    /// Puts both ends together. What was taken begins what was put.
+    pub fn meet(&self, putter: Putter, taker: Taker) -> Taker
+        requires putter { putter.queue ≡ self.now }
+        requires taker { taker.queue ≡ self.now }
+        ensures { HasMet putter taker result }
+    {
+        let mut both = putter.pass;
+        self.queue.absorb::<Meets>(&mut both, taker.pass);
+        self.queue.learn_as::<Takes>(&mut both);
+        Taker { pass: both }
+    }
+}
