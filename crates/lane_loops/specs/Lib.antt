@@ -1,0 +1,2 @@
+pub mod LaneRuns
+pub mod LaneSets
