@@ -1,0 +1,11 @@
+pub mod Down
+pub mod Everyone
+pub mod Keys
+pub mod Nonces
+pub mod Parts
+pub mod Relays
+pub mod Runs
+pub mod Up
+pub mod WaitLaws
+pub mod WaitOrder
+pub mod Waits

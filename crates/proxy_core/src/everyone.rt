@@ -1,0 +1,46 @@
+//! The configuration by which a relay judges requests.
+ghost use Rattle.std.specs.Prelude.{◌≡◌, true, IfOk};
+ghost use Rattle.pcp_base.specs.Pairing.{holds};
+ghost use Rattle.proxy_core.specs.Everyone.{every_address, everyone};
+
+use pcp_base::{
+    Address, Config, External, Externals, Memory, Prefix, Prefixes, Subscriber, Subscribers,
+};
+use std::alloc::Global;
+
+/// The prefix that holds every address.
+const EVERY_ADDRESS: Prefix = Prefix {
+    bits: 0,
+    address: Address([0; 16]),
+};
+
+/// A configuration in which every address may ask, also for every other: the permission is the
+/// upstream server's to give. No lease is made by it.
+pub(crate) fn everyone(alloc: Global) -> Result<Config, Memory>
+    ensures { IfOk result (λ config. config ≡ everyone) }
+{
+    let external = External {
+        address: Address([0; 16]),
+        low: 1,
+        high: 1,
+    };
+    let subscriber = Subscriber {
+        prefix: EVERY_ADDRESS,
+        external: 0,
+    };
+    Ok(Config {
+        quota: 1,
+        lifetime_min: 1,
+        lifetime_max: 1,
+        third_party: Prefixes::of(vec![in alloc; EVERY_ADDRESS]?),
+        externals: Externals::of(vec![in alloc; external]?),
+        subscribers: Subscribers::of(vec![in alloc; subscriber]?),
+    })
+}
+
+/// The prefix of that configuration holds every address.
+pub fn every_address_may_ask(address: &Address)
+    ensures { holds every_address address.now ≡ true }
+{
+    let _number = u128::from_be_bytes(address.0);
+}

@@ -1,0 +1,5 @@
+//! Tests of a relay over time.
+#![tactic(auto)]
+
+#[cfg(test)]
+mod relays;
