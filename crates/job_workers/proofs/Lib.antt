@@ -1,0 +1,4 @@
+pub mod GatherLemmas
+pub mod SendLemmas
+pub mod SetLemmas
+pub mod WorkLemmas

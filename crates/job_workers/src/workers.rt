@@ -1,0 +1,268 @@
+//! The worker of an external address.
+ghost use Rattle.std.specs.Prelude.{◌≡◌, ℕ, ◌/◌, ◌<◌, ◌≤◌, List, [], length, map, Option, IsTrue};
+ghost use Rattle.std.specs.List.{AllByRecursion};
+ghost use Rattle.pcp_base.specs.declared.datagrams.Datagram.{Datagram};
+ghost use Rattle.pcp_io.specs.declared.clocks.TheConstants.{END_OF_TIME_MS};
+ghost use Rattle.lease_histories.specs.Routes.{route_of};
+ghost use Rattle.job_queue.specs.declared.batches.TheConstants.{MOST_BATCH};
+ghost use Rattle.job_queue.specs.Queues.{IsJobFor, MayBeEmpty};
+ghost use Rattle.job_workers.specs.Works.{AnswersBatch, LosesAll, Works};
+ghost use Rattle.job_workers.specs.Gatherings.{Gathers, HasWorked, IsDesk, behind};
+
+use crate::houses::JobHouse;
+use crate::sends::send_all;
+use crate::tallies::TallyRow;
+use crossbeam_utils::sync::Parker;
+use job_queue::{Batch, Job, JobQueue, MOST_BATCH, Taker};
+use lane_loops::moment_of;
+use pcp_base::Datagram;
+use pcp_io::{Clock, Gate, Outbox};
+use std::alloc::Global;
+use std::sync::Wait;
+
+/// What comes behind the datagrams of a batch.
+#[derive(Clone, Copy, Debug, PartialEq, Eq)]
+pub enum Next {
+    /// The batch is full.
+    More,
+    /// All leases are to be lost.
+    Loss,
+    /// The queue was empty.
+    Dry,
+}
+
+/// What a worker has of its own.
+#[derive(Drop)]
+pub struct Desk<P> {
+    pub shard: u32,
+    pub pass: P,
+    pub taker: Taker,
+    pub row: TallyRow,
+    pub batch: Batch,
+    /// where it sleeps
+    pub parker: Parker,
+}
+
+impl<P: Drop> Desk<P> {
+    ghost use Rattle.job_workers.specs.Tallies.{no_jobs};
+
+    /// A desk at which nothing was done.
+    pub fn new(shard: u32, pass: P, taker: Taker, batch: Batch, parker: Parker) -> Desk<P>
+        ensures { (result.shard ≡ shard) × (result.pass ≡ pass) × (result.taker ≡ taker)
+            × (result.row ≡ no_jobs) × (result.batch ≡ batch) }
+    {
+        Desk {
+            shard,
+            pass,
+            taker,
+            row: TallyRow::new(),
+            batch,
+            parker,
+        }
+    }
+}
+
+/// Takes datagrams up to a full batch, a loss, or the end of what the queue holds.
+fn gather<R: Wait>(rt: &R, queue: &JobQueue, taker: &mut Taker, batch: &mut Batch) -> Next
+    requires queue { taker.old.queue ≡ queue.now }
+    requires batch { batch.old ≡ [] }
+    ensures { Gathers taker.old taker.new batch.new result }
+{
+    while batch.len() < MOST_BATCH {
+        let Some(job) = queue.take(rt, taker) else {
+            return Next::Dry;
+        };
+        match job {
+            Job::Packet(datagram) => batch.push(datagram),
+            Job::Lose => return Next::Loss,
+        }
+    }
+    Next::More
+}
+
+/// Has a batch answered and hands on its replies. After a fault of the house there are none.
+fn answer_batch<R: Wait, O: Outbox, T: Clock, P: Drop, H: JobHouse<P>>(
+    rt: &R,
+    alloc: Global,
+    house: &H,
+    pass: &mut P,
+    batch: &[Datagram],
+    row: &mut TallyRow,
+    out: &mut O,
+    clock: &mut T,
+)
+    requires pass { (H.calls house.now).is_pass pass.old }
+    requires most { length batch.now ≤ MOST_BATCH }
+    requires routed { AllByRecursion
+        (λ d. route_of (H.calls house.now).config d
+        ≡ (H.calls house.now).place_of pass.old) batch.now }
+    ensures { AnswersBatch (H.calls house.now) batch.now
+        (record {
+          pass = pass.old;
+          row = row.old;
+          sent = O.sent out.old;
+          faults = O.faults out.old;
+          times = T.times clock.old;
+        })
+        (record {
+          pass = pass.new;
+          row = row.new;
+          sent = O.sent out.new;
+          faults = O.faults out.new;
+          times = T.times clock.new;
+        }) }
+{
+    let now = moment_of(clock.now());
+    let jobs = batch.len();
+    let replies = match house.serve(rt, alloc, pass, batch, now) {
+        Ok(replies) => replies,
+        Err(fault) => {
+            row.count_refused(jobs as u64, fault);
+            return;
+        }
+    };
+    let sends = send_all(out, &replies);
+    let silent = jobs.saturating_sub(replies.len());
+    row.count_replied(jobs as u64, silent as u64, sends);
+}
+
+/// Has all leases lost.
+fn lose_all<R: Wait, T: Clock, P: Drop, H: JobHouse<P>>(
+    rt: &R,
+    alloc: Global,
+    house: &H,
+    pass: &mut P,
+    row: &mut TallyRow,
+    clock: &mut T,
+)
+    requires { (H.calls house.now).is_pass pass.old }
+    ensures { LosesAll (H.calls house.now) pass.old pass.new row.old row.new (T.times clock.old) (T.times clock.new) }
+{
+    let now = moment_of(clock.now());
+    match house.lose(rt, alloc, pass, now) {
+        Ok(_lost) => row.count_lost(),
+        Err(fault) => row.count_refused(1, fault),
+    }
+}
+
+/// Has the batch of a desk answered, where it isn't empty.
+fn do_batch<R: Wait, O: Outbox, T: Clock, G: Gate, P: Drop, H: JobHouse<P>>(
+    rt: &R,
+    alloc: Global,
+    house: &H,
+    gate: &G,
+    desk: &mut Desk<P>,
+    out: &mut O,
+    clock: &mut T,
+)
+    requires pass { (H.calls house.now).is_pass desk.old.pass }
+    requires routed { AllByRecursion
+        (λ d. route_of (H.calls house.now).config d
+        ≡ (H.calls house.now).place_of desk.old.pass) desk.old.batch }
+    ensures works { Works (H.calls house.now) (map Job.Packet desk.old.batch)
+        (record {
+          pass = desk.old.pass;
+          row = desk.old.row;
+          sent = O.sent out.old;
+          faults = O.faults out.old;
+          times = T.times clock.old;
+        })
+        (record {
+          pass = desk.new.pass;
+          row = desk.new.row;
+          sent = O.sent out.new;
+          faults = O.faults out.new;
+          times = T.times clock.new;
+        }) }
+    ensures taker { desk.new.taker ≡ desk.old.taker }
+    ensures batch { desk.new.batch ≡ [] }
+{
+    if desk.batch.len() == 0 {
+        return;
+    }
+    gate.pause(desk.shard);
+    let Desk {
+        pass,
+        row,
+        batch,
+        ..
+    } = desk;
+    answer_batch(rt, alloc, house, pass, batch.items(), row, out, clock);
+    batch.clear();
+}
+
+/// Has all leases lost, where that comes behind the batch.
+fn do_loss<R: Wait, T: Clock, G: Gate, P: Drop, H: JobHouse<P>>(
+    rt: &R,
+    alloc: Global,
+    house: &H,
+    gate: &G,
+    desk: &mut Desk<P>,
+    clock: &mut T,
+    next: Next,
+)
+    requires { (H.calls house.now).is_pass desk.old.pass }
+    ensures works { (sent : Option (List Datagram)) (faults : ℕ) → Works (H.calls house.now) (behind next)
+        (record {
+          pass = desk.old.pass;
+          row = desk.old.row;
+          sent = sent;
+          faults = faults;
+          times = T.times clock.old;
+        })
+        (record {
+          pass = desk.new.pass;
+          row = desk.new.row;
+          sent = sent;
+          faults = faults;
+          times = T.times clock.new;
+        }) }
+    ensures taker { desk.new.taker ≡ desk.old.taker }
+    ensures batch { desk.new.batch ≡ desk.old.batch }
+{
+    if next != Next::Loss {
+        return;
+    }
+    gate.pause(desk.shard);
+    let Desk { pass, row, .. } = desk;
+    lose_all(rt, alloc, house, pass, row, clock);
+}
+
+/// Takes jobs and does them, and says whether the queue was empty then.
+pub fn do_round<R: Wait, O: Outbox, T: Clock, G: Gate, P: Drop, H: JobHouse<P>>(
+    rt: &R,
+    alloc: Global,
+    house: &H,
+    gate: &G,
+    queue: &JobQueue,
+    desk: &mut Desk<P>,
+    out: &mut O,
+    clock: &mut T,
+) -> bool
+    requires desk { IsDesk (H.calls house.now) queue.now desk.old.pass desk.old.taker }
+    requires batch { desk.old.batch ≡ [] }
+    ensures works { HasWorked (H.calls house.now)
+        (record {
+          pass = desk.old.pass;
+          row = desk.old.row;
+          sent = O.sent out.old;
+          faults = O.faults out.old;
+          times = T.times clock.old;
+        })
+        (record {
+          pass = desk.new.pass;
+          row = desk.new.row;
+          sent = O.sent out.new;
+          faults = O.faults out.new;
+          times = T.times clock.new;
+        })
+        desk.old.taker desk.new.taker }
+    ensures dry { IsTrue result → MayBeEmpty desk.new.taker }
+    ensures batch { desk.new.batch ≡ [] }
+{
+    let Desk { taker, batch, .. } = &mut *desk;
+    let next = gather(rt, queue, taker, batch);
+    do_batch(rt, alloc, house, gate, desk, out, clock);
+    do_loss(rt, alloc, house, gate, desk, clock, next);
+    next == Next::Dry
+}
