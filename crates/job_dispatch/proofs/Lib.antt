@@ -1,0 +1,4 @@
+pub mod AnnounceLemmas
+pub mod DispatchLemmas
+pub mod DispatchingLemmas
+pub mod PortLemmas

@@ -1,0 +1,132 @@
+-- What the dispatcher does (our own): the items of the inbox one after the other, each to the queue of
+-- its external address, and announcements in between.
+use Rattle.std.specs.Prelude.{◌≡◌, ℕ, ◌==◌, ◌⊎◌, List, [], ◌∷◌, ◌++◌, length, filter_map, slice_set, Option, Some, None, if◌then◌else◌}
+use Rattle.std.specs.List.{position_from, slice_get}
+use Rattle.atomic_table.specs.Seated.{TableId}
+use Rattle.pcp_base.specs.declared.addresses.Address.{Address}
+use Rattle.pcp_base.specs.declared.configs.Config.{Config}
+use Rattle.pcp_base.specs.Tables.{same_address}
+use Rattle.pcp_io.specs.declared.inboxes.InboxItem.{InboxItem}
+use Rattle.pcp_io.specs.declared.inboxes.InboxItem.TheVariants as Items
+use Rattle.lease_histories.specs.Routes.{route_of}
+use Rattle.job_dispatch.specs.declared.ports.Port.{Port}
+use Rattle.job_queue.specs.declared.jobs.Job.{Job}
+use Rattle.job_queue.specs.declared.jobs.Job.TheVariants as Jobs
+use Rattle.job_queue.specs.Queues.{WasFull}
+use Rattle.job_workers.specs.Tallies.{row_full, row_starved}
+
+-- the index of the external address
+abbrev pub place_of_external : Config → Address → Option ℕ
+place_of_external config address =
+    position_from (λ external. same_address external.address address) 0 config.externals
+
+-- ---- what becomes of an item
+
+pub data Fate : Type 0 where
+  -- the job was put into the queue of this shard
+  Put : ℕ → Job → Fate
+  -- it was dropped, since that queue was full
+  Full : ℕ → Job → Fate
+  -- it was dropped for want of memory, before it was known where it goes
+  Starved : Fate
+  -- it asks nothing of a shard
+  Ignored : Fate
+
+-- the job that an item is, and its shard
+abbrev pub IsJobOf : Config → InboxItem → ℕ → Job → Type 0
+IsJobOf config (Items.Packet d) shard job = (job ≡ Jobs.Packet d) × (shard ≡ route_of config d)
+IsJobOf config (Items.Lose address) shard job =
+    (job ≡ Jobs.Lose) × (place_of_external config address ≡ Some shard)
+IsJobOf config Items.Quiet shard job = ⊥
+
+-- it is no job: a quiet, or a loss of an address that isn't external
+abbrev pub IsNoJob : Config → InboxItem → Type 0
+IsNoJob config (Items.Packet d) = ⊥
+IsNoJob config (Items.Lose address) = place_of_external config address ≡ None
+IsNoJob config Items.Quiet = Unit {0}
+
+abbrev pub IsPacket : InboxItem → Type 0
+IsPacket (Items.Packet d) = Unit {0}
+IsPacket (Items.Lose address) = ⊥
+IsPacket Items.Quiet = ⊥
+
+-- ---- the ends and rows of all shards
+
+abbrev pub port_with : Port → Job → Port
+port_with port job =
+    record port { putter = record port.putter { put = port.putter.put ++ job ∷ [] } }
+
+abbrev pub port_full : Port → Port
+port_full port = record port { row = row_full port.row }
+
+abbrev pub port_starved : Port → Port
+port_starved port = record port { row = row_starved port.row }
+
+-- only the port of this shard changes, from the one to the other
+pub record ChangesPort (shard : ℕ) (port changed : Port) (old new : List Port) : Type 0 where
+  pub there : slice_get old shard ≡ Some port
+  pub new_are : new ≡ slice_set old shard changed
+
+abbrev pub IsFate : Config → InboxItem → Fate → List Port → List Port → Type 0
+IsFate config item (Put shard job) old new =
+    IsJobOf config item shard job
+    × ((port : Port) × ChangesPort shard port (port_with port job) old new)
+IsFate config item (Full shard job) old new =
+    IsJobOf config item shard job
+    × ((port : Port) × ChangesPort shard port (port_full port) old new × WasFull port.putter.put)
+IsFate config item Starved old new =
+    IsPacket item × ((port : Port) × ChangesPort 0 port (port_starved port) old new)
+IsFate config item Ignored old new = IsNoJob config item × (new ≡ old)
+
+-- what may become of an item, whatever the queues hold
+abbrev pub IsFateOf : Config → InboxItem → Fate → Type 0
+IsFateOf config item (Put shard job) = IsJobOf config item shard job
+IsFateOf config item (Full shard job) = IsJobOf config item shard job
+IsFateOf config item Starved = IsPacket item
+IsFateOf config item Ignored = IsNoJob config item
+
+-- a job was offered to its queue
+abbrev pub Offers : Job → Port → Port → Type 0
+Offers job old new = (new ≡ port_with old job) ⊎ ((new ≡ port_full old) × WasFull old.putter.put)
+
+-- the end of this queue, whose jobs are for this shard
+pub record IsPort (config : Config) (shard : ℕ) (queue : TableId) (port : Port) : Type 0 where
+  pub queue_is : port.putter.queue ≡ queue
+  pub route_is : port.putter.route ≡ Some (record { config = config; shard = shard })
+
+-- the ends of all queues, in the order of the shards
+pub record ArePorts (config : Config) (queues : List TableId) (ports : List Port) : Type 0 where
+  pub count : length queues ≡ length ports
+  pub each : (shard : ℕ) (queue : TableId) (port : Port) → slice_get queues shard ≡ Some queue →
+      slice_get ports shard ≡ Some port → IsPort config shard queue port
+
+-- a job was offered to the queue of this shard
+pub record OffersAt (shard : ℕ) (job : Job) (old new : List Port) : Type 0 where
+  pub port : Port
+  pub changed : Port
+  pub changes : ChangesPort shard port changed old new
+  pub offers : Offers job port changed
+
+-- a datagram was counted as dropped for want of memory
+abbrev pub StarvesAt : List Port → List Port → Type 0
+StarvesAt old new = (port : Port) × ChangesPort 0 port (port_starved port) old new
+
+abbrev pub HasFate : Config → InboxItem → List Port → List Port → Type 0
+HasFate config item old new = (fate : Fate) × IsFate config item fate old new
+
+-- ---- all items
+
+pub record Dispatched : Type 0 where
+  pub item : InboxItem
+  pub fate : Fate
+
+-- the job that was put for this shard, if any
+abbrev pub put_for : ℕ → Fate → Option Job
+put_for shard (Put at job) = if at == shard then Some job else None
+put_for shard (Full at job) = None
+put_for shard Starved = None
+put_for shard Ignored = None
+
+-- what was put for this shard, in order
+abbrev pub all_put_for : ℕ → List Dispatched → List Job
+all_put_for shard ds = filter_map (λ d. put_for shard d.fate) ds

@@ -1,0 +1,64 @@
+-- The dispatcher's run (our own): items one after the other, and how it ended.
+use Rattle.std.specs.Prelude.{◌≡◌, ℕ, Bool, true, false, List, [], ◌∷◌, Option, Some, None, Result, Ok, Err}
+use Rattle.pcp_base.specs.declared.addresses.Address.{Address}
+use Rattle.pcp_base.specs.declared.configs.Config.{Config}
+use Rattle.pcp_base.specs.declared.errors.Failed.{Failed}
+use Rattle.pcp_io.specs.declared.inboxes.InboxItem.{InboxItem}
+use Rattle.pcp_io.specs.Faults.{HasRisen}
+use Rattle.pcp_io.specs.Takes.{IsNextItem}
+use Rattle.job_workers.specs.HouseCalls.{HouseCalls}
+use Rattle.job_dispatch.specs.declared.ports.Port.{Port}
+use Rattle.job_dispatch.specs.Announcing.{AnnounceState, Announces}
+use Rattle.job_dispatch.specs.Dispatches.{Dispatched, IsFate}
+use Rattle.job_dispatch.specs.PortsAfter.{ArePortsAfter}
+
+-- the ends of the queues and the rows, the announcements, and of the inbox what it tells
+pub record DispatchState (P : Type 0) : Type 0 where
+  pub ports : List Port
+  pub announcing : AnnounceState P
+  pub left : Option (List InboxItem)
+  pub faults : ℕ
+
+module _ {P : Type 0} where
+  -- the inbox stopped
+  pub record EndsByStop (old new : DispatchState P) : Type 0 where
+    pub stop : IsNextItem old.left new.left None
+    pub same : (new.ports ≡ old.ports) × (new.announcing ≡ old.announcing)
+
+  -- the inbox failed
+  pub record EndsByFault (old new : DispatchState P) : Type 0 where
+    pub fault : HasRisen old.faults new.faults
+    pub same : (new.ports ≡ old.ports) × (new.announcing ≡ old.announcing)
+        × (new.left ≡ old.left)
+
+  abbrev pub EndsDispatcher : DispatchState P → DispatchState P → Result (Unit {0}) Failed → Type 0
+  EndsDispatcher old new (Ok done) = EndsByStop old new
+  EndsDispatcher old new (Err fault) = EndsByFault old new
+
+module _ {P : Type 0} (house : HouseCalls P) (config : Config) (groups : List Address) (port : ℕ)
+  where
+    -- The inbox gave the item, announcements were made, and the item has this fate.
+    pub record DoesItem (d : Dispatched) (old new : DispatchState P) : Type 0 where
+      pub given : IsNextItem old.left new.left (Some d.item)
+      pub announced : Announces house groups port old.announcing new.announcing
+      pub fate : IsFate config d.item d.fate old.ports new.ports
+
+    abbrev pub DoesItems : List Dispatched → DispatchState P → DispatchState P → Type 0
+    DoesItems [] old new = new ≡ old
+    DoesItems (d ∷ ds) old new =
+        (mid : DispatchState P) × DoesItem d old mid × DoesItems ds mid new
+
+    abbrev pub IsItemTurn : DispatchState P → DispatchState P → Result Bool Failed → Type 0
+    IsItemTurn old new (Ok true) = (d : Dispatched) × DoesItem d old new
+    IsItemTurn old new (Ok false) = EndsByStop old new
+    IsItemTurn old new (Err fault) = EndsByFault old new
+
+    -- items one after the other, and how it ended: Ok only where the inbox stopped
+    pub record RunsDispatcher (old new : DispatchState P) (result : Result (Unit {0}) Failed)
+        : Type 0 where
+      pub dispatched : List Dispatched
+      pub last : DispatchState P
+      pub does : DoesItems dispatched old last
+      pub ends : EndsDispatcher last new result
+      -- so each port has put, and counted, what the fates say
+      pub ports : ArePortsAfter 0 dispatched old.ports new.ports

@@ -1,0 +1,4 @@
+pub mod Announcing
+pub mod Dispatches
+pub mod Dispatching
+pub mod PortsAfter

@@ -1,0 +1,45 @@
+//! Announcements of the epoch to all hosts (RFC 6887, section 14.1).
+ghost use Rattle.std.specs.Prelude.{[], ◌∷◌};
+ghost use Rattle.job_dispatch.specs.declared.ports.TheConstants.{ALL_HOSTS_V4, ALL_HOSTS_V6, ANNOUNCEMENT_PORT};
+ghost use Rattle.job_dispatch.specs.Announcing.{Announces};
+
+use crate::ports::{ALL_HOSTS_V4, ALL_HOSTS_V6, ANNOUNCEMENT_PORT};
+use job_workers::{JobHouse, send_to_both};
+use pcp_announce::Announcer;
+use pcp_io::{Clock, Outbox};
+
+/// Asks the epoch word, and announces the epoch where that is due.
+pub fn announce<O: Outbox, T: Clock, P: Drop, H: JobHouse<P>>(
+    house: &H,
+    pass: &mut P,
+    announcer: &mut Announcer,
+    out: &mut O,
+    clock: &mut T,
+)
+    requires { (H.calls house.now).is_pass pass.old }
+    ensures { Announces (H.calls house.now) (ALL_HOSTS_V4 ∷ ALL_HOSTS_V6 ∷ []) ANNOUNCEMENT_PORT
+        (record {
+          pass = pass.old;
+          schedule = announcer.old;
+          sent = O.sent out.old;
+          faults = O.faults out.old;
+          times = T.times clock.old;
+        })
+        (record {
+          pass = pass.new;
+          schedule = announcer.new;
+          sent = O.sent out.new;
+          faults = O.faults out.new;
+          times = T.times clock.new;
+        }) }
+{
+    let base = house.told(pass);
+    let time = clock.now();
+    announcer.seen(base, time);
+    let mut head = [0; 24];
+    let is_due = announcer.due(time, &mut head);
+    if !is_due {
+        return;
+    }
+    send_to_both(out, ALL_HOSTS_V4, ALL_HOSTS_V6, ANNOUNCEMENT_PORT, &head);
+}
