@@ -1,5 +1,6 @@
 //! `pcp`: answers Port Control Protocol requests (RFC 6887).
 #![tactic(auto)]
+
 ghost use Rattle.std.specs.Prelude.{◌≡◌, ◌≢◌};
 ghost use Rattle.std.specs.declared.io.ErrorKind.TheVariants.{OutOfMemory};
 ghost use Rattle.server_commands.specs.declared.statuses.Status.TheVariants.{Memory, WordsRefused};
