@@ -1,0 +1,81 @@
+//! The end of a house of many threads.
+ghost use Rattle.std.specs.Prelude.{◌≡◌, ◌+◌, ◌<◌, ◌≤◌, length, vec_capacity, Some};
+ghost use Rattle.std.specs.List.{slice_get};
+ghost use Rattle.lease_house.specs.BookCalls.{ChangesAt};
+ghost use Rattle.shared_house.specs.declared.passes.HousePass.{HousePass};
+ghost use Rattle.shared_house.specs.Endings.{AreAtHome, EndsAll, IsAtHome};
+ghost use Rattle.shared_house.specs.Turnings.{EndsOne};
+
+use crate::houses::House;
+use crate::passes::HousePass;
+use crate::shards::Shard;
+use crate::turning::end_one;
+use lease_disk::{DiskPair, LeaseDisk};
+use lease_house::put_first;
+use std::sync::Wait;
+use turn_lock::Turn;
+
+/// Takes a turn for good with the pass at this place, and hands its pair out.
+fn end_at<D: LeaseDisk + Drop, R: Wait>(
+    rt: &R,
+    turn: Turn<Shard<D>>,
+    passes: &mut Vec<HousePass<D>>,
+    place: usize,
+) -> DiskPair<D>
+    requires there { place < length passes.old.items }
+    requires home { (pass : HousePass D) → slice_get passes.old.items place ≡ Some pass →
+        IsAtHome turn pass }
+    ensures { ChangesAt place passes.old.items passes.new.items
+        (λ p q. EndsOne D.tells D.seen D.may_leave D.faults turn.key p q result) }
+{
+    end_one(rt, turn, &mut passes[place])
+}
+
+/// Takes each turn for good with the pass of its place. All pairs come before the spare ones, in the
+/// vector that has those.
+fn end_all<D: LeaseDisk + Drop, R: Wait>(
+    rt: &R,
+    turns: Vec<Turn<Shard<D>>>,
+    passes: &mut Vec<HousePass<D>>,
+    spare: Vec<DiskPair<D>>,
+) -> Vec<DiskPair<D>>
+    requires home { AreAtHome turns.items passes.old.items }
+    requires room { length turns.items + length spare.items ≤ vec_capacity spare }
+    ensures { EndsAll D.tells D.seen D.may_leave D.faults turns.items passes.old.items
+        passes.new.items spare.items result.items }
+{
+    let mut turns = turns;
+    let mut pairs = spare;
+    for _ in 0..turns.len() {
+        let turn = turns.pop().unwrap();
+        let place = turns.len();
+        let pair = end_at(rt, turn, passes, place);
+        put_first(&mut pairs, pair);
+    }
+    turns.destroy_empty();
+    pairs
+}
+
+impl<D: LeaseDisk + Drop> House<D> {
+    ghost use Rattle.std.specs.Prelude.{◌≡◌, ◌+◌, length};
+    ghost use Rattle.shared_house.specs.Endings.{AreAtHome, EndsAll};
+
+    /// Takes each turn for good with the pass of its place, which then has seen the whole history of
+    /// its external address, and ends its lane. All pairs come back in the order in which the house got
+    /// them. It takes no memory. Every later `serve` or `lose` of another pass waits for ever, and
+    /// every later lookup of a lane may.
+    pub fn end<R: Wait>(self, rt: &R, passes: &mut Vec<HousePass<D>>) -> Vec<DiskPair<D>>
+        requires { AreAtHome self.turns passes.old.items }
+        ensures ended { EndsAll D.tells D.seen D.may_leave D.faults self.turns passes.old.items
+            passes.new.items self.spare result.items }
+        ensures count { length result.items ≡ length self.turns + length self.spare }
+    {
+        let House {
+            config: _config,
+            turns,
+            word: _word,
+            spare,
+        } = self;
+        end_all(rt, turns, passes, spare)
+    }
+}
