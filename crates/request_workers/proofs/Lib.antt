@@ -1,0 +1,5 @@
+pub mod BegunLemmas
+pub mod CountLemmas
+pub mod SeatLemmas
+pub mod ServeLemmas
+pub mod ShardLemmas

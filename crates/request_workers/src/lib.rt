@@ -1,0 +1,19 @@
+//! The threads of a server: a dispatcher, a worker for each external address, and a loop for each
+//! lane.
+#![tactic(auto)]
+
+mod begun;
+mod endings;
+mod laws;
+mod rooms;
+mod seats;
+mod serving;
+mod threads;
+
+pub use begun::serve_room;
+pub use endings::finish_all;
+pub use laws::rows_count;
+pub use rooms::{Room, make_room};
+pub use seats::{Seat, add_seats, seat_all, take_first};
+pub use serving::run_seated;
+pub use threads::run_threads;

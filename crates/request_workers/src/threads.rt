@@ -1,0 +1,310 @@
+//! The dispatcher, the workers and the loops of the lanes, all at once.
+ghost use Rattle.std.specs.Prelude.{◌≡◌, ◌≤◌, [], ◌∷◌, length, map};
+ghost use Rattle.std.specs.Thread.{IsSend, IsSync};
+ghost use Rattle.pcp_base.specs.Configs.{IsConfig};
+ghost use Rattle.pcp_io.specs.declared.inboxes.TheConstants.{LONGEST_DATAGRAM};
+ghost use Rattle.job_dispatch.specs.declared.ports.TheConstants.{ALL_HOSTS_V4, ALL_HOSTS_V6, ANNOUNCEMENT_PORT};
+ghost use Rattle.job_dispatch.specs.Dispatches.{ArePorts};
+ghost use Rattle.job_dispatch.specs.Dispatching.{RunsDispatcher};
+ghost use Rattle.lane_loops.specs.LaneSets.{AllRun, lane_states};
+ghost use Rattle.job_workers.specs.Stations.{AllWorked, AreStations, stations};
+
+use job_dispatch::{Port, dispatch};
+use job_queue::JobQueue;
+use job_workers::{Desk, JobHouse, run_workers};
+use lane_index::Lane;
+use lane_loops::run_lanes;
+use pcp_announce::Announcer;
+use pcp_base::{Config, Failed};
+use pcp_io::{Clock, Gate, Inbox, LaneLink, Outbox};
+use std::alloc::Global;
+use std::sync::Wait;
+use std::sync::atomic::{AtomicBool, Ordering};
+use std::thread::{Threads, join_mut};
+
+/// The workers and the loops of the lanes.
+fn run_followers<
+    R: Threads + Wait + Sync,
+    O: Outbox + Send,
+    L: LaneLink + Send,
+    T: Clock + Send,
+    G: Gate + Sync,
+    P: Drop + Send,
+    H: JobHouse<P> + Sync,
+>(
+    rt: &R,
+    alloc: Global,
+    house: &H,
+    gate: &G,
+    ended: &AtomicBool,
+    queues: &[JobQueue],
+    desks: &mut [Desk<P>],
+    outs: &mut [O],
+    clocks: &mut [T],
+    lanes: &mut [Lane],
+    links: &mut [L],
+    lane_clocks: &mut [T],
+)
+    requires outs { length outs.old ≡ length desks.old }
+    requires clocks { length clocks.old ≡ length desks.old }
+    requires desks { AreStations (H.calls house.now) queues.now desks.old }
+    requires links { length links.old ≡ length lanes.old }
+    requires lane_clocks { length lane_clocks.old ≡ length lanes.old }
+    ensures workers { AllWorked (H.calls house.now)
+        (stations desks.old (map (λ o. record { sent = O.sent o; faults = O.faults o }) outs.old)
+        (map T.times clocks.old))
+        (stations desks.new (map (λ o. record { sent = O.sent o; faults = O.faults o }) outs.new)
+        (map T.times clocks.new)) }
+    ensures lanes { AllRun
+        (lane_states lanes.old
+        (map (λ l. record { asks = L.asks l; answers = L.answers l; faults = L.faults l }) links.old)
+        (map T.times lane_clocks.old))
+        (lane_states lanes.new
+        (map (λ l. record { asks = L.asks l; answers = L.answers l; faults = L.faults l }) links.new)
+        (map T.times lane_clocks.new)) }
+{
+    let mut working = move ||
+        requires { IsSync R.row × IsSync G.row × IsSend O.row × IsSend T.row × IsSync H.row × IsSend P.row
+            × (length outs.now ≡ length desks.now) × (length clocks.now ≡ length desks.now)
+            × AreStations (H.calls house.now) queues.now desks.now }
+        ensures { AllWorked (H.calls house.entry.now)
+            (stations desks.entry.now
+            (map (λ o. record { sent = O.sent o; faults = O.faults o }) outs.entry.now)
+            (map T.times clocks.entry.now))
+            (stations desks.exit.now
+            (map (λ o. record { sent = O.sent o; faults = O.faults o }) outs.exit.now)
+            (map T.times clocks.exit.now)) }
+    { run_workers(rt, alloc, house, gate, ended, queues, desks, outs, clocks) };
+    let mut looking = move ||
+        requires { IsSync R.row × IsSend L.row × IsSend T.row
+            × (length links.now ≡ length lanes.now) × (length lane_clocks.now ≡ length lanes.now) }
+        ensures { AllRun
+            (lane_states lanes.entry.now
+            (map (λ l. record { asks = L.asks l; answers = L.answers l; faults = L.faults l }) links.entry.now)
+            (map T.times lane_clocks.entry.now))
+            (lane_states lanes.exit.now
+            (map (λ l. record { asks = L.asks l; answers = L.answers l; faults = L.faults l }) links.exit.now)
+            (map T.times lane_clocks.exit.now)) }
+    { run_lanes(rt, ended, lanes, links, lane_clocks) };
+    join_mut(rt, &mut working, &mut looking);
+}
+
+/// Tells all who wait that the dispatcher has ended.
+fn tell_end(ended: &AtomicBool, ports: &[Port]) {
+    ended.store(true, Ordering::SeqCst);
+    for port in ports {
+        port.unparker.unpark();
+    }
+}
+
+/// Dispatches, and tells the end to all who wait for it.
+fn lead<R: Wait, I: Inbox, O: Outbox, T: Clock, P: Drop, H: JobHouse<P>>(
+    rt: &R,
+    alloc: Global,
+    house: &H,
+    config: &Config,
+    queues: &[JobQueue],
+    ended: &AtomicBool,
+    pass: &mut P,
+    announcer: &mut Announcer,
+    ports: &mut [Port],
+    inbox: &mut I,
+    out: &mut O,
+    clock: &mut T,
+    piece: &mut [u8],
+) -> Result<(), Failed>
+    requires config { IsConfig config.now }
+    requires pass { (H.calls house.now).is_pass pass.old }
+    requires ports { ArePorts config.now queues.now ports.old }
+    requires all { length ports.old ≡ length config.now.externals }
+    requires piece { LONGEST_DATAGRAM ≤ length piece.old }
+    ensures { RunsDispatcher (H.calls house.now) config.now (ALL_HOSTS_V4 ∷ ALL_HOSTS_V6 ∷ []) ANNOUNCEMENT_PORT
+        (record {
+          ports = ports.old;
+          announcing = record {
+            pass = pass.old;
+            schedule = announcer.old;
+            sent = O.sent out.old;
+            faults = O.faults out.old;
+            times = T.times clock.old;
+          };
+          left = I.left inbox.old;
+          faults = I.faults inbox.old;
+        })
+        (record {
+          ports = ports.new;
+          announcing = record {
+            pass = pass.new;
+            schedule = announcer.new;
+            sent = O.sent out.new;
+            faults = O.faults out.new;
+            times = T.times clock.new;
+          };
+          left = I.left inbox.new;
+          faults = I.faults inbox.new;
+        })
+        result }
+{
+    let read = dispatch(
+        rt, alloc, house, config, queues, pass, announcer, ports, inbox, out, clock, piece,
+    );
+    tell_end(ended, ports);
+    read
+}
+
+/// Runs all until the inbox stops or fails and all others have ended. The dispatcher waits for nobody,
+/// so it goes first where no thread can be made.
+pub fn run_threads<
+    R: Threads + Wait + Sync,
+    I: Inbox,
+    O: Outbox + Send,
+    L: LaneLink + Send,
+    T: Clock + Send,
+    G: Gate + Sync,
+    P: Drop + Send,
+    H: JobHouse<P> + Sync,
+>(
+    rt: &R,
+    alloc: Global,
+    house: &H,
+    config: &Config,
+    gate: &G,
+    ended: &AtomicBool,
+    queues: &[JobQueue],
+    desks: &mut [Desk<P>],
+    outs: &mut [O],
+    clocks: &mut [T],
+    lanes: &mut [Lane],
+    links: &mut [L],
+    lane_clocks: &mut [T],
+    pass: &mut P,
+    announcer: &mut Announcer,
+    ports: &mut [Port],
+    inbox: &mut I,
+    out: &mut O,
+    clock: &mut T,
+    piece: &mut [u8],
+) -> Result<(), Failed>
+    requires outs { length outs.old ≡ length desks.old }
+    requires clocks { length clocks.old ≡ length desks.old }
+    requires desks { AreStations (H.calls house.now) queues.now desks.old }
+    requires links { length links.old ≡ length lanes.old }
+    requires lane_clocks { length lane_clocks.old ≡ length lanes.old }
+    requires config { IsConfig config.now }
+    requires pass { (H.calls house.now).is_pass pass.old }
+    requires ports { ArePorts config.now queues.now ports.old }
+    requires all { length ports.old ≡ length config.now.externals }
+    requires piece { LONGEST_DATAGRAM ≤ length piece.old }
+    ensures workers { AllWorked (H.calls house.now)
+        (stations desks.old (map (λ o. record { sent = O.sent o; faults = O.faults o }) outs.old)
+        (map T.times clocks.old))
+        (stations desks.new (map (λ o. record { sent = O.sent o; faults = O.faults o }) outs.new)
+        (map T.times clocks.new)) }
+    ensures lanes { AllRun
+        (lane_states lanes.old
+        (map (λ l. record { asks = L.asks l; answers = L.answers l; faults = L.faults l }) links.old)
+        (map T.times lane_clocks.old))
+        (lane_states lanes.new
+        (map (λ l. record { asks = L.asks l; answers = L.answers l; faults = L.faults l }) links.new)
+        (map T.times lane_clocks.new)) }
+    ensures dispatcher { RunsDispatcher (H.calls house.now) config.now (ALL_HOSTS_V4 ∷ ALL_HOSTS_V6 ∷ []) ANNOUNCEMENT_PORT
+        (record {
+          ports = ports.old;
+          announcing = record {
+            pass = pass.old;
+            schedule = announcer.old;
+            sent = O.sent out.old;
+            faults = O.faults out.old;
+            times = T.times clock.old;
+          };
+          left = I.left inbox.old;
+          faults = I.faults inbox.old;
+        })
+        (record {
+          ports = ports.new;
+          announcing = record {
+            pass = pass.new;
+            schedule = announcer.new;
+            sent = O.sent out.new;
+            faults = O.faults out.new;
+            times = T.times clock.new;
+          };
+          left = I.left inbox.new;
+          faults = I.faults inbox.new;
+        })
+        result }
+{
+    let mut following = move ||
+        requires { IsSync R.row × IsSync G.row × IsSend O.row × IsSend T.row × IsSend L.row
+            × IsSync H.row × IsSend P.row × (length outs.now ≡ length desks.now)
+            × (length clocks.now ≡ length desks.now) × AreStations (H.calls house.now) queues.now desks.now
+            × (length links.now ≡ length lanes.now) × (length lane_clocks.now ≡ length lanes.now) }
+        ensures { AllWorked (H.calls house.entry.now)
+            (stations desks.entry.now
+            (map (λ o. record { sent = O.sent o; faults = O.faults o }) outs.entry.now)
+            (map T.times clocks.entry.now))
+            (stations desks.exit.now
+            (map (λ o. record { sent = O.sent o; faults = O.faults o }) outs.exit.now)
+            (map T.times clocks.exit.now))
+            × AllRun
+            (lane_states lanes.entry.now
+            (map (λ l. record { asks = L.asks l; answers = L.answers l; faults = L.faults l }) links.entry.now)
+            (map T.times lane_clocks.entry.now))
+            (lane_states lanes.exit.now
+            (map (λ l. record { asks = L.asks l; answers = L.answers l; faults = L.faults l }) links.exit.now)
+            (map T.times lane_clocks.exit.now)) }
+    {
+        run_followers(
+            rt,
+            alloc,
+            house,
+            gate,
+            ended,
+            queues,
+            desks,
+            outs,
+            clocks,
+            lanes,
+            links,
+            lane_clocks,
+        )
+    };
+    let mut leading = move || -> Result<(), Failed>
+        requires { IsConfig config.now × (H.calls house.now).is_pass pass.now
+            × ArePorts config.now queues.now ports.now
+            × (length ports.now ≡ length config.now.externals) × (LONGEST_DATAGRAM ≤ length piece.now) }
+        ensures { RunsDispatcher (H.calls house.entry.now) config.entry.now (ALL_HOSTS_V4 ∷ ALL_HOSTS_V6 ∷ []) ANNOUNCEMENT_PORT
+            (record {
+              ports = ports.entry.now;
+              announcing = record {
+                pass = pass.entry.now;
+                schedule = announcer.entry.now;
+                sent = O.sent out.entry.now;
+                faults = O.faults out.entry.now;
+                times = T.times clock.entry.now;
+              };
+              left = I.left inbox.entry.now;
+              faults = I.faults inbox.entry.now;
+            })
+            (record {
+              ports = ports.exit.now;
+              announcing = record {
+                pass = pass.exit.now;
+                schedule = announcer.exit.now;
+                sent = O.sent out.exit.now;
+                faults = O.faults out.exit.now;
+                times = T.times clock.exit.now;
+              };
+              left = I.left inbox.exit.now;
+              faults = I.faults inbox.exit.now;
+            })
+            result }
+    {
+        lead(
+            rt, alloc, house, config, queues, ended, pass, announcer, ports, inbox, out, clock,
+            piece,
+        )
+    };
+    let (_, read) = join_mut(rt, &mut following, &mut leading);
+    read
+}
