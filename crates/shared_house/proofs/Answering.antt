@@ -3,9 +3,8 @@ use Rattle.std.specs.Prelude.{count_by}
 use Rattle.std.specs.List.{AllByRecursion, cons_option, sum_by}
 use Rattle.std.proofs.lemmas.List.Sums.{sum_by-append}
 use Rattle.std.proofs.lemmas.Bool.Decides.{nat_tests}
-use Rattle.std.proofs.Common.{Bool, true, false, cond, eqb, ◌&&◌, if◌then◌else◌, ◌≡◌, ◌≢◌, ◌∙◌, ℕ, ◌+◌, ◌≤◌, ◌<◌, ◌^◌, max, List, [], ◌∷◌, ◌++◌, length, map, Option, Some, None, refl, ap, sym, subst, append_assoc, arith}
+use Rattle.std.proofs.Common.{Bool, true, false, cond, eqb, ◌&&◌, if◌then◌else◌, ◌≡◌, ◌∙◌, ℕ, ◌≤◌, List, [], ◌∷◌, ◌++◌, length, map, Option, Some, None, refl, ap, sym, subst, append_assoc, arith}
 use Rattle.std.proofs.lemmas.List.{append-nil}
-use Rattle.pcp_base.specs.declared.asks.Ask.{Ask}
 use Rattle.pcp_base.specs.declared.datagrams.Entry.{Entry}
 use Rattle.pcp_base.specs.declared.records.Record.{Record}
 use Rattle.pcp_base.specs.Apply.{apply_all}
@@ -16,14 +15,14 @@ use Rattle.lease_core.specs.declared.decided.Decided.{Decided}
 use Rattle.lease_core.specs.Decide.{decide}
 use Rattle.shard_book.specs.Batches.{answers_at, decide_all, kept_before, records_kept}
 use Rattle.shard_book.specs.Batches as book
-use Rattle.lease_histories.specs.Entries.{Served, Request, EntryKind, OfRequest, entry_kind, kind_without_octets, request_entry}
+use Rattle.lease_histories.specs.Entries.{Served, OfRequest, entry_kind, kind_without_octets, request_entry}
 use Rattle.lease_histories.specs.Legal.{IsLegal, IsNextEntry, records_of, state_after, moment_after, base_after}
 use Rattle.lease_histories.specs.PlainHouses.{with_kept}
 use Rattle.lease_histories.specs.Laws.{Comes, DecisionsComeNext, IsNoLess, NextIsLegal}
 use Rattle.pcp_base.specs.declared.datagrams.Datagram.{Datagram}
 use Rattle.shared_house.specs.BatchEntries.{Asked, entry_of, entries_along, reply_in}
 use Rattle.shared_house.specs.FaultCounts.{fault_count, is_of_fault}
-use Rattle.shared_house.specs.Reading.{replies_to, reply_to}
+use Rattle.shared_house.specs.Reading.{replies_to}
 use Rattle.shared_house.proofs.Histories.{after-one, state-append}
 
 kept-one : (s : State) (kept : Option Record) → apply_all s (cons_option kept []) ≡ with_kept s kept

@@ -1,5 +1,5 @@
 -- What answering a batch leaves of a shard.
-use Rattle.std.proofs.Common.{◌≡◌, ◌≢◌, ◌∙◌, ℕ, ◌+◌, ◌≤◌, ◌<◌, ◌^◌, max, List, [], ◌∷◌, ◌++◌, ◌⊎◌, inl, inr, length, map, Option, Some, None, refl, ap, sym, subst, arith}
+use Rattle.std.proofs.Common.{◌≡◌, ◌≢◌, ◌∙◌, ℕ, ◌≤◌, ◌<◌, ◌^◌, max, List, [], ◌∷◌, ◌++◌, length, map, Option, Some, None, refl, ap, sym, subst, arith}
 use Rattle.std.specs.List.{cons_option, filter_map}
 use Rattle.std.proofs.lemmas.List.{append-nil, length-map}
 use Rattle.pcp_base.specs.declared.addresses.Address.{Address}
@@ -28,12 +28,12 @@ use Rattle.lease_histories.specs.Entries.{Request, request_of}
 use Rattle.shared_house.specs.BatchEntries.{Asked, asked_by, asked_in, entries_along, reply_in}
 use Rattle.shared_house.specs.Inside.{IsMoved, asked_shard, come_in_shard, left_shard}
 use Rattle.shared_house.specs.Reading.{IsReadBy, replies_to}
-use Rattle.shared_house.specs.ShardCalls.{AddsBatch, AnswersBatch, IsBatchOf, LeavesInDoubt, RefusesBatch, batch_entries, doubted, faults_of}
+use Rattle.shared_house.specs.ShardCalls.{AddsBatch, AnswersBatch, IsBatchOf, LeavesInDoubt, batch_entries, doubted, faults_of}
 use Rattle.shared_house.specs.Shards.{MayCome, StandsFor, served_by}
 use Rattle.shared_house.proofs.Answering.{along-records, along-replies}
 use Rattle.shared_house.proofs.Keeping.{asked-long, batch-may-come, batch-refused, coming-in, doubts-shard, keeps-shard, pending, serves-settled}
 use Rattle.shared_house.proofs.LaneLemmas.{stands-adding, stands-moved}
-use Rattle.shared_house.proofs.Standing.{Holds, stands-still}
+use Rattle.shared_house.proofs.Standing.{Holds}
 
 few-by : (d : Datagram) (o : Option Request) (more : List Asked) (batch : List Datagram) → length more ≤ length batch → length (cons_option (asked_by d o) more) ≤ length (d ∷ batch)
 few-by d None more batch h = omega (arith, h)

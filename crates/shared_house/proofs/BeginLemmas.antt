@@ -1,24 +1,20 @@
 -- Lists of turns, passes and lanes with which a house begins.
 use Rattle.std.specs.List.{AllByRecursion, AllZip, slice_get, sum_by}
-use Rattle.std.proofs.Common.{◌≡◌, ◌∙◌, ℕ, zero, suc, ◌+◌, ◌-◌, ◌^◌, ◌<◌, List, [], ◌∷◌, ◌++◌, inl, inr, length, map, Some, refl, ap, sym, subst, append_assoc, arith}
+use Rattle.std.proofs.Common.{◌≡◌, ◌∙◌, ℕ, zero, suc, ◌+◌, ◌-◌, ◌^◌, List, [], ◌∷◌, ◌++◌, length, map, Some, refl, ap, sym, subst, arith}
 use Rattle.std.proofs.lemmas.List.Sums.{sum_by-cons}
-use Rattle.atomic_table.specs.Seated.{TableId}
 use Rattle.pcp_base.specs.declared.configs.Config.{Config}
 use Rattle.pcp_base.specs.Configs.{IsConfig}
-use Rattle.lease_disk.specs.declared.disks.DiskPair.{DiskPair}
 use Rattle.lane_index.specs.Lanes.{LaneKnowledge}
 use Rattle.turn_lock.specs.Passes.{PassKnowledge, TurnName, new_pass}
-use Rattle.epoch_word.specs.Rule.{SeatKnowledge}
 use Rattle.shard_book.specs.Books.{BookView}
 use Rattle.lease_house.proofs.ListLemmas.{get-within, within-get}
 use Rattle.shared_house.specs.declared.openings.Opening.{Opening}
 use Rattle.shared_house.specs.declared.passes.HousePass.{HousePass}
-use Rattle.shared_house.specs.Beginnings.{BeginAll, BeginsOne, ComesBack}
+use Rattle.shared_house.specs.Beginnings.{BeginAll, BeginsOne}
 use Rattle.shared_house.specs.Endings.{AreAtHome}
 use Rattle.shared_house.specs.HouseCalls.{HouseView, IsHouse, IsPassOf}
 use Rattle.shared_house.specs.Seats.{Knows}
 use Rattle.shared_house.specs.Turned.{AreUnshared}
-use Rattle.shared_house.specs.Turnings.{StandsStill, opening_of}
 
 -- ---- lists
 

@@ -1,15 +1,13 @@
 -- A shard stands for its history with the entries of a call, or with a fault and these in doubt.
 use Rattle.std.specs.Prelude.{IsSome}
-use Rattle.std.specs.List.{AllByRecursion, cons_option, filter_map}
-use Rattle.std.specs.Option.{option_map}
-use Rattle.std.proofs.Common.{◌≡◌, ◌≢◌, ◌∙◌, ℕ, ◌+◌, ◌≤◌, ◌<◌, ◌^◌, max, List, [], ◌∷◌, ◌++◌, ◌⊎◌, inl, inr, length, map, Option, Some, None, refl, ap, sym, subst, arith}
+use Rattle.std.specs.List.{AllByRecursion, cons_option}
+use Rattle.std.proofs.Common.{◌≡◌, ◌≢◌, ◌∙◌, ℕ, ◌≤◌, ◌<◌, ◌^◌, max, List, [], ◌∷◌, ◌++◌, inl, inr, length, map, Option, Some, None, refl, ap, sym, subst, arith}
 use Rattle.pcp_base.specs.declared.asks.Ask.{Ask}
 use Rattle.pcp_base.specs.declared.configs.Config.{Config}
 use Rattle.pcp_base.specs.declared.datagrams.Datagram.{Datagram}
 use Rattle.pcp_base.specs.declared.datagrams.Entry.{Entry}
 use Rattle.pcp_base.specs.declared.records.Change.TheVariants.{Lose}
 use Rattle.pcp_base.specs.declared.records.Record.{Record}
-use Rattle.pcp_base.specs.Apply.{apply_all}
 use Rattle.pcp_base.specs.States.{State}
 use Rattle.lease_disk.specs.Pairs.{PairHasCause}
 use Rattle.lease_store.specs.declared.terms.Terms.{Terms}
@@ -19,20 +17,17 @@ use Rattle.journal_sides.specs.declared.errors.JournalFault.TheVariants.{Disk, M
 use Rattle.shard_book.specs.declared.batches.Answered.{Answered}
 use Rattle.shard_book.specs.Batches.{answers_at, decide_all, records_kept}
 use Rattle.shard_book.specs.Books.{BookView, IsBook}
-use Rattle.shard_book.specs.Keepings.{Doubts, IsRefused, Keeps, Loses, Serves, batch_answers, batch_records, lose_records, unsure_after}
+use Rattle.shard_book.specs.Keepings.{Doubts, IsRefused, Keeps, Loses, Serves, batch_answers, batch_records, lose_records}
 use Rattle.lease_histories.specs.Entries.{Request, request_of}
-use Rattle.lease_histories.specs.Legal.{IsLegal, records_of, state_after, moment_after, base_after}
-use Rattle.lease_histories.specs.Laws.{Comes, DecisionsComeNext, FaultsComeNext, IsNoLess, LastIsGreatest, NextIsLegal, ServersComeNext}
+use Rattle.lease_histories.specs.Laws.{Comes, DecisionsComeNext, FaultsComeNext, NextIsLegal, ServersComeNext}
 use Rattle.lease_histories.specs.Routes.{route_of}
 use Rattle.shared_house.specs.declared.openings.Opening.{Opening}
 use Rattle.shared_house.specs.declared.shards.Shard.{Shard}
-use Rattle.shared_house.specs.BatchEntries.{Asked, IsAskedOf, asked_by, asked_in, entries_along, fault_at, loss_at, reply_in}
+use Rattle.shared_house.specs.BatchEntries.{Asked, IsAskedOf, asked_by, asked_in, entries_along, loss_at}
 use Rattle.shared_house.specs.Inside.{asked_shard, come_in_shard, left_shard}
-use Rattle.shared_house.specs.Reading.{replies_to}
-use Rattle.shared_house.specs.ShardCalls.{IsBatchOf, doubted, faults_of}
+use Rattle.shared_house.specs.ShardCalls.{faults_of}
 use Rattle.shared_house.specs.Shards.{LeadsTo, MayCome, StandsFor, served_by}
-use Rattle.shared_house.proofs.Answering.{AreComing, along-at, along-legal, along-no-faults, along-records, along-replies}
-use Rattle.shared_house.proofs.Histories.{after-one}
+use Rattle.shared_house.proofs.Answering.{AreComing, along-at, along-legal, along-no-faults, along-records}
 use Rattle.shared_house.proofs.Standing.{Holds, leads-in, leads-same, may-come-still, stands-fault, stands-still, stands-with}
 
 module _ {D : Type 0} where

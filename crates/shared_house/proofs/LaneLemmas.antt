@@ -1,7 +1,7 @@
 -- What the lane of a shard has, as its history grows and as records are published.
-use Rattle.std.specs.List.{cons_option, filter_map, slice_get}
+use Rattle.std.specs.List.{cons_option}
 use Rattle.std.specs.Prelude.{IfSome}
-use Rattle.std.proofs.Common.{◌≡◌, ◌≢◌, ◌∙◌, ℕ, ◌+◌, ◌≤◌, ◌<◌, List, [], ◌∷◌, ◌++◌, length, take, drop, Option, Some, None, refl, ap, sym, subst, append_assoc, arith}
+use Rattle.std.proofs.Common.{◌≡◌, ◌∙◌, ℕ, ◌≤◌, List, [], ◌∷◌, ◌++◌, length, take, drop, Option, refl, ap, sym, subst, append_assoc, arith}
 use Rattle.std.proofs.lemmas.List.{append-nil, append_cancel_right, take-append-drop}
 use Rattle.std.proofs.Math.Seq.{take-length}
 use Rattle.std.proofs.lemmas.List.Elements.{filter_map-append}
@@ -10,8 +10,7 @@ use Rattle.pcp_base.specs.declared.records.Record.{Record}
 use Rattle.pcp_base.specs.Apply.{apply, apply_all}
 use Rattle.pcp_base.specs.Sound.{Sound}
 use Rattle.pcp_base.specs.States.{State}
-use Rattle.pcp_base.specs.Tables.{Table}
-use Rattle.lane_index.specs.Lanes.{ToldRecords, WriterKnowledge, opening_state, told_records}
+use Rattle.lane_index.specs.Lanes.{ToldRecords, WriterKnowledge, told_records}
 use Rattle.lease_histories.specs.Legal.{IsLegal, IsNextEntry, records_of, state_after}
 use Rattle.lease_histories.specs.Laws.{StatesStand}
 use Rattle.shared_house.specs.declared.openings.Opening.{Opening}
@@ -19,7 +18,7 @@ use Rattle.shared_house.specs.declared.shards.Shard.{Shard}
 use Rattle.shared_house.specs.Inside.{IsMoved}
 use Rattle.shared_house.specs.Laws.{IsPublishedOf}
 use Rattle.shared_house.specs.Publishing.{IsNextRecord, KeepsRecords, MayPush}
-use Rattle.shared_house.specs.Shards.{HasIndexed, LeadsTo, MayCome, StandsFor, all_records, served_by}
+use Rattle.shared_house.specs.Shards.{HasIndexed, StandsFor, all_records, served_by}
 use Rattle.shared_house.proofs.Histories.{state-append}
 use Rattle.shared_house.proofs.RecordsOf.{AreAlike, all-alike, apply-alike, at-place, entry-of, first-of}
 use Rattle.shared_house.proofs.Standing.{Holds, leads-same, may-come-still}

@@ -1,6 +1,6 @@
 -- The leases of an opened book, with which its lane begins.
-use Rattle.std.specs.List.{AllByRecursion, filter}
-use Rattle.std.proofs.Common.{◌≡◌, ◌∙◌, ℕ, ◌<◌, true, List, [], ◌∷◌, nat_lt, refl, ap, sym, subst}
+use Rattle.std.specs.List.{AllByRecursion}
+use Rattle.std.proofs.Common.{◌≡◌, ◌∙◌, ℕ, true, List, [], ◌∷◌, nat_lt, ap, sym, subst}
 use Rattle.std.proofs.lemmas.Bool.{lt-ltb}
 use Rattle.pcp_base.specs.declared.leases.MapLease.{MapLease}
 use Rattle.pcp_base.specs.declared.leases.PeerLease.{PeerLease}
@@ -8,7 +8,7 @@ use Rattle.pcp_base.specs.Reached.{IsReached}
 use Rattle.pcp_base.specs.Records.{IsTermAt}
 use Rattle.pcp_base.specs.Sound.{Sound}
 use Rattle.pcp_base.specs.States.{State}
-use Rattle.pcp_base.specs.Tables.{Table, live}
+use Rattle.pcp_base.specs.Tables.{live}
 use Rattle.pcp_base.proofs.Members.{filter-all}
 use Rattle.lane_index.specs.Lanes.{opening_state}
 

@@ -1,6 +1,6 @@
 -- The records of a history, from the front.
-use Rattle.std.specs.List.{cons_option, filter_map, slice_get}
-use Rattle.std.proofs.Common.{◌≡◌, ◌∙◌, ℕ, zero, suc, List, [], ◌∷◌, ◌++◌, take, Option, Some, None, refl, ap, sym, subst, append_assoc}
+use Rattle.std.specs.List.{cons_option, slice_get}
+use Rattle.std.proofs.Common.{◌≡◌, ◌∙◌, ℕ, zero, suc, List, [], ◌∷◌, ◌++◌, take, Option, Some, None, refl, ap, sym}
 use Rattle.pcp_base.specs.declared.datagrams.Entry.{Entry}
 use Rattle.pcp_base.specs.declared.records.Record.{Record}
 use Rattle.pcp_base.specs.Apply.{apply, apply_all, table_changed}

@@ -1,14 +1,11 @@
 -- The replies to a batch are those of entries that were noted once.
-use Rattle.std.specs.Prelude.{not}
-use Rattle.std.specs.List.{range_with_len, slice_get}
-use Rattle.std.proofs.Common.{◌≡◌, ◌∙◌, ℕ, zero, suc, ◌+◌, ◌≤◌, true, List, [], ◌∷◌, ◌++◌, length, map, Option, Some, None, refl, ap, sym, subst, arith}
+use Rattle.std.specs.List.{slice_get}
+use Rattle.std.proofs.Common.{◌≡◌, ◌∙◌, ℕ, zero, suc, ◌+◌, true, List, [], ◌∷◌, ◌++◌, length, map, Some, refl, ap, sym, subst}
 use Rattle.pcp_base.specs.declared.datagrams.Datagram.{Datagram}
 use Rattle.pcp_base.specs.declared.datagrams.Entry.{Entry}
-use mathlib.Core.List.{IsPrefix}
 use Rattle.lane_index.specs.Lanes.{ToldRecords}
 use Rattle.turn_lock.specs.Laws.{KnowsMore, NotedStandsOnce}
 use Rattle.turn_lock.specs.Passes.{IsPlaced, PassKnowledge, after_note}
-use Rattle.turn_lock.specs.Places.{occurrences}
 use Rattle.shared_house.specs.declared.openings.Opening.{Opening}
 use Rattle.shared_house.specs.declared.passes.HousePass.{HousePass}
 use Rattle.shared_house.specs.BatchEntries.{reply_in}

@@ -3,7 +3,6 @@ use Rattle.std.specs.List.{AllByRecursion, sum_by}
 use Rattle.std.proofs.Common.{◌≡◌, ◌∙◌, ℕ, ◌+◌, List, [], ◌∷◌, ◌++◌, length, refl, ap, sym, subst, arith}
 use Rattle.std.proofs.lemmas.List.{length-append}
 use Rattle.std.proofs.lemmas.List.Sums.{sum_by-append}
-use Rattle.atomic_table.specs.Seated.{TableId}
 use Rattle.epoch_word.specs.Rule.{AreSplit, SeatKnowledge}
 use Rattle.shared_house.specs.Seats.{AreSeats, Knows}
 

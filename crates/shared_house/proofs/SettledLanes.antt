@@ -1,11 +1,9 @@
 -- A settled shard: which records wait, and what is said of the shard before there was room for them.
-use Rattle.std.specs.List.{cons_option}
-use Rattle.std.proofs.Common.{◌≡◌, ◌≢◌, ◌∙◌, ℕ, ◌+◌, ◌≤◌, max, List, [], ◌∷◌, ◌++◌, ◌⊎◌, inl, inr, Option, Some, None, refl, ap, sym, subst}
+use Rattle.std.proofs.Common.{◌≡◌, ◌∙◌, ℕ, max, List, [], inl, inr, Option, Some, None, refl, ap, sym, subst}
 use Rattle.pcp_base.specs.declared.datagrams.Entry.{Entry}
 use Rattle.pcp_base.specs.declared.records.Record.{Record}
 use Rattle.journal_sides.specs.declared.errors.JournalFault.{JournalFault}
-use Rattle.journal_sides.specs.declared.errors.JournalFault.TheVariants.{Disk, Memory}
-use Rattle.lane_index.specs.Lanes.{WriterKnowledge}
+use Rattle.journal_sides.specs.declared.errors.JournalFault.TheVariants.{Memory}
 use Rattle.shard_book.specs.declared.standings.Settled.{Settled}
 use Rattle.shard_book.specs.declared.standings.Standing.{Standing}
 use Rattle.shard_book.specs.declared.standings.Standing.TheVariants.{Clean, In, Out, Fresh}

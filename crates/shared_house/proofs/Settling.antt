@@ -1,15 +1,13 @@
 -- A settled shard stands for its history with the entries that the settling adds.
-use Rattle.std.specs.List.{AllByRecursion, cons_option}
 use Rattle.std.specs.Prelude.{not}
-use Rattle.std.specs.List.{last_or}
-use Rattle.std.specs.Option.{option_map, option_map_or}
-use Rattle.std.proofs.Common.{◌≡◌, ◌≢◌, ◌∙◌, ℕ, ◌+◌, ◌≤◌, ◌<◌, ◌^◌, max, List, [], ◌∷◌, ◌++◌, ◌⊎◌, inl, inr, true, false, Bool, Option, Some, None, refl, ap, sym, subst, append_assoc, arith}
+use Rattle.std.specs.Option.{option_map_or}
+use Rattle.std.proofs.Common.{◌≡◌, ◌≢◌, ◌∙◌, ℕ, ◌≤◌, ◌<◌, ◌^◌, max, List, [], ◌∷◌, ◌++◌, ◌⊎◌, inl, inr, true, false, Bool, Option, Some, None, refl, ap, sym, subst, append_assoc, arith}
 use Rattle.pcp_base.specs.declared.addresses.Address.{Address}
 use Rattle.pcp_base.specs.declared.datagrams.Entry.{Entry}
 use Rattle.pcp_base.specs.declared.records.Change.{Change}
-use Rattle.pcp_base.specs.declared.records.Change.TheVariants.{Start, Map, Peer, DropMap, DropPeer, Lose, Mark, Rest, Renumber}
+use Rattle.pcp_base.specs.declared.records.Change.TheVariants.{Start, Lose}
 use Rattle.pcp_base.specs.declared.records.Record.{Record}
-use Rattle.pcp_base.specs.Apply.{apply, apply_all, empties, is_another, state_of}
+use Rattle.pcp_base.specs.Apply.{apply, empties, is_another}
 use Rattle.pcp_base.specs.States.{State}
 use Rattle.pcp_base.proofs.Same.{same_address-Decides}
 use Rattle.lease_disk.specs.Pairs.{PairHasCause}
@@ -20,14 +18,14 @@ use Rattle.shard_book.specs.declared.standings.Settled.{Settled}
 use Rattle.shard_book.specs.declared.standings.Standing.{Standing}
 use Rattle.shard_book.specs.declared.standings.Standing.TheVariants.{Clean, In, Out, Fresh}
 use Rattle.shard_book.specs.Addresses.{renumber_at, state_anew}
-use Rattle.shard_book.specs.Books.{BookView, IsBook, with_unsure}
-use Rattle.shard_book.specs.Settlings.{IsAnew, KeepsDoubt, Settles, StandingMeans, refused_of}
-use Rattle.lease_histories.specs.Entries.{OfServer, entry_kind, has_just_begun, begins_anew}
-use Rattle.lease_histories.specs.Legal.{IsLegal, IsOfServer, records_of, state_after, moment_after, base_after}
+use Rattle.shard_book.specs.Books.{BookView, IsBook}
+use Rattle.shard_book.specs.Settlings.{KeepsDoubt, Settles, StandingMeans, refused_of}
+use Rattle.lease_histories.specs.Entries.{entry_kind, has_just_begun, begins_anew}
+use Rattle.lease_histories.specs.Legal.{IsLegal, IsOfServer, state_after, moment_after, base_after}
 use Rattle.lease_histories.specs.Laws.{FaultsComeNext, IsNoLess, LastIsGreatest, NextIsLegal, ServersComeNext}
 use Rattle.shared_house.specs.declared.openings.Opening.{Opening}
 use Rattle.shared_house.specs.declared.shards.Shard.{Shard}
-use Rattle.shared_house.specs.BatchEntries.{entries_by, entries_settled, fault_at, server_entry}
+use Rattle.shared_house.specs.BatchEntries.{fault_at, server_entry}
 use Rattle.shared_house.specs.Inside.{settled_shard, shard_by}
 use Rattle.shared_house.specs.ShardCalls.{faults_of}
 use Rattle.shared_house.specs.Shards.{LeadsTo, MayCome, StandsFor, served_by}

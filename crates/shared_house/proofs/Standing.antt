@@ -1,23 +1,19 @@
 -- A shard stands for its history still, with what a call adds.
-use Rattle.std.specs.Prelude.{IsSome}
-use Rattle.std.specs.List.{AllByRecursion, cons_option}
+use Rattle.std.specs.List.{AllByRecursion}
 use Rattle.std.specs.Option.{option_map_or}
-use Rattle.std.proofs.Common.{◌≡◌, ◌≢◌, ◌∙◌, ℕ, ◌+◌, ◌≤◌, ◌<◌, ◌^◌, max, List, [], ◌∷◌, ◌++◌, ◌⊎◌, inl, inr, true, false, Option, Some, None, refl, ap, sym, subst, append_assoc, arith}
+use Rattle.std.proofs.Common.{◌≡◌, ◌≢◌, ◌∙◌, ℕ, ◌≤◌, ◌<◌, ◌^◌, List, [], ◌∷◌, ◌++◌, true, false, Option, Some, None, refl, ap, sym, subst, arith}
 use Rattle.std.proofs.lemmas.List.{append-nil}
-use Rattle.pcp_base.specs.declared.addresses.Address.{Address}
 use Rattle.pcp_base.specs.declared.datagrams.Entry.{Entry}
-use Rattle.pcp_base.specs.declared.records.Change.TheVariants.{Start, Lose}
 use Rattle.pcp_base.specs.declared.records.Record.{Record}
-use Rattle.pcp_base.specs.Apply.{apply, apply_all}
+use Rattle.pcp_base.specs.Apply.{apply_all}
 use Rattle.pcp_base.specs.States.{State}
 use Rattle.lease_disk.specs.Pairs.{PairHasCause}
 use Rattle.lease_store.specs.declared.terms.Terms.{Terms}
 use Rattle.lease_store.specs.LeaseTerms.{terms_of}
-use Rattle.journal_sides.specs.declared.errors.JournalFault.{JournalFault}
-use Rattle.journal_sides.specs.declared.errors.JournalFault.TheVariants.{Disk, Memory}
-use Rattle.shard_book.specs.Books.{BookView, IsBook}
-use Rattle.lease_histories.specs.Entries.{OfFault, entry_kind}
-use Rattle.lease_histories.specs.Legal.{IsLegal, IsOpening, records_of, state_after, moment_after, base_after}
+use Rattle.journal_sides.specs.declared.errors.JournalFault.TheVariants.{Disk}
+use Rattle.shard_book.specs.Books.{IsBook}
+use Rattle.lease_histories.specs.Entries.{entry_kind}
+use Rattle.lease_histories.specs.Legal.{IsLegal, IsOpening, records_of}
 use Rattle.lease_histories.specs.Laws.{FaultsComeNext, NextIsLegal}
 use Rattle.shared_house.specs.declared.openings.Opening.{Opening}
 use Rattle.shared_house.specs.declared.shards.Shard.{Shard}

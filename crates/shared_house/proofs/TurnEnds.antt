@@ -1,7 +1,6 @@
 -- A book goes behind a turn, and is taken out for good.
-use Rattle.std.specs.List.{slice_get}
 use Rattle.std.specs.Option.{option_map}
-use Rattle.std.proofs.Common.{◌≡◌, ◌≢◌, ◌∙◌, ℕ, ◌≤◌, ◌<◌, ◌⊎◌, List, [], ◌++◌, Option, Some, None, inl, inr, refl, ap, sym, subst, arith}
+use Rattle.std.proofs.Common.{◌≡◌, ◌≢◌, ◌∙◌, ℕ, List, [], ◌++◌, Option, Some, None, inl, inr, refl, ap, sym, subst, arith}
 use Rattle.pcp_base.specs.declared.addresses.Address.{Address}
 use Rattle.pcp_base.specs.declared.configs.Config.{Config}
 use Rattle.pcp_base.specs.declared.configs.External.{External}
@@ -9,13 +8,12 @@ use Rattle.pcp_base.specs.declared.datagrams.Entry.{Entry}
 use Rattle.pcp_base.specs.declared.records.Record.{Record}
 use Rattle.pcp_base.specs.Apply.{apply_all}
 use Rattle.pcp_base.specs.States.{State}
-use Rattle.lease_disk.specs.declared.disks.DiskPair.{DiskPair}
 use Rattle.lease_disk.specs.Pairs.{HoldsNow}
 use Rattle.journal_sides.specs.declared.errors.JournalFault.{JournalFault}
 use Rattle.journal_sides.specs.declared.errors.JournalFault.TheVariants.{Disk, Memory}
 use Rattle.journal_sides.specs.Journals.{StandsFor as StandsForState, StandsForWithOrWithout}
 use Rattle.lane_index.specs.Lanes.{LaneKnowledge, WriterKnowledge}
-use Rattle.shard_book.specs.Books.{BookView, IsBook}
+use Rattle.shard_book.specs.Books.{BookView}
 use Rattle.lease_histories.specs.Legal.{records_of, state_after}
 use Rattle.lease_histories.specs.Laws.{NothingIsLegal}
 use Rattle.shared_house.specs.declared.openings.Opening.{Opening}

@@ -1,6 +1,6 @@
 -- A house of many threads as contracts see it, and what its calls do (our own).
-use Rattle.std.specs.Prelude.{◌≡◌, ◌⊎◌, ◌≤◌, ◌<◌, ◌+◌, ℕ, max, false, List, [], ◌∷◌, ◌++◌, length, map, Option, Some}
-use Rattle.std.specs.List.{AllByRecursion, range_with_len, slice_get}
+use Rattle.std.specs.Prelude.{◌≡◌, ◌⊎◌, ◌≤◌, ◌<◌, ◌+◌, ℕ, max, false, List, [], ◌∷◌, ◌++◌, length, map, Some}
+use Rattle.std.specs.List.{range_with_len, slice_get}
 use Rattle.pcp_base.specs.declared.configs.Config.{Config}
 use Rattle.pcp_base.specs.Configs.{IsConfig}
 use Rattle.pcp_base.specs.declared.datagrams.Datagram.{Datagram}

@@ -1,5 +1,5 @@
 -- The requests of a batch, as they are read (our own; for private contracts).
-use Rattle.std.specs.Prelude.{◌≡◌, ◌≤◌, ℕ, ◌+◌, List, [], ◌∷◌, ◌++◌, length, map, take, Option, Some, slice_get}
+use Rattle.std.specs.Prelude.{◌≡◌, ◌≤◌, List, [], ◌∷◌, length, map, Option, Some, slice_get}
 use Rattle.std.specs.List.{AllByRecursion}
 use Rattle.std.specs.Option.{option_map}
 use Rattle.pcp_base.specs.declared.addresses.Address.{Address}
@@ -12,7 +12,7 @@ use Rattle.lease_histories.specs.Entries.{reply_text_of}
 use Rattle.shard_book.specs.declared.batches.Answered.{Answered}
 use Rattle.shared_house.specs.declared.reading.Requests.{Requests}
 use Rattle.shared_house.specs.declared.reading.Source.{Source}
-use Rattle.shared_house.specs.BatchEntries.{Asked, IsAskedOf, asked_in}
+use Rattle.shared_house.specs.BatchEntries.{Asked, IsAskedOf}
 
 -- a datagram, and the options that came with it
 abbrev pub source_in : List Datagram → Source → Option (Datagram × List Item)

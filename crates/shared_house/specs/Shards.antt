@@ -3,11 +3,10 @@ use Rattle.std.specs.Prelude.{◌≡◌, ◌≢◌, ◌<◌, ◌≤◌, ◌^◌,
 use Rattle.std.specs.List.{AllByRecursion}
 use Rattle.pcp_base.specs.declared.datagrams.Entry.{Entry}
 use Rattle.pcp_base.specs.declared.records.Record.{Record}
-use Rattle.pcp_base.specs.States.{State}
 use Rattle.journal_sides.specs.declared.errors.JournalFault.TheVariants.{Disk}
 use Rattle.lease_store.specs.LeaseTerms.{terms_of}
 use Rattle.lane_index.specs.Lanes.{opening_state}
-use Rattle.shard_book.specs.Books.{BookView, IsBook}
+use Rattle.shard_book.specs.Books.{IsBook}
 use Rattle.lease_histories.specs.Entries.{Served}
 use Rattle.lease_histories.specs.Legal.{IsLegal, IsOpening, base_after, moment_after, records_of, state_after}
 use Rattle.shared_house.specs.declared.openings.Opening.{Opening}

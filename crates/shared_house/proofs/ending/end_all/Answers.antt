@@ -1,5 +1,5 @@
 use Rattle.std.specs.List.{slice_get}
-use Rattle.std.proofs.Common.{◌≡◌, ◌∙◌, ℕ, ◌+◌, ◌++◌, [], ◌∷◌, Some, length, arith, rules, ap, sym, subst}
+use Rattle.std.proofs.Common.{◌≡◌, ◌∙◌, ℕ, ◌++◌, [], ◌∷◌, Some, length, arith, rules, ap, sym, subst}
 use Rattle.std.proofs.lemmas.List.{length-append}
 use Rattle.lease_house.specs.BookCalls.{ChangesAt}
 use Rattle.shared_house.specs.Turnings.{EndsOne}

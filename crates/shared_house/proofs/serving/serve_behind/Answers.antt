@@ -1,4 +1,4 @@
-use Rattle.std.proofs.Common.{List, ◌∙◌}
+use Rattle.std.proofs.Common.{List}
 use Rattle.pcp_base.specs.declared.datagrams.Entry.{Entry}
 use Rattle.shared_house.specs.HouseCalls.{batch_behind, raised_behind}
 use Rattle.shared_house.proofs.HeldLemmas.{if-err-weaker, if-ok-two, serves-house, refuses-house}

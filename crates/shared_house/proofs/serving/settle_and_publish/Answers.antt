@@ -1,5 +1,4 @@
-use Rattle.std.proofs.Common.{◌≡◌, ◌∙◌, ap, sym, subst}
-use Rattle.pcp_base.specs.States.{State}
+use Rattle.std.proofs.Common.{◌∙◌, ap, sym}
 use Rattle.shared_house.specs.declared.shards.Shard.{Shard}
 use Rattle.shared_house.specs.HeldCalls.{raised_to}
 use Rattle.shared_house.proofs.HeldLemmas.{if-err-weaker, on-ok, settles-on, unsettled-held, unshown-held}

@@ -1,4 +1,4 @@
-use Rattle.std.proofs.Common.{◌≡◌, ◌+◌, ◌<◌, ◌++◌, [], ◌∷◌, List, Some, length, vec_capacity, arith, rules, ap, sym}
+use Rattle.std.proofs.Common.{◌≡◌, ◌<◌, ◌++◌, [], ◌∷◌, Some, length, arith, rules, ap}
 use Rattle.std.proofs.lemmas.List.{length-append}
 use Rattle.turn_lock.specs.Passes.{TurnName, new_pass}
 use Rattle.shared_house.specs.declared.openings.Opening.{Opening}

@@ -1,12 +1,10 @@
-use Rattle.std.specs.List.{AllZip}
-use Rattle.std.proofs.Common.{◌≡◌, ◌∙◌, ℕ, ◌+◌, ◌<◌, ◌≤◌, List, [], ◌∷◌, ◌++◌, length, vec_capacity, arith, rules, ap, sym, subst}
+use Rattle.std.proofs.Common.{◌≡◌, ◌∙◌, ℕ, ◌+◌, ◌<◌, length, arith, rules, ap, sym, subst}
 use Rattle.std.proofs.lemmas.List.{length-append}
-use Rattle.shard_book.specs.Books.{BookView}
 use Rattle.lease_house.proofs.OpenedBooks.{first_removed}
 use Rattle.shared_house.specs.declared.turned.Turned.{Turned}
 use Rattle.shared_house.specs.Turned.{AllMayBegin, AreUnshared, HasRoomFor, TakesApart}
 use Rattle.shared_house.proofs.BeginLemmas.{IsKeyed, begin-keyed, begin-unshared, zip-length}
-use Rattle.shared_house.proofs.TurnedLemmas.{IsOut, all-seated, all-turned, none-left, none-turned-to, one-turned, stopped-back, untouched-back}
+use Rattle.shared_house.proofs.TurnedLemmas.{IsOut, none-turned-to, one-turned, stopped-back, untouched-back}
 use Rattle.shared_house.proofs.turned.turn_all.Goals as goal
 
 pub returns-in-Err-clause-back : goal.returns-in-Err-clause-back

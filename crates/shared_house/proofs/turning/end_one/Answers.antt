@@ -1,5 +1,4 @@
-use Rattle.std.proofs.Common.{◌≡◌, ◌∙◌, refl, ap, sym, subst}
-use Rattle.lease_disk.specs.declared.disks.DiskPair.{DiskPair}
+use Rattle.std.proofs.Common.{◌∙◌, refl, ap, sym, subst}
 use Rattle.lease_disk.specs.Pairs.{HoldsNow}
 use Rattle.journal_sides.specs.Journals.{StandsForWithOrWithout}
 use Rattle.lease_histories.specs.Legal.{records_of, state_after}

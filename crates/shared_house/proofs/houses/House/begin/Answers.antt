@@ -1,4 +1,4 @@
-use Rattle.std.proofs.Common.{◌≡◌, ◌∙◌, List, length, inl, ap, sym, subst}
+use Rattle.std.proofs.Common.{◌∙◌, List, length, inl, ap, sym, subst}
 use Rattle.pcp_base.specs.declared.configs.Config.{Config}
 use Rattle.lease_disk.specs.declared.disks.DiskPair.{DiskPair}
 use Rattle.lease_house.specs.SoloOpenings.{OpensAll}

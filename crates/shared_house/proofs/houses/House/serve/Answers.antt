@@ -1,9 +1,8 @@
 use Rattle.std.specs.List.{slice_get}
-use Rattle.std.proofs.Common.{◌≡◌, ◌∙◌, List, Some, ap, sym, subst}
+use Rattle.std.proofs.Common.{◌≡◌, ◌∙◌, List, Some, ap, subst}
 use Rattle.std.proofs.lemmas.Option.{get_or_from_slice_get}
 use Rattle.pcp_base.specs.declared.datagrams.Entry.{Entry}
-use Rattle.shared_house.specs.declared.openings.Opening.{Opening}
-use Rattle.shared_house.specs.HouseCalls.{LosesHouse, RefusesHouse, ServesHouse, batch_behind, raised_behind}
+use Rattle.shared_house.specs.HouseCalls.{RefusesHouse, ServesHouse, batch_behind, raised_behind}
 use Rattle.shared_house.proofs.HouseLemmas.{begins-with, passes-on}
 use Rattle.shared_house.proofs.houses.House.serve.Goals as goal
 

@@ -1,19 +1,15 @@
 use Rattle.std.specs.Prelude.{vec_capacity, vec_len}
 use Rattle.std.specs.List.{filter_map}
-use Rattle.std.proofs.Common.{◌≡◌, ◌≢◌, ◌≤◌, ◌<◌, ◌∙◌, ◌++◌, ◌+◌, ℕ, List, [], None, length, refl, map, max, ap, sym, subst, arith, rules}
+use Rattle.std.proofs.Common.{◌≡◌, ◌≢◌, ◌≤◌, ◌∙◌, ◌++◌, ◌+◌, List, [], None, length, refl, max, ap, sym, subst, arith, rules}
 use Rattle.std.proofs.lemmas.List.{length-map}
 use Rattle.pcp_base.specs.declared.asks.Ask.{Ask}
-use Rattle.pcp_base.specs.declared.datagrams.Entry.{Entry}
 use Rattle.shard_book.specs.declared.batches.Answered.{Answered}
 use Rattle.shard_book.specs.Keepings.{IsRefused, Serves, batch_records}
-use Rattle.journal_sides.specs.declared.layout.TheConstants.{MOST_RECORDS}
-use Rattle.shared_house.specs.declared.openings.Opening.{Opening}
 use Rattle.shared_house.specs.declared.shards.Shard.{Shard}
 use Rattle.shared_house.specs.BatchEntries.{Asked, asked_in}
 use Rattle.shared_house.specs.Reading.{replies_to}
-use Rattle.shared_house.specs.ShardCalls.{IsBatchOf}
 use Rattle.shared_house.specs.Shards.{StandsFor}
-use Rattle.shared_house.proofs.BatchCalls.{IsAsked, adds-moved, answered-so, answered-up, asked-few, moved-so, moved-stands, refused-up, serves-count}
+use Rattle.shared_house.proofs.BatchCalls.{IsAsked, adds-moved, answered-so, answered-up, asked-few, refused-up, serves-count}
 use Rattle.shared_house.proofs.LaneLemmas.{stands-moved}
 use Rattle.shared_house.proofs.shards.Shard.answer.Goals as goal
 

@@ -1,11 +1,9 @@
-use Rattle.std.specs.List.{cons_option}
-use Rattle.std.proofs.Common.{◌≡◌, ◌≤◌, ◌<◌, ◌^◌, ◌∙◌, ◌++◌, List, [], ◌∷◌, None, max, refl, ap, sym, subst, arith, rules}
+use Rattle.std.proofs.Common.{◌≡◌, ◌∙◌, ◌++◌, List, [], ◌∷◌, None, max, refl, ap, sym, subst, arith, rules}
 use Rattle.pcp_base.specs.declared.datagrams.Entry.{Entry}
 use Rattle.pcp_base.specs.declared.records.Change.TheVariants.{Lose}
 use Rattle.shared_house.specs.declared.shards.Shard.{Shard}
 use Rattle.shared_house.specs.BatchEntries.{loss_at}
 use Rattle.shared_house.specs.Inside.{asked_shard, come_in_shard, left_shard}
-use Rattle.shared_house.specs.ShardCalls.{faults_of}
 use Rattle.shared_house.specs.Shards.{StandsFor}
 use Rattle.shared_house.proofs.BatchCalls.{fault-adds}
 use Rattle.shared_house.proofs.Keeping.{doubts-shard, keeps-shard, loses-settled, loss-may-come, loss-refused}

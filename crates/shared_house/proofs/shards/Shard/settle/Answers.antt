@@ -1,6 +1,5 @@
 use Rattle.std.specs.Prelude.{Err}
-use Rattle.std.proofs.Common.{◌≡◌, ◌≤◌, ◌∙◌, ◌++◌, List, [], max, refl, ap, sym, subst, arith, rules}
-use Rattle.pcp_base.specs.declared.datagrams.Entry.{Entry}
+use Rattle.std.proofs.Common.{◌≡◌, ◌∙◌, ◌++◌, List, [], max, refl, ap, sym, subst, arith, rules}
 use Rattle.pcp_base.specs.declared.records.Record.{Record}
 use Rattle.lease_histories.specs.Legal.{records_of}
 use Rattle.shared_house.specs.declared.shards.Shard.{Shard}
