@@ -1,5 +1,6 @@
-//! What holds of the tally. A proof that needs a law calls its function.
+//! What holds of a run. A proof that needs a law calls its function.
 ghost use Rattle.request_workers.specs.Counts.{RowsCount};
+ghost use Rattle.request_workers.specs.Passes.{PassesStay};
 
 use job_workers::JobHouse;
 
@@ -7,4 +8,9 @@ use job_workers::JobHouse;
 /// them, and what was dropped.
 pub fn rows_count<P: Drop, H: JobHouse<P>>(house: &H)
     ensures { RowsCount (H.calls house.now) }
+{}
+
+/// The passes that come back are those of the house still, in order.
+pub fn passes_stay<P: Drop, H: JobHouse<P>>(house: &H)
+    ensures { PassesStay (H.calls house.now) }
 {}

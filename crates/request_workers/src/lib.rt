@@ -12,7 +12,7 @@ mod threads;
 
 pub use begun::serve_room;
 pub use endings::finish_all;
-pub use laws::rows_count;
+pub use laws::{passes_stay, rows_count};
 pub use rooms::{Room, make_room};
 pub use seats::{Seat, add_seats, seat_all, take_first};
 pub use serving::run_seated;
