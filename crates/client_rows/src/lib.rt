@@ -7,3 +7,5 @@ mod clients;
 mod heads;
 #[cfg(test)]
 mod wants;
+#[cfg(test)]
+mod words;

@@ -1,0 +1,5 @@
+pub mod Commands
+pub mod Options
+pub mod Parses
+pub mod Parts
+pub mod Values
