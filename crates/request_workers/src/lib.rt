@@ -8,6 +8,7 @@ mod laws;
 mod rooms;
 mod seats;
 mod serving;
+mod splitting;
 mod threads;
 
 pub use begun::serve_room;
@@ -16,4 +17,5 @@ pub use laws::{passes_stay, rows_count};
 pub use rooms::{Room, make_room};
 pub use seats::{Seat, add_seats, seat_all, take_first};
 pub use serving::run_seated;
+pub use splitting::split_first;
 pub use threads::run_threads;
