@@ -3,7 +3,7 @@
 
 ghost use Rattle.std.specs.Prelude.{◌≡◌, ◌≢◌};
 ghost use Rattle.std.specs.declared.io.ErrorKind.TheVariants.{OutOfMemory};
-ghost use Rattle.server_commands.specs.declared.statuses.Status.TheVariants.{Memory, WordsRefused};
+ghost use Rattle.server_commands.specs.declared.statuses.Status.TheVariants as Statuses;
 
 mod kept;
 mod places;
@@ -113,8 +113,8 @@ fn words(rt: &HostRuntime) -> Result<Vec<String>, Status> {
 
 /// How the program ends where its words can't be had.
 fn status_of(kind: ErrorKind) -> Status
-    ensures memory { kind ≡ OutOfMemory → result ≡ Memory }
-    ensures words { kind ≢ OutOfMemory → result ≡ WordsRefused }
+    ensures memory { kind ≡ OutOfMemory → result ≡ Statuses.Memory }
+    ensures words { kind ≢ OutOfMemory → result ≡ Statuses.WordsRefused }
 {
     match kind {
         ErrorKind::OutOfMemory => Status::Memory,
