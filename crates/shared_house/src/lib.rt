@@ -26,7 +26,7 @@ pub use beginning::Begun;
 pub use houses::House;
 pub use laws::{passes_share_histories, published_records_were_noted, replies_are_noted_once};
 pub use openings::Opening;
-pub use passes::HousePass;
+pub use passes::{HousePass, give_up};
 pub use served::Served;
 pub use shards::Shard;
 pub use turning::{Unturned, end_one, turn_of};

@@ -18,4 +18,4 @@ mod views;
 pub use held::Held;
 pub use kept::Kept;
 pub use laws::{noted_entries_stand_once, passes_share_one_history, tickets_go_on};
-pub use turn::{Pass, Turn, Unmade};
+pub use turn::{Pass, Turn, Unmade, give_up};

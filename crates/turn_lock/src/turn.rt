@@ -48,6 +48,15 @@ pub struct Pass<V: Kept> {
     room: u64,
 }
 
+/// Gives a pass up, as a drop does: for a value whose type isn't `Drop`, of which a drop asks. What it has
+/// noted stays noted, and its share of the right to make others is lost with it.
+pub fn give_up<V: Kept>(pass: Pass<V>) {
+    let Pass {
+        seat: _seat,
+        room: _,
+    } = pass;
+}
+
 impl<V: Kept> Model for Pass<V> {
     ghost use Rattle.turn_lock.specs.Passes.{PassKnowledge, knowledge_of, IsPass};
 
