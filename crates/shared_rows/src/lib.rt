@@ -1,4 +1,4 @@
-//! Tests of a house of many threads: disks that fail, and what a lane learns.
+//! Tests of a house of many threads: disks that fail, what a lane learns, and eight threads at once.
 #![tactic(auto)]
 
 #[cfg(test)]
@@ -15,3 +15,5 @@ mod grants;
 mod lanes;
 #[cfg(test)]
 mod reopened;
+#[cfg(test)]
+mod threads;
