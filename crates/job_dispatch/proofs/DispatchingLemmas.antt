@@ -1,5 +1,5 @@
 -- Items that are handed on one after the other.
-use Rattle.std.proofs.Common.{◌≡◌, ◌≢◌, ℕ, suc, zero, take, IfSome, ◌⊎◌, inl, inr, Bool, true, false, List, [], ◌∷◌, ◌++◌, length, slice_set, Some, Result, Ok, Err, refl, sym, ap, ◌∙◌, subst}
+use Rattle.std.proofs.Common.{◌≡◌, ◌≢◌, ◌≤◌, ℕ, suc, zero, take, IfSome, ◌⊎◌, inl, inr, Bool, true, false, List, [], ◌∷◌, ◌++◌, length, slice_set, Some, Result, Ok, Err, refl, sym, ap, ◌∙◌, subst}
 use Rattle.std.specs.List.{slice_get}
 use Rattle.atomic_table.specs.Seated.{TableId}
 use Rattle.pcp_base.specs.declared.addresses.Address.{Address}
@@ -126,12 +126,12 @@ ends_by_fault house config queues groups port a b c (Ok false) fault h turn is =
 
 -- an item that isn't a stop was announced and handed on
 pub item_turn : {P : Type 0} (house : HouseCalls P) (config : Config) (groups : List Address) (port : ℕ) (old new : DispatchState P) (incoming : Incoming) (room : List ℕ)
-    → IsNextItem old.left new.left (item_of incoming room) → incoming ≢ Incomings.Stop → Announces house groups port old.announcing new.announcing
+    → IsNextItem old.left new.left (item_of incoming room) → old.faults ≤ new.faults → incoming ≢ Incomings.Stop → Announces house groups port old.announcing new.announcing
     → IfSome (item_of incoming room) (λ item. HasFate config item old.ports new.ports) → (d : Dispatched) × DoesItem house config groups port d old new
-item_turn house config groups port old new (Incomings.Packet peer at n) room next on announced h =
-    (record { item = Items.Packet (record { peer = peer; port = at; octets = take n room }); fate = h.0 }, record { given = next; announced = announced; fate = h.1 })
-item_turn house config groups port old new (Incomings.Lose address) room next on announced h =
-    (record { item = Items.Lose address; fate = h.0 }, record { given = next; announced = announced; fate = h.1 })
-item_turn house config groups port old new Incomings.Quiet room next on announced h =
-    (record { item = Items.Quiet; fate = h.0 }, record { given = next; announced = announced; fate = h.1 })
-item_turn house config groups port old new Incomings.Stop room next on announced h = absurd (on refl)
+item_turn house config groups port old new (Incomings.Packet peer at n) room next later on announced h =
+    (record { item = Items.Packet (record { peer = peer; port = at; octets = take n room }); fate = h.0 }, record { given = next; later = later; announced = announced; fate = h.1 })
+item_turn house config groups port old new (Incomings.Lose address) room next later on announced h =
+    (record { item = Items.Lose address; fate = h.0 }, record { given = next; later = later; announced = announced; fate = h.1 })
+item_turn house config groups port old new Incomings.Quiet room next later on announced h =
+    (record { item = Items.Quiet; fate = h.0 }, record { given = next; later = later; announced = announced; fate = h.1 })
+item_turn house config groups port old new Incomings.Stop room next later on announced h = absurd (on refl)

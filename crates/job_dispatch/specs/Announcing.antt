@@ -7,8 +7,8 @@ use Rattle.pcp_announce.specs.Schedules.{Schedule, after_due, after_seen, announ
 use Rattle.job_workers.specs.HouseCalls.{HouseCalls, IsTold}
 use Rattle.job_workers.specs.Sends.{Handed, HandsAll, to_all}
 
--- what announcements work on: the pass that asks the epoch word, the announcer, and of the outbox and
--- the clock what they tell
+-- what announcements work on: the pass that asks the epoch word, the announcer, and of the outbox
+-- and the clock what they tell
 pub record AnnounceState (P : Type 0) : Type 0 where
   pub pass : P
   pub schedule : Schedule
@@ -20,8 +20,8 @@ pub record AnnounceState (P : Type 0) : Type 0 where
 abbrev pub due_to : List Address → ℕ → Schedule → ℕ → List Datagram
 due_to groups port s time = if is_due s time then to_all groups port (announcement s time) else []
 
--- The epoch word is asked and the clock is read once; the announcer sees that base and is asked once.
--- Where an announcement is due it goes to all groups, in order.
+-- The epoch word is asked and the clock is read once; the announcer sees that base and is asked
+-- once. Where an announcement is due it goes to all groups, in order.
 pub record Announces {P : Type 0} (house : HouseCalls P) (groups : List Address) (port : ℕ)
     (old new : AnnounceState P) : Type 0 where
   pub base : ℕ

@@ -1,5 +1,5 @@
--- What the dispatcher does (our own): the items of the inbox one after the other, each to the queue of
--- its external address, and announcements in between.
+-- What the dispatcher does (our own): the items of the inbox one after the other, each to the queue
+-- of its external address, and announcements in between.
 use Rattle.std.specs.Prelude.{◌≡◌, ℕ, ◌==◌, ◌⊎◌, List, [], ◌∷◌, ◌++◌, length, filter_map, slice_set, Option, Some, None, if◌then◌else◌}
 use Rattle.std.specs.List.{position_from, slice_get}
 use Rattle.atomic_table.specs.Seated.{TableId}

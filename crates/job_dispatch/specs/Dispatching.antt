@@ -1,5 +1,5 @@
 -- The dispatcher's run (our own): items one after the other, and how it ended.
-use Rattle.std.specs.Prelude.{◌≡◌, ℕ, Bool, true, false, List, [], ◌∷◌, Option, Some, None, Result, Ok, Err}
+use Rattle.std.specs.Prelude.{◌≡◌, ◌≤◌, ℕ, Bool, true, false, List, [], ◌∷◌, Option, Some, None, Result, Ok, Err}
 use Rattle.pcp_base.specs.declared.addresses.Address.{Address}
 use Rattle.pcp_base.specs.declared.configs.Config.{Config}
 use Rattle.pcp_base.specs.declared.errors.Failed.{Failed}
@@ -37,9 +37,11 @@ module _ {P : Type 0} where
 
 module _ {P : Type 0} (house : HouseCalls P) (config : Config) (groups : List Address) (port : ℕ)
   where
-    -- The inbox gave the item, announcements were made, and the item has this fate.
+    -- The inbox gave the item, announcements were made, and the item has this fate. The inbox's
+    -- count hasn't fallen.
     pub record DoesItem (d : Dispatched) (old new : DispatchState P) : Type 0 where
       pub given : IsNextItem old.left new.left (Some d.item)
+      pub later : old.faults ≤ new.faults
       pub announced : Announces house groups port old.announcing new.announcing
       pub fate : IsFate config d.item d.fate old.ports new.ports
 

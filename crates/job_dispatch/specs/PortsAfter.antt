@@ -1,4 +1,5 @@
--- What the dispatcher has put and counted for each external address, by the fates of the items (our own).
+-- What the dispatcher has put and counted for each external address, by the fates of the items (our
+-- own).
 use Rattle.std.specs.Prelude.{◌≡◌, ℕ, ◌+◌, List, [], ◌∷◌, ◌++◌, ◌==◌, fold, map, if◌then◌else◌}
 use Rattle.job_queue.specs.declared.jobs.Job.{Job}
 use Rattle.job_queue.specs.Queues.{PutterKnowledge}
@@ -31,4 +32,5 @@ abbrev pub ArePortsAfter : ℕ → List Dispatched → List Port → List Port �
 ArePortsAfter shard ds [] [] = Unit {0}
 ArePortsAfter shard ds [] (p ∷ ps) = ⊥
 ArePortsAfter shard ds (o ∷ os) [] = ⊥
-ArePortsAfter shard ds (o ∷ os) (p ∷ ps) = IsPortAfter shard ds o p × ArePortsAfter (shard + 1) ds os ps
+ArePortsAfter shard ds (o ∷ os) (p ∷ ps) =
+    IsPortAfter shard ds o p × ArePortsAfter (shard + 1) ds os ps

@@ -9,7 +9,7 @@ use pcp_announce::Announcer;
 use pcp_io::{Clock, Outbox};
 
 /// Asks the epoch word, and announces the epoch where that is due.
-pub fn announce<O: Outbox, T: Clock, P: Drop, H: JobHouse<P>>(
+pub fn announce<O: Outbox, T: Clock, P, H: JobHouse<P>>(
     house: &H,
     pass: &mut P,
     announcer: &mut Announcer,

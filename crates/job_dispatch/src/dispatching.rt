@@ -49,7 +49,7 @@ fn dispatch_item<R: Wait>(
 }
 
 /// Takes an item, announces what is due, and hands the item on. False where the inbox stopped.
-fn do_item<R: Wait, I: Inbox, O: Outbox, T: Clock, P: Drop, H: JobHouse<P>>(
+fn do_item<R: Wait, I: Inbox, O: Outbox, T: Clock, P, H: JobHouse<P>>(
     rt: &R,
     alloc: Global,
     house: &H,
@@ -68,7 +68,8 @@ fn do_item<R: Wait, I: Inbox, O: Outbox, T: Clock, P: Drop, H: JobHouse<P>>(
     requires ports { ArePorts config.now queues.now ports.old }
     requires all { length ports.old ≡ length config.now.externals }
     requires piece { LONGEST_DATAGRAM ≤ length piece.old }
-    ensures { IsItemTurn (H.calls house.now) config.now (ALL_HOSTS_V4 ∷ ALL_HOSTS_V6 ∷ []) ANNOUNCEMENT_PORT
+    ensures { IsItemTurn (H.calls house.now) config.now (ALL_HOSTS_V4 ∷ ALL_HOSTS_V6 ∷ [])
+        ANNOUNCEMENT_PORT
         (record {
           ports = ports.old;
           announcing = record {
@@ -105,7 +106,7 @@ fn do_item<R: Wait, I: Inbox, O: Outbox, T: Clock, P: Drop, H: JobHouse<P>>(
 }
 
 /// Hands on all items until the inbox stops or fails.
-pub fn dispatch<R: Wait, I: Inbox, O: Outbox, T: Clock, P: Drop, H: JobHouse<P>>(
+pub fn dispatch<R: Wait, I: Inbox, O: Outbox, T: Clock, P, H: JobHouse<P>>(
     rt: &R,
     alloc: Global,
     house: &H,
@@ -124,7 +125,8 @@ pub fn dispatch<R: Wait, I: Inbox, O: Outbox, T: Clock, P: Drop, H: JobHouse<P>>
     requires ports { ArePorts config.now queues.now ports.old }
     requires all { length ports.old ≡ length config.now.externals }
     requires piece { LONGEST_DATAGRAM ≤ length piece.old }
-    ensures { RunsDispatcher (H.calls house.now) config.now (ALL_HOSTS_V4 ∷ ALL_HOSTS_V6 ∷ []) ANNOUNCEMENT_PORT
+    ensures { RunsDispatcher (H.calls house.now) config.now (ALL_HOSTS_V4 ∷ ALL_HOSTS_V6 ∷ [])
+        ANNOUNCEMENT_PORT
         (record {
           ports = ports.old;
           announcing = record {

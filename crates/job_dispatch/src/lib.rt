@@ -1,5 +1,5 @@
-//! The dispatcher: what comes into the inbox goes, in order, to the queues of the external addresses,
-//! and the epoch is announced in between.
+//! The dispatcher: what comes into the inbox goes, in order, to the queues of the external
+//! addresses, and the epoch is announced in between.
 #![tactic(auto)]
 
 mod announcements;

@@ -1,5 +1,5 @@
 -- Work that goes on.
-use Rattle.std.proofs.Common.{◌≡◌, true, ℕ, ◌-◌, ◌/◌, List, [], ◌∷◌, ◌++◌, length, map, Option, Some, refl, sym, ap, ◌∙◌, subst, inl, inr, append_assoc, arith}
+use Rattle.std.proofs.Common.{◌≡◌, ◌≤◌, true, ℕ, ◌-◌, ◌/◌, List, [], ◌∷◌, ◌++◌, length, map, Option, Some, refl, sym, ap, ◌∙◌, subst, inl, inr, append_assoc, arith}
 use Rattle.std.specs.List.{AllByRecursion}
 use Rattle.std.proofs.lemmas.List.{append-nil, length-map}
 use Rattle.std.proofs.lemmas.Grind.{flat_map-append}
@@ -10,6 +10,7 @@ use Rattle.pcp_io.specs.Sends.{sent_with}
 use Rattle.pcp_io.specs.Times.{Times, IsTimeNow}
 use Rattle.lease_house.specs.declared.faults.HouseFault.{HouseFault}
 use Rattle.lease_histories.specs.Routes.{route_of}
+use Rattle.job_queue.specs.declared.batches.TheConstants.{MOST_BATCH}
 use Rattle.job_queue.specs.declared.jobs.Job.{Job}
 use Rattle.job_queue.specs.declared.jobs.Job.TheVariants as Jobs
 use Rattle.job_queue.specs.declared.jobs.JobsRoute.{JobsRoute}
@@ -55,6 +56,7 @@ Works-lost {P} house old new row_old row_new times_old times_new sent faults h =
     let a : WorkState P = record { pass = old; row = row_old; sent = sent; faults = faults; times = times_old } in
     let b : WorkState P = record { pass = new; row = row_new; sent = sent; faults = faults; times = times_new } in
     let does : DoesCall house h.call a b = record {
+      few = omega (arith, ap length h.jobs);
       clock = h.clock;
       by_house = h.by_house;
       stays = h.stays;
@@ -168,9 +170,9 @@ pub answers_batch : {P : Type 0} (house : HouseCalls P) (time m : ℕ) (old new 
     (sent_old sent_new : Option (List Datagram)) (faults_old faults_new : ℕ) (batch replies handed_on : List Datagram) (sends : Sends) (silent : ℕ)
     → m ≡ time / 1000 → IsTimeNow times_old times_new time → AnswersBatchOf house m batch old new replies → handed_on ≡ replies
     → HandsOn handed_on sends sent_old sent_new faults_old faults_new → silent ≡ length batch - length replies
-    → row_new ≡ row_replied row_old (length batch) silent sends.sent sends.failed
+    → row_new ≡ row_replied row_old (length batch) silent sends.sent sends.failed → length batch ≤ MOST_BATCH
     → AnswersBatch house batch (record { pass = old; row = row_old; sent = sent_old; faults = faults_old; times = times_old }) (record { pass = new; row = row_new; sent = sent_new; faults = faults_new; times = times_new })
-answers_batch house time m old new row_old row_new times_old times_new sent_old sent_new faults_old faults_new batch replies handed_on sends silent second clock serves same h quiet row =
+answers_batch house time m old new row_old row_new times_old times_new sent_old sent_new faults_old faults_new batch replies handed_on sends silent second clock serves same h quiet row few =
     let told : List Datagram = map (λ (x : Handed). x.reply) h.handed in
     let served : AnswersBatchOf house (time / 1000) batch old new told =
     subst (λ (ds : List Datagram). AnswersBatchOf house (time / 1000) batch old new ds) (sym (h.replies_are ∙ same)) (subst (λ n. AnswersBatchOf house n batch old new replies) second serves) in
@@ -183,6 +185,7 @@ answers_batch house time m old new row_old row_new times_old times_new sent_old 
       call = record { jobs = jobs; time = time; own = served.own; result = Replied h.handed };
       jobs = refl;
       does = record {
+        few = omega (arith, count, few);
         clock = clock;
         by_house = record { batch = batch; jobs_are = refl; answers = served.answers };
         stays = served.stays;
@@ -200,9 +203,9 @@ answers_batch house time m old new row_old row_new times_old times_new sent_old 
 pub lacks_batch : {P : Type 0} (house : HouseCalls P) (time m : ℕ) (old new : P) (row_old row_new : TallyRow) (times_old times_new : Option Times)
     (sent : Option (List Datagram)) (faults : ℕ) (batch : List Datagram) (fault : HouseFault)
     → m ≡ time / 1000 → IsTimeNow times_old times_new time → RefusesBatchOf house m batch old new fault
-    → row_new ≡ row_refused row_old (length batch) fault
+    → row_new ≡ row_refused row_old (length batch) fault → length batch ≤ MOST_BATCH
     → AnswersBatch house batch (record { pass = old; row = row_old; sent = sent; faults = faults; times = times_old }) (record { pass = new; row = row_new; sent = sent; faults = faults; times = times_new })
-lacks_batch house time m old new row_old row_new times_old times_new sent faults batch fault second clock refuses row =
+lacks_batch house time m old new row_old row_new times_old times_new sent faults batch fault second clock refuses row few =
     let refused : RefusesBatchOf house (time / 1000) batch old new fault = subst (λ n. RefusesBatchOf house n batch old new fault) second refuses in
     let jobs : List Job = map Jobs.Packet batch in
     let count : length jobs ≡ length batch = length-map batch Jobs.Packet in
@@ -210,6 +213,7 @@ lacks_batch house time m old new row_old row_new times_old times_new sent faults
       call = record { jobs = jobs; time = time; own = refused.own; result = Refused fault };
       jobs = refl;
       does = record {
+        few = omega (arith, count, few);
         clock = clock;
         by_house = inl (record { batch = batch; jobs_are = refl; refuses = refused.refuses });
         stays = refused.stays;

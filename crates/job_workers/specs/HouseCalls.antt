@@ -11,8 +11,8 @@ pub record HouseCalls (P : Type 0) : Type 1 where
   pub is_pass : P → Type 0
   -- the index of its external address
   pub place_of : P → ℕ
-  -- At this second the batch was answered: the pass before and after, the entries that the call noted
-  -- as its own, and the replies.
+  -- At this second the batch was answered: the pass before and after, the entries that the call
+  -- noted as its own, and the replies.
   pub answers : ℕ → List Datagram → P → P → List Entry → List Datagram → Type 0
   -- all leases were lost, by these entries of the call's own
   pub loses : ℕ → P → P → List Entry → Type 0

@@ -1,10 +1,12 @@
--- What a worker does (our own): calls of the house one after the other, and what it hands on of each.
+-- What a worker does (our own): calls of the house one after the other, and what it hands on of
+-- each.
 use Rattle.std.specs.Prelude.{◌≡◌, ℕ, ◌-◌, ◌/◌, ◌≤◌, ◌⊎◌, List, [], ◌∷◌, length, map, flat_map, Option}
 use Rattle.pcp_base.specs.declared.datagrams.Datagram.{Datagram}
 use Rattle.pcp_base.specs.declared.datagrams.Entry.{Entry}
 use Rattle.pcp_io.specs.Sends.{sent_with}
 use Rattle.pcp_io.specs.Times.{Times, IsTimeNow}
 use Rattle.lease_house.specs.declared.faults.HouseFault.{HouseFault}
+use Rattle.job_queue.specs.declared.batches.TheConstants.{MOST_BATCH}
 use Rattle.job_queue.specs.declared.jobs.Job.{Job}
 use Rattle.job_queue.specs.declared.jobs.Job.TheVariants.{Packet, Lose}
 use Rattle.job_workers.specs.declared.tallies.TallyRow.{TallyRow}
@@ -92,9 +94,10 @@ module _ {P : Type 0} (house : HouseCalls P) where
   IsOfHouse now old new jobs own (Refused fault) =
       LacksBatch now old new jobs own fault ⊎ LacksLoss now old new jobs own fault
 
-  -- One call: the clock is read once, and then the house is called at that second. The replies are
-  -- handed on, and the row counts.
+  -- One call, for few jobs: the clock is read once, and then the house is called at that second.
+  -- The replies are handed on, and the row counts.
   pub record DoesCall (call : WorkCall) (old new : WorkState P) : Type 0 where
+    pub few : length call.jobs ≤ MOST_BATCH
     pub clock : IsTimeNow old.times new.times call.time
     pub by_house :
         IsOfHouse (call.time / 1000) old.pass new.pass call.jobs call.own call.result

@@ -11,7 +11,7 @@ use std::alloc::Global;
 use std::sync::Wait;
 
 /// Both ends of the queue meet, and what is left is done: then all that was put was taken.
-pub fn finish<R: Wait, O: Outbox, T: Clock, G: Gate, P: Drop, H: JobHouse<P>>(
+pub fn finish<R: Wait, O: Outbox, T: Clock, G: Gate, P, H: JobHouse<P>>(
     rt: &R,
     alloc: Global,
     house: &H,

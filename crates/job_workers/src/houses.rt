@@ -10,8 +10,8 @@ use pcp_base::{Datagram, Memory, Moment};
 use std::alloc::Global;
 use std::sync::Wait;
 
-/// A house of many threads, as its workers see it. A pass `P` is what one caller knows of the history
-/// of an external address.
+/// A house of many threads, as its workers see it. A pass `P` is what one caller knows of the
+/// history of an external address. Passes needn't be `Drop`.
 pub trait JobHouse<P> {
     // What its calls do to passes.
     ghost calls: { Self → HouseCalls P };
@@ -57,4 +57,7 @@ pub trait JobHouse<P> {
         requires { (calls self.now).is_pass pass.old }
         ensures other { IfOk result (SplitsOff (calls self.now) pass.old pass.new) }
         ensures unchanged { OnErr result (pass.new ≡ pass.old) };
+
+    /// Gives up a pass that nobody uses any more. What it has noted stays noted.
+    fn give_up(&self, pass: P);
 }

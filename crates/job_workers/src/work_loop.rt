@@ -25,7 +25,7 @@ fn is_over<R: Wait>(rt: &R, parker: &Parker, dry: bool, over: bool) -> bool {
 }
 
 /// Works until the dispatcher has ended and the queue is empty.
-pub fn work<R: Wait, O: Outbox, T: Clock, G: Gate, P: Drop, H: JobHouse<P>>(
+pub fn work<R: Wait, O: Outbox, T: Clock, G: Gate, P, H: JobHouse<P>>(
     rt: &R,
     alloc: Global,
     house: &H,
@@ -67,7 +67,7 @@ pub fn work<R: Wait, O: Outbox, T: Clock, G: Gate, P: Drop, H: JobHouse<P>>(
 }
 
 /// Does what is left in the queue. Where both ends have met, all that was put is then taken.
-pub fn work_off<R: Wait, O: Outbox, T: Clock, G: Gate, P: Drop, H: JobHouse<P>>(
+pub fn work_off<R: Wait, O: Outbox, T: Clock, G: Gate, P, H: JobHouse<P>>(
     rt: &R,
     alloc: Global,
     house: &H,

@@ -15,7 +15,7 @@ use std::sync::atomic::AtomicBool;
 use std::thread::{Threads, join_mut};
 
 /// The first worker.
-fn work_first<R: Wait, O: Outbox, T: Clock, G: Gate, P: Drop, H: JobHouse<P>>(
+fn work_first<R: Wait, O: Outbox, T: Clock, G: Gate, P, H: JobHouse<P>>(
     rt: &R,
     alloc: Global,
     house: &H,
@@ -54,7 +54,7 @@ pub fn run_workers<
     O: Outbox + Send,
     T: Clock + Send,
     G: Gate + Sync,
-    P: Drop + Send,
+    P: Send,
     H: JobHouse<P> + Sync,
 >(
     rt: &R,
@@ -100,15 +100,15 @@ pub fn run_workers<
     );
 }
 
-/// The first worker in a new thread, the others beside it. Where no thread can be made the first works
-/// last, in this one.
+/// The first worker in a new thread, the others beside it. Where no thread can be made the first
+/// works last, in this one.
 #[cycle(workers)]
 fn run_both<
     R: Threads + Wait + Sync,
     O: Outbox + Send,
     T: Clock + Send,
     G: Gate + Sync,
-    P: Drop + Send,
+    P: Send,
     H: JobHouse<P> + Sync,
 >(
     rt: &R,
@@ -142,8 +142,8 @@ fn run_both<
         (map T.times clocks.new)) }
 {
     let mut one = move ||
-        requires { IsSync R.row × IsSync G.row × IsSend O.row × IsSend T.row × IsSync H.row × IsSend P.row
-            × (length desk.now ≡ 1) × (length out.now ≡ 1) × (length clock.now ≡ 1)
+        requires { IsSync R.row × IsSync G.row × IsSend O.row × IsSend T.row × IsSync H.row
+            × IsSend P.row × (length desk.now ≡ 1) × (length out.now ≡ 1) × (length clock.now ≡ 1)
             × AreStations (H.calls house.now) queue.now desk.now }
         ensures { AllWorked (H.calls house.entry.now)
             (stations desk.entry.now
@@ -154,8 +154,9 @@ fn run_both<
             (map T.times clock.exit.now)) }
     { work_first(rt, alloc, house, gate, ended, queue, desk, out, clock) };
     let mut rest = move ||
-        requires { IsSync R.row × IsSync G.row × IsSend O.row × IsSend T.row × IsSync H.row × IsSend P.row
-            × (length outs.now ≡ length desks.now) × (length clocks.now ≡ length desks.now)
+        requires { IsSync R.row × IsSync G.row × IsSend O.row × IsSend T.row × IsSync H.row
+            × IsSend P.row × (length outs.now ≡ length desks.now)
+            × (length clocks.now ≡ length desks.now)
             × AreStations (H.calls house.now) queues.now desks.now }
         ensures { AllWorked (H.calls house.entry.now)
             (stations desks.entry.now

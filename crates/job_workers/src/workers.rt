@@ -32,7 +32,6 @@ pub enum Next {
 }
 
 /// What a worker has of its own.
-#[derive(Drop)]
 pub struct Desk<P> {
     pub shard: u32,
     pub pass: P,
@@ -43,7 +42,7 @@ pub struct Desk<P> {
     pub parker: Parker,
 }
 
-impl<P: Drop> Desk<P> {
+impl<P> Desk<P> {
     ghost use Rattle.job_workers.specs.Tallies.{no_jobs};
 
     /// A desk at which nothing was done.
@@ -81,7 +80,7 @@ fn gather<R: Wait>(rt: &R, queue: &JobQueue, taker: &mut Taker, batch: &mut Batc
 }
 
 /// Has a batch answered and hands on its replies. After a fault of the house there are none.
-fn answer_batch<R: Wait, O: Outbox, T: Clock, P: Drop, H: JobHouse<P>>(
+fn answer_batch<R: Wait, O: Outbox, T: Clock, P, H: JobHouse<P>>(
     rt: &R,
     alloc: Global,
     house: &H,
@@ -127,7 +126,7 @@ fn answer_batch<R: Wait, O: Outbox, T: Clock, P: Drop, H: JobHouse<P>>(
 }
 
 /// Has all leases lost.
-fn lose_all<R: Wait, T: Clock, P: Drop, H: JobHouse<P>>(
+fn lose_all<R: Wait, T: Clock, P, H: JobHouse<P>>(
     rt: &R,
     alloc: Global,
     house: &H,
@@ -136,7 +135,8 @@ fn lose_all<R: Wait, T: Clock, P: Drop, H: JobHouse<P>>(
     clock: &mut T,
 )
     requires { (H.calls house.now).is_pass pass.old }
-    ensures { LosesAll (H.calls house.now) pass.old pass.new row.old row.new (T.times clock.old) (T.times clock.new) }
+    ensures { LosesAll (H.calls house.now) pass.old pass.new row.old row.new
+        (T.times clock.old) (T.times clock.new) }
 {
     let now = moment_of(clock.now());
     match house.lose(rt, alloc, pass, now) {
@@ -146,7 +146,7 @@ fn lose_all<R: Wait, T: Clock, P: Drop, H: JobHouse<P>>(
 }
 
 /// Has the batch of a desk answered, where it isn't empty.
-fn do_batch<R: Wait, O: Outbox, T: Clock, G: Gate, P: Drop, H: JobHouse<P>>(
+fn do_batch<R: Wait, O: Outbox, T: Clock, G: Gate, P, H: JobHouse<P>>(
     rt: &R,
     alloc: Global,
     house: &H,
@@ -192,7 +192,7 @@ fn do_batch<R: Wait, O: Outbox, T: Clock, G: Gate, P: Drop, H: JobHouse<P>>(
 }
 
 /// Has all leases lost, where that comes behind the batch.
-fn do_loss<R: Wait, T: Clock, G: Gate, P: Drop, H: JobHouse<P>>(
+fn do_loss<R: Wait, T: Clock, G: Gate, P, H: JobHouse<P>>(
     rt: &R,
     alloc: Global,
     house: &H,
@@ -202,7 +202,8 @@ fn do_loss<R: Wait, T: Clock, G: Gate, P: Drop, H: JobHouse<P>>(
     next: Next,
 )
     requires { (H.calls house.now).is_pass desk.old.pass }
-    ensures works { (sent : Option (List Datagram)) (faults : ℕ) → Works (H.calls house.now) (behind next)
+    ensures works { (sent : Option (List Datagram)) (faults : ℕ) →
+        Works (H.calls house.now) (behind next)
         (record {
           pass = desk.old.pass;
           row = desk.old.row;
@@ -229,7 +230,7 @@ fn do_loss<R: Wait, T: Clock, G: Gate, P: Drop, H: JobHouse<P>>(
 }
 
 /// Takes jobs and does them, and says whether the queue was empty then.
-pub fn do_round<R: Wait, O: Outbox, T: Clock, G: Gate, P: Drop, H: JobHouse<P>>(
+pub fn do_round<R: Wait, O: Outbox, T: Clock, G: Gate, P, H: JobHouse<P>>(
     rt: &R,
     alloc: Global,
     house: &H,

@@ -12,6 +12,10 @@ use Rattle.job_dispatch.specs.declared.ports.Port.{Port}
 use Rattle.request_workers.specs.declared.seats.Seat.{Seat}
 use Rattle.request_workers.specs.Seats.{AreLeft, ArePasses, AreSeats, Ending, FinishesAll, IsEnding, IsSeat, IsSeated, Seats}
 
+pub empty_of : {X : Type 0} (xs : List X) → length xs ≡ 0 → xs ≡ []
+empty_of [] e = refl
+empty_of (x ∷ xs) e = absurd (omega (arith, e))
+
 -- ---- passes at desks
 
 pub seats_none : {P : Type 0} (house : HouseCalls P) (shard : ℕ) (ps : List P) (qs : List TableId) (ds : List (Desk P)) (os : List Port) → ps ≡ [] → Seats house shard ps qs qs ds ds os os

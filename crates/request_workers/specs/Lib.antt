@@ -1,4 +1,6 @@
+pub mod BegunHouses
 pub mod Counts
+pub mod Parts
 pub mod Passes
 pub mod Rooms
 pub mod Seats

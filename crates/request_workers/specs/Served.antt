@@ -30,8 +30,8 @@ abbrev pub out_of : {P : Type 0} → WorkState P → OutState
 out_of s = record { sent = s.sent; faults = s.faults }
 
 module _ {P : Type 0} (house : HouseCalls P) where
-  -- All that was put for this external address was done, in order and each once. The row counts that
-  -- and what the dispatcher dropped.
+  -- All that was put for this external address was done, in order and each once. The row counts
+  -- that and what the dispatcher dropped.
   pub record IsShardRun (shard : ℕ) (ds : List Dispatched) (r : ShardRun P) : Type 0 where
     pub works : Works house (all_put_for shard ds) r.old r.new
     pub begins : r.old.row ≡ no_jobs
@@ -43,9 +43,9 @@ module _ {P : Type 0} (house : HouseCalls P) where
   AreShardRuns shard ds [] = Unit {0}
   AreShardRuns shard ds (r ∷ rs) = IsShardRun shard ds r × AreShardRuns (shard + 1) ds rs
 
-  -- The whole run: the dispatcher handed on all items until the inbox stopped or failed; what it put
-  -- for each external address was done; the loop of each lane ran. The passes and the rows were added
-  -- in the order of the external addresses.
+  -- The whole run: the dispatcher handed on all items until the inbox stopped or failed; what it
+  -- put for each external address was done; the loop of each lane ran. The passes and the rows were
+  -- added in the order of the external addresses.
   pub record RunsAll (config : Config) (groups : List Address) (port : ℕ)
       (dispatcher : DispatchState P) (announcing : AnnounceState P)
       (items_left : Option (List InboxItem)) (inbox_faults : ℕ) (read : Result (Unit {0}) Failed)

@@ -3,6 +3,7 @@ ghost use Rattle.std.specs.Prelude.{◌≡◌, [], ◌∷◌, length, map};
 ghost use Rattle.pcp_base.specs.Configs.{IsConfig};
 ghost use Rattle.job_dispatch.specs.declared.ports.TheConstants.{ALL_HOSTS_V4, ALL_HOSTS_V6, ANNOUNCEMENT_PORT};
 ghost use Rattle.lane_loops.specs.LaneSets.{lane_states};
+ghost use Rattle.request_workers.specs.Parts.{links_told, outs_told};
 ghost use Rattle.request_workers.specs.Rooms.{IsRoom};
 ghost use Rattle.request_workers.specs.Seats.{ArePasses};
 ghost use Rattle.request_workers.specs.Served.{BeginsAnnouncer, ServesAll};
@@ -20,7 +21,7 @@ use std::sync::Wait;
 use std::thread::Threads;
 
 /// The announcer of what the epoch word tells now.
-fn begin_announcer<T: Clock, P: Drop, H: JobHouse<P>>(
+fn begin_announcer<T: Clock, P, H: JobHouse<P>>(
     house: &H,
     fresh: bool,
     pass: &mut P,
@@ -45,7 +46,7 @@ pub fn serve_room<
     L: LaneLink + Send,
     T: Clock + Send,
     G: Gate + Sync,
-    P: Drop + Send,
+    P: Send,
     H: JobHouse<P> + Sync,
 >(
     rt: &R,
@@ -82,14 +83,14 @@ pub fn serve_room<
         (T.times clock.old) (T.times clock.new)
         (I.left inbox.old) (I.left inbox.new) (I.faults inbox.old) (I.faults inbox.new)
         result.0
-        (map (λ o. record { sent = O.sent o; faults = O.faults o }) outs.old)
-        (map (λ o. record { sent = O.sent o; faults = O.faults o }) outs.new)
+        (outs_told O.sent O.faults outs.old)
+        (outs_told O.sent O.faults outs.new)
         (map T.times clocks.old) (map T.times clocks.new)
         (lane_states lanes.old
-        (map (λ l. record { asks = L.asks l; answers = L.answers l; faults = L.faults l }) links.old)
+        (links_told L.asks L.answers L.faults links.old)
         (map T.times lane_clocks.old))
         (lane_states lanes.new
-        (map (λ l. record { asks = L.asks l; answers = L.answers l; faults = L.faults l }) links.new)
+        (links_told L.asks L.answers L.faults links.new)
         (map T.times lane_clocks.new))
         passes.old.items passes.new.items result.1.items }
 {
@@ -132,5 +133,6 @@ pub fn serve_room<
         passes,
         &mut rows,
     );
+    desks.destroy_empty();
     (read, rows)
 }

@@ -1,5 +1,6 @@
 //! What is done once all threads have ended.
-ghost use Rattle.std.specs.Prelude.{◌≡◌, ◌+◌, ◌≤◌, length, map, vec_capacity, vec_len};
+ghost use Rattle.std.specs.Prelude.{◌≡◌, [], ◌+◌, ◌≤◌, length, map, vec_capacity, vec_len};
+ghost use Rattle.request_workers.specs.Parts.{outs_told};
 ghost use Rattle.request_workers.specs.Seats.{AreLeft, FinishesAll};
 
 use crate::seats::take_first;
@@ -12,7 +13,7 @@ use std::sync::Wait;
 
 /// What is left of the jobs of each external address is done. The passes and the rows are added, in
 /// order.
-pub fn finish_all<R: Wait, O: Outbox, T: Clock, G: Gate, P: Drop, H: JobHouse<P>>(
+pub fn finish_all<R: Wait, O: Outbox, T: Clock, G: Gate, P, H: JobHouse<P>>(
     rt: &R,
     alloc: Global,
     house: &H,
@@ -30,19 +31,14 @@ pub fn finish_all<R: Wait, O: Outbox, T: Clock, G: Gate, P: Drop, H: JobHouse<P>
     requires clocks { length clocks.old ≡ length queues.now }
     requires passes { vec_len passes.old + length queues.now ≤ vec_capacity passes.old }
     requires rows { vec_len rows.old + length queues.now ≤ vec_capacity rows.old }
-    ensures { FinishesAll (H.calls house.now) desks.old.items ports.old.items
-        (map (λ o. record { sent = O.sent o; faults = O.faults o }) outs.old)
-        (map (λ o. record { sent = O.sent o; faults = O.faults o }) outs.new)
+    ensures done { FinishesAll (H.calls house.now) desks.old.items ports.old.items
+        (outs_told O.sent O.faults outs.old)
+        (outs_told O.sent O.faults outs.new)
         (map T.times clocks.old) (map T.times clocks.new)
         passes.old.items passes.new.items rows.old.items rows.new.items }
+    ensures empty { desks.new.items ≡ [] }
 {
     let Some((queue, queues)) = queues.split_first() else {
-        return;
-    };
-    let Some(desk) = take_first(desks) else {
-        return;
-    };
-    let Some(port) = take_first(ports) else {
         return;
     };
     let Some((out, outs)) = outs.split_first_mut() else {
@@ -51,10 +47,19 @@ pub fn finish_all<R: Wait, O: Outbox, T: Clock, G: Gate, P: Drop, H: JobHouse<P>
     let Some((clock, clocks)) = clocks.split_first_mut() else {
         return;
     };
-    let Port { putter, row, .. } = port;
+    let Port { putter, row, .. } = take_first(ports);
+    let desk = take_first(desks);
     let done = finish(rt, alloc, house, gate, queue, putter, desk, out, clock);
-    rows.push_reserved(done.row.joined(&row));
-    passes.push_reserved(done.pass);
+    let Desk {
+        shard: _,
+        pass,
+        taker: _taker,
+        row: worked,
+        batch: _batch,
+        parker: _parker,
+    } = done;
+    rows.push_reserved(worked.joined(&row));
+    passes.push_reserved(pass);
     finish_all(
         rt, alloc, house, gate, queues, desks, ports, outs, clocks, passes, rows,
     );

@@ -6,11 +6,11 @@ use job_workers::JobHouse;
 
 /// The row of an external address counts the jobs that were put for it, what its calls did with
 /// them, and what was dropped.
-pub fn rows_count<P: Drop, H: JobHouse<P>>(house: &H)
+pub fn rows_count<P, H: JobHouse<P>>(house: &H)
     ensures { RowsCount (H.calls house.now) }
 {}
 
 /// The passes that come back are those of the house still, in order.
-pub fn passes_stay<P: Drop, H: JobHouse<P>>(house: &H)
+pub fn passes_stay<P, H: JobHouse<P>>(house: &H)
     ensures { PassesStay (H.calls house.now) }
 {}

@@ -1,5 +1,5 @@
 //! What each external address needs, made before a pass of the house is moved.
-ghost use Rattle.std.specs.Prelude.{◌≡◌, ◌+◌, ◌≤◌, ◌∷◌, [], length, vec_capacity, vec_len, IfNone, IfOk, IfSome};
+ghost use Rattle.std.specs.Prelude.{◌≡◌, ◌+◌, ◌<◌, ◌≤◌, ◌∷◌, [], length, vec_capacity, vec_len, IfOk};
 ghost use Rattle.request_workers.specs.Seats.{AddsSeats, ArePasses, AreSeats, IsSeat, Seats};
 
 use crossbeam_utils::sync::{Parker, Unparker};
@@ -62,20 +62,17 @@ pub fn add_seats(
     add_seats(alloc, config, shard + 1, count - 1, seats)
 }
 
-/// Takes the first item out, where there is one.
-pub fn take_first<T: Drop>(list: &mut Vec<T>) -> Option<T>
-    ensures some { IfSome result (λ x. list.old.items ≡ x ∷ list.new.items) }
-    ensures none { IfNone result ((list.old.items ≡ []) × (list.new.items ≡ [])) }
+/// Takes the first item out.
+pub fn take_first<T>(list: &mut Vec<T>) -> T
+    requires { 0 < vec_len list.old }
+    ensures items { list.old.items ≡ result ∷ list.new.items }
     ensures room { vec_capacity list.new ≡ vec_capacity list.old }
 {
-    if list.is_empty() {
-        return None;
-    }
-    Some(list.remove(0))
+    list.remove(0)
 }
 
 /// Puts each pass at a desk, and parts the ends of the queues.
-pub fn seat_all<P: Drop, H: JobHouse<P>>(
+pub fn seat_all<P, H: JobHouse<P>>(
     house: &H,
     shard: u32,
     passes: &mut Vec<P>,
@@ -97,12 +94,11 @@ pub fn seat_all<P: Drop, H: JobHouse<P>>(
     ensures empty { passes.new.items ≡ [] }
     ensures room { vec_capacity passes.new ≡ vec_capacity passes.old }
 {
-    let Some(pass) = take_first(passes) else {
+    if passes.is_empty() {
         return;
-    };
-    let Some(seat) = take_first(seats) else {
-        return;
-    };
+    }
+    let pass = take_first(passes);
+    let seat = take_first(seats);
     let Seat {
         queue,
         putter,

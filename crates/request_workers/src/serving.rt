@@ -3,6 +3,7 @@ ghost use Rattle.std.specs.Prelude.{◌≡◌, ◌≤◌, ◌+◌, [], ◌∷◌
 ghost use Rattle.pcp_base.specs.Configs.{IsConfig};
 ghost use Rattle.job_dispatch.specs.declared.ports.TheConstants.{ALL_HOSTS_V4, ALL_HOSTS_V6, ANNOUNCEMENT_PORT};
 ghost use Rattle.lane_loops.specs.LaneSets.{lane_states};
+ghost use Rattle.request_workers.specs.Parts.{links_told, outs_told};
 ghost use Rattle.request_workers.specs.Seats.{AreSeated};
 ghost use Rattle.request_workers.specs.Served.{RunsAll};
 
@@ -28,7 +29,7 @@ pub fn run_seated<
     L: LaneLink + Send,
     T: Clock + Send,
     G: Gate + Sync,
-    P: Drop + Send,
+    P: Send,
     H: JobHouse<P> + Sync,
 >(
     rt: &R,
@@ -62,7 +63,8 @@ pub fn run_seated<
     requires pass { (H.calls house.now).is_pass pass.old }
     requires passes { vec_len passes.old + length queues.now ≤ vec_capacity passes.old }
     requires rows { vec_len rows.old + length queues.now ≤ vec_capacity rows.old }
-    ensures { RunsAll (H.calls house.now) config.now (ALL_HOSTS_V4 ∷ ALL_HOSTS_V6 ∷ []) ANNOUNCEMENT_PORT
+    ensures runs { RunsAll (H.calls house.now) config.now (ALL_HOSTS_V4 ∷ ALL_HOSTS_V6 ∷ [])
+        ANNOUNCEMENT_PORT
         (record {
           ports = ports.old.items;
           announcing = record {
@@ -84,16 +86,17 @@ pub fn run_seated<
         })
         (I.left inbox.new) (I.faults inbox.new) result
         (map (λ d. d.pass) desks.old.items)
-        (map (λ o. record { sent = O.sent o; faults = O.faults o }) outs.old)
-        (map (λ o. record { sent = O.sent o; faults = O.faults o }) outs.new)
+        (outs_told O.sent O.faults outs.old)
+        (outs_told O.sent O.faults outs.new)
         (map T.times clocks.old) (map T.times clocks.new)
         (lane_states lanes.old
-        (map (λ l. record { asks = L.asks l; answers = L.answers l; faults = L.faults l }) links.old)
+        (links_told L.asks L.answers L.faults links.old)
         (map T.times lane_clocks.old))
         (lane_states lanes.new
-        (map (λ l. record { asks = L.asks l; answers = L.answers l; faults = L.faults l }) links.new)
+        (links_told L.asks L.answers L.faults links.new)
         (map T.times lane_clocks.new))
         passes.old.items passes.new.items rows.old.items rows.new.items }
+    ensures empty { desks.new.items ≡ [] }
 {
     let ended = AtomicBool::new(false);
     let mut piece = [0; LONGEST_DATAGRAM];

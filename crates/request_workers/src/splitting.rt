@@ -8,14 +8,15 @@ use pcp_base::Memory;
 use std::alloc::Global;
 
 /// Another pass of the first external address, for the dispatcher. The one error is want of memory.
-pub fn split_first<P: Drop, H: JobHouse<P>>(
+pub fn split_first<P, H: JobHouse<P>>(
     house: &H,
     alloc: Global,
     passes: &mut Vec<P>,
 ) -> Result<P, Memory>
     requires passes { ArePasses (H.calls house.now) 0 passes.old.items }
     requires some { 0 < length passes.old.items }
-    ensures other { IfOk result (SplitsFirst (H.calls house.now) passes.old.items passes.new.items) }
+    ensures other { IfOk result
+        (SplitsFirst (H.calls house.now) passes.old.items passes.new.items) }
     ensures unchanged { OnErr result (passes.new.items ≡ passes.old.items) }
 {
     house.split(alloc, &mut passes[0])

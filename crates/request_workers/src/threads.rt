@@ -8,6 +8,7 @@ ghost use Rattle.job_dispatch.specs.Dispatches.{ArePorts};
 ghost use Rattle.job_dispatch.specs.Dispatching.{RunsDispatcher};
 ghost use Rattle.lane_loops.specs.LaneSets.{AllRun, lane_states};
 ghost use Rattle.job_workers.specs.Stations.{AllWorked, AreStations, stations};
+ghost use Rattle.request_workers.specs.Parts.{links_told, outs_told};
 
 use job_dispatch::{Port, dispatch};
 use job_queue::JobQueue;
@@ -29,7 +30,7 @@ fn run_followers<
     L: LaneLink + Send,
     T: Clock + Send,
     G: Gate + Sync,
-    P: Drop + Send,
+    P: Send,
     H: JobHouse<P> + Sync,
 >(
     rt: &R,
@@ -51,28 +52,29 @@ fn run_followers<
     requires links { length links.old ≡ length lanes.old }
     requires lane_clocks { length lane_clocks.old ≡ length lanes.old }
     ensures workers { AllWorked (H.calls house.now)
-        (stations desks.old (map (λ o. record { sent = O.sent o; faults = O.faults o }) outs.old)
+        (stations desks.old (outs_told O.sent O.faults outs.old)
         (map T.times clocks.old))
-        (stations desks.new (map (λ o. record { sent = O.sent o; faults = O.faults o }) outs.new)
+        (stations desks.new (outs_told O.sent O.faults outs.new)
         (map T.times clocks.new)) }
     ensures lanes { AllRun
         (lane_states lanes.old
-        (map (λ l. record { asks = L.asks l; answers = L.answers l; faults = L.faults l }) links.old)
+        (links_told L.asks L.answers L.faults links.old)
         (map T.times lane_clocks.old))
         (lane_states lanes.new
-        (map (λ l. record { asks = L.asks l; answers = L.answers l; faults = L.faults l }) links.new)
+        (links_told L.asks L.answers L.faults links.new)
         (map T.times lane_clocks.new)) }
 {
     let mut working = move ||
-        requires { IsSync R.row × IsSync G.row × IsSend O.row × IsSend T.row × IsSync H.row × IsSend P.row
-            × (length outs.now ≡ length desks.now) × (length clocks.now ≡ length desks.now)
+        requires { IsSync R.row × IsSync G.row × IsSend O.row × IsSend T.row × IsSync H.row
+            × IsSend P.row × (length outs.now ≡ length desks.now)
+            × (length clocks.now ≡ length desks.now)
             × AreStations (H.calls house.now) queues.now desks.now }
         ensures { AllWorked (H.calls house.entry.now)
             (stations desks.entry.now
-            (map (λ o. record { sent = O.sent o; faults = O.faults o }) outs.entry.now)
+            (outs_told O.sent O.faults outs.entry.now)
             (map T.times clocks.entry.now))
             (stations desks.exit.now
-            (map (λ o. record { sent = O.sent o; faults = O.faults o }) outs.exit.now)
+            (outs_told O.sent O.faults outs.exit.now)
             (map T.times clocks.exit.now)) }
     { run_workers(rt, alloc, house, gate, ended, queues, desks, outs, clocks) };
     let mut looking = move ||
@@ -80,10 +82,10 @@ fn run_followers<
             × (length links.now ≡ length lanes.now) × (length lane_clocks.now ≡ length lanes.now) }
         ensures { AllRun
             (lane_states lanes.entry.now
-            (map (λ l. record { asks = L.asks l; answers = L.answers l; faults = L.faults l }) links.entry.now)
+            (links_told L.asks L.answers L.faults links.entry.now)
             (map T.times lane_clocks.entry.now))
             (lane_states lanes.exit.now
-            (map (λ l. record { asks = L.asks l; answers = L.answers l; faults = L.faults l }) links.exit.now)
+            (links_told L.asks L.answers L.faults links.exit.now)
             (map T.times lane_clocks.exit.now)) }
     { run_lanes(rt, ended, lanes, links, lane_clocks) };
     join_mut(rt, &mut working, &mut looking);
@@ -98,7 +100,7 @@ fn tell_end(ended: &AtomicBool, ports: &[Port]) {
 }
 
 /// Dispatches, and tells the end to all who wait for it.
-fn lead<R: Wait, I: Inbox, O: Outbox, T: Clock, P: Drop, H: JobHouse<P>>(
+fn lead<R: Wait, I: Inbox, O: Outbox, T: Clock, P, H: JobHouse<P>>(
     rt: &R,
     alloc: Global,
     house: &H,
@@ -118,7 +120,8 @@ fn lead<R: Wait, I: Inbox, O: Outbox, T: Clock, P: Drop, H: JobHouse<P>>(
     requires ports { ArePorts config.now queues.now ports.old }
     requires all { length ports.old ≡ length config.now.externals }
     requires piece { LONGEST_DATAGRAM ≤ length piece.old }
-    ensures { RunsDispatcher (H.calls house.now) config.now (ALL_HOSTS_V4 ∷ ALL_HOSTS_V6 ∷ []) ANNOUNCEMENT_PORT
+    ensures { RunsDispatcher (H.calls house.now) config.now (ALL_HOSTS_V4 ∷ ALL_HOSTS_V6 ∷ [])
+        ANNOUNCEMENT_PORT
         (record {
           ports = ports.old;
           announcing = record {
@@ -152,8 +155,8 @@ fn lead<R: Wait, I: Inbox, O: Outbox, T: Clock, P: Drop, H: JobHouse<P>>(
     read
 }
 
-/// Runs all until the inbox stops or fails and all others have ended. The dispatcher waits for nobody,
-/// so it goes first where no thread can be made.
+/// Runs all until the inbox stops or fails and all others have ended. The dispatcher waits for
+/// nobody, so it goes first where no thread can be made.
 pub fn run_threads<
     R: Threads + Wait + Sync,
     I: Inbox,
@@ -161,7 +164,7 @@ pub fn run_threads<
     L: LaneLink + Send,
     T: Clock + Send,
     G: Gate + Sync,
-    P: Drop + Send,
+    P: Send,
     H: JobHouse<P> + Sync,
 >(
     rt: &R,
@@ -196,18 +199,20 @@ pub fn run_threads<
     requires all { length ports.old ≡ length config.now.externals }
     requires piece { LONGEST_DATAGRAM ≤ length piece.old }
     ensures workers { AllWorked (H.calls house.now)
-        (stations desks.old (map (λ o. record { sent = O.sent o; faults = O.faults o }) outs.old)
+        (stations desks.old (outs_told O.sent O.faults outs.old)
         (map T.times clocks.old))
-        (stations desks.new (map (λ o. record { sent = O.sent o; faults = O.faults o }) outs.new)
+        (stations desks.new (outs_told O.sent O.faults outs.new)
         (map T.times clocks.new)) }
     ensures lanes { AllRun
         (lane_states lanes.old
-        (map (λ l. record { asks = L.asks l; answers = L.answers l; faults = L.faults l }) links.old)
+        (links_told L.asks L.answers L.faults links.old)
         (map T.times lane_clocks.old))
         (lane_states lanes.new
-        (map (λ l. record { asks = L.asks l; answers = L.answers l; faults = L.faults l }) links.new)
+        (links_told L.asks L.answers L.faults links.new)
         (map T.times lane_clocks.new)) }
-    ensures dispatcher { RunsDispatcher (H.calls house.now) config.now (ALL_HOSTS_V4 ∷ ALL_HOSTS_V6 ∷ []) ANNOUNCEMENT_PORT
+    ensures dispatcher { RunsDispatcher (H.calls house.now) config.now
+        (ALL_HOSTS_V4 ∷ ALL_HOSTS_V6 ∷ [])
+        ANNOUNCEMENT_PORT
         (record {
           ports = ports.old;
           announcing = record {
@@ -237,21 +242,22 @@ pub fn run_threads<
     let mut following = move ||
         requires { IsSync R.row × IsSync G.row × IsSend O.row × IsSend T.row × IsSend L.row
             × IsSync H.row × IsSend P.row × (length outs.now ≡ length desks.now)
-            × (length clocks.now ≡ length desks.now) × AreStations (H.calls house.now) queues.now desks.now
+            × (length clocks.now ≡ length desks.now)
+            × AreStations (H.calls house.now) queues.now desks.now
             × (length links.now ≡ length lanes.now) × (length lane_clocks.now ≡ length lanes.now) }
         ensures { AllWorked (H.calls house.entry.now)
             (stations desks.entry.now
-            (map (λ o. record { sent = O.sent o; faults = O.faults o }) outs.entry.now)
+            (outs_told O.sent O.faults outs.entry.now)
             (map T.times clocks.entry.now))
             (stations desks.exit.now
-            (map (λ o. record { sent = O.sent o; faults = O.faults o }) outs.exit.now)
+            (outs_told O.sent O.faults outs.exit.now)
             (map T.times clocks.exit.now))
             × AllRun
             (lane_states lanes.entry.now
-            (map (λ l. record { asks = L.asks l; answers = L.answers l; faults = L.faults l }) links.entry.now)
+            (links_told L.asks L.answers L.faults links.entry.now)
             (map T.times lane_clocks.entry.now))
             (lane_states lanes.exit.now
-            (map (λ l. record { asks = L.asks l; answers = L.answers l; faults = L.faults l }) links.exit.now)
+            (links_told L.asks L.answers L.faults links.exit.now)
             (map T.times lane_clocks.exit.now)) }
     {
         run_followers(
@@ -272,8 +278,11 @@ pub fn run_threads<
     let mut leading = move || -> Result<(), Failed>
         requires { IsConfig config.now × (H.calls house.now).is_pass pass.now
             × ArePorts config.now queues.now ports.now
-            × (length ports.now ≡ length config.now.externals) × (LONGEST_DATAGRAM ≤ length piece.now) }
-        ensures { RunsDispatcher (H.calls house.entry.now) config.entry.now (ALL_HOSTS_V4 ∷ ALL_HOSTS_V6 ∷ []) ANNOUNCEMENT_PORT
+            × (length ports.now ≡ length config.now.externals)
+            × (LONGEST_DATAGRAM ≤ length piece.now) }
+        ensures { RunsDispatcher (H.calls house.entry.now) config.entry.now
+            (ALL_HOSTS_V4 ∷ ALL_HOSTS_V6 ∷ [])
+            ANNOUNCEMENT_PORT
             (record {
               ports = ports.entry.now;
               announcing = record {

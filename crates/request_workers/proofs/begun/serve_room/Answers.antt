@@ -34,5 +34,5 @@ returns g c = record {
   schedule_at_end = c.run_seated-read.new.announcer;
   runs = of_runs _ _ _ _ _ _ _ _ _ _ _ _ _ _ _ _ _ _ _ _ _
       (passes_of _ _ _ _ _ _ _ _ c.requires.room.desks.0 c.seat_all.ensures.seats) c.seat_all.ensures.empty c.requires.room.rows.0
-      c.run_seated-read.ensures;
+      c.run_seated-read.ensures.runs;
 }

@@ -43,8 +43,8 @@ finish_all-requires-clause-left g c =
     (omega (arith, c.run_threads-read.auto.outs)) (omega (arith, c.run_threads-read.auto.clocks)) (omega (arith, c.run_threads-read.auto.desks))
     (omega (arith, c.run_threads-read.auto.desks, c.deref_mut.ensures.len)) (omega (arith, c.run_threads-read.auto.ports, c.deref_mut-2.ensures.len))
 
-pub returns : goal.returns
-returns g c =
+pub returns-clause-runs : goal.returns-clause-runs
+returns-clause-runs g c =
     let told : g.row.O.Denot → OutState = λ o. record { sent = g.O.Outbox.sent o; faults = g.O.Outbox.faults o } in
     let desks = desks-length _ 0 c.args.queues.now c.args.desks.now.items c.args.ports.now.items c.requires.seated in
     runs_all told g.T.Clock.times (g.H.JobHouse.calls c.args.house.now) c.args.config.now _ _ _ _ _ _ c.run_threads-read.result c.args.queues.now
@@ -55,4 +55,4 @@ returns g c =
     c.deref_mut-2.ensures.value
     (take_front c.args.ports.now.len c.run_threads-read.new.ports _ (omega (arith, c.run_threads-read.auto.ports, c.deref_mut-2.ensures.len)))
     c.requires.seated (c.requires.outs ∙ sym desks) (c.requires.clocks ∙ sym desks)
-    c.run_threads-read.ensures.dispatcher c.run_threads-read.ensures.workers c.run_threads-read.ensures.lanes c.finish_all.ensures
+    c.run_threads-read.ensures.dispatcher c.run_threads-read.ensures.workers c.run_threads-read.ensures.lanes c.finish_all.ensures.done
