@@ -1,0 +1,7 @@
+use Rattle.house_workers.proofs.ReplyLemmas.{replies_along}
+use Rattle.house_workers.proofs.laws.replies_are_of_own_entries.Goals as goal
+
+pub returns : goal.returns
+returns g c house shard ds r is =
+    replies_along g.D.LeaseDisk.tells g.D.LeaseDisk.seen g.D.LeaseDisk.moment g.D.LeaseDisk.left_since g.D.LeaseDisk.may_leave g.D.LeaseDisk.faults
+    house is.works.calls r.old r.new is.works.does

@@ -1,0 +1,25 @@
+use Rattle.std.proofs.Common.{length, refl, ap, ◌∙◌}
+use Rattle.house_workers.proofs.EndLemmas.{begins_for, begun_lanes, ends_home, serves_to_end}
+use Rattle.house_workers.proofs.serving.serve_all.Goals as goal
+
+pub serve_begun-tally-requires-clause-passes : goal.serve_begun-tally-requires-clause-passes
+serve_begun-tally-requires-clause-passes g c κs within =
+    begins_for g.D.LeaseDisk.tells g.D.LeaseDisk.seen g.D.LeaseDisk.moment g.D.LeaseDisk.left_since g.D.LeaseDisk.may_leave g.D.LeaseDisk.faults
+    c.args.config.now c.args.begun c.requires.begun c.of-house.result c.of-house.ensures
+
+pub serve_begun-tally-requires-clause-lanes : goal.serve_begun-tally-requires-clause-lanes
+serve_begun-tally-requires-clause-lanes g c κs within =
+    ap length c.deref_mut.ensures.value
+    ∙ begun_lanes g.D.LeaseDisk.tells g.D.LeaseDisk.seen g.D.LeaseDisk.moment g.D.LeaseDisk.left_since g.D.LeaseDisk.may_leave g.D.LeaseDisk.faults
+    c.args.config.now c.args.begun c.requires.begun
+
+pub end-pairs-requires : goal.end-pairs-requires
+end-pairs-requires g c =
+    ends_home g.D.LeaseDisk.tells g.D.LeaseDisk.seen g.D.LeaseDisk.moment g.D.LeaseDisk.left_since g.D.LeaseDisk.may_leave g.D.LeaseDisk.faults
+    c.args.config.now c.args.begun c.requires.begun c.of-house.result c.into_house.result _ _ _ _ _ _
+    c.of-house.ensures c.into_house.ensures refl c.serve_begun-tally.ensures
+
+pub returns-clause-served : goal.returns-clause-served
+returns-clause-served g c =
+    serves_to_end g.D.LeaseDisk.tells g.D.LeaseDisk.seen g.D.LeaseDisk.moment g.D.LeaseDisk.left_since g.D.LeaseDisk.may_leave g.D.LeaseDisk.faults
+    _ _ _ c.args.begun _ _ _ _ _ _ _ _ c.of-house.ensures c.into_house.ensures c.deref_mut.ensures.value c.serve_begun-tally.ensures c.end-pairs.ensures.ended

@@ -1,0 +1,53 @@
+-- What holds of the run of an external address (our own).
+use Rattle.std.specs.Prelude.{ℕ, ◌*◌, ◌≤◌, List}
+use Rattle.lease_disk.specs.declared.disks.DiskPair.{DiskPair}
+use Rattle.job_queue.specs.declared.batches.TheConstants.{MOST_BATCH}
+use Rattle.job_dispatch.specs.Dispatches.{Dispatched}
+use Rattle.request_workers.specs.Served.{IsShardRun, ShardRun}
+use Rattle.shared_house.specs.declared.openings.Opening.{Opening}
+use Rattle.shared_house.specs.declared.passes.HousePass.{HousePass}
+use Rattle.shared_house.specs.FaultCounts.{HaveRisenBy}
+use Rattle.shared_house.specs.HouseCalls.{HouseView}
+use Rattle.shared_house.specs.Turnings.{EndsOne}
+use Rattle.house_workers.specs.HouseCallsOf.{calls_of}
+use Rattle.house_workers.specs.OwnEntries.{HandsReplies, NotesInOrder, StandInOrder, answered_in, own_in}
+
+module _ (D : Type 0) (tells : Type 0) (seen : D → List ℕ) (moment : D → ℕ)
+    (left_since : D → ℕ → List ℕ → Type 0) (may_leave : D → List ℕ → Type 0) (faults : D → ℕ)
+  where
+    -- this external address was served by this house
+    abbrev pub IsRunOf : HouseView D → ℕ → List Dispatched → ShardRun (HousePass D) → Type 0
+    IsRunOf house = IsShardRun (calls_of tells seen moment left_since may_leave faults house)
+
+    -- The entries of its worker stand in the history that its pass has seen, in order and each once.
+    abbrev pub OwnEntriesAreNoted : Type 0
+    OwnEntriesAreNoted = (house : HouseView D) (shard : ℕ) (ds : List Dispatched)
+        (r : ShardRun (HousePass D)) → (is : IsRunOf house shard ds r) →
+        NotesInOrder r.old.pass.history r.new.pass.history (own_in is.works.calls)
+
+    -- Less the faults they stand in the order of the jobs that the worker took.
+    abbrev pub OwnEntriesAreInOrder : Type 0
+    OwnEntriesAreInOrder = (house : HouseView D) (shard : ℕ) (ds : List Dispatched)
+        (r : ShardRun (HousePass D)) → (is : IsRunOf house shard ds r) →
+        StandInOrder house.config is.works.calls
+
+    -- Its outbox was handed the replies of those entries whose batch was answered, in order.
+    abbrev pub RepliesAreOfOwnEntries : Type 0
+    RepliesAreOfOwnEntries = (house : HouseView D) (shard : ℕ) (ds : List Dispatched)
+        (r : ShardRun (HousePass D)) → (is : IsRunOf house shard ds r) →
+        HandsReplies (answered_in is.works.calls) r.old r.new
+
+    -- so many faults of disks at most were counted for each rise of the pair's counts
+    pub record AreFewFaults (o : Opening D) (pair : DiskPair D) (faulted : ℕ) : Type 0 where
+      pub risen : ℕ
+      pub few : faulted ≤ MOST_BATCH * risen
+      pub counted : HaveRisenBy faults o.book.journal.pair pair risen
+
+    -- Jobs are counted as faulted only where the counts of the pair have risen since the opening, at
+    -- most `MOST_BATCH` for each time.
+    abbrev pub FaultsAreCounted : Type 0
+    FaultsAreCounted = (house : HouseView D) (shard : ℕ) (ds : List Dispatched)
+        (r : ShardRun (HousePass D)) → IsRunOf house shard ds r →
+        (o : Opening D) (ended : HousePass D) (pair : DiskPair D) →
+        EndsOne tells seen may_leave faults o r.new.pass ended pair →
+        AreFewFaults o pair r.row.faulted

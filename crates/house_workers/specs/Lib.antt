@@ -1,0 +1,4 @@
+pub mod HouseCallsOf
+pub mod Laws
+pub mod OwnEntries
+pub mod ServingAll

@@ -1,0 +1,29 @@
+//! What holds of the run of an external address. A proof that needs a law calls its function.
+ghost use Rattle.house_workers.specs.Laws.{FaultsAreCounted, OwnEntriesAreInOrder, OwnEntriesAreNoted, RepliesAreOfOwnEntries};
+
+use lease_disk::LeaseDisk;
+
+/// The entries of a worker stand in the history that its pass has seen, in order and each once, behind
+/// what it had seen before. That history is legal, and begins the one that `House::end` finds.
+pub fn own_entries_are_noted<D: LeaseDisk>()
+    ensures { OwnEntriesAreNoted D D.tells D.seen D.moment D.left_since D.may_leave D.faults }
+{}
+
+/// The entries of a worker, less the faults of disks, stand in the order of the jobs that it took: one
+/// for each packet that isn't silent, and one with a Lose for each loss. Jobs whose call a disk
+/// refused have none, nor have those whose call lacked memory and noted nothing.
+pub fn own_entries_are_in_order<D: LeaseDisk>()
+    ensures { OwnEntriesAreInOrder D D.tells D.seen D.moment D.left_since D.may_leave D.faults }
+{}
+
+/// The outbox of a worker was handed the replies of its own entries, in order and each once, but for
+/// those of batches whose call was refused.
+pub fn replies_are_of_own_entries<D: LeaseDisk>()
+    ensures { RepliesAreOfOwnEntries D D.tells D.seen D.moment D.left_since D.may_leave D.faults }
+{}
+
+/// The jobs that count as faulted are at most `MOST_BATCH` times as many as the counts of the pair
+/// have risen since the opening.
+pub fn faults_are_counted<D: LeaseDisk>()
+    ensures { FaultsAreCounted D D.tells D.seen D.moment D.left_since D.may_leave D.faults }
+{}

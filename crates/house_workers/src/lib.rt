@@ -1,0 +1,13 @@
+//! A house of many threads, served by workers.
+#![tactic(auto)]
+
+mod giving_up;
+mod houses;
+mod laws;
+mod serving;
+
+pub use houses::ServingHouse;
+pub use laws::{
+    faults_are_counted, own_entries_are_in_order, own_entries_are_noted, replies_are_of_own_entries,
+};
+pub use serving::serve_all;
