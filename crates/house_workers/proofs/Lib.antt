@@ -5,3 +5,4 @@ pub mod NoteLemmas
 pub mod OrderLemmas
 pub mod OwnLemmas
 pub mod ReplyLemmas
+pub mod UnsentLemmas

@@ -1,8 +1,12 @@
 -- What holds of the run of an external address (our own).
 use Rattle.std.specs.Prelude.{ℕ, ◌*◌, ◌≤◌, List}
+use Rattle.std.specs.List.{sum_by}
 use Rattle.lease_disk.specs.declared.disks.DiskPair.{DiskPair}
 use Rattle.job_queue.specs.declared.batches.TheConstants.{MOST_BATCH}
+use Rattle.job_workers.specs.Sends.{HasRisenBy}
+use Rattle.job_workers.specs.Works.{unsent_in}
 use Rattle.job_dispatch.specs.Dispatches.{Dispatched}
+use Rattle.request_workers.specs.Counts.{Counts}
 use Rattle.request_workers.specs.Served.{IsShardRun, ShardRun}
 use Rattle.shared_house.specs.declared.openings.Opening.{Opening}
 use Rattle.shared_house.specs.declared.passes.HousePass.{HousePass}
@@ -36,6 +40,19 @@ module _ (D : Type 0) (tells : Type 0) (seen : D → List ℕ) (moment : D → �
     RepliesAreOfOwnEntries = (house : HouseView D) (shard : ℕ) (ds : List Dispatched)
         (r : ShardRun (HousePass D)) → (is : IsRunOf house shard ds r) →
         HandsReplies (answered_in is.works.calls) r.old r.new
+
+    -- Its row counts the jobs that were put for it, what its calls did with them, and what was
+    -- dropped.
+    abbrev pub JobsAreCounted : Type 0
+    JobsAreCounted = (house : HouseView D) (shard : ℕ) (ds : List Dispatched)
+        (r : ShardRun (HousePass D)) → (is : IsRunOf house shard ds r) →
+        Counts shard ds is.works.calls r.row
+
+    -- Replies count as unsent only where the count of its outbox rose, once for each.
+    abbrev pub UnsentAreCounted : Type 0
+    UnsentAreCounted = (house : HouseView D) (shard : ℕ) (ds : List Dispatched)
+        (r : ShardRun (HousePass D)) → (is : IsRunOf house shard ds r) →
+        HasRisenBy (sum_by (λ c. unsent_in c.result) is.works.calls) r.old.faults r.new.faults
 
     -- so many faults of disks at most were counted for each rise of the pair's counts
     pub record AreFewFaults (o : Opening D) (pair : DiskPair D) (faulted : ℕ) : Type 0 where

@@ -1,5 +1,5 @@
 //! What holds of the run of an external address. A proof that needs a law calls its function.
-ghost use Rattle.house_workers.specs.Laws.{FaultsAreCounted, OwnEntriesAreInOrder, OwnEntriesAreNoted, RepliesAreOfOwnEntries};
+ghost use Rattle.house_workers.specs.Laws.{FaultsAreCounted, JobsAreCounted, OwnEntriesAreInOrder, OwnEntriesAreNoted, RepliesAreOfOwnEntries, UnsentAreCounted};
 
 use lease_disk::LeaseDisk;
 
@@ -26,4 +26,15 @@ pub fn replies_are_of_own_entries<D: LeaseDisk>()
 /// have risen since the opening.
 pub fn faults_are_counted<D: LeaseDisk>()
     ensures { FaultsAreCounted D D.tells D.seen D.moment D.left_since D.may_leave D.faults }
+{}
+
+/// The row of an external address counts the jobs that were put for it, what its calls did with
+/// them, and what was dropped.
+pub fn jobs_are_counted<D: LeaseDisk>()
+    ensures { JobsAreCounted D D.tells D.seen D.moment D.left_since D.may_leave D.faults }
+{}
+
+/// The replies that count as unsent are at most as many as the count of the outbox rose.
+pub fn unsent_are_counted<D: LeaseDisk>()
+    ensures { UnsentAreCounted D D.tells D.seen D.moment D.left_since D.may_leave D.faults }
 {}
