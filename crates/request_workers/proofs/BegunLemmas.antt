@@ -1,5 +1,6 @@
 -- From a room with a seat for each external address to the run of all threads.
-use Rattle.std.proofs.Common.{◌≡◌, ℕ, List, [], ◌++◌, length, map, Option, Result, sym, ap, ◌∙◌, subst}
+use Rattle.std.proofs.Common.{◌≡◌, ℕ, ◌+◌, List, [], ◌∷◌, ◌++◌, length, map, Option, Result, sym, ap, ◌∙◌, subst}
+use Rattle.std.specs.List.{AllByRecursion}
 use Rattle.std.proofs.lemmas.List.{length-map}
 use Rattle.atomic_table.specs.Seated.{TableId}
 use Rattle.pcp_base.specs.declared.addresses.Address.{Address}
@@ -29,6 +30,16 @@ seated_of {P} house passes qs qs' ds ds' ps ps' a b c s =
     subst (λ (l : List TableId). AreSeated house 0 l ds' ps') (sym (behind_none qs qs' s.queues s.queues_are a))
     (subst (λ (l : List (Desk P)). AreSeated house 0 s.queues l ps') (sym (behind_none ds ds' s.desks s.desks_are b))
     (subst (λ (l : List Port). AreSeated house 0 s.queues s.desks l) (sym (behind_none ps ps' s.ports s.ports_are c)) s.seated))
+
+-- and nothing was put for it
+pub nothing_put : {P : Type 0} (house : HouseCalls P) (shard : ℕ) (qs : List TableId) (ds : List (Desk P)) (ps : List Port) → AreSeated house shard qs ds ps
+    → AllByRecursion (λ (p : Port). p.putter.put ≡ []) ps
+nothing_put house shard [] [] [] h = tt
+nothing_put house shard [] [] (p ∷ ps) h = absurd h
+nothing_put house shard [] (d ∷ ds) ps h = absurd h
+nothing_put house shard (q ∷ qs) [] ps h = absurd h
+nothing_put house shard (q ∷ qs) (d ∷ ds) [] h = absurd h
+nothing_put house shard (q ∷ qs) (d ∷ ds) (p ∷ ps) h = (h.0.put, nothing_put house (shard + 1) qs ds ps h.1)
 
 pub passes_of : {P : Type 0} (house : HouseCalls P) (passes : List P) (qs qs' : List TableId) (ds ds' : List (Desk P)) (ps ps' : List Port)
     → ds ≡ [] → Seats house 0 passes qs qs' ds ds' ps ps' → map (λ (d : Desk P). d.pass) ds' ≡ passes

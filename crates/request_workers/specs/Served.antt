@@ -1,5 +1,6 @@
 -- What serving did (our own): for each external address, and for the whole run.
 use Rattle.std.specs.Prelude.{◌≡◌, ℕ, ◌+◌, Bool, List, [], ◌∷◌, ◌++◌, map, Option, Result}
+use Rattle.std.specs.List.{AllByRecursion}
 use Rattle.pcp_base.specs.declared.addresses.Address.{Address}
 use Rattle.pcp_base.specs.declared.configs.Config.{Config}
 use Rattle.pcp_base.specs.declared.errors.Failed.{Failed}
@@ -93,6 +94,8 @@ module _ {P : Type 0} (house : HouseCalls P) where
     pub schedule : Schedule
     pub begins : BeginsAnnouncer fresh asking told_to clock_old clock_then schedule
     pub ports : List Port
+    -- nothing had been put
+    pub nothing : AllByRecursion (λ p. p.putter.put ≡ []) ports
     pub schedule_at_end : Schedule
     pub runs : RunsAll config groups port
         (record {
