@@ -4,9 +4,9 @@ mod CountLemmas
 mod DumpLemmas
 mod LoadLemmas
 mod LoadPromises
-mod OpeningLemmas
+pub mod OpeningLemmas
 mod PairLemmas
 mod PlayLemmas
 mod PromiseLemmas
-mod StatusLemmas
+pub mod StatusLemmas
 mod UpdateLemmas

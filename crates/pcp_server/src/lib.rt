@@ -13,3 +13,4 @@ mod updating;
 pub use laws::histories_keep_promises;
 pub use run::run_once;
 pub use server_commands::{ConfigCause, Status};
+pub use statuses::{unopened_as, unread_as};

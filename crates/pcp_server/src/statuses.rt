@@ -9,8 +9,8 @@ use load_player::LoadStatus;
 use script_player::PlayStatus;
 use server_commands::Status;
 
-/// Of a configuration that wasn't read, or is refused.
-pub(crate) fn unread_as(fault: ConfigFault) -> Status
+/// The status that a configuration which wasn't read, or is refused, is told as.
+pub fn unread_as(fault: ConfigFault) -> Status
     ensures { result ≡ unread_as fault }
 {
     match fault {
@@ -20,8 +20,8 @@ pub(crate) fn unread_as(fault: ConfigFault) -> Status
     }
 }
 
-/// Of a journal that wasn't opened.
-pub(crate) fn unopened_as(fault: HouseFault) -> Status
+/// The status that a journal which wasn't opened is told as.
+pub fn unopened_as(fault: HouseFault) -> Status
     ensures { result ≡ unopened_as fault }
 {
     match fault {

@@ -1,0 +1,26 @@
+use Rattle.std.proofs.Common.{◌∙◌, sym, inr}
+use Rattle.pcp_server.specs.Outsides.{disks_by}
+use Rattle.serve_runs.proofs.ServingLemmas.{disk-named, read-fault}
+use Rattle.serve_runs.proofs.serving.serve_config.Goals as goal
+
+pub returns-in-Ok-clause-served : goal.returns-in-Ok-clause-served
+returns-in-Ok-clause-served g c = inr (record {
+  start = c.start_of-start.result;
+  clocks = _;
+  clock = c.start_of-start.ensures.start;
+  begun = c.in-Ok.begun;
+  begins = c.in-Ok.ensures.begun;
+  tally = c.serve_house-tally.result.0;
+  serves = c.serve_house-tally.ensures _ _ c.in-Ok.ensures.begun;
+  told = c.tell_tally.ensures.told;
+})
+
+pub returns-in-Ok-clause-read_fault : goal.returns-in-Ok-clause-read_fault
+returns-in-Ok-clause-read_fault g c is =
+    let means = disks_by g.D.LeaseDisk.tells g.D.LeaseDisk.seen g.D.LeaseDisk.moment g.D.LeaseDisk.left_since g.D.LeaseDisk.may_leave g.D.LeaseDisk.faults in
+    read-fault means _ _ _ c.in-Ok.begun _ _ _ _ _ _ _ _ _ (c.serve_house-tally.ensures _ _ c.in-Ok.ensures.begun).served c.tell_tally.ensures.told is
+
+pub returns-in-Err-clause-disk_fault : goal.returns-in-Err-clause-disk_fault
+returns-in-Err-clause-disk_fault g c shard is =
+    let means = disks_by g.D.LeaseDisk.tells g.D.LeaseDisk.seen g.D.LeaseDisk.moment g.D.LeaseDisk.left_since g.D.LeaseDisk.may_leave g.D.LeaseDisk.faults in
+    disk-named means c.args.config.now _ c.in-Err.refused.fault _ _ shard c.in-Err.ensures.refused c.in-Err.ensures.place (sym c.unopened_as.ensures ∙ is)

@@ -1,0 +1,3 @@
+pub mod Served
+pub mod TallyTexts
+pub mod Updates

@@ -1,0 +1,131 @@
+-- How a `serve` ends, and what it leaves (our own).
+use Rattle.std.specs.Prelude.{◌≡◌, ◌⊎◌, ℕ, ◌/◌, List, [], ◌∷◌, ◌++◌, map, Option, Result, Ok, Err}
+use Rattle.std.specs.Io.KnownBytes.{append_known}
+use Rattle.pcp_base.specs.declared.addresses.Address.{Address}
+use Rattle.pcp_base.specs.declared.configs.Config.{Config}
+use Rattle.pcp_io.specs.Times.{IsTimeNow, Times}
+use Rattle.pcp_io.specs.Writes.{WritesPart}
+use Rattle.lease_disk.specs.declared.disks.DiskPair.{DiskPair}
+use Rattle.shard_book.specs.Books.{BookView}
+use Rattle.lease_house.specs.SoloOpenings.{book_updates}
+use Rattle.lease_house.specs.declared.faults.HouseFault.{HouseFault}
+use Rattle.config_source.specs.declared.reading.ConfigFault.{ConfigFault}
+use Rattle.server_commands.specs.declared.statuses.Status.{Status}
+use Rattle.server_commands.specs.declared.statuses.Status.TheVariants as Statuses
+use Rattle.pcp_server.specs.Opened.{Accepts, IsUnread}
+use Rattle.pcp_server.specs.Outsides.{DiskMeanings}
+use Rattle.pcp_server.specs.Statuses.{unopened_as, unread_as}
+use Rattle.job_workers.specs.declared.tallies.TallyRow.{TallyRow}
+use Rattle.job_workers.specs.Stations.{OutState}
+use Rattle.request_workers.specs.declared.faults.ServeFault.{ServeFault}
+use Rattle.request_workers.specs.declared.faults.ServeFault.TheVariants as ServeFaults
+use Rattle.shared_house.specs.declared.beginning.Begun.{Begun}
+use Rattle.shared_house.specs.Beginnings.{Begins, RefusesBegin, first_base}
+use Rattle.house_workers.specs.ServingAll.{Edges, ServesToEnd}
+use Rattle.serve_runs.specs.TallyTexts.{rows_text}
+use Rattle.serve_runs.specs.Updates.{HandsEach}
+
+-- the sink and what it holds, the pairs, and what inbox, outboxes, links and clocks tell, at one
+-- moment
+pub record ServeState (W D : Type 0) : Type 0 where
+  pub out : W
+  pub held : Option (List ℕ)
+  pub pairs : List (DiskPair D)
+  pub edges : Edges
+
+-- The last clock, which is the dispatcher's, was read once: this is the second that it gave.
+pub record GivesStart (old new : List (Option Times)) (start : ℕ) : Type 0 where
+  pub others : List (Option Times)
+  pub before : Option Times
+  pub after : Option Times
+  pub were : old ≡ others ++ before ∷ []
+  pub are : new ≡ others ++ after ∷ []
+  pub time : ℕ
+  pub gives : IsTimeNow before after time
+  pub second : start ≡ time / 1000
+
+-- ---- the end
+
+-- The lines of the tally are written, or a part of them where the sink fails; without memory for
+-- them, and where serving ended otherwise than by a stop, nothing is.
+abbrev pub IsToldTo : {W : Type 0} → Result (List TallyRow) ServeFault → (old new : W)
+    → (before now : Option (List ℕ)) → Status → Type 0
+IsToldTo (Ok rows) old new before now status =
+    ((status ≡ Statuses.Done) × (now ≡ append_known before (rows_text 0 rows)))
+    ⊎ (((status ≡ Statuses.WriteFault) × WritesPart before now (rows_text 0 rows))
+    ⊎ ((status ≡ Statuses.Memory) × (new ≡ old)))
+IsToldTo (Err ServeFaults.Read) old new before now status =
+    (status ≡ Statuses.ReadFault) × (new ≡ old)
+IsToldTo (Err ServeFaults.Memory) old new before now status =
+    (status ≡ Statuses.Memory) × (new ≡ old)
+
+module _ {D : Type 0} where
+  -- The updates of a house of these books were sent, each by the outbox of its external address, and
+  -- the house was served to its end.
+  pub record SendsAndServes (disks : DiskMeanings D) (config : Config) (groups : List Address)
+      (port : ℕ) (begun : Begun D) (books : List (BookView D)) (old new : Edges)
+      (tally : Result (List TallyRow) ServeFault) (pairs : List (DiskPair D)) : Type 0 where
+    pub outs : List OutState
+    pub updates : HandsEach (map (book_updates (first_base books)) books) old.outs outs
+    pub served : ServesToEnd disks.tells disks.seen disks.moment disks.left_since disks.may_leave
+        disks.faults config groups port begun (record old { outs = outs }) new tally pairs
+
+module _ {W D : Type 0} where
+  -- ---- where nothing is served
+
+  -- There is no configuration: it is refused, the source failed, or memory was wanting. Nothing else
+  -- had a call.
+  pub record EndsUnread (source_before source_now : Option (List ℕ)) (before now : ServeState W D)
+      (status : Status) : Type 0 where
+    pub fault : ConfigFault
+    pub told : status ≡ unread_as fault
+    pub source : IsUnread source_before source_now fault
+    pub untouched : now ≡ before
+
+  -- The house wasn't opened: all pairs come back in order, and of the rest the dispatcher's clock
+  -- alone had a call.
+  pub record EndsUnopened (disks : DiskMeanings D) (config : Config) (before now : ServeState W D)
+      (status : Status) : Type 0 where
+    pub start : ℕ
+    pub clock : GivesStart before.edges.clocks now.edges.clocks start
+    pub fault : HouseFault
+    pub told : status ≡ unopened_as fault
+    pub pairs : RefusesBegin disks.tells disks.seen disks.moment disks.left_since disks.may_leave
+        disks.faults config start fault before.pairs now.pairs
+    pub still : now ≡ record before {
+      pairs = now.pairs;
+      edges = record before.edges { clocks = now.edges.clocks };
+    }
+
+  -- ---- where a house is served
+
+  -- The house was opened at the second of the dispatcher's clock, and served to its end; then the
+  -- tally was told.
+  pub record EndsServed (disks : DiskMeanings D) (config : Config) (groups : List Address)
+      (port : ℕ) (before now : ServeState W D) (status : Status) : Type 0 where
+    pub start : ℕ
+    pub clocks : List (Option Times)
+    pub clock : GivesStart before.edges.clocks clocks start
+    pub begun : Begun D
+    pub begins : Begins disks.tells disks.seen disks.moment disks.left_since disks.may_leave
+        disks.faults config start before.pairs begun
+    pub tally : Result (List TallyRow) ServeFault
+    pub serves : SendsAndServes disks config groups port begun begins.books
+        (record before.edges { clocks = clocks }) now.edges tally now.pairs
+    pub told : IsToldTo tally before.out now.out before.held now.held status
+
+  -- how a `serve` of this configuration ended
+  abbrev pub ServesConfig : DiskMeanings D → Config → (groups : List Address) → (port : ℕ)
+      → (before now : ServeState W D) → Status → Type 0
+  ServesConfig disks config groups port before now status =
+      EndsUnopened disks config before now status
+      ⊎ EndsServed disks config groups port before now status
+
+  -- how a `serve` ended
+  abbrev pub Serves : DiskMeanings D → (groups : List Address) → (port : ℕ)
+      → (source_before source_now : Option (List ℕ)) → (before now : ServeState W D) → Status
+      → Type 0
+  Serves disks groups port source_before source_now before now status =
+      EndsUnread source_before source_now before now status
+      ⊎ ((config : Config) × Accepts source_before source_now config
+      × ServesConfig disks config groups port before now status)
