@@ -1,0 +1,9 @@
+pub mod Askers
+pub mod Asking
+pub mod Calls
+pub mod Lines
+pub mod Links
+pub mod Openings
+pub mod Runs
+pub mod Ticks
+pub mod Underway

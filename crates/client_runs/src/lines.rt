@@ -1,0 +1,164 @@
+//! The line that a command prints for a response, and the status of its call then.
+ghost use Rattle.std.specs.Prelude.{◌≡◌, ◌++◌, IfOk, OnOk, codes};
+ghost use Rattle.client_runs.specs.Lines.{granted_text, grants, is_success, line_of, refusal_text, set_size, size_field, size_in, spaced, status_of, success_text, text_of};
+
+use client_commands::ClientCommand;
+use pcp_base::Memory;
+use pcp_codec::{Body, Common};
+use pcp_options::{Item, Response};
+use std::alloc::Global;
+use tool_commands::ToolStatus;
+
+/// The status of the call once the line is printed.
+pub(crate) fn status_of(command: &ClientCommand, response: &Response) -> ToolStatus
+    ensures { result ≡ status_of command.now response.now }
+{
+    if grants(command, response) {
+        ToolStatus::Done
+    } else {
+        ToolStatus::Refused(response.code)
+    }
+}
+
+/// The line, with its line feed.
+pub(crate) fn line_of(
+    alloc: Global,
+    command: &ClientCommand,
+    response: &Response,
+) -> Result<Vec<u8>, Memory>
+    ensures { IfOk result (λ line. line.items ≡ line_of command.now response.now) }
+{
+    let mut line = Vec::new(alloc);
+    push_text(alloc, &mut line, command, response)?;
+    line.push(b'\n')?;
+    Ok(line)
+}
+
+fn is_success(response: &Response) -> bool
+    ensures { result ≡ is_success response.now }
+{
+    response.code.number() == 0
+}
+
+/// Whether a response grants what was asked: a success of MAP and PEER with lifetime 0 doesn't.
+fn grants(command: &ClientCommand, response: &Response) -> bool
+    ensures { result ≡ grants command.now response.now }
+{
+    match command {
+        ClientCommand::Map(_target, _wanted) => is_success(response) && response.lifetime != 0,
+        ClientCommand::Peer(_target, _wanted) => is_success(response) && response.lifetime != 0,
+        ClientCommand::Announce(_target) => is_success(response),
+    }
+}
+
+fn push_text(
+    alloc: Global,
+    out: &mut Vec<u8>,
+    command: &ClientCommand,
+    response: &Response,
+) -> Result<(), Memory>
+    ensures { OnOk result (out.new.items ≡ out.old.items ++ text_of command.now response.now) }
+{
+    if !grants(command, response) {
+        return push_refusal(alloc, out, response);
+    }
+    push_success(alloc, out, response)?;
+    push_size(alloc, out, command, response)
+}
+
+fn push_refusal(alloc: Global, out: &mut Vec<u8>, response: &Response) -> Result<(), Memory>
+    ensures { OnOk result (out.new.items ≡ out.old.items ++ refusal_text response.now) }
+{
+    out.extend_from_slice(b"refused")?;
+    push_number(alloc, out, u32::from(response.code.number()))?;
+    push_number(alloc, out, response.lifetime)
+}
+
+fn push_success(alloc: Global, out: &mut Vec<u8>, response: &Response) -> Result<(), Memory>
+    ensures { OnOk result (out.new.items
+        ≡ out.old.items ++ success_text response.now response.now.body) }
+{
+    match &response.body {
+        Body::Announce => push_epoch(alloc, out, response),
+        Body::Map(common) => push_granted(alloc, out, response, common),
+        Body::Peer { common, .. } => push_granted(alloc, out, response, common),
+    }
+}
+
+fn push_epoch(alloc: Global, out: &mut Vec<u8>, response: &Response) -> Result<(), Memory>
+    ensures { OnOk result (out.new.items
+        ≡ out.old.items ++ (codes "epoch" ++ spaced response.now.epoch)) }
+{
+    out.extend_from_slice(b"epoch")?;
+    push_number(alloc, out, response.epoch)
+}
+
+fn push_granted(
+    alloc: Global,
+    out: &mut Vec<u8>,
+    response: &Response,
+    common: &Common,
+) -> Result<(), Memory>
+    ensures { OnOk result (out.new.items
+        ≡ out.old.items ++ granted_text response.now common.now) }
+{
+    out.extend_from_slice(b"mapped ")?;
+    common.address.write(alloc, out)?;
+    push_number(alloc, out, u32::from(common.external))?;
+    push_number(alloc, out, response.lifetime)?;
+    push_number(alloc, out, response.epoch)
+}
+
+/// The size, where more ports than one were asked for.
+fn push_size(
+    alloc: Global,
+    out: &mut Vec<u8>,
+    command: &ClientCommand,
+    response: &Response,
+) -> Result<(), Memory>
+    ensures { OnOk result (out.new.items
+        ≡ out.old.items ++ size_field command.now response.now) }
+{
+    match command {
+        ClientCommand::Map(_target, wanted) => {
+            if wanted.size <= 1 {
+                return Ok(());
+            }
+            push_number(alloc, out, u32::from(set_size(response.items.items())))
+        }
+        ClientCommand::Peer(_target, _wanted) => Ok(()),
+        ClientCommand::Announce(_target) => Ok(()),
+    }
+}
+
+/// The size that a reply tells: 1 where it has no PORT_SET.
+fn set_size(items: &[Item]) -> u16
+    ensures { result ≡ set_size items.now }
+{
+    for item in items {
+        if let Some(size) = size_in(item) {
+            return size;
+        }
+    }
+    1
+}
+
+fn size_in(item: &Item) -> Option<u16>
+    ensures { result ≡ size_in item.now }
+{
+    match item {
+        Item::PortSet(set) => Some(set.size),
+        Item::ThirdParty(_address) => None,
+        Item::PreferFailure => None,
+        Item::Filter(_filter) => None,
+    }
+}
+
+/// A number after a space.
+fn push_number(alloc: Global, out: &mut Vec<u8>, number: u32) -> Result<(), Memory>
+    ensures { OnOk result (out.new.items ≡ out.old.items ++ spaced number) }
+{
+    let text = format!(in alloc; " {number}")?;
+    out.extend_from_slice(text.as_bytes())?;
+    Ok(())
+}
