@@ -3,6 +3,7 @@
 use Rattle.std.specs.Prelude.{ℕ, ◌==◌, ◌&&◌, Bool, bytes_eq, Option, Some, None}
 use Rattle.std.specs.Option.{option_eq}
 use Rattle.pcp_base.specs.declared.addresses.Address.{Address}
+use Rattle.pcp_base.specs.Tables.{same_address}
 use Rattle.pcp_codec.specs.declared.layout.TheConstants.{MAP_OPCODE, PEER_OPCODE}
 use Rattle.pcp_codec.specs.declared.requests.Common.{Common}
 use Rattle.pcp_codec.specs.declared.requests.Body.{Body}
@@ -25,15 +26,12 @@ key_of Announce third = None
 key_of (Map c) third = Some (common_key MAP_OPCODE c third None)
 key_of (Peer c port remote) third = Some (common_key PEER_OPCODE c third (Some (remote, port)))
 
-abbrev pub is_address : Address → Address → Bool
-is_address a b = bytes_eq a.0 b.0
-
 abbrev pub is_remote : Address × ℕ → Address × ℕ → Bool
-is_remote a b = is_address a.0 b.0 && a.1 == b.1
+is_remote a b = same_address a.0 b.0 && a.1 == b.1
 
 -- whether all six parts of two keys are equal
 abbrev pub is_key : WaitingKey → WaitingKey → Bool
 is_key a b =
     bytes_eq a.nonce.0 b.nonce.0 && a.opcode == b.opcode && a.protocol == b.protocol
     && a.internal == b.internal
-    && option_eq is_address a.third b.third && option_eq is_remote a.remote b.remote
+    && option_eq same_address a.third b.third && option_eq is_remote a.remote b.remote

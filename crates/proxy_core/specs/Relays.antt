@@ -9,6 +9,7 @@ use Rattle.pcp_base.specs.declared.codes.Code.TheVariants.{NoResources}
 use Rattle.pcp_base.specs.declared.datagrams.Datagram.{Datagram}
 use Rattle.pcp_base.specs.Pairing.{v4_octets}
 use Rattle.pcp_base.specs.Refusals.{parsed}
+use Rattle.pcp_base.specs.Tables.{same_address}
 use Rattle.pcp_codec.specs.declared.layout.TheConstants.{MESSAGE_OCTETS}
 use Rattle.pcp_options.specs.declared.options.Item.{Item}
 use Rattle.pcp_options.specs.declared.responses.Response.{Response}
@@ -26,7 +27,7 @@ use Rattle.proxy_core.specs.declared.keys.WaitingKey.{WaitingKey}
 use Rattle.proxy_core.specs.declared.waits.Waiting.{Waiting}
 use Rattle.proxy_core.specs.Down.{down_text}
 use Rattle.proxy_core.specs.Everyone.{everyone}
-use Rattle.proxy_core.specs.Keys.{is_address, key_of}
+use Rattle.proxy_core.specs.Keys.{key_of}
 use Rattle.proxy_core.specs.Up.{up_key, up_text}
 use Rattle.proxy_core.specs.Waits.{Waits, waiting_at, others, kept, is_full, still}
 
@@ -139,7 +140,7 @@ answered relay d (Some r) = matched (hearing relay r.epoch) d r (key_of r.body (
 
 -- what the server says; none where the datagram isn't of the server, or is no response
 abbrev pub response_from : Address → Datagram → Option Response
-response_from server d = if is_address d.peer server then response_of d.octets else None
+response_from server d = if same_address d.peer server then response_of d.octets else None
 
 -- a datagram came from upstream
 abbrev pub on_server : Relay → Datagram → ℕ → Step (Option Datagram)
