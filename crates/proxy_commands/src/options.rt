@@ -1,0 +1,88 @@
+//! The options of the command, as `clap` is told them.
+ghost use Rattle.std.specs.Prelude.{◌≡◌, IfOk, true, false};
+ghost use Rattle.clap.specs.Words.{app_of, new_app, rule_of, with_rule};
+ghost use Rattle.client_commands.specs.Options.{option_rule};
+ghost use Rattle.proxy_commands.specs.Commands.{proxy_app, with_addresses};
+
+use clap::{Arg, Command};
+use std::alloc::{AllocError, Global};
+
+/// The command without its options.
+fn named<'a>(alloc: Global, name: &'a str, about: &'a str, example: &'a str) -> Command<'a>
+    ensures { app_of result ≡ new_app name.entry.now }
+{
+    Command::new(alloc, name).about(about).after_help(example)
+}
+
+/// The option `--name VALUE`, which must be there.
+fn needed<'a>(alloc: Global, name: &'a str, value: &'a str, help: &'a str) -> Arg<'a>
+    ensures rule { rule_of result ≡ option_rule true name.entry.now }
+    ensures local { result.global ≡ false }
+{
+    Arg::new(alloc, name)
+        .long(name)
+        .value_name(value)
+        .help(help)
+        .required(true)
+}
+
+/// The command with one more option, which it needs.
+fn with_needed<'a>(
+    alloc: Global,
+    command: Command<'a>,
+    name: &'a str,
+    value: &'a str,
+    help: &'a str,
+) -> Result<Command<'a>, AllocError>
+    ensures { IfOk result (λ r.
+        app_of r ≡ with_rule (app_of command.entry) (option_rule true name.entry.now)) }
+{
+    command.arg(needed(alloc, name, value, help))
+}
+
+/// The command with the options that name addresses.
+fn with_addresses<'a>(alloc: Global, command: Command<'a>) -> Result<Command<'a>, AllocError>
+    ensures { IfOk result (λ r. app_of r ≡ with_addresses (app_of command.entry)) }
+{
+    let command = with_needed(
+        alloc,
+        command,
+        "server",
+        "ADDRESS",
+        "Address of the upstream server, dotted or 32 hexadecimal digits",
+    )?;
+    let command = with_needed(
+        alloc,
+        command,
+        "own",
+        "ADDRESS",
+        "Own address, from which the server hears requests",
+    )?;
+    with_needed(
+        alloc,
+        command,
+        "inner",
+        "ADDRESS",
+        "Own address at which clients ask",
+    )
+}
+
+/// The command `proxy`.
+pub(crate) fn proxy_command<'a>(alloc: Global) -> Result<Command<'a>, AllocError>
+    ensures { IfOk result (λ r. app_of r ≡ proxy_app) }
+{
+    let command = named(
+        alloc,
+        "pcp proxy",
+        "Relays the requests of clients to a server and its replies to them, until it is stopped",
+        "Example: pcp proxy --server 192.0.2.9 --own 192.0.2.2 --inner 10.0.0.2 --key $(openssl rand -hex 32)",
+    );
+    let command = with_addresses(alloc, command)?;
+    with_needed(
+        alloc,
+        command,
+        "key",
+        "HEX",
+        "What no client may know: 64 hexadecimal digits, the same ones after a restart",
+    )
+}
