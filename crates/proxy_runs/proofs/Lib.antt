@@ -1,0 +1,4 @@
+pub mod AnswerLemmas
+pub mod HandLemmas
+pub mod RunLemmas
+pub mod TurnLemmas

@@ -1,0 +1,128 @@
+//! What a relay sends for what came.
+ghost use Rattle.std.specs.Prelude.{◌≡◌, ◌≤◌, [], ◌∷◌, length, IfOk, IfSome, OnOk, OnErr};
+ghost use Rattle.pcp_io.specs.Takes.{filled, item_of};
+ghost use Rattle.proxy_runs.specs.Handing.{Hands};
+ghost use Rattle.proxy_runs.specs.Sending.{down_by, up_by};
+ghost use Rattle.proxy_runs.specs.Steps.{Does};
+ghost use Rattle.proxy_runs.specs.Turns.{IsPacket, event_of, packet_event};
+
+use crate::sends::{send_one, send_reply};
+use pcp_base::{Address, Datagram, Memory, Octets};
+use pcp_io::{Incoming, Outbox};
+use proxy_core::{Proxy, ProxyOut};
+use std::alloc::Global;
+
+/// The port on which servers listen (RFC 6887, section 19.1).
+pub const SERVER_PORT: u16 = 5_351;
+
+/// Sends what a relay gives for a client's datagram.
+fn send_out<O: Outbox>(server: &Address, down: &mut O, up: &mut O, out: ProxyOut)
+    ensures down { Hands (down_by out)
+        (record { sent = O.sent down.old; faults = O.faults down.old })
+        (record { sent = O.sent down.new; faults = O.faults down.new }) }
+    ensures up { Hands (up_by server.now out)
+        (record { sent = O.sent up.old; faults = O.faults up.old })
+        (record { sent = O.sent up.new; faults = O.faults up.new }) }
+{
+    match out {
+        ProxyOut::Nothing => {}
+        ProxyOut::Reply(reply) => {
+            send_one(down, &reply);
+        }
+        ProxyOut::Up(octets) => {
+            send_one(up, &to_server(server, octets));
+        }
+    }
+}
+
+fn to_server(server: &Address, octets: Octets) -> Datagram
+    ensures { result ≡ record { peer = server.now; port = SERVER_PORT; octets = octets } }
+{
+    Datagram {
+        peer: *server,
+        port: SERVER_PORT,
+        octets,
+    }
+}
+
+/// What is sent for a datagram at a time in milliseconds: one whose peer is the server came from
+/// upstream, and any other from a client. After `Memory` nothing was sent.
+fn relay_packet<O: Outbox>(
+    alloc: Global,
+    server: &Address,
+    proxy: &mut Proxy,
+    down: &mut O,
+    up: &mut O,
+    datagram: &Datagram,
+    now_ms: u64,
+) -> Result<(), Memory>
+    ensures ok { OnOk result (Does server.now (packet_event server.now datagram.now now_ms ∷ [])
+        proxy.old proxy.new
+        (record {
+          down = record { sent = O.sent down.old; faults = O.faults down.old };
+          up = record { sent = O.sent up.old; faults = O.faults up.old };
+        })
+        (record {
+          down = record { sent = O.sent down.new; faults = O.faults down.new };
+          up = record { sent = O.sent up.new; faults = O.faults up.new };
+        })) }
+    ensures err { OnErr result ((down.new ≡ down.old) × (up.new ≡ up.old)) }
+{
+    if datagram.peer == *server {
+        let reply = proxy.from_server(alloc, datagram, now_ms)?;
+        send_reply(down, &reply);
+        return Ok(());
+    }
+    let out = proxy.from_client(alloc, datagram, now_ms)?;
+    send_out(server, down, up, out);
+    Ok(())
+}
+
+/// A datagram from this peer.
+fn datagram_from(alloc: Global, peer: Address, port: u16, octets: &[u8]) -> Result<Datagram, Memory>
+    ensures { IfOk result
+        (λ d. d ≡ record { peer = peer; port = port; octets = octets.now }) }
+{
+    Ok(Datagram {
+        peer,
+        port,
+        octets: Octets::of(octets.to_vec(alloc)?),
+    })
+}
+
+/// What is sent for what a take gave, at a time in milliseconds: packets are relayed, and anything
+/// else is ignored. After `Memory` nothing was sent for a packet.
+pub(crate) fn relay_item<O: Outbox>(
+    alloc: Global,
+    server: &Address,
+    proxy: &mut Proxy,
+    down: &mut O,
+    up: &mut O,
+    incoming: Incoming,
+    room: &[u8],
+    now_ms: u64,
+) -> Result<(), Memory>
+    requires { filled incoming ≤ length room.now }
+    ensures ok { IfSome (item_of incoming room.now) (λ item. OnOk result
+        (Does server.now (event_of server.now item now_ms) proxy.old proxy.new
+        (record {
+          down = record { sent = O.sent down.old; faults = O.faults down.old };
+          up = record { sent = O.sent up.old; faults = O.faults up.old };
+        })
+        (record {
+          down = record { sent = O.sent down.new; faults = O.faults down.new };
+          up = record { sent = O.sent up.new; faults = O.faults up.new };
+        }))) }
+    ensures packet { OnErr result (IfSome (item_of incoming room.now) IsPacket) }
+    ensures err { OnErr result ((down.new ≡ down.old) × (up.new ≡ up.old)) }
+{
+    match incoming {
+        Incoming::Packet { peer, port, length } => {
+            let datagram = datagram_from(alloc, peer, port, &room[..length])?;
+            relay_packet(alloc, server, proxy, down, up, &datagram, now_ms)
+        }
+        Incoming::Lose(_address) => Ok(()),
+        Incoming::Quiet => Ok(()),
+        Incoming::Stop => Ok(()),
+    }
+}

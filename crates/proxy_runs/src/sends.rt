@@ -1,0 +1,27 @@
+//! Datagrams to an outbox.
+ghost use Rattle.std.specs.Prelude.{◌∷◌, [], option_to_list};
+ghost use Rattle.proxy_runs.specs.Handing.{Hands, HandsAll};
+
+use pcp_base::Datagram;
+use pcp_io::Outbox;
+
+/// Sends a datagram, and says whether the outbox took it. One that fails is a lost packet.
+pub(crate) fn send_one<O: Outbox>(out: &mut O, datagram: &Datagram) -> bool
+    ensures { HandsAll (record { datagram = datagram.now; taken = result } ∷ [])
+        (record { sent = O.sent out.old; faults = O.faults out.old })
+        (record { sent = O.sent out.new; faults = O.faults out.new }) }
+{
+    out.send(datagram.peer, datagram.port, datagram.octets.items())
+        .is_ok()
+}
+
+/// Sends a reply, where there is one.
+pub(crate) fn send_reply<O: Outbox>(out: &mut O, reply: &Option<Datagram>)
+    ensures { Hands (option_to_list reply.now)
+        (record { sent = O.sent out.old; faults = O.faults out.old })
+        (record { sent = O.sent out.new; faults = O.faults out.new }) }
+{
+    if let Some(datagram) = reply {
+        send_one(out, datagram);
+    }
+}
