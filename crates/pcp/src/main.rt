@@ -5,31 +5,58 @@ ghost use Rattle.std.specs.Prelude.{◌≡◌, ◌≢◌};
 ghost use Rattle.std.specs.declared.io.ErrorKind.TheVariants.{OutOfMemory};
 ghost use Rattle.server_commands.specs.declared.statuses.Status.TheVariants as Statuses;
 
+mod inboxes;
 mod kept;
 mod places;
+mod serve;
+mod sockets;
 mod told;
+mod tools;
 
 use crate::kept::KeptSource;
 use crate::places::{Places, journals_in, may_open, places_of};
-use crate::told::{look_at, told_of};
+use crate::serve::serve_over;
+use crate::told::{beginning_of, look_at, told_of};
+use crate::tools::{ask_over, may_ask};
+use client_commands::help_of;
+use config_source::config_of;
+use lease_journal::Found;
 use pcp_base::Memory;
 use pcp_io::{FileSource, StdSink};
 use pcp_server::{Status, run_once};
+use serve_commands::{ServePlan, serve_of};
 use std::alloc::Global;
 use std::env;
 use std::env::VarError;
 use std::io::ErrorKind;
 use std::process::ExitCode;
+use std::sync::Wait;
+use std::thread::Threads;
+use tool_commands::ToolStatus;
 
-const USAGE: &str = "usage: pcp play CONFIG SCRIPT JOURNALS START
+const USAGE: &str = "usage: pcp serve CONFIG JOURNALS PORT LANEPORT
+       pcp play CONFIG SCRIPT JOURNALS START
        pcp dump CONFIG JOURNALS
        pcp load CONFIG JOURNALS START NUMBER COUNT
+       pcp map OPTIONS..
+       pcp peer OPTIONS..
+       pcp announce OPTIONS..
+       pcp map --help (or peer, announce)
        pcp --help
        pcp --version
 
 CONFIG is a file with the configuration, in TOML. JOURNALS is a folder that is
 there: it keeps the leases of each external address over all stops, and files
 are made in it as they are needed. START is a moment in whole seconds below 2^40.
+
+serve Answers the Port Control Protocol requests that come to UDP port PORT,
+      usually 5351, of all addresses of this host, until it is stopped by the
+      octet ff and 'stop', sent to PORT from 127.0.0.1. Whose an external port is
+      is asked at port LANEPORT of 127.0.0.1, and at those above it for the
+      further external addresses. At its end it writes a line for each of these.
+
+          mkdir journals
+          pcp serve examples/first.toml journals 5351 5400
 
 play  Opens the journals at START and answers the Port Control Protocol requests
       of the file SCRIPT. For each line its result is written to standard output.
@@ -46,54 +73,93 @@ load  Opens the journals at START, serves COUNT requests (at most 1000000) that
 
           pcp load examples/first.toml journals 1000 7 20000
 
+map, peer, announce
+      Ask a server for a mapping, for one towards one remote peer, or for its
+      epoch, and print its answer.
+
+          pcp map --server 192.0.2.254 --own 10.0.0.5 --protocol udp --port 5000
+
 Exit status, and the line on standard error:
 
     0  nothing
     2  pcp: words refused
     3  pcp: configuration refused: too long (or: not toml, not a configuration)
     4  pcp: script refused at line N
-    5  pcp: read failed
+    5  pcp: read failed (of serve also: a port is taken)
     6  pcp: write failed
     7  pcp: disk of shard N failed (N counts the external addresses from 0)
     8  pcp: out of memory
+   10  pcp: no random word
+   11  pcp: no answer
+   12  pcp: refused with code N (of RFC 6887, section 7.4)
+   13  pcp: too many turns
+   14  pcp: stopped
 
 Where the environment has PCP_EXPLAIN, more lines tell why a configuration is
-refused or a disk failed, and which journals play and load found blank or
-damaged.
+refused or a disk failed, and which journals serve, play and load found blank
+or damaged.
 ";
 
 const VERSION: &str = "pcp 0.1.0\n";
 
+/// The status of a command, of the server's or of a tool's.
+#[derive(Clone, Copy)]
+enum EndStatus {
+    Server(Status),
+    Tool(ToolStatus),
+}
+
 /// How a command ended.
 #[derive(Drop)]
 struct Ended {
-    status: Status,
+    status: EndStatus,
     /// what people are told beside it, where they ask
     told: Vec<String>,
 }
 
 impl Ended {
-    /// It ended so, and there is no more to tell.
+    /// A command of the server ended so, and there is no more to tell.
     fn with(rt: &HostRuntime, status: Status) -> Ended {
         Ended {
-            status,
+            status: EndStatus::Server(status),
             told: Vec::new(rt.alloc()),
+        }
+    }
+
+    /// A command of a tool ended so.
+    fn with_tool(rt: &HostRuntime, status: ToolStatus) -> Ended {
+        Ended {
+            status: EndStatus::Tool(status),
+            told: Vec::new(rt.alloc()),
+        }
+    }
+}
+
+/// Tells how a command ended, in a line on standard error unless all was done; gives the exit status.
+fn exit_with(rt: &HostRuntime, status: EndStatus) -> u8 {
+    match status {
+        EndStatus::Server(Status::Done) | EndStatus::Tool(ToolStatus::Done) => 0,
+        EndStatus::Server(status) => {
+            let _ = eprintln!(rt; "{status}");
+            status.exit()
+        }
+        EndStatus::Tool(status) => {
+            let _ = eprintln!(rt; "{status}");
+            status.exit()
         }
     }
 }
 
 fn main(rt: HostRuntime) -> ExitCode {
     let ended = match words(&rt) {
-        Ok(words) => run(&rt, &words, explains(&rt)),
+        Ok(words) => run(&rt, &rt, &words, explains(&rt)),
         Err(status) => Ended::with(&rt, status),
     };
-    if ended.status != Status::Done {
-        let _ = eprintln!(rt; "{}", ended.status);
-    }
+    let exit = exit_with(&rt, ended.status);
     for line in &ended.told {
         let _ = eprintln!(rt; "pcp: {line}");
     }
-    ExitCode::from(ended.status.exit())
+    ExitCode::from(exit)
 }
 
 /// The words behind the program's name. A word that isn't UTF-8 is part of no command.
@@ -131,14 +197,32 @@ fn explains(rt: &HostRuntime) -> bool {
 }
 
 /// Runs the command that the words are.
-fn run(rt: &HostRuntime, words: &[String], explains: bool) -> Ended {
+fn run<R: Threads + Wait + Sync>(
+    threads: &R,
+    rt: &HostRuntime,
+    words: &[String],
+    explains: bool,
+) -> Ended {
     match words {
         [word] if word.as_str() == "--help" => Ended::with(rt, tell(rt, USAGE)),
         [word] if word.as_str() == "--version" => Ended::with(rt, tell(rt, VERSION)),
-        _ => match run_at(rt, words, &places_of(words), explains) {
+        _ if may_ask(words) => ask(rt, words),
+        _ => match run_at(threads, rt, words, &places_of(words), explains) {
             Ok(ended) => ended,
             Err(Memory) => Ended::with(rt, Status::Memory),
         },
+    }
+}
+
+/// Runs a command of the client, or prints its help.
+fn ask(rt: &HostRuntime, words: &[String]) -> Ended {
+    match help_of(rt.alloc(), words) {
+        Ok(Some(help)) => Ended::with(rt, tell(rt, help.as_str())),
+        Ok(None) => match ask_over(rt, words) {
+            Ok(status) => Ended::with_tool(rt, status),
+            Err(Memory) => Ended::with(rt, Status::Memory),
+        },
+        Err(Memory) => Ended::with(rt, Status::Memory),
     }
 }
 
@@ -151,7 +235,8 @@ fn tell(rt: &HostRuntime, text: &str) -> Status {
 }
 
 /// Runs a command of the server over the files at these places.
-fn run_at(
+fn run_at<R: Threads + Wait + Sync>(
+    threads: &R,
     rt: &HostRuntime,
     words: &[String],
     places: &Places<'_>,
@@ -163,22 +248,63 @@ fn run_at(
     } else {
         None
     };
-    let found = if explains && may_open(words) {
+    let mut found = if explains && may_open(words) {
         look_at(rt, places.journals)
     } else {
         Vec::new(alloc)
     };
     let config = FileSource::new(rt, String::from_str(alloc, places.config)?);
     let mut config = KeptSource::of(config, kept);
-    let mut script = FileSource::new(rt, String::from_str(alloc, places.script)?);
     let mut out = StdSink::new(rt.stdout());
-    let disks = journals_in(rt, places.journals)?;
-    let (status, disks) = run_once(alloc, words, &mut config, &mut script, &mut out, disks);
+    let (status, disks) = match serve_of(words) {
+        Some(plan) => {
+            if explains {
+                tell_beginning(rt, plan, places, &found);
+                found.clear();
+            }
+            serve_over(
+                threads,
+                rt,
+                words,
+                plan,
+                places.journals,
+                &mut config,
+                &mut out,
+            )?
+        }
+        None => {
+            let mut script = FileSource::new(rt, String::from_str(alloc, places.script)?);
+            let disks = journals_in(rt, places.journals)?;
+            run_once(alloc, words, &mut config, &mut script, &mut out, disks)
+        }
+    };
     if !explains {
         return Ok(Ended::with(rt, status));
     }
     match told_of(alloc, status, config.kept(), &found, &disks) {
-        Ok(told) => Ok(Ended { status, told }),
+        Ok(told) => Ok(Ended {
+            status: EndStatus::Server(status),
+            told,
+        }),
         Err(Memory) => Ok(Ended::with(rt, status)),
+    }
+}
+
+/// Tells an operator what is served, before it is. Where the configuration can't be read, nothing is
+/// told: the command then ends by that.
+fn tell_beginning(rt: &HostRuntime, plan: ServePlan, places: &Places<'_>, found: &[Option<Found>]) {
+    let alloc = rt.alloc();
+    let Ok(path) = String::from_str(alloc, places.config) else {
+        return;
+    };
+    let mut source = FileSource::new(rt, path);
+    let Ok(config) = config_of(alloc, &mut source) else {
+        return;
+    };
+    let Ok(lines) = beginning_of(alloc, plan, &config, found) else {
+        return;
+    };
+    for line in &lines {
+        let _ = eprintln!(rt; "pcp: {line}");
     }
 }

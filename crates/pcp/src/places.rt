@@ -36,10 +36,13 @@ pub(crate) fn places_of(words: &[String]) -> Places<'_> {
     }
 }
 
+/// The commands that open journals, and don't only read them.
+const OPENING: [&str; 3] = ["serve", "play", "load"];
+
 /// Whether the words may be a command that opens journals, and doesn't only read them.
 pub(crate) fn may_open(words: &[String]) -> bool {
     match words {
-        [command, ..] => command.as_str() == "play" || command.as_str() == "load",
+        [command, ..] => OPENING.contains(&command.as_str()),
         [] => false,
     }
 }

@@ -3,9 +3,10 @@ use crate::places::pair_at;
 use journal_dump::found_in;
 use lease_disk::{DiskPair, FileDisk, LeaseDisk};
 use lease_journal::Found;
-use pcp_base::{MOST_EXTERNALS, Memory};
+use pcp_base::{Address, Config, MOST_EXTERNALS, Memory};
 use pcp_config::{explain, read_config};
 use pcp_server::Status;
+use serve_commands::ServePlan;
 use std::alloc::Global;
 use std::io;
 use std::io::ErrorKind;
@@ -112,6 +113,34 @@ fn reason_of(error: &io::Error) -> Option<&'static str> {
     }
 }
 
+/// What an operator is told before a server begins: its ports and external addresses, and which
+/// journals were found blank or damaged.
+pub(crate) fn beginning_of(
+    alloc: Global,
+    plan: ServePlan,
+    config: &Config,
+    found: &[Option<Found>],
+) -> Result<Vec<String>, Memory> {
+    let mut told = Vec::new(alloc);
+    let ServePlan { port, lane_port } = plan;
+    told.push(format!(in alloc; "serving at port {port}, lanes from port {lane_port} on")?)?;
+    for external in config.externals.items() {
+        tell_address(alloc, &mut told, &external.address)?;
+    }
+    tell_states(alloc, &mut told, config.externals.items().len(), found)?;
+    Ok(told)
+}
+
+/// Adds a line for an external address.
+fn tell_address(alloc: Global, told: &mut Vec<String>, address: &Address) -> Result<(), Memory> {
+    let mut text = Vec::new(alloc);
+    address.write(alloc, &mut text)?;
+    if let Ok(text) = str::from_utf8(&text) {
+        told.push(format!(in alloc; "external address {text}")?)?;
+    }
+    Ok(())
+}
+
 /// Adds a line for each external address of the configuration whose journal was found blank or damaged.
 fn tell_found(
     alloc: Global,
@@ -122,7 +151,16 @@ fn tell_found(
     let Ok(config) = read_config(alloc, config) else {
         return Ok(());
     };
-    let count = config.externals.items().len();
+    tell_states(alloc, told, config.externals.items().len(), found)
+}
+
+/// Adds a line for each of so many external addresses whose journal was found blank or damaged.
+fn tell_states(
+    alloc: Global,
+    told: &mut Vec<String>,
+    count: usize,
+    found: &[Option<Found>],
+) -> Result<(), Memory> {
     for (place, found) in found.iter().enumerate() {
         match state_of(*found) {
             Some(state) if place < count => {

@@ -1,0 +1,68 @@
+//! The client's commands over the sockets of this host.
+use crate::inboxes::TwoInboxes;
+use crate::sockets::{ip_of, socket_at, socket_of_all};
+use client_commands::{ClientCommand, Target, command_of};
+use client_runs::run_client;
+use pcp_base::{Address, Memory};
+use pcp_io::{StdSink, SystemClock, UdpInbox, UdpOutbox};
+use random_words::FileEntropy;
+use std::alloc::Global;
+use std::net::UdpSocket;
+use tool_commands::ToolStatus;
+
+/// The port at which clients hear announcements and updates (RFC 6887, section 19.1).
+const CLIENT_PORT: u16 = 5350;
+
+/// Where the system has random octets.
+const RANDOM: &str = "/dev/urandom";
+
+/// Whether the words may be a command of the client.
+pub(crate) fn may_ask(words: &[String]) -> bool {
+    match words {
+        [command, ..] => ["map", "peer", "announce"].contains(&command.as_str()),
+        [] => false,
+    }
+}
+
+/// The client's own address that the words name; none where they are no command.
+fn own_in(alloc: Global, words: &[String]) -> Result<Option<Address>, Memory> {
+    let target: Target = match command_of(alloc, words)? {
+        Some(ClientCommand::Map(target, _) | ClientCommand::Peer(target, _)) => target,
+        Some(ClientCommand::Announce(target)) => target,
+        None => return Ok(None),
+    };
+    Ok(Some(target.own))
+}
+
+/// A socket of the client's own address, from which it asks.
+fn asking_socket(rt: &HostRuntime, own: Option<Address>) -> Option<UdpSocket> {
+    socket_at(rt, ip_of(own?), 0)
+}
+
+/// Runs a command of the client. Its requests leave from its own address, to which the replies come; it
+/// listens for announcements and updates too, unless another program does.
+pub(crate) fn ask_over(rt: &HostRuntime, words: &[String]) -> Result<ToolStatus, Memory> {
+    let alloc = rt.alloc();
+    let socket = asking_socket(rt, own_in(alloc, words)?);
+    let sending = match &socket {
+        Some(socket) => socket.try_clone().ok(),
+        None => None,
+    };
+    let mut up = UdpOutbox::of(sending);
+    let mut clock = SystemClock::of(rt);
+    let mut entropy = FileEntropy::new(rt, String::from_str(alloc, RANDOM)?);
+    let mut out = StdSink::new(rt.stdout());
+    let first = UdpInbox::of(socket);
+    let status = match socket_of_all(rt, CLIENT_PORT) {
+        Some(told) => {
+            let second = UdpInbox::of(Some(told));
+            let mut from = TwoInboxes { first, second };
+            run_client(alloc, words, &mut up, &mut from, &mut clock, &mut entropy, &mut out)
+        }
+        None => {
+            let mut from = first;
+            run_client(alloc, words, &mut up, &mut from, &mut clock, &mut entropy, &mut out)
+        }
+    };
+    Ok(status)
+}
