@@ -8,8 +8,8 @@ use Rattle.journal_sides.specs.declared.errors.JournalFault.TheVariants as Journ
 use Rattle.lane_index.specs.Lanes.{ToldRecords}
 use Rattle.lease_house.specs.declared.faults.HouseFault.{HouseFault}
 use Rattle.job_workers.specs.HouseCalls.{AnswersBatchOf, IsTold, LosesAllOf, RefusesBatchOf, RefusesLossOf, SplitsOff, StaysPass}
-use Rattle.shared_house.specs.declared.openings.Opening.{Opening}
-use Rattle.shared_house.specs.declared.passes.HousePass.{HousePass}
+use Rattle.turned_shards.specs.declared.openings.Opening.{Opening}
+use Rattle.turned_shards.specs.declared.passes.HousePass.{HousePass}
 use Rattle.shared_house.specs.HouseCalls.{BeginsAt, HearsHouse, HouseView, IsPassOf, LosesHouse, RefusesAt, RefusesHouse, ServesHouse, SplitsHouse, batch_behind, before_own, loss_behind, raised_behind, raised_by_loss}
 use Rattle.house_workers.specs.HouseCallsOf.{IsOpeningOf, IsServingPass, NotesOwn, OpensWith, calls_of, fault_behind}
 

@@ -16,8 +16,8 @@ use Rattle.request_workers.specs.BegunHouses.{AnswersBegun}
 use Rattle.request_workers.specs.Parts.{BegunState}
 use Rattle.request_workers.specs.Seats.{ArePasses}
 use Rattle.shared_house.specs.declared.beginning.Begun.{Begun}
-use Rattle.shared_house.specs.declared.openings.Opening.{Opening}
-use Rattle.shared_house.specs.declared.passes.HousePass.{HousePass}
+use Rattle.turned_shards.specs.declared.openings.Opening.{Opening}
+use Rattle.turned_shards.specs.declared.passes.HousePass.{HousePass}
 use Rattle.shared_house.specs.Beginnings.{BeginAll}
 use Rattle.shared_house.specs.Endings.{AreAtHome, EndsAll}
 use Rattle.shared_house.specs.HouseCalls.{HouseView, IsPassOf}

@@ -16,11 +16,11 @@ use Rattle.job_workers.specs.Works.{DoesCalls, IsOfHouse, Lost, Refused, Replied
 use Rattle.job_dispatch.specs.Dispatches.{Dispatched}
 use Rattle.request_workers.specs.Served.{IsShardRun, ShardRun}
 use Rattle.turn_lock.specs.Passes.{PassKnowledge}
-use Rattle.shared_house.specs.declared.openings.Opening.{Opening}
-use Rattle.shared_house.specs.declared.passes.HousePass.{HousePass}
-use Rattle.shared_house.specs.FaultCounts.{HaveRisenBy, fault_count, is_of_fault}
+use Rattle.turned_shards.specs.declared.openings.Opening.{Opening}
+use Rattle.turned_shards.specs.declared.passes.HousePass.{HousePass}
+use Rattle.turned_shards.specs.FaultCounts.{HaveRisenBy, fault_count, is_of_fault}
 use Rattle.shared_house.specs.HouseCalls.{AddsTo, HouseView, Notes, before_own}
-use Rattle.shared_house.specs.Turnings.{EndsOne}
+use Rattle.turned_shards.specs.Turnings.{EndsOne}
 use Rattle.house_workers.specs.HouseCallsOf.{NotesOwn, calls_of}
 use Rattle.house_workers.specs.Laws.{AreFewFaults}
 

@@ -25,10 +25,10 @@ use Rattle.lease_house.specs.SoloCalls.{fault_at as fault_of}
 use Rattle.job_queue.specs.declared.jobs.Job.{Job}
 use Rattle.job_queue.specs.declared.jobs.Job.TheVariants as Jobs
 use Rattle.job_workers.specs.Works.{DoesCalls, IsOfHouse, Lost, Refused, Replied, WorkCall, WorkResult, WorkState}
-use Rattle.shared_house.specs.declared.passes.HousePass.{HousePass}
-use Rattle.shared_house.specs.BatchEntries.{Asked, asked_by, asked_in, entries_along, entry_of, loss_at}
-use Rattle.shared_house.specs.FaultCounts.{is_of_fault}
-use Rattle.shared_house.specs.declared.openings.Opening.{Opening}
+use Rattle.turned_shards.specs.declared.passes.HousePass.{HousePass}
+use Rattle.turned_shards.specs.BatchEntries.{Asked, asked_by, asked_in, entries_along, entry_of, loss_at}
+use Rattle.turned_shards.specs.FaultCounts.{is_of_fault}
+use Rattle.turned_shards.specs.declared.openings.Opening.{Opening}
 use Rattle.shared_house.specs.HouseCalls.{HouseView, batch_behind, before_own, loss_behind, raised_behind, raised_by_loss}
 use Rattle.house_workers.specs.HouseCallsOf.{NotesOwn, calls_of}
 use Rattle.house_workers.specs.OwnEntries.{IsEntryOf, StandInOrder, all_with_entries, is_asked, less_faults, own_in, with_entries}

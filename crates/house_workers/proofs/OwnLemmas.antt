@@ -6,8 +6,8 @@ use Rattle.journal_sides.specs.declared.errors.JournalFault.TheVariants as Journ
 use Rattle.job_queue.specs.declared.jobs.Job.{Job}
 use Rattle.job_workers.specs.Works.{DoesCalls, IsOfHouse, Lost, Refused, Replied, WorkCall, WorkResult, WorkState}
 use Rattle.turn_lock.specs.Passes.{PassKnowledge}
-use Rattle.shared_house.specs.declared.openings.Opening.{Opening}
-use Rattle.shared_house.specs.declared.passes.HousePass.{HousePass}
+use Rattle.turned_shards.specs.declared.openings.Opening.{Opening}
+use Rattle.turned_shards.specs.declared.passes.HousePass.{HousePass}
 use Rattle.shared_house.specs.HouseCalls.{AddsTo, HouseView, Notes, before_own}
 use Rattle.house_workers.specs.HouseCallsOf.{NotesHere, NotesOwn, calls_of}
 use Rattle.house_workers.specs.OwnEntries.{NotesInOrder, own_in}

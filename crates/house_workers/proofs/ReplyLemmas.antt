@@ -8,8 +8,8 @@ use Rattle.pcp_io.specs.Sends.{sent_with}
 use Rattle.job_queue.specs.declared.jobs.Job.{Job}
 use Rattle.job_workers.specs.Sends.{Handed, taken_of}
 use Rattle.job_workers.specs.Works.{DoesCalls, IsOfHouse, Lost, Refused, Replied, WorkCall, WorkResult, WorkState, taken_in}
-use Rattle.shared_house.specs.declared.passes.HousePass.{HousePass}
-use Rattle.shared_house.specs.BatchEntries.{reply_in}
+use Rattle.turned_shards.specs.declared.passes.HousePass.{HousePass}
+use Rattle.turned_shards.specs.BatchEntries.{reply_in}
 use Rattle.shared_house.specs.HouseCalls.{HouseView}
 use Rattle.house_workers.specs.HouseCallsOf.{calls_of}
 use Rattle.house_workers.specs.OwnEntries.{HandsReplies, answered_by, answered_in}

@@ -9,9 +9,9 @@ use Rattle.lease_histories.specs.Legal.{base_after, moment_after}
 use Rattle.lease_house.specs.declared.faults.HouseFault.{HouseFault}
 use Rattle.lease_house.specs.SoloCalls.{fault_at as fault_of}
 use Rattle.job_workers.specs.HouseCalls.{HouseCalls}
-use Rattle.shared_house.specs.declared.openings.Opening.{Opening}
-use Rattle.shared_house.specs.declared.passes.HousePass.{HousePass}
-use Rattle.shared_house.specs.BatchEntries.{fault_at}
+use Rattle.turned_shards.specs.declared.openings.Opening.{Opening}
+use Rattle.turned_shards.specs.declared.passes.HousePass.{HousePass}
+use Rattle.turned_shards.specs.BatchEntries.{fault_at}
 use Rattle.shared_house.specs.HouseCalls.{BeginsAt, HearsHouse, HouseView, IsPassOf, LosesHouse, RefusesWith, ServesHouse, SplitsHouse, batch_behind, before_own, loss_behind, raised_behind, raised_by_loss}
 
 module _ {D : Type 0} where

@@ -8,11 +8,11 @@ use Rattle.job_workers.specs.Works.{unsent_in}
 use Rattle.job_dispatch.specs.Dispatches.{Dispatched}
 use Rattle.request_workers.specs.Counts.{Counts}
 use Rattle.request_workers.specs.Served.{IsShardRun, ShardRun}
-use Rattle.shared_house.specs.declared.openings.Opening.{Opening}
-use Rattle.shared_house.specs.declared.passes.HousePass.{HousePass}
-use Rattle.shared_house.specs.FaultCounts.{HaveRisenBy}
+use Rattle.turned_shards.specs.declared.openings.Opening.{Opening}
+use Rattle.turned_shards.specs.declared.passes.HousePass.{HousePass}
+use Rattle.turned_shards.specs.FaultCounts.{HaveRisenBy}
 use Rattle.shared_house.specs.HouseCalls.{HouseView}
-use Rattle.shared_house.specs.Turnings.{EndsOne}
+use Rattle.turned_shards.specs.Turnings.{EndsOne}
 use Rattle.house_workers.specs.HouseCallsOf.{calls_of}
 use Rattle.house_workers.specs.OwnEntries.{HandsReplies, NotesInOrder, StandInOrder, answered_in, own_in}
 

@@ -14,8 +14,8 @@ use Rattle.job_queue.specs.declared.jobs.Job.TheVariants as Jobs
 use Rattle.job_workers.specs.Sends.{Handed, taken_of}
 use Rattle.job_workers.specs.Works.{Lost, Refused, Replied, WorkCall, WorkResult, WorkState}
 use Rattle.turn_lock.specs.Passes.{PassKnowledge}
-use Rattle.shared_house.specs.BatchEntries.{reply_in}
-use Rattle.shared_house.specs.FaultCounts.{is_of_fault}
+use Rattle.turned_shards.specs.BatchEntries.{reply_in}
+use Rattle.turned_shards.specs.FaultCounts.{is_of_fault}
 
 -- the entries that these calls noted as their own, in order
 abbrev pub own_in : List WorkCall → List Entry

@@ -13,7 +13,7 @@ use Rattle.request_workers.specs.declared.faults.ServeFault.{ServeFault}
 use Rattle.request_workers.specs.BegunHouses.{AnswersBegun}
 use Rattle.request_workers.specs.Parts.{BegunState}
 use Rattle.shared_house.specs.declared.beginning.Begun.{Begun}
-use Rattle.shared_house.specs.declared.passes.HousePass.{HousePass}
+use Rattle.turned_shards.specs.declared.passes.HousePass.{HousePass}
 use Rattle.shared_house.specs.Beginnings.{Begins}
 use Rattle.shared_house.specs.Endings.{AreAtHome, EndsAll}
 use Rattle.shared_house.specs.HouseCalls.{IsPassOf}

@@ -1,7 +1,8 @@
 -- Calls on a held shard, one after the other, and between a take and a give.
 use Rattle.std.specs.Prelude.{is_err, Result, Ok, Err, OnOk, OnErr, IfOk, IfErr}
 use Rattle.std.specs.List.{range_with_len}
-use Rattle.std.proofs.Common.{◌≡◌, ◌∙◌, ℕ, ◌≤◌, max, List, [], ◌∷◌, ◌++◌, inl, inr, true, false, Bool, length, map, refl, ap, sym, subst, arith}
+use Rattle.std.proofs.Common.{◌≡◌, ◌∙◌, ℕ, ◌≤◌, max, List, [], ◌∷◌, ◌++◌, inl, inr, true, false}
+use Rattle.std.proofs.Common.{Bool, length, map, refl, ap, sym, subst, arith}
 use Rattle.std.proofs.lemmas.List.{append-nil}
 use Rattle.pcp_base.specs.declared.configs.Config.{Config}
 use Rattle.pcp_base.specs.declared.datagrams.Datagram.{Datagram}
@@ -12,34 +13,34 @@ use Rattle.lease_store.specs.LeaseTerms.{terms_of}
 use Rattle.lease_store.specs.Lookups.{lease_count}
 use Rattle.journal_sides.specs.declared.errors.JournalFault.{JournalFault}
 use Rattle.journal_sides.specs.declared.errors.JournalFault.TheVariants.{Disk, Memory}
-use Rattle.lane_index.specs.Lanes.{ToldRecords, told_records}
+use Rattle.lane_index.specs.Lanes.{ToldRecords}
+use Rattle.lease_histories.proofs.Growing.{state-more}
 use Rattle.lease_histories.specs.Legal.{IsLegal, base_after, moment_after, state_after}
-use Rattle.turn_lock.specs.Passes.{PassKnowledge, SeesMore, TurnName, after_give, after_note}
+use Rattle.turn_lock.specs.Passes.{PassKnowledge, SeesMore, after_give, after_note}
 use Rattle.epoch_word.specs.Rule.{SeatKnowledge}
-use Rattle.shared_house.specs.declared.openings.Opening.{Opening}
-use Rattle.shared_house.specs.declared.passes.HousePass.{HousePass}
-use Rattle.shared_house.specs.declared.shards.Shard.{Shard}
-use Rattle.shared_house.specs.BatchEntries.{asked_in, entries_along, fault_at, loss_at, reply_in}
-use Rattle.shared_house.specs.HeldCalls.{FailsHeld, FailsWith, HearsAndRaises, HearsMore, IsHeldBy, LosesHeld, NotesBehind, NotesOwn, RefusesHeld, RefusesLoss, ServesHeld, SettlesHeld, raised_to}
-use Rattle.shared_house.specs.HouseCalls.{AddsTo, Hears, IsSettling, LosesHouse, MaySettle, Notes, RefusesHouse, RefusesWith, ServesHouse, batch_behind, before_own, loss_behind, raised_behind, raised_by_loss}
-use Rattle.shared_house.specs.Inside.{IsWithLane}
-use Rattle.shared_house.specs.Publishing.{KeepsRecords, told_of}
-use Rattle.shared_house.specs.ShardCalls.{SettlesShard, batch_entries, faults_of, loss_entries}
-use Rattle.shared_house.specs.Shards.{StandsFor, all_records, served_by}
-use Rattle.shared_house.proofs.Histories.{state-append}
-use Rattle.shared_house.proofs.LaneLemmas.{stands-shown}
+use Rattle.turned_shards.specs.declared.openings.Opening.{Opening}
+use Rattle.turned_shards.specs.declared.passes.HousePass.{HousePass}
+use Rattle.turned_shards.specs.declared.shards.Shard.{Shard}
+use Rattle.turned_shards.specs.BatchEntries.{asked_in, entries_along, fault_at, loss_at, reply_in}
+use Rattle.shared_house.specs.HeldCalls.{FailsHeld, FailsWith, HearsAndRaises, HearsMore, LosesHeld}
+use Rattle.shared_house.specs.HeldCalls.{NotesBehind, NotesOwn, RefusesHeld, RefusesLoss}
+use Rattle.shared_house.specs.HeldCalls.{ServesHeld, SettlesHeld, raised_to}
+use Rattle.shared_house.specs.HouseCalls.{AddsTo, Hears, IsSettling, LosesHouse, MaySettle, Notes}
+use Rattle.shared_house.specs.HouseCalls.{RefusesHouse, RefusesWith, ServesHouse, batch_behind}
+use Rattle.shared_house.specs.HouseCalls.{before_own, loss_behind, raised_behind, raised_by_loss}
+use Rattle.turned_shards.specs.Publishing.{IsWithLane, told_of}
+use Rattle.turned_shards.specs.ShardCalls.{SettlesShard, batch_entries, faults_of, loss_entries}
+use Rattle.turned_shards.specs.Shards.{StandsFor, served_by}
 
 -- what two clauses on an Ok say together
-pub if-ok-both : {X E : Type 0} (r : Result X E) (P : Type 0) (Q R : X → Type 0) → OnOk r P → IfOk r Q → (P → (x : X) → Q x → R x) → IfOk r R
+pub if-ok-both : {X E : Type 0} (r : Result X E) (P : Type 0) (Q R : X → Type 0) → OnOk r P →
+    IfOk r Q → (P → (x : X) → Q x → R x) → IfOk r R
 if-ok-both (Ok x) P Q R p q f = f p x q
 if-ok-both (Err e) P Q R p q f = tt
 
-pub if-ok-weaker : {X E : Type 0} (r : Result X E) (Q R : X → Type 0) → IfOk r Q → ((x : X) → Q x → R x) → IfOk r R
-if-ok-weaker (Ok x) Q R q f = f x q
-if-ok-weaker (Err e) Q R q f = tt
-
 -- what two clauses on an Ok, each on what it gives, say together
-pub if-ok-two : {X E : Type 0} (r : Result X E) (P Q R : X → Type 0) → IfOk r P → IfOk r Q → ((x : X) → P x → Q x → R x) → IfOk r R
+pub if-ok-two : {X E : Type 0} (r : Result X E) (P Q R : X → Type 0) → IfOk r P → IfOk r Q →
+    ((x : X) → P x → Q x → R x) → IfOk r R
 if-ok-two (Ok x) P Q R p q f = f x p q
 if-ok-two (Err e) P Q R p q f = tt
 
@@ -47,13 +48,10 @@ pub on-ok : {X E : Type 0} (r : Result X E) (P : Type 0) → P → OnOk r P
 on-ok (Ok x) P p = p
 on-ok (Err e) P p = tt
 
-pub if-err-weaker : {X E : Type 0} (r : Result X E) (Q R : E → Type 0) → IfErr r Q → ((e : E) → Q e → R e) → IfErr r R
+pub if-err-weaker : {X E : Type 0} (r : Result X E) (Q R : E → Type 0) → IfErr r Q →
+    ((e : E) → Q e → R e) → IfErr r R
 if-err-weaker (Ok x) Q R q f = tt
 if-err-weaker (Err e) Q R q f = f e q
-
-pub if-err-both : {X E : Type 0} (r : Result X E) (P : Type 0) (Q R : E → Type 0) → OnErr r P → IfErr r Q → (P → (e : E) → Q e → R e) → IfErr r R
-if-err-both (Ok x) P Q R p q f = tt
-if-err-both (Err e) P Q R p q f = f p e q
 
 own-none : (p : PassKnowledge Entry) → p ≡ after_note true [] p
 own-none p =
@@ -66,37 +64,51 @@ note-none p =
     ∙ ap (λ (l : List ℕ). record p { settled = l }) (append-nil p.settled)
 
 -- what a seat raised and then was told
-raises-told : (raised base : ℕ) (p q r : SeatKnowledge) → raised ≡ max p.raised base → q ≡ raised_to base p → r ≡ record q { heard = r.heard } → q.heard ≤ r.heard → Hears raised p r
+raises-told : (raised base : ℕ) (p q r : SeatKnowledge) → raised ≡ max p.raised base →
+    q ≡ raised_to base p → r ≡ record q { heard = r.heard } → q.heard ≤ r.heard → Hears raised p r
 raises-told raised base p q r is first then later =
     let here : q.heard ≡ p.heard = ap (λ (k : SeatKnowledge). k.heard) first in
     record {
-      same = then ∙ ap (λ (k : SeatKnowledge). record k { heard = r.heard }) first ∙ ap (λ (n : ℕ). record p { raised = n; heard = r.heard }) (sym is);
+      same = then ∙ ap (λ (k : SeatKnowledge). record k { heard = r.heard }) first
+          ∙ ap (λ (n : ℕ). record p { raised = n; heard = r.heard }) (sym is);
       heard = omega (arith, here, later);
     }
 
-told-raised : (base : ℕ) (p q r : SeatKnowledge) → q ≡ raised_to base p → r ≡ record q { heard = r.heard } → q.raised ≤ r.heard → r.raised ≤ r.heard
+told-raised : (base : ℕ) (p q r : SeatKnowledge) → q ≡ raised_to base p →
+    r ≡ record q { heard = r.heard } → q.raised ≤ r.heard → r.raised ≤ r.heard
 told-raised base p q r first then told =
     let same : r.raised ≡ q.raised = ap (λ (k : SeatKnowledge). k.raised) then in
     omega (arith, same, told)
 
 -- what stands behind a pass that took a turn, noted twice, and gave it back
-given-notes : (p h q k : PassKnowledge Entry) (others settling : List Entry) (own : List Entry → List Entry) → SeesMore p h → p.seen ++ others ≡ h.seen →
-    q ≡ after_note true (own (h.seen ++ settling)) (after_note false settling h) → k ≡ after_give q → Notes p k others settling (own ((p.seen ++ others) ++ settling))
+given-notes : (p h q k : PassKnowledge Entry) (others settling : List Entry)
+    (own : List Entry → List Entry) → SeesMore p h → p.seen ++ others ≡ h.seen →
+    q ≡ after_note true (own (h.seen ++ settling)) (after_note false settling h) →
+    k ≡ after_give q → Notes p k others settling (own ((p.seen ++ others) ++ settling))
 given-notes p h q k others settling own more came noted given =
-    let log : (p.seen ++ others) ++ settling ≡ h.seen ++ settling = ap (λ (l : List Entry). l ++ settling) came in
-    let is : k ≡ after_give (after_note true (own (h.seen ++ settling)) (after_note false settling h)) = given ∙ ap after_give noted in
+    let log : (p.seen ++ others) ++ settling ≡ h.seen ++ settling =
+    ap (λ (l : List Entry). l ++ settling) came in
+    let is : k ≡ after_give
+    (after_note true (own (h.seen ++ settling)) (after_note false settling h)) = given
+    ∙ ap after_give noted in
     record {
       turn = ap (λ (n : PassKnowledge Entry). n.turn) is ∙ more.turn;
       home = ap (λ (n : PassKnowledge Entry). n.out) is;
       room = ap (λ (n : PassKnowledge Entry). n.room) is ∙ more.room;
-      seen = ap (λ (n : PassKnowledge Entry). n.seen) is ∙ ap (λ (l : List Entry). l ++ own l) (sym log);
-      settled = ap (λ (n : PassKnowledge Entry). n.settled) is ∙ ap (λ (l : List ℕ). l ++ range_with_len (length h.seen) (length settling)) more.settled
-          ∙ ap (λ (l : List Entry). p.settled ++ range_with_len (length l) (length settling)) (sym came);
-      mine = ap (λ (n : PassKnowledge Entry). n.mine) is ∙ ap (λ (l : List ℕ). l ++ range_with_len (length (h.seen ++ settling)) (length (own (h.seen ++ settling)))) more.mine
+      seen = ap (λ (n : PassKnowledge Entry). n.seen) is
+          ∙ ap (λ (l : List Entry). l ++ own l) (sym log);
+      settled = ap (λ (n : PassKnowledge Entry). n.settled) is
+          ∙ ap (λ (l : List ℕ). l ++ range_with_len (length h.seen) (length settling)) more.settled
+          ∙ ap (λ (l : List Entry). p.settled ++ range_with_len (length l) (length settling))
+          (sym came);
+      mine = ap (λ (n : PassKnowledge Entry). n.mine) is
+          ∙ ap (λ (l : List ℕ). l ++ range_with_len (length (h.seen ++ settling))
+          (length (own (h.seen ++ settling)))) more.mine
           ∙ ap (λ (l : List Entry). p.mine ++ range_with_len (length l) (length (own l))) (sym log);
     }
 
-module _ {D : Type 0} (tells : Type 0) (seen : D → List ℕ) (moment : D → ℕ) (left_since : D → ℕ → List ℕ → Type 0) (may_leave : D → List ℕ → Type 0) (counts : D → ℕ) where
+module _ {D : Type 0} (tells : Type 0) (seen : D → List ℕ) (moment : D → ℕ)
+    (left_since : D → ℕ → List ℕ → Type 0) (may_leave : D → List ℕ → Type 0) (counts : D → ℕ) where
   abbrev Stands : Opening D → Shard D → List Entry → Type 0
   Stands = StandsFor tells seen may_leave counts
 
@@ -107,130 +119,217 @@ module _ {D : Type 0} (tells : Type 0) (seen : D → List ℕ) (moment : D → �
   Settled o now p q s = SettlesHeld tells seen moment left_since may_leave counts o now p q s
 
   -- the entries of a batch are those behind the history for which the shard stands
-  pub entries-behind : (o : Opening D) (config : Config) (now heard : ℕ) (batch : List Datagram) (s : Shard D) (log : List Entry) → config ≡ o.config → Stands o s log →
+  pub entries-behind : (o : Opening D) (config : Config) (now heard : ℕ) (batch : List Datagram)
+      (s : Shard D) (log : List Entry) → config ≡ o.config → Stands o s log →
       batch_entries config now heard batch s ≡ batch_behind o log now heard batch
   entries-behind o config now heard batch s log same stands =
       let m : ℕ = max now s.moment in
       let base : ℕ = max heard s.base in
       ap (λ (c : Config). entries_along s.book.terms s.book.state m base (asked_in c batch)) same
-      ∙ ap (λ (t : Terms). entries_along t s.book.state m base (asked_in o.config batch)) stands.terms
-      ∙ ap (λ (u : State). entries_along (terms_of (served_by o).external o.config) u m base (asked_in o.config batch)) (sym stands.leads.state)
-      ∙ ap (λ (n : ℕ). entries_along (terms_of (served_by o).external o.config) (state_after o.book.state log) (max now n) base (asked_in o.config batch)) (sym stands.leads.moment)
-      ∙ ap (λ (n : ℕ). entries_along (terms_of (served_by o).external o.config) (state_after o.book.state log) (max now (moment_after o.book.state log)) (max heard n) (asked_in o.config batch)) (sym stands.leads.base)
+      ∙ ap (λ (t : Terms). entries_along t s.book.state m base (asked_in o.config batch))
+      stands.terms
+      ∙ ap (λ (u : State). entries_along (terms_of (served_by o).external o.config) u m base
+      (asked_in o.config batch)) (sym stands.leads.state)
+      ∙ ap (λ (n : ℕ). entries_along (terms_of (served_by o).external o.config)
+      (state_after o.book.state log) (max now n) base (asked_in o.config batch))
+      (sym stands.leads.moment)
+      ∙ ap (λ (n : ℕ). entries_along (terms_of (served_by o).external o.config)
+      (state_after o.book.state log) (max now (moment_after o.book.state log)) (max heard n)
+      (asked_in o.config batch)) (sym stands.leads.base)
 
   -- so is the loss
-  pub loss-behind : (o : Opening D) (now heard : ℕ) (s : Shard D) (log : List Entry) → Stands o s log → loss_entries now heard s ≡ loss_behind o log now heard
+  pub loss-behind : (o : Opening D) (now heard : ℕ) (s : Shard D) (log : List Entry) →
+      Stands o s log → loss_entries now heard s ≡ loss_behind o log now heard
   loss-behind o now heard s log stands =
       ap (λ (n : ℕ). loss_at (max now n) (max heard s.base) ∷ []) (sym stands.leads.moment)
-      ∙ ap (λ (n : ℕ). loss_at (max now (moment_after o.book.state log)) (max heard n) ∷ []) (sym stands.leads.base)
+      ∙ ap (λ (n : ℕ). loss_at (max now (moment_after o.book.state log)) (max heard n) ∷ [])
+      (sym stands.leads.base)
 
   -- and a fault
-  fault-behind : (o : Opening D) (s : Shard D) (log : List Entry) → Stands o s log → fault_at s.moment s.base ∷ [] ≡ fault_at (moment_after o.book.state log) (base_after o.book.state log) ∷ []
+  fault-behind : (o : Opening D) (s : Shard D) (log : List Entry) → Stands o s log →
+      fault_at s.moment s.base ∷ [] ≡ fault_at (moment_after o.book.state log)
+      (base_after o.book.state log) ∷ []
   fault-behind o s log stands =
       ap (λ (n : ℕ). fault_at n s.base ∷ []) (sym stands.leads.moment)
       ∙ ap (λ (n : ℕ). fault_at (moment_after o.book.state log) n ∷ []) (sym stands.leads.base)
 
-  raised-as : (o : Opening D) (s : Shard D) (log : List Entry) (raised : ℕ) → Stands o s log → raised_behind o log raised ≡ max raised s.book.state.base
+  raised-as : (o : Opening D) (s : Shard D) (log : List Entry) (raised : ℕ) → Stands o s log →
+      raised_behind o log raised ≡ max raised s.book.state.base
   raised-as o s log raised stands = ap (λ (u : State). max raised u.base) stands.leads.state
 
   -- a shard of which only the lane is another is as settled
-  pub settles-on : (o : Opening D) (now : ℕ) (p q : HousePass D) (s t : Shard D) → IsWithLane s t → Settled o now p q s → Settled o now p q t
+  pub settles-on : (o : Opening D) (now : ℕ) (p q : HousePass D) (s t : Shard D) → IsWithLane s t →
+      Settled o now p q s → Settled o now p q t
   settles-on o now p q s t same done =
-      record { settling = done.settling; settles = done.settles; history = done.history; settled = ap (λ (x : Shard D). x.book.fault) same ∙ done.settled }
+      record {
+        settling = done.settling;
+        settles = done.settles;
+        history = done.history;
+        settled = ap (λ (x : Shard D). x.book.fault) same ∙ done.settled;
+      }
 
   -- the shard stands for what the settled pass has seen
-  settled-log : (o : Opening D) (now : ℕ) (p q : HousePass D) (s : Shard D) (done : Settled o now p q s) → Stands o s q.history.seen → Stands o s (p.history.seen ++ done.settling)
-  settled-log o now p q s done stands = subst (Stands o s) (ap (λ (h : PassKnowledge Entry). h.seen) done.history) stands
+  settled-log : (o : Opening D) (now : ℕ) (p q : HousePass D) (s : Shard D)
+      (done : Settled o now p q s) → Stands o s q.history.seen →
+      Stands o s (p.history.seen ++ done.settling)
+  settled-log o now p q s done stands = subst (Stands o s)
+      (ap (λ (h : PassKnowledge Entry). h.seen) done.history) stands
 
   -- own entries stand behind those of the settling
-  noted-both : (o : Opening D) (now : ℕ) (p q r : HousePass D) (s : Shard D) (done : Settled o now p q s) (es fs : List Entry) → NotesOwn es q r → es ≡ fs →
+  noted-both : (o : Opening D) (now : ℕ) (p q r : HousePass D) (s : Shard D)
+      (done : Settled o now p q s) (es fs : List Entry) → NotesOwn es q r → es ≡ fs →
       r.history ≡ after_note true fs (after_note false done.settling p.history)
-  noted-both o now p q r s done es fs notes same = notes ∙ ap (λ (l : List Entry). after_note true l q.history) same ∙ ap (after_note true fs) done.history
+  noted-both o now p q r s done es fs notes same = notes
+      ∙ ap (λ (l : List Entry). after_note true l q.history) same
+      ∙ ap (after_note true fs) done.history
 
   -- a settling, noted
-  pub settled-by : {X E : Type 0} (o : Opening D) (now : ℕ) (r : Result X E) (own : Bool) (s t u : Shard D) (p q : HousePass D) → own ≡ is_err r → Stands o s p.history.seen →
-      OnOk r (SettlesShard tells moment left_since may_leave now s t) → q.history ≡ after_note own t.added p.history → u ≡ record t { added = [] } → OnOk r (Settled o now p q u)
+  pub settled-by : {X E : Type 0} (o : Opening D) (now : ℕ) (r : Result X E) (own : Bool)
+      (s t u : Shard D) (p q : HousePass D) → own ≡ is_err r → Stands o s p.history.seen →
+      OnOk r (SettlesShard tells moment left_since may_leave now s t) →
+      q.history ≡ after_note own t.added p.history → u ≡ record t { added = [] } →
+      OnOk r (Settled o now p q u)
   settled-by o now (Ok x) own s t u p q is stands settles noted same =
       record {
         settling = t.added;
-        settles = record { shard = s; settled = t; stands = stands; settles = settles; added = refl };
+        settles = record {
+          shard = s;
+          settled = t;
+          stands = stands;
+          settles = settles;
+          added = refl;
+        };
         history = noted ∙ ap (λ (b : Bool). after_note b t.added p.history) is;
         settled = ap (λ (v : Shard D). v.book.fault) same ∙ settles.settles.fault;
       }
   settled-by o now (Err e) own s t u p q is stands settles noted same = tt
 
   -- a settled shard, and then one that answers
-  pub serves-held : (o : Opening D) (config : Config) (now : ℕ) (batch : List Datagram) (s : Shard D) (p q r : HousePass D) (replies : List Datagram) → config ≡ o.config → Settled o now p q s →
-      Stands o s q.history.seen → q.epoch ≡ raised_to s.book.state.base p.epoch → NotesOwn (batch_entries config now r.epoch.heard batch s) q r →
-      replies ≡ map reply_in (batch_entries config now r.epoch.heard batch s) → HearsMore q.epoch r.epoch → ServesHeld tells seen moment left_since may_leave counts o now batch p r replies
+  pub serves-held : (o : Opening D) (config : Config) (now : ℕ) (batch : List Datagram)
+      (s : Shard D) (p q r : HousePass D) (replies : List Datagram) → config ≡ o.config →
+      Settled o now p q s →
+      Stands o s q.history.seen → q.epoch ≡ raised_to s.book.state.base p.epoch →
+      NotesOwn (batch_entries config now r.epoch.heard batch s) q r →
+      replies ≡ map reply_in (batch_entries config now r.epoch.heard batch s) →
+      HearsMore q.epoch r.epoch →
+      ServesHeld tells seen moment left_since may_leave counts o now batch p r replies
   serves-held o config now batch s p q r replies same done stands raised notes told hears =
       let log : List Entry = p.history.seen ++ done.settling in
       let here : Stands o s log = settled-log o now p q s done stands in
-      let are : batch_entries config now r.epoch.heard batch s ≡ batch_behind o log now r.epoch.heard batch = entries-behind o config now r.epoch.heard batch s log same here in
+      let are : batch_entries config now r.epoch.heard batch s
+      ≡ batch_behind o log now r.epoch.heard batch =
+      entries-behind o config now r.epoch.heard batch s log same here in
       record {
-        notes = record { settling = done.settling; settles = done.settles; noted = noted-both o now p q r s done _ _ notes are };
+        notes = record {
+          settling = done.settling;
+          settles = done.settles;
+          noted = noted-both o now p q r s done _ _ notes are;
+        };
         told = told ∙ ap (λ (l : List Entry). map reply_in l) are;
-        hears = raises-told (raised_behind o log p.epoch.raised) s.book.state.base p.epoch q.epoch r.epoch (raised-as o s log p.epoch.raised here) raised hears.same hears.heard;
-        raised = told-raised s.book.state.base p.epoch q.epoch r.epoch raised hears.same hears.raised;
+        hears = raises-told (raised_behind o log p.epoch.raised)
+            s.book.state.base p.epoch q.epoch r.epoch (raised-as o s log p.epoch.raised here)
+            raised hears.same hears.heard;
+        raised = told-raised s.book.state.base p.epoch q.epoch r.epoch raised hears.same
+            hears.raised;
       }
 
-  fails-with : (o : Opening D) (now : ℕ) (s : Shard D) (p q r : HousePass D) (es : List Entry) (own : List Entry → List Entry) (raised : List Entry → ℕ → ℕ) (done : Settled o now p q s) → Stands o s (p.history.seen ++ done.settling) →
-      NotesOwn es q r → es ≡ own (p.history.seen ++ done.settling) → Hears (raised (p.history.seen ++ done.settling) p.epoch.raised) p.epoch r.epoch →
+  fails-with : (o : Opening D) (now : ℕ) (s : Shard D) (p q r : HousePass D) (es : List Entry)
+      (own : List Entry → List Entry) (raised : List Entry → ℕ → ℕ) (done : Settled o now p q s) →
+      Stands o s (p.history.seen ++ done.settling) →
+      NotesOwn es q r → es ≡ own (p.history.seen ++ done.settling) →
+      Hears (raised (p.history.seen ++ done.settling) p.epoch.raised) p.epoch r.epoch →
       FailsWith tells seen moment left_since may_leave counts o now own raised p r
   fails-with o now s p q r es own raised done here notes are hears =
       record {
-        notes = record { settling = done.settling; settles = inr done.settles; noted = noted-both o now p q r s done es (own (p.history.seen ++ done.settling)) notes are };
+        notes = record {
+          settling = done.settling;
+          settles = inr done.settles;
+          noted = noted-both o now p q r s done es (own (p.history.seen ++ done.settling))
+              notes are;
+        };
         hears = hears;
       }
 
   -- the fault of the call is noted
-  fails-noted : (o : Opening D) (now : ℕ) (s : Shard D) (p q r : HousePass D) (own : List Entry → List Entry) (raised : List Entry → ℕ → ℕ) (fault : JournalFault) (done : Settled o now p q s) → Stands o s (p.history.seen ++ done.settling) →
-      NotesOwn (faults_of s.moment s.base fault) q r → Hears (raised_behind o (p.history.seen ++ done.settling) p.epoch.raised) p.epoch r.epoch →
+  fails-noted : (o : Opening D) (now : ℕ) (s : Shard D) (p q r : HousePass D)
+      (own : List Entry → List Entry) (raised : List Entry → ℕ → ℕ) (fault : JournalFault)
+      (done : Settled o now p q s) → Stands o s (p.history.seen ++ done.settling) →
+      NotesOwn (faults_of s.moment s.base fault) q r →
+      Hears (raised_behind o (p.history.seen ++ done.settling) p.epoch.raised) p.epoch r.epoch →
       FailsHeld tells seen moment left_since may_leave counts o now own raised p r fault
   fails-noted o now s p q r own raised Disk done here notes hears =
-      fails-with o now s p q r (fault_at s.moment s.base ∷ []) (λ (log : List Entry). fault_at (moment_after o.book.state log) (base_after o.book.state log) ∷ []) (raised_behind o) done here notes
+      fails-with o now s p q r (fault_at s.moment s.base ∷ [])
+      (λ (log : List Entry). fault_at (moment_after o.book.state log)
+      (base_after o.book.state log) ∷ []) (raised_behind o) done here notes
       (fault-behind o s (p.history.seen ++ done.settling) here) hears
-  fails-noted o now s p q r own raised Memory done here notes hears = inl (fails-with o now s p q r [] (λ (log : List Entry). []) (raised_behind o) done here notes refl hears)
+  fails-noted o now s p q r own raised Memory done here notes hears =
+      inl (fails-with o now s p q r [] (λ (log : List Entry). [])
+      (raised_behind o) done here notes refl hears)
 
   -- what was asked is noted, and memory was wanting for what comes after that
-  fails-after : (o : Opening D) (now : ℕ) (s : Shard D) (p q r : HousePass D) (own : List Entry → List Entry) (raised : List Entry → ℕ → ℕ) (fault : JournalFault) (done : Settled o now p q s) → Stands o s (p.history.seen ++ done.settling) →
-      fault ≡ Memory → NotesOwn (own (p.history.seen ++ done.settling)) q r → Hears (raised (p.history.seen ++ done.settling) p.epoch.raised) p.epoch r.epoch →
+  fails-after : (o : Opening D) (now : ℕ) (s : Shard D) (p q r : HousePass D)
+      (own : List Entry → List Entry) (raised : List Entry → ℕ → ℕ) (fault : JournalFault)
+      (done : Settled o now p q s) → Stands o s (p.history.seen ++ done.settling) →
+      fault ≡ Memory → NotesOwn (own (p.history.seen ++ done.settling)) q r →
+      Hears (raised (p.history.seen ++ done.settling) p.epoch.raised) p.epoch r.epoch →
       FailsHeld tells seen moment left_since may_leave counts o now own raised p r fault
   fails-after o now s p q r own raised Disk done here is notes hears = absurd cc
-  fails-after o now s p q r own raised Memory done here is notes hears = inr (fails-with o now s p q r (own (p.history.seen ++ done.settling)) own raised done here notes refl hears)
+  fails-after o now s p q r own raised Memory done here is notes hears =
+      inr (fails-with o now s p q r (own (p.history.seen ++ done.settling))
+      own raised done here notes refl hears)
 
-  fails-by : (o : Opening D) (now : ℕ) (s : Shard D) (p q r : HousePass D) (own : List Entry → List Entry) (fault : JournalFault) (done : Settled o now p q s) → Stands o s (p.history.seen ++ done.settling) →
-      RefusesHeld s (own (p.history.seen ++ done.settling)) q r fault → Hears (raised_behind o (p.history.seen ++ done.settling) p.epoch.raised) p.epoch r.epoch →
+  fails-by : (o : Opening D) (now : ℕ) (s : Shard D) (p q r : HousePass D)
+      (own : List Entry → List Entry) (fault : JournalFault) (done : Settled o now p q s) →
+      Stands o s (p.history.seen ++ done.settling) →
+      RefusesHeld s (own (p.history.seen ++ done.settling)) q r fault →
+      Hears (raised_behind o (p.history.seen ++ done.settling) p.epoch.raised) p.epoch r.epoch →
       FailsHeld tells seen moment left_since may_leave counts o now own (raised_behind o) p r fault
-  fails-by o now s p q r own fault done here (inl notes) hears = fails-noted o now s p q r own (raised_behind o) fault done here notes hears
-  fails-by o now s p q r own fault done here (inr (same, notes)) hears = fails-after o now s p q r own (raised_behind o) fault done here same notes hears
+  fails-by o now s p q r own fault done here (inl notes) hears =
+      fails-noted o now s p q r own (raised_behind o) fault done here notes hears
+  fails-by o now s p q r own fault done here (inr (same, notes)) hears =
+      fails-after o now s p q r own (raised_behind o) fault done here same notes hears
 
   -- a settled shard, and then one whose batch is refused
-  pub fails-held : (o : Opening D) (config : Config) (now : ℕ) (batch : List Datagram) (s : Shard D) (p q r : HousePass D) (fault : JournalFault) → config ≡ o.config → Settled o now p q s →
-      Stands o s q.history.seen → q.epoch ≡ raised_to s.book.state.base p.epoch → RefusesHeld s (batch_entries config now r.epoch.heard batch s) q r fault → HearsMore q.epoch r.epoch →
-      FailsHeld tells seen moment left_since may_leave counts o now (λ (log : List Entry). batch_behind o log now r.epoch.heard batch) (raised_behind o) p r fault
+  pub fails-held : (o : Opening D) (config : Config) (now : ℕ) (batch : List Datagram) (s : Shard D)
+      (p q r : HousePass D) (fault : JournalFault) → config ≡ o.config → Settled o now p q s →
+      Stands o s q.history.seen → q.epoch ≡ raised_to s.book.state.base p.epoch →
+      RefusesHeld s (batch_entries config now r.epoch.heard batch s) q r fault →
+      HearsMore q.epoch r.epoch →
+      FailsHeld tells seen moment left_since may_leave counts o now
+      (λ (log : List Entry). batch_behind o log now r.epoch.heard batch)
+      (raised_behind o) p r fault
   fails-held o config now batch s p q r fault same done stands raised refused hears =
       let log : List Entry = p.history.seen ++ done.settling in
       let here : Stands o s log = settled-log o now p q s done stands in
-      let are : batch_entries config now r.epoch.heard batch s ≡ batch_behind o log now r.epoch.heard batch = entries-behind o config now r.epoch.heard batch s log same here in
-      fails-by o now s p q r (λ (l : List Entry). batch_behind o l now r.epoch.heard batch) fault done here (subst (λ (es : List Entry). RefusesHeld s es q r fault) are refused)
-      (raises-told (raised_behind o log p.epoch.raised) s.book.state.base p.epoch q.epoch r.epoch (raised-as o s log p.epoch.raised here) raised hears.same hears.heard)
+      let are : batch_entries config now r.epoch.heard batch s
+      ≡ batch_behind o log now r.epoch.heard batch =
+      entries-behind o config now r.epoch.heard batch s log same here in
+      fails-by o now s p q r (λ (l : List Entry). batch_behind o l now r.epoch.heard batch)
+      fault done here (subst (λ (es : List Entry). RefusesHeld s es q r fault) are refused)
+      (raises-told (raised_behind o log p.epoch.raised) s.book.state.base p.epoch q.epoch r.epoch
+      (raised-as o s log p.epoch.raised here) raised hears.same hears.heard)
 
-  unsettled-with : (o : Opening D) (now : ℕ) (p q : HousePass D) (es : List Entry) (own : List Entry → List Entry) → NotesOwn es p q → es ≡ own (p.history.seen ++ []) →
-      Hears (raised_behind o (p.history.seen ++ []) p.epoch.raised) p.epoch q.epoch → FailsWith tells seen moment left_since may_leave counts o now own (raised_behind o) p q
+  unsettled-with : (o : Opening D) (now : ℕ) (p q : HousePass D) (es : List Entry)
+      (own : List Entry → List Entry) → NotesOwn es p q → es ≡ own (p.history.seen ++ []) →
+      Hears (raised_behind o (p.history.seen ++ []) p.epoch.raised) p.epoch q.epoch →
+      FailsWith tells seen moment left_since may_leave counts o now own (raised_behind o) p q
   unsettled-with o now p q es own notes are hears =
       record {
         notes = record {
           settling = [];
           settles = inl refl;
-          noted = notes ∙ ap (λ (l : List Entry). after_note true l p.history) are ∙ ap (after_note true (own (p.history.seen ++ []))) (sym (note-none p.history));
+          noted = notes ∙ ap (λ (l : List Entry). after_note true l p.history) are
+              ∙ ap (after_note true (own (p.history.seen ++ []))) (sym (note-none p.history));
         };
         hears = hears;
       }
 
   -- the settling was refused
-  pub unsettled-held : (o : Opening D) (now : ℕ) (s t : Shard D) (p q : HousePass D) (own : List Entry → List Entry) (up : List Entry → ℕ → ℕ) (fault : JournalFault) → Stands o s p.history.seen →
-      NotesOwn (faults_of s.moment s.base fault) p q → q.epoch ≡ raised_to t.book.state.base p.epoch → t.book.state ≡ s.book.state →
+  pub unsettled-held : (o : Opening D) (now : ℕ) (s t : Shard D) (p q : HousePass D)
+      (own : List Entry → List Entry) (up : List Entry → ℕ → ℕ) (fault : JournalFault) →
+      Stands o s p.history.seen →
+      NotesOwn (faults_of s.moment s.base fault) p q →
+      q.epoch ≡ raised_to t.book.state.base p.epoch → t.book.state ≡ s.book.state →
       FailsHeld tells seen moment left_since may_leave counts o now own up p q fault
   unsettled-held o now s t p q own up fault stands notes raised same = by fault notes
     where
@@ -241,178 +340,269 @@ module _ {D : Type 0} (tells : Type 0) (seen : D → List ℕ) (moment : D → �
       still = raised ∙ ap (λ (u : State). raised_to u.base p.epoch) same
 
       hears : Hears (raised_behind o (p.history.seen ++ []) p.epoch.raised) p.epoch q.epoch
-      hears = raises-told (raised_behind o (p.history.seen ++ []) p.epoch.raised) s.book.state.base p.epoch q.epoch q.epoch (raised-as o s (p.history.seen ++ []) p.epoch.raised here) still refl (omega arith)
+      hears = raises-told (raised_behind o (p.history.seen ++ []) p.epoch.raised)
+          s.book.state.base p.epoch q.epoch q.epoch
+          (raised-as o s (p.history.seen ++ []) p.epoch.raised here) still refl (omega arith)
 
-      by : (f : JournalFault) → NotesOwn (faults_of s.moment s.base f) p q → FailsHeld tells seen moment left_since may_leave counts o now own up p q f
-      by Disk n = unsettled-with o now p q (fault_at s.moment s.base ∷ []) (λ (log : List Entry). fault_at (moment_after o.book.state log) (base_after o.book.state log) ∷ []) n
+      by : (f : JournalFault) → NotesOwn (faults_of s.moment s.base f) p q →
+          FailsHeld tells seen moment left_since may_leave counts o now own up p q f
+      by Disk n = unsettled-with o now p q (fault_at s.moment s.base ∷ [])
+          (λ (log : List Entry). fault_at (moment_after o.book.state log)
+          (base_after o.book.state log) ∷ []) n
           (fault-behind o s (p.history.seen ++ []) here) hears
       by Memory n = inl (unsettled-with o now p q [] (λ (log : List Entry). []) n refl hears)
 
   -- the settling is noted, and memory was wanting to publish what waits
-  pub unshown-held : (o : Opening D) (now : ℕ) (s : Shard D) (p q : HousePass D) (own : List Entry → List Entry) (up : List Entry → ℕ → ℕ) (fault : JournalFault) → fault ≡ Memory → Settled o now p q s →
-      Stands o s q.history.seen → q.epoch ≡ raised_to s.book.state.base p.epoch → FailsHeld tells seen moment left_since may_leave counts o now own up p q fault
+  pub unshown-held : (o : Opening D) (now : ℕ) (s : Shard D) (p q : HousePass D)
+      (own : List Entry → List Entry) (up : List Entry → ℕ → ℕ) (fault : JournalFault) →
+      fault ≡ Memory → Settled o now p q s →
+      Stands o s q.history.seen → q.epoch ≡ raised_to s.book.state.base p.epoch →
+      FailsHeld tells seen moment left_since may_leave counts o now own up p q fault
   unshown-held o now s p q own up fault is done stands raised =
       let log : List Entry = p.history.seen ++ done.settling in
       let here : Stands o s log = settled-log o now p q s done stands in
       let none : NotesOwn (faults_of s.moment s.base Memory) q q = own-none q.history in
-      fails-noted o now s p q q own up fault done here (subst (λ (f : JournalFault). NotesOwn (faults_of s.moment s.base f) q q) (sym is) none)
-      (raises-told (raised_behind o log p.epoch.raised) s.book.state.base p.epoch q.epoch q.epoch (raised-as o s log p.epoch.raised here) raised refl (omega arith))
+      fails-noted o now s p q q own up fault done here
+      (subst (λ (f : JournalFault). NotesOwn (faults_of s.moment s.base f) q q) (sym is) none)
+      (raises-told (raised_behind o log p.epoch.raised) s.book.state.base p.epoch q.epoch q.epoch
+      (raised-as o s log p.epoch.raised here) raised refl (omega arith))
 
   -- ---- a loss
 
   -- the base of the state is then the moment of the loss
-  loss-base : (o : Opening D) (s : Shard D) (log : List Entry) (m base : ℕ) → Stands o s (log ++ loss_at m base ∷ []) → s.book.state.base ≡ m
-  loss-base o s log m base stands = ap (λ (u : State). u.base) (sym stands.leads.state ∙ state-append o.book.state log (loss_at m base ∷ []))
+  loss-base : (o : Opening D) (s : Shard D) (log : List Entry) (m base : ℕ) →
+      Stands o s (log ++ loss_at m base ∷ []) → s.book.state.base ≡ m
+  loss-base o s log m base stands = ap (λ (u : State). u.base)
+      (sym stands.leads.state ∙ state-more o.book.state log (loss_at m base))
 
-  twice-raised : (raised : ℕ) (base m : ℕ) (p q r : SeatKnowledge) → raised ≡ max (max p.raised base) m → q ≡ raised_to base p → HearsAndRaises q r m → Hears raised p r
+  twice-raised : (raised : ℕ) (base m : ℕ) (p q r : SeatKnowledge) →
+      raised ≡ max (max p.raised base) m → q ≡ raised_to base p → HearsAndRaises q r m →
+      Hears raised p r
   twice-raised raised base m p q r is first then =
       let here : q.heard ≡ p.heard = ap (λ (k : SeatKnowledge). k.heard) first in
       let later = then.heard in
       record {
-        same = then.same ∙ ap (λ (k : SeatKnowledge). record k { raised = max k.raised m; heard = r.heard }) first ∙ ap (λ (n : ℕ). record p { raised = n; heard = r.heard }) (sym is);
+        same = then.same
+            ∙ ap (λ (k : SeatKnowledge). record k { raised = max k.raised m; heard = r.heard })
+            first ∙ ap (λ (n : ℕ). record p { raised = n; heard = r.heard }) (sym is);
         heard = omega (arith, here, later);
       }
 
   -- a settled shard, and then one that loses its leases
-  pub loses-held : (o : Opening D) (now : ℕ) (s t : Shard D) (p q r : HousePass D) (count : ℕ) → Settled o now p q s →
-      Stands o s q.history.seen → Stands o t r.history.seen → q.epoch ≡ raised_to s.book.state.base p.epoch → NotesOwn (loss_entries now r.epoch.heard s) q r →
-      count ≡ lease_count s.book.state.table (max now s.moment) → HearsAndRaises q.epoch r.epoch t.book.state.base → LosesHeld tells seen moment left_since may_leave counts o now p r count
+  pub loses-held : (o : Opening D) (now : ℕ) (s t : Shard D) (p q r : HousePass D) (count : ℕ) →
+      Settled o now p q s →
+      Stands o s q.history.seen → Stands o t r.history.seen →
+      q.epoch ≡ raised_to s.book.state.base p.epoch →
+      NotesOwn (loss_entries now r.epoch.heard s) q r →
+      count ≡ lease_count s.book.state.table (max now s.moment) →
+      HearsAndRaises q.epoch r.epoch t.book.state.base →
+      LosesHeld tells seen moment left_since may_leave counts o now p r count
   loses-held o now s t p q r count done stands after raised notes counted hears =
       let log : List Entry = p.history.seen ++ done.settling in
       let here : Stands o s log = settled-log o now p q s done stands in
-      let are : loss_entries now r.epoch.heard s ≡ loss_behind o log now r.epoch.heard = loss-behind o now r.epoch.heard s log here in
+      let are : loss_entries now r.epoch.heard s ≡ loss_behind o log now r.epoch.heard =
+      loss-behind o now r.epoch.heard s log here in
       let m : ℕ = max now (moment_after o.book.state log) in
-      let noted : r.history ≡ after_note true (loss_behind o log now r.epoch.heard) (after_note false done.settling p.history) = noted-both o now p q r s done _ _ notes are in
-      let there : Stands o t (log ++ loss_behind o log now r.epoch.heard) = subst (Stands o t) (ap (λ (h : PassKnowledge Entry). h.seen) noted) after in
-      let base : t.book.state.base ≡ m = loss-base o t log m (max r.epoch.heard (base_after o.book.state log)) there in
-      let twice : HearsAndRaises q.epoch r.epoch m = subst (HearsAndRaises q.epoch r.epoch) base hears in
+      let noted : r.history ≡ after_note true (loss_behind o log now r.epoch.heard)
+      (after_note false done.settling p.history) =
+      noted-both o now p q r s done _ _ notes are in
+      let there : Stands o t (log ++ loss_behind o log now r.epoch.heard) =
+      subst (Stands o t) (ap (λ (h : PassKnowledge Entry). h.seen) noted) after in
+      let base : t.book.state.base ≡ m = loss-base o t log m
+      (max r.epoch.heard (base_after o.book.state log)) there in
+      let twice : HearsAndRaises q.epoch r.epoch m =
+      subst (HearsAndRaises q.epoch r.epoch) base hears in
       let grown = raised-as o s log p.epoch.raised here in
-      let first : q.epoch.raised ≡ max p.epoch.raised s.book.state.base = ap (λ (k : SeatKnowledge). k.raised) raised in
+      let first : q.epoch.raised ≡ max p.epoch.raised s.book.state.base =
+      ap (λ (k : SeatKnowledge). k.raised) raised in
       let told = hears.raised in
       record {
         notes = record { settling = done.settling; settles = done.settles; noted = noted };
-        counted = counted ∙ ap (λ (u : State). lease_count u.table (max now s.moment)) (sym here.leads.state)
-            ∙ ap (λ (n : ℕ). lease_count (state_after o.book.state log).table (max now n)) (sym here.leads.moment);
-        hears = twice-raised (max (raised_behind o log p.epoch.raised) m) s.book.state.base m p.epoch q.epoch r.epoch (ap (λ (n : ℕ). max n m) grown) raised twice;
+        counted = counted ∙ ap (λ (u : State). lease_count u.table (max now s.moment))
+            (sym here.leads.state)
+            ∙ ap (λ (n : ℕ). lease_count (state_after o.book.state log).table (max now n))
+            (sym here.leads.moment);
+        hears = twice-raised (max (raised_behind o log p.epoch.raised) m)
+            s.book.state.base m p.epoch q.epoch r.epoch (ap (λ (n : ℕ). max n m) grown)
+            raised twice;
         raised = omega (arith, grown, first, told);
       }
 
   -- a settled shard, and then one whose loss is refused
-  keeps-held : (o : Opening D) (now : ℕ) (s t : Shard D) (p q r : HousePass D) (own : List Entry → List Entry) (up : List Entry → ℕ → ℕ) (fault : JournalFault) → Settled o now p q s →
-      Stands o s q.history.seen → q.epoch ≡ raised_to s.book.state.base p.epoch → NotesOwn (faults_of s.moment s.base fault) q r → t.book.state ≡ s.book.state →
-      HearsAndRaises q.epoch r.epoch t.book.state.base → FailsHeld tells seen moment left_since may_leave counts o now own up p r fault
+  keeps-held : (o : Opening D) (now : ℕ) (s t : Shard D) (p q r : HousePass D)
+      (own : List Entry → List Entry) (up : List Entry → ℕ → ℕ) (fault : JournalFault) →
+      Settled o now p q s →
+      Stands o s q.history.seen → q.epoch ≡ raised_to s.book.state.base p.epoch →
+      NotesOwn (faults_of s.moment s.base fault) q r → t.book.state ≡ s.book.state →
+      HearsAndRaises q.epoch r.epoch t.book.state.base →
+      FailsHeld tells seen moment left_since may_leave counts o now own up p r fault
   keeps-held o now s t p q r own up fault done stands raised notes same hears =
       let log : List Entry = p.history.seen ++ done.settling in
       let here : Stands o s log = settled-log o now p q s done stands in
       let base : t.book.state.base ≡ s.book.state.base = ap (λ (u : State). u.base) same in
       let grown = raised-as o s log p.epoch.raised here in
-      let is : raised_behind o log p.epoch.raised ≡ max (max p.epoch.raised s.book.state.base) s.book.state.base = omega (arith, grown) in
+      let is : raised_behind o log p.epoch.raised
+      ≡ max (max p.epoch.raised s.book.state.base) s.book.state.base = omega (arith, grown) in
       fails-noted o now s p q r own up fault done here notes
-      (twice-raised (raised_behind o log p.epoch.raised) s.book.state.base s.book.state.base p.epoch q.epoch r.epoch is raised (subst (HearsAndRaises q.epoch r.epoch) base hears))
+      (twice-raised (raised_behind o log p.epoch.raised)
+      s.book.state.base s.book.state.base p.epoch q.epoch r.epoch is raised
+      (subst (HearsAndRaises q.epoch r.epoch) base hears))
 
   -- or whose loss is noted, and isn't published
-  lost-held : (o : Opening D) (now : ℕ) (s t : Shard D) (p q r : HousePass D) (fault : JournalFault) → fault ≡ Memory → Settled o now p q s →
-      Stands o s q.history.seen → Stands o t r.history.seen → q.epoch ≡ raised_to s.book.state.base p.epoch → NotesOwn (loss_entries now r.epoch.heard s) q r →
+  lost-held : (o : Opening D) (now : ℕ) (s t : Shard D) (p q r : HousePass D)
+      (fault : JournalFault) → fault ≡ Memory → Settled o now p q s →
+      Stands o s q.history.seen → Stands o t r.history.seen →
+      q.epoch ≡ raised_to s.book.state.base p.epoch →
+      NotesOwn (loss_entries now r.epoch.heard s) q r →
       HearsAndRaises q.epoch r.epoch t.book.state.base →
-      FailsHeld tells seen moment left_since may_leave counts o now (λ (log : List Entry). loss_behind o log now r.epoch.heard) (raised_by_loss o now) p r fault
+      FailsHeld tells seen moment left_since may_leave counts o now
+      (λ (log : List Entry). loss_behind o log now r.epoch.heard)
+      (raised_by_loss o now) p r fault
   lost-held o now s t p q r fault is done stands after raised notes hears =
       let log : List Entry = p.history.seen ++ done.settling in
       let here : Stands o s log = settled-log o now p q s done stands in
-      let are : loss_entries now r.epoch.heard s ≡ loss_behind o log now r.epoch.heard = loss-behind o now r.epoch.heard s log here in
+      let are : loss_entries now r.epoch.heard s ≡ loss_behind o log now r.epoch.heard =
+      loss-behind o now r.epoch.heard s log here in
       let m : ℕ = max now (moment_after o.book.state log) in
-      let noted : r.history ≡ after_note true (loss_behind o log now r.epoch.heard) (after_note false done.settling p.history) = noted-both o now p q r s done _ _ notes are in
-      let there : Stands o t (log ++ loss_behind o log now r.epoch.heard) = subst (Stands o t) (ap (λ (h : PassKnowledge Entry). h.seen) noted) after in
-      let base : t.book.state.base ≡ m = loss-base o t log m (max r.epoch.heard (base_after o.book.state log)) there in
-      let twice : HearsAndRaises q.epoch r.epoch m = subst (HearsAndRaises q.epoch r.epoch) base hears in
+      let noted : r.history ≡ after_note true (loss_behind o log now r.epoch.heard)
+      (after_note false done.settling p.history) =
+      noted-both o now p q r s done _ _ notes are in
+      let there : Stands o t (log ++ loss_behind o log now r.epoch.heard) =
+      subst (Stands o t) (ap (λ (h : PassKnowledge Entry). h.seen) noted) after in
+      let base : t.book.state.base ≡ m = loss-base o t log m
+      (max r.epoch.heard (base_after o.book.state log)) there in
+      let twice : HearsAndRaises q.epoch r.epoch m =
+      subst (HearsAndRaises q.epoch r.epoch) base hears in
       let grown = raised-as o s log p.epoch.raised here in
-      fails-after o now s p q r (λ (l : List Entry). loss_behind o l now r.epoch.heard) (raised_by_loss o now) fault done here is (subst (λ (l : List Entry). NotesOwn l q r) are notes)
-      (twice-raised (max (raised_behind o log p.epoch.raised) m) s.book.state.base m p.epoch q.epoch r.epoch (ap (λ (n : ℕ). max n m) grown) raised twice)
+      fails-after o now s p q r (λ (l : List Entry). loss_behind o l now r.epoch.heard)
+      (raised_by_loss o now) fault done here is
+      (subst (λ (l : List Entry). NotesOwn l q r) are notes)
+      (twice-raised (max (raised_behind o log p.epoch.raised) m)
+      s.book.state.base m p.epoch q.epoch r.epoch (ap (λ (n : ℕ). max n m) grown) raised twice)
 
   -- a settled shard, and then one whose loss is refused
-  pub refuses-loss : (o : Opening D) (now : ℕ) (s t : Shard D) (p q r : HousePass D) (fault : JournalFault) → Settled o now p q s →
-      Stands o s q.history.seen → Stands o t r.history.seen → q.epoch ≡ raised_to s.book.state.base p.epoch → RefusesLoss s t (loss_entries now r.epoch.heard s) q r fault →
+  pub refuses-loss : (o : Opening D) (now : ℕ) (s t : Shard D) (p q r : HousePass D)
+      (fault : JournalFault) → Settled o now p q s →
+      Stands o s q.history.seen → Stands o t r.history.seen →
+      q.epoch ≡ raised_to s.book.state.base p.epoch →
+      RefusesLoss s t (loss_entries now r.epoch.heard s) q r fault →
       HearsAndRaises q.epoch r.epoch t.book.state.base →
-      FailsHeld tells seen moment left_since may_leave counts o now (λ (log : List Entry). loss_behind o log now r.epoch.heard) (raised_by_loss o now) p r fault
+      FailsHeld tells seen moment left_since may_leave counts o now
+      (λ (log : List Entry). loss_behind o log now r.epoch.heard)
+      (raised_by_loss o now) p r fault
   refuses-loss o now s t p q r fault done stands after raised (inl (notes, same)) hears =
-      keeps-held o now s t p q r (λ (log : List Entry). loss_behind o log now r.epoch.heard) (raised_by_loss o now) fault done stands raised notes same hears
-  refuses-loss o now s t p q r fault done stands after raised (inr (is, notes)) hears = lost-held o now s t p q r fault is done stands after raised notes hears
+      keeps-held o now s t p q r (λ (log : List Entry). loss_behind o log now r.epoch.heard)
+      (raised_by_loss o now) fault done stands raised notes same hears
+  refuses-loss o now s t p q r fault done stands after raised (inr (is, notes)) hears =
+      lost-held o now s t p q r fault is done stands after raised notes hears
 
   -- ---- between a take and a give
 
-  abbrev adds-to : (o : Opening D) (Settles : List Entry → List Entry → Type 0) (p : HousePass D) (h : PassKnowledge Entry) (q : HousePass D) (k : PassKnowledge Entry) (own : List Entry → List Entry) → SeesMore p.history h →
-      NotesBehind Settles (record p { history = h }) q own → k ≡ after_give q.history → IsLegal (served_by o) o.book.state q.history.seen → AddsTo o Settles p (record q { history = k }) own
+  abbrev adds-to : (o : Opening D) (Settles : List Entry → List Entry → Type 0) (p : HousePass D)
+      (h : PassKnowledge Entry) (q : HousePass D) (k : PassKnowledge Entry)
+      (own : List Entry → List Entry) → SeesMore p.history h →
+      NotesBehind Settles (record p { history = h }) q own → k ≡ after_give q.history →
+      IsLegal (served_by o) o.book.state q.history.seen →
+      AddsTo o Settles p (record q { history = k }) own
   adds-to o Settles p h q k own more notes given legal =
       record {
         others = more.seen.0;
         settling = notes.settling;
-        settles = subst (λ (l : List Entry). Settles l notes.settling) (sym more.seen.1) notes.settles;
-        notes = given-notes p.history h q.history k more.seen.0 notes.settling own more more.seen.1 notes.noted given;
-        legal = subst (IsLegal (served_by o) o.book.state) (sym (ap (λ (n : PassKnowledge Entry). n.seen) given)) legal;
+        settles = subst (λ (l : List Entry). Settles l notes.settling)
+            (sym more.seen.1) notes.settles;
+        notes = given-notes p.history h q.history k more.seen.0 notes.settling own more more.seen.1
+            notes.noted given;
+        legal = subst (IsLegal (served_by o) o.book.state)
+            (sym (ap (λ (n : PassKnowledge Entry). n.seen) given)) legal;
       }
 
-  came-log : (o : Opening D) (p : HousePass D) (h : PassKnowledge Entry) (others settling : List Entry) → p.history.seen ++ others ≡ h.seen → h.seen ++ settling ≡ before_own o p others settling
+  came-log : (o : Opening D) (p : HousePass D) (h : PassKnowledge Entry)
+      (others settling : List Entry) → p.history.seen ++ others ≡ h.seen →
+      h.seen ++ settling ≡ before_own o p others settling
   came-log o p h others settling came = ap (λ (l : List Entry). l ++ settling) (sym came)
 
   -- a batch that is answered
-  pub serves-house : (o : Opening D) (now : ℕ) (batch : List Datagram) (p : HousePass D) (h : PassKnowledge Entry) (q : HousePass D) (k : PassKnowledge Entry) (replies : List Datagram) (lane : ToldRecords) → SeesMore p.history h →
-      ServesHeld tells seen moment left_since may_leave counts o now batch (record p { history = h }) q replies → lane ≡ told_of o q.history.seen → k ≡ after_give q.history → IsLegal (served_by o) o.book.state q.history.seen →
-      ServesHouse o tells seen moment left_since may_leave counts now batch p (record q { history = k }) replies lane
+  pub serves-house : (o : Opening D) (now : ℕ) (batch : List Datagram) (p : HousePass D)
+      (h : PassKnowledge Entry) (q : HousePass D) (k : PassKnowledge Entry)
+      (replies : List Datagram) (lane : ToldRecords) → SeesMore p.history h →
+      ServesHeld tells seen moment left_since may_leave counts o now batch
+      (record p { history = h }) q replies → lane ≡ told_of o q.history.seen →
+      k ≡ after_give q.history → IsLegal (served_by o) o.book.state q.history.seen →
+      ServesHouse o tells seen moment left_since may_leave counts now batch p
+      (record q { history = k }) replies lane
   serves-house o now batch p h q k replies lane more serves shown given legal =
       let log = came-log o p h more.seen.0 serves.notes.settling more.seen.1 in
       record {
-        adds = adds-to o (Settling o now) p h q k (λ (l : List Entry). batch_behind o l now q.epoch.heard batch) more serves.notes given legal;
-        told = subst (λ (l : List Entry). replies ≡ map reply_in (batch_behind o l now q.epoch.heard batch)) log serves.told;
-        hears = subst (λ (l : List Entry). Hears (raised_behind o l p.epoch.raised) p.epoch q.epoch) log serves.hears;
+        adds = adds-to o (Settling o now) p h q k
+            (λ (l : List Entry). batch_behind o l now q.epoch.heard batch)
+            more serves.notes given legal;
+        told = subst
+            (λ (l : List Entry). replies ≡ map reply_in (batch_behind o l now q.epoch.heard batch))
+            log serves.told;
+        hears = subst (λ (l : List Entry). Hears (raised_behind o l p.epoch.raised) p.epoch q.epoch)
+            log serves.hears;
         raised = serves.raised;
         published = shown ∙ ap (λ (n : PassKnowledge Entry). told_of o n.seen) (sym given);
       }
 
   -- leases that are lost
-  pub loses-house : (o : Opening D) (now : ℕ) (p : HousePass D) (h : PassKnowledge Entry) (q : HousePass D) (k : PassKnowledge Entry) (count : ℕ) (lane : ToldRecords) → SeesMore p.history h →
-      LosesHeld tells seen moment left_since may_leave counts o now (record p { history = h }) q count → lane ≡ told_of o q.history.seen → k ≡ after_give q.history → IsLegal (served_by o) o.book.state q.history.seen →
-      LosesHouse o tells seen moment left_since may_leave counts now p (record q { history = k }) count lane
+  pub loses-house : (o : Opening D) (now : ℕ) (p : HousePass D) (h : PassKnowledge Entry)
+      (q : HousePass D) (k : PassKnowledge Entry) (count : ℕ) (lane : ToldRecords) →
+      SeesMore p.history h →
+      LosesHeld tells seen moment left_since may_leave counts o now
+      (record p { history = h }) q count → lane ≡ told_of o q.history.seen →
+      k ≡ after_give q.history → IsLegal (served_by o) o.book.state q.history.seen →
+      LosesHouse o tells seen moment left_since may_leave counts now p
+      (record q { history = k }) count lane
   loses-house o now p h q k count lane more loses shown given legal =
       let log = came-log o p h more.seen.0 loses.notes.settling more.seen.1 in
       record {
-        adds = adds-to o (Settling o now) p h q k (λ (l : List Entry). loss_behind o l now q.epoch.heard) more loses.notes given legal;
-        counted = subst (λ (l : List Entry). count ≡ lease_count (state_after o.book.state l).table (max now (moment_after o.book.state l))) log loses.counted;
-        hears = subst (λ (l : List Entry). Hears (max (raised_behind o l p.epoch.raised) (max now (moment_after o.book.state l))) p.epoch q.epoch) log loses.hears;
-        raised = subst (λ (l : List Entry). raised_behind o l p.epoch.raised ≤ q.epoch.heard) log loses.raised;
+        adds = adds-to o (Settling o now) p h q k
+            (λ (l : List Entry). loss_behind o l now q.epoch.heard) more loses.notes given legal;
+        counted = subst
+            (λ (l : List Entry). count ≡ lease_count (state_after o.book.state l).table
+            (max now (moment_after o.book.state l))) log loses.counted;
+        hears = subst
+            (λ (l : List Entry). Hears
+            (max (raised_behind o l p.epoch.raised) (max now (moment_after o.book.state l)))
+            p.epoch q.epoch) log loses.hears;
+        raised = subst (λ (l : List Entry). raised_behind o l p.epoch.raised ≤ q.epoch.heard)
+            log loses.raised;
         published = shown ∙ ap (λ (n : PassKnowledge Entry). told_of o n.seen) (sym given);
       }
 
-  refuses-with : (o : Opening D) (now : ℕ) (p : HousePass D) (h : PassKnowledge Entry) (q : HousePass D) (k : PassKnowledge Entry) (own : List Entry → List Entry) (raised : List Entry → ℕ → ℕ) → SeesMore p.history h →
-      FailsWith tells seen moment left_since may_leave counts o now own raised (record p { history = h }) q → k ≡ after_give q.history → IsLegal (served_by o) o.book.state q.history.seen →
-      RefusesWith o tells seen moment left_since may_leave counts now own raised p (record q { history = k })
+  refuses-with : (o : Opening D) (now : ℕ) (p : HousePass D) (h : PassKnowledge Entry)
+      (q : HousePass D) (k : PassKnowledge Entry) (own : List Entry → List Entry)
+      (raised : List Entry → ℕ → ℕ) → SeesMore p.history h →
+      FailsWith tells seen moment left_since may_leave counts o now own raised
+      (record p { history = h }) q → k ≡ after_give q.history →
+      IsLegal (served_by o) o.book.state q.history.seen →
+      RefusesWith o tells seen moment left_since may_leave counts now own raised p
+      (record q { history = k })
   refuses-with o now p h q k own raised more fails given legal =
       let log = came-log o p h more.seen.0 fails.notes.settling more.seen.1 in
       record {
-        adds = adds-to o (MaySettle o tells seen moment left_since may_leave counts now) p h q k own more fails.notes given legal;
-        hears = subst (λ (l : List Entry). Hears (raised l p.epoch.raised) p.epoch q.epoch) log fails.hears;
+        adds = adds-to o (MaySettle o tells seen moment left_since may_leave counts now)
+            p h q k own more fails.notes given legal;
+        hears = subst (λ (l : List Entry). Hears (raised l p.epoch.raised) p.epoch q.epoch)
+            log fails.hears;
       }
 
   -- a call that is refused
-  pub refuses-house : (o : Opening D) (now : ℕ) (p : HousePass D) (h : PassKnowledge Entry) (q : HousePass D) (k : PassKnowledge Entry) (own : List Entry → List Entry) (raised : List Entry → ℕ → ℕ) (fault : JournalFault) → SeesMore p.history h →
-      FailsHeld tells seen moment left_since may_leave counts o now own raised (record p { history = h }) q fault → k ≡ after_give q.history → IsLegal (served_by o) o.book.state q.history.seen →
-      RefusesHouse o tells seen moment left_since may_leave counts now own raised p (record q { history = k }) fault
+  pub refuses-house : (o : Opening D) (now : ℕ) (p : HousePass D) (h : PassKnowledge Entry)
+      (q : HousePass D) (k : PassKnowledge Entry) (own : List Entry → List Entry)
+      (raised : List Entry → ℕ → ℕ) (fault : JournalFault) → SeesMore p.history h →
+      FailsHeld tells seen moment left_since may_leave counts o now own raised
+      (record p { history = h }) q fault → k ≡ after_give q.history →
+      IsLegal (served_by o) o.book.state q.history.seen →
+      RefusesHouse o tells seen moment left_since may_leave counts now own raised p
+      (record q { history = k }) fault
   refuses-house o now p h q k own raised Disk more fails given legal =
-      refuses-with o now p h q k (λ (log : List Entry). fault_at (moment_after o.book.state log) (base_after o.book.state log) ∷ []) (raised_behind o) more fails given legal
-  refuses-house o now p h q k own raised Memory more (inl fails) given legal = inl (refuses-with o now p h q k (λ (log : List Entry). []) (raised_behind o) more fails given legal)
-  refuses-house o now p h q k own raised Memory more (inr fails) given legal = inr (refuses-with o now p h q k own raised more fails given legal)
-
-  -- ---- publishing
-
-  -- a held shard of which all records are published, or wait still
-  pub held-shown : (turn : TurnName (Opening D)) (p : PassKnowledge Entry) (s t : Shard D) → IsHeldBy tells seen may_leave counts turn s p → IsWithLane s t → KeepsRecords s t → IsHeldBy tells seen may_leave counts turn t p
-  held-shown turn p s t held same keeps =
-      record {
-        turn_is = held.turn_is;
-        out = held.out;
-        stands = stands-shown tells seen may_leave counts turn.key s t p.seen held.stands held.noted same keeps;
-        noted = ap (λ (x : Shard D). x.added) same ∙ held.noted;
-      }
-
-  -- what is told then
-  pub told-shown : (o : Opening D) (s : Shard D) (log : List Entry) (told : ToldRecords) → Stands o s log → told ≡ told_records s.writer.index (all_records s) → told ≡ told_of o log
-  told-shown o s log told stands is =
-      is ∙ ap (λ b. told_records b (all_records s)) stands.indexed.index ∙ ap (λ rs. told_records o.lane.index rs) stands.indexed.records
+      refuses-with o now p h q k
+      (λ (log : List Entry). fault_at (moment_after o.book.state log)
+      (base_after o.book.state log) ∷ []) (raised_behind o) more fails given legal
+  refuses-house o now p h q k own raised Memory more (inl fails) given legal =
+      inl (refuses-with o now p h q k (λ (log : List Entry). [])
+      (raised_behind o) more fails given legal)
+  refuses-house o now p h q k own raised Memory more (inr fails) given legal =
+      inr (refuses-with o now p h q k own raised more fails given legal)

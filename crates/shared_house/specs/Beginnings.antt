@@ -12,11 +12,11 @@ use Rattle.lease_house.specs.declared.faults.HouseFault.{HouseFault}
 use Rattle.lease_house.specs.declared.faults.HouseFault.TheVariants.{Memory}
 use Rattle.lease_house.specs.SoloOpenings.{AreFound, HandsBackAll, OpensAll, book_updates}
 use Rattle.shared_house.specs.declared.beginning.Begun.{Begun}
-use Rattle.shared_house.specs.declared.openings.Opening.{Opening}
-use Rattle.shared_house.specs.declared.passes.HousePass.{HousePass}
+use Rattle.turned_shards.specs.declared.openings.Opening.{Opening}
+use Rattle.turned_shards.specs.declared.passes.HousePass.{HousePass}
 use Rattle.shared_house.specs.Findings.{is_fresh, update_places}
 use Rattle.shared_house.specs.Seats.{Knows}
-use Rattle.shared_house.specs.Turnings.{StandsStill, first_leases, opening_of}
+use Rattle.turned_shards.specs.Turnings.{StandsStill, first_leases, opening_of}
 
 module _ {D : Type 0} where
   -- the greatest base that these books were opened with
@@ -40,8 +40,8 @@ module _ {D : Type 0} where
       BeginsOne config place b t p l × BeginAll config (place + 1) bs ts ps ls
   BeginAll config place bs ts ps ls = ⊥
 
-  -- What a house of opened books begins with. Its passes raised no more than the first moment of the
-  -- word and were told that, and have the whole right to raise it.
+  -- What a house of opened books begins with. Its passes raised no more than the first moment of
+  -- the word and were told that, and have the whole right to raise it.
   pub record BeginsWith (config : Config) (books : List (BookView D)) (founds : List Found)
       (begun : Begun D) : Type 0 where
     pub each : BeginAll config 0 books begun.house.turns begun.passes.items begun.lanes.items
@@ -77,7 +77,8 @@ module _ {D : Type 0} where
     pub each : AllZip (ComesBack tells may_leave faults) books left
     pub back : pairs ≡ map (λ b. b.journal.pair) left ++ spare
 
-  -- All journals were opened, and then no memory was found for a turn, or for what else a house has.
+  -- All journals were opened, and then no memory was found for a turn, or for what else a house
+  -- has.
   pub record OpensInVain (tells : Type 0) (seen : D → List ℕ) (moment : D → ℕ)
       (left_since : D → ℕ → List ℕ → Type 0) (may_leave : D → List ℕ → Type 0) (faults : D → ℕ)
       (config : Config) (m : ℕ) (old new : List (DiskPair D)) : Type 0 where

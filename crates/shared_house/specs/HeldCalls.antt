@@ -8,24 +8,15 @@ use Rattle.journal_sides.specs.declared.errors.JournalFault.TheVariants.{Disk, M
 use Rattle.lease_store.specs.Lookups.{lease_count}
 use Rattle.lease_histories.specs.Legal.{base_after, moment_after, state_after}
 use Rattle.atomic_table.specs.Seated.{TableId}
-use Rattle.turn_lock.specs.Passes.{TurnName, PassKnowledge, after_note}
+use Rattle.turn_lock.specs.Passes.{TurnName, after_note}
 use Rattle.epoch_word.specs.Rule.{SeatKnowledge}
-use Rattle.shared_house.specs.declared.openings.Opening.{Opening}
-use Rattle.shared_house.specs.declared.passes.HousePass.{HousePass}
-use Rattle.shared_house.specs.declared.shards.Shard.{Shard}
-use Rattle.shared_house.specs.BatchEntries.{fault_at, reply_in}
-use Rattle.shared_house.specs.HouseCalls.{Hears, IsSettling, MaySettle, batch_behind, loss_behind, raised_behind, raised_by_loss}
-use Rattle.shared_house.specs.ShardCalls.{faults_of}
-use Rattle.shared_house.specs.Shards.{StandsFor}
-
--- the shard is out with the pass, which has noted all that it added
-pub record IsHeldBy {D : Type 0} (tells : Type 0) (seen : D → List ℕ)
-    (may_leave : D → List ℕ → Type 0) (faults : D → ℕ) (turn : TurnName (Opening D))
-    (held : Shard D) (pass : PassKnowledge Entry) : Type 0 where
-  pub turn_is : pass.turn ≡ turn.id
-  pub out : pass.out ≡ true
-  pub stands : StandsFor tells seen may_leave faults turn.key held pass.seen
-  pub noted : held.added ≡ []
+use Rattle.turned_shards.specs.declared.openings.Opening.{Opening}
+use Rattle.turned_shards.specs.declared.passes.HousePass.{HousePass}
+use Rattle.turned_shards.specs.declared.shards.Shard.{Shard}
+use Rattle.turned_shards.specs.BatchEntries.{fault_at, reply_in}
+use Rattle.shared_house.specs.HouseCalls.{Hears, IsSettling, MaySettle, batch_behind, loss_behind}
+use Rattle.shared_house.specs.HouseCalls.{raised_behind, raised_by_loss}
+use Rattle.turned_shards.specs.ShardCalls.{faults_of}
 
 -- with this base raised
 abbrev pub raised_to : ℕ → SeatKnowledge → SeatKnowledge
@@ -53,8 +44,8 @@ module _ {D : Type 0} where
       NotesOwn (faults_of held.moment held.base fault) old new
       ⊎ ((fault ≡ Memory) × NotesOwn entries old new)
 
-  -- The leases are as they were, and the fault is noted, if a disk failed. Or the loss is noted, and
-  -- memory was wanting to publish it.
+  -- The leases are as they were, and the fault is noted, if a disk failed. Or the loss is noted,
+  -- and memory was wanting to publish it.
   abbrev pub RefusesLoss : (held kept : Shard D) → List Entry → (old new : HousePass D)
       → JournalFault → Type 0
   RefusesLoss held kept entries old new fault =
@@ -93,21 +84,24 @@ module _ {D : Type 0} where
         (replies : List Datagram) : Type 0 where
       pub notes : NotesBehind (IsSettling o tells seen moment left_since may_leave faults now)
           old new (λ log. batch_behind o log now new.epoch.heard batch)
-      pub told : replies
-          ≡ map reply_in (batch_behind o (old.history.seen ++ notes.settling) now new.epoch.heard batch)
+      pub told : replies ≡ map reply_in
+          (batch_behind o (old.history.seen ++ notes.settling) now new.epoch.heard batch)
       pub hears :
-          Hears (raised_behind o (old.history.seen ++ notes.settling) old.epoch.raised) old.epoch new.epoch
+          Hears (raised_behind o (old.history.seen ++ notes.settling) old.epoch.raised)
+          old.epoch new.epoch
       pub raised : new.epoch.raised ≤ new.epoch.heard
 
     pub record LosesHeld (now : ℕ) (old new : HousePass D) (count : ℕ) : Type 0 where
       pub notes : NotesBehind (IsSettling o tells seen moment left_since may_leave faults now)
           old new (λ log. loss_behind o log now new.epoch.heard)
-      pub counted : count ≡ lease_count (state_after o.book.state (old.history.seen ++ notes.settling)).table
+      pub counted : count ≡ lease_count
+          (state_after o.book.state (old.history.seen ++ notes.settling)).table
           (max now (moment_after o.book.state (old.history.seen ++ notes.settling)))
       pub hears : Hears
           (raised_by_loss o now (old.history.seen ++ notes.settling) old.epoch.raised)
           old.epoch new.epoch
-      pub raised : raised_behind o (old.history.seen ++ notes.settling) old.epoch.raised ≤ new.epoch.heard
+      pub raised : raised_behind o (old.history.seen ++ notes.settling) old.epoch.raised
+          ≤ new.epoch.heard
 
     pub record FailsWith (now : ℕ) (own : List Entry → List Entry)
         (raised : List Entry → ℕ → ℕ) (old new : HousePass D) : Type 0 where

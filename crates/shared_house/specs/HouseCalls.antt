@@ -1,5 +1,6 @@
 -- A house of many threads as contracts see it, and what its calls do (our own).
-use Rattle.std.specs.Prelude.{◌≡◌, ◌⊎◌, ◌≤◌, ◌<◌, ◌+◌, ℕ, max, false, List, [], ◌∷◌, ◌++◌, length, map, Some}
+use Rattle.std.specs.Prelude.{◌≡◌, ◌⊎◌, ◌≤◌, ◌<◌, ◌+◌, ℕ, max, false, List, [], ◌∷◌, ◌++◌, length}
+use Rattle.std.specs.Prelude.{map, Some}
 use Rattle.std.specs.List.{range_with_len, slice_get}
 use Rattle.pcp_base.specs.declared.configs.Config.{Config}
 use Rattle.pcp_base.specs.Configs.{IsConfig}
@@ -19,13 +20,13 @@ use Rattle.lease_histories.specs.Legal.{IsLegal, base_after, moment_after, state
 use Rattle.turn_lock.specs.Lengths.{longer}
 use Rattle.turn_lock.specs.Passes.{PassKnowledge, SplitsPass, TurnName}
 use Rattle.epoch_word.specs.Rule.{AreSplit, SeatKnowledge}
-use Rattle.shared_house.specs.declared.openings.Opening.{Opening}
-use Rattle.shared_house.specs.declared.passes.HousePass.{HousePass}
-use Rattle.shared_house.specs.declared.shards.Shard.{Shard}
-use Rattle.shared_house.specs.BatchEntries.{asked_in, entries_along, fault_at, loss_at, reply_in}
-use Rattle.shared_house.specs.Publishing.{told_of}
-use Rattle.shared_house.specs.ShardCalls.{SettlesShard}
-use Rattle.shared_house.specs.Shards.{StandsFor, served_by}
+use Rattle.turned_shards.specs.declared.openings.Opening.{Opening}
+use Rattle.turned_shards.specs.declared.passes.HousePass.{HousePass}
+use Rattle.turned_shards.specs.declared.shards.Shard.{Shard}
+use Rattle.turned_shards.specs.BatchEntries.{asked_in, entries_along, fault_at, loss_at, reply_in}
+use Rattle.turned_shards.specs.Publishing.{told_of}
+use Rattle.turned_shards.specs.ShardCalls.{SettlesShard}
+use Rattle.turned_shards.specs.Shards.{StandsFor, served_by}
 
 pub record HouseView (D : Type 0) : Type 0 where
   pub config : Config
@@ -135,21 +136,22 @@ module _ {D : Type 0} (o : Opening D) where
   module _ (tells : Type 0) (seen : D → List ℕ) (moment : D → ℕ)
       (left_since : D → ℕ → List ℕ → Type 0) (may_leave : D → List ℕ → Type 0)
       (faults : D → ℕ) where
-    -- The batch is answered, with the base that the word told, after that of the external address was
-    -- raised.
+    -- The batch is answered, with the base that the word told, after that of the external address
+    -- was raised.
     pub record ServesHouse (now : ℕ) (batch : List Datagram) (old new : HousePass D)
         (replies : List Datagram) (lane : ToldRecords) : Type 0 where
       pub adds : AddsTo (IsSettling tells seen moment left_since may_leave faults now) old new
           (λ log. batch_behind log now new.epoch.heard batch)
-      pub told : replies
-          ≡ map reply_in (batch_behind (before_own old adds.others adds.settling) now new.epoch.heard batch)
+      pub told : replies ≡ map reply_in
+          (batch_behind (before_own old adds.others adds.settling) now new.epoch.heard batch)
       pub hears :
-          Hears (raised_behind (before_own old adds.others adds.settling) old.epoch.raised) old.epoch new.epoch
+          Hears (raised_behind (before_own old adds.others adds.settling) old.epoch.raised)
+          old.epoch new.epoch
       pub raised : new.epoch.raised ≤ new.epoch.heard
       pub published : lane ≡ told_of o new.history.seen
 
-    -- A disk failed: a fault is the call's own entry. Or memory was wanting: nothing is, or what was
-    -- asked, with what that raises.
+    -- A disk failed: a fault is the call's own entry. Or memory was wanting: nothing is, or what
+    -- was asked, with what that raises.
     pub record RefusesWith (now : ℕ) (own : List Entry → List Entry)
         (raised : List Entry → ℕ → ℕ) (old new : HousePass D) : Type 0 where
       pub adds : AddsTo (MaySettle tells seen moment left_since may_leave faults now) old new own
@@ -170,12 +172,14 @@ module _ {D : Type 0} (o : Opening D) where
       pub adds : AddsTo (IsSettling tells seen moment left_since may_leave faults now) old new
           (λ log. loss_behind log now new.epoch.heard)
       -- those that were live
-      pub counted : count ≡ lease_count (state_after o.book.state (before_own old adds.others adds.settling)).table
+      pub counted : count ≡ lease_count
+          (state_after o.book.state (before_own old adds.others adds.settling)).table
           (max now (moment_after o.book.state (before_own old adds.others adds.settling)))
       pub hears : Hears
           (raised_by_loss now (before_own old adds.others adds.settling) old.epoch.raised)
           old.epoch new.epoch
-      pub raised : raised_behind (before_own old adds.others adds.settling) old.epoch.raised ≤ new.epoch.heard
+      pub raised : raised_behind (before_own old adds.others adds.settling) old.epoch.raised
+          ≤ new.epoch.heard
       pub published : lane ≡ told_of o new.history.seen
 
     abbrev pub RefusesAt : ℕ → ℕ → (own : List Entry → List Entry) → (raised : List Entry → ℕ → ℕ)
@@ -185,8 +189,8 @@ module _ {D : Type 0} (o : Opening D) where
         × RefusesHouse now own raised old new cause
 
 module _ {D : Type 0} where
-  -- another pass knows as much, and has noted nothing; the two have together what the one had of the
-  -- right to make passes, and to raise
+  -- another pass knows as much, and has noted nothing; the two have together what the one had of
+  -- the right to make passes, and to raise
   pub record SplitsHouse (house : HouseView D) (old kept new : HousePass D) : Type 0 where
     pub is : IsPassOf house new
     pub shard : new.shard ≡ old.shard

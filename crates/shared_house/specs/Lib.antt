@@ -1,16 +1,8 @@
-pub mod BatchEntries
 pub mod Beginnings
 pub mod Endings
-pub mod FaultCounts
 pub mod Findings
 pub mod HeldCalls
 pub mod HouseCalls
-pub mod Inside
 pub mod Laws
-pub mod Publishing
-pub mod Reading
 pub mod Seats
-pub mod ShardCalls
-pub mod Shards
 pub mod Turned
-pub mod Turnings

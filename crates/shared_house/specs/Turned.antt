@@ -1,15 +1,16 @@
 -- Books that are put behind turns one after the other (our own; for private contracts).
-use Rattle.std.specs.Prelude.{◌≡◌, ◌≤◌, ℕ, ◌+◌, ◌-◌, ◌^◌, List, [], ◌∷◌, ◌++◌, ⊤, length, vec_capacity}
+use Rattle.std.specs.Prelude.{◌≡◌, ◌≤◌, ℕ, ◌+◌, ◌-◌, ◌^◌, List, [], ◌∷◌, ◌++◌, ⊤, length}
+use Rattle.std.specs.Prelude.{vec_capacity}
 use Rattle.std.specs.List.{AllZip}
 use Rattle.pcp_base.specs.declared.configs.Config.{Config}
 use Rattle.lane_index.specs.Lanes.{LaneKnowledge, lane_of}
 use Rattle.turn_lock.specs.Passes.{TurnName, new_pass}
 use Rattle.epoch_word.specs.Rule.{SeatKnowledge}
 use Rattle.shard_book.specs.Books.{BookView}
-use Rattle.shared_house.specs.declared.openings.Opening.{Opening}
-use Rattle.shared_house.specs.declared.passes.HousePass.{HousePass}
+use Rattle.turned_shards.specs.declared.openings.Opening.{Opening}
+use Rattle.turned_shards.specs.declared.passes.HousePass.{HousePass}
 use Rattle.shared_house.specs.declared.turned.Turned.{Turned}
-use Rattle.shared_house.specs.Turnings.{MayBegin, StandsStill, first_leases, opening_of}
+use Rattle.turned_shards.specs.Turnings.{MayBegin, StandsStill, first_leases, opening_of}
 
 module _ {D : Type 0} where
   -- the books were just opened for the external addresses from this place on

@@ -1,12 +1,14 @@
 //! Opening a house of many threads.
-ghost use Rattle.std.specs.Prelude.{◌≡◌, ◌+◌, ◌-◌, ◌^◌, ◌<◌, ◌≤◌, length, flat_map, vec_capacity, None, IfOk, IfErr};
+ghost use Rattle.std.specs.Prelude.{◌≡◌, ◌+◌, ◌-◌, ◌^◌, ◌<◌, ◌≤◌, length, flat_map, vec_capacity};
+ghost use Rattle.std.specs.Prelude.{None, IfOk, IfErr};
 ghost use Rattle.std.specs.List.{AllByRecursion};
 ghost use Rattle.pcp_base.specs.declared.configs.TheConstants.{MOST_EXTERNALS};
 ghost use Rattle.pcp_base.specs.Configs.{IsConfig};
 ghost use Rattle.epoch_word.specs.Rule.{seat_knowledge};
 ghost use Rattle.shard_book.specs.Books.{IsBook};
 ghost use Rattle.lease_house.specs.SoloOpenings.{IsOfPlace, book_updates};
-ghost use Rattle.shared_house.specs.Beginnings.{Begins, BeginsWith, ComeBack, RefusesBegin, first_base};
+ghost use Rattle.shared_house.specs.Beginnings.{Begins, BeginsWith, ComeBack, RefusesBegin};
+ghost use Rattle.shared_house.specs.Beginnings.{first_base};
 ghost use Rattle.shared_house.specs.Endings.{AreAtHome};
 ghost use Rattle.shared_house.specs.Findings.{is_fresh, update_places};
 ghost use Rattle.shared_house.specs.HouseCalls.{IsPassOf};
@@ -15,7 +17,6 @@ ghost use Rattle.shared_house.specs.Turned.{AllMayBegin};
 
 use crate::findings::{is_fresh, update_places};
 use crate::houses::House;
-use crate::passes::HousePass;
 use crate::seats::seats_of;
 use crate::turned::{Turned, turn_all};
 use epoch_word::{EpochSeat, EpochWord};
@@ -29,6 +30,7 @@ use pcp_base::{Config, Datagram, Memory, Moment};
 use shard_book::Book;
 use std::alloc::Global;
 use std::sync::Wait;
+use turned_shards::HousePass;
 
 /// A house that was opened, and what its callers begin with. It isn't `Drop`, as the house isn't.
 pub struct Begun<D: LeaseDisk> {
@@ -56,7 +58,8 @@ struct Prepared {
     update_shards: Vec<u32>,
 }
 
-/// What a house of these books has beside its turns: an epoch word that stands at their greatest base.
+/// What a house of these books has beside its turns: an epoch word that stands at their greatest
+/// base.
 fn prepare<D: LeaseDisk + Drop>(
     alloc: Global,
     books: &[Book<D>],

@@ -2,18 +2,16 @@
 ghost use Rattle.std.specs.Prelude.{◌≡◌, ◌+◌, ◌<◌, ◌≤◌, length, vec_capacity, Some};
 ghost use Rattle.std.specs.List.{slice_get};
 ghost use Rattle.lease_house.specs.BookCalls.{ChangesAt};
-ghost use Rattle.shared_house.specs.declared.passes.HousePass.{HousePass};
+ghost use Rattle.turned_shards.specs.declared.passes.HousePass.{HousePass};
 ghost use Rattle.shared_house.specs.Endings.{AreAtHome, EndsAll, IsAtHome};
-ghost use Rattle.shared_house.specs.Turnings.{EndsOne};
+ghost use Rattle.turned_shards.specs.Turnings.{EndsOne};
 
 use crate::houses::House;
-use crate::passes::HousePass;
-use crate::shards::Shard;
-use crate::turning::end_one;
 use lease_disk::{DiskPair, LeaseDisk};
 use lease_house::put_first;
 use std::sync::Wait;
 use turn_lock::Turn;
+use turned_shards::{HousePass, Shard, end_one};
 
 /// Takes a turn for good with the pass at this place, and hands its pair out.
 fn end_at<D: LeaseDisk + Drop, R: Wait>(
@@ -31,8 +29,8 @@ fn end_at<D: LeaseDisk + Drop, R: Wait>(
     end_one(rt, turn, &mut passes[place])
 }
 
-/// Takes each turn for good with the pass of its place. All pairs come before the spare ones, in the
-/// vector that has those.
+/// Takes each turn for good with the pass of its place. All pairs come before the spare ones, in
+/// the vector that has those.
 fn end_all<D: LeaseDisk + Drop, R: Wait>(
     rt: &R,
     turns: Vec<Turn<Shard<D>>>,
@@ -60,10 +58,10 @@ impl<D: LeaseDisk + Drop> House<D> {
     ghost use Rattle.std.specs.Prelude.{◌≡◌, ◌+◌, length};
     ghost use Rattle.shared_house.specs.Endings.{AreAtHome, EndsAll};
 
-    /// Takes each turn for good with the pass of its place, which then has seen the whole history of
-    /// its external address, and ends its lane. All pairs come back in the order in which the house got
-    /// them. It takes no memory. Every later `serve` or `lose` of another pass waits for ever, and
-    /// every later lookup of a lane may.
+    /// Takes each turn for good with the pass of its place, which then has seen the whole history
+    /// of its external address, and ends its lane. All pairs come back in the order in which the
+    /// house got them. It takes no memory. Every later `serve` or `lose` of another pass waits for
+    /// ever, and every later lookup of a lane may.
     pub fn end<R: Wait>(self, rt: &R, passes: &mut Vec<HousePass<D>>) -> Vec<DiskPair<D>>
         requires { AreAtHome self.turns passes.old.items }
         ensures ended { EndsAll D.tells D.seen D.may_leave D.faults self.turns passes.old.items

@@ -1,9 +1,7 @@
 //! A house whose external addresses are served by any number of threads.
 
-use crate::passes::HousePass;
 use crate::served::Served;
 use crate::serving::{lose_behind, serve_behind};
-use crate::shards::Shard;
 use epoch_word::EpochWord;
 use lane_index::Told;
 use lease_disk::{DiskPair, LeaseDisk};
@@ -13,6 +11,7 @@ use std::alloc::Global;
 use std::marker::Model;
 use std::sync::Wait;
 use turn_lock::Turn;
+use turned_shards::{HousePass, Shard};
 
 /// All external addresses of a server, each behind a turn of its own, and the greatest base of all.
 /// It isn't `Drop`: end it by `end`.
@@ -51,12 +50,15 @@ impl<D: LeaseDisk + Drop> House<D> {
     ghost use Rattle.std.specs.List.{AllByRecursion};
     ghost use Rattle.journal_sides.specs.declared.layout.TheConstants.{MOST_RECORDS};
     ghost use Rattle.lease_histories.specs.Routes.{route_of};
-    ghost use Rattle.shared_house.specs.declared.openings.Opening.{Opening};
+    ghost use Rattle.turned_shards.specs.declared.openings.Opening.{Opening};
     ghost use Rattle.shared_house.specs.Endings.{AreAtHome, EndsAll};
-    ghost use Rattle.shared_house.specs.HouseCalls.{BeginsAt, HearsHouse, IsPassOf, IsUsedUp, LosesHouse, MeetsHouse, RefusesAt, ServesHouse, SplitsHouse, batch_behind, loss_behind, raised_behind, raised_by_loss};
+    ghost use Rattle.shared_house.specs.HouseCalls.{BeginsAt, HearsHouse, IsPassOf, IsUsedUp};
+    ghost use Rattle.shared_house.specs.HouseCalls.{LosesHouse, MeetsHouse, RefusesAt, ServesHouse};
+    ghost use Rattle.shared_house.specs.HouseCalls.{SplitsHouse, batch_behind, loss_behind};
+    ghost use Rattle.shared_house.specs.HouseCalls.{raised_behind, raised_by_loss};
 
-    /// Answers the datagrams of a batch in one turn of the pass's external address, at the greater of
-    /// `now` and the moment of its last entry. All records of what the pass then has seen are
+    /// Answers the datagrams of a batch in one turn of the pass's external address, at the greater
+    /// of `now` and the moment of its last entry. All records of what the pass then has seen are
     /// published, once the journal has them and before the turn is given back. Where the last call
     /// was refused the external address is settled first, and what isn't published yet is. After
     /// `Disk` a fault stands in the history as the call's own, and the batch is in doubt. After
@@ -93,9 +95,9 @@ impl<D: LeaseDisk + Drop> House<D> {
         }
     }
 
-    /// Loses all leases of the pass's external address in one turn, and says how many were live, and
-    /// what its lane may learn. After `Memory` the loss is in only where memory was wanting for the
-    /// lane. For all else it does as `serve`.
+    /// Loses all leases of the pass's external address in one turn, and says how many were live,
+    /// and what its lane may learn. After `Memory` the loss is in only where memory was wanting for
+    /// the lane. For all else it does as `serve`.
     pub fn lose<R: Wait>(
         &self,
         rt: &R,

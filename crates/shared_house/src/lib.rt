@@ -3,30 +3,21 @@
 #![tactic(auto)]
 
 mod beginning;
-mod doubts;
 mod ending;
 mod findings;
 mod houses;
 mod laws;
-mod moments;
-mod openings;
-mod passes;
 mod passing;
-mod publishing;
-mod reading;
 mod seats;
 mod served;
 mod serving;
-mod shards;
 mod turned;
-mod turning;
-mod waiting;
 
 pub use beginning::Begun;
 pub use houses::House;
-pub use laws::{passes_share_histories, published_records_were_noted, replies_are_noted_once};
-pub use openings::Opening;
-pub use passes::{HousePass, give_up};
+pub use laws::replies_are_noted_once;
 pub use served::Served;
-pub use shards::Shard;
-pub use turning::{Unturned, end_one, turn_of};
+pub use turned_shards::{
+    HousePass, Opening, Shard, Unturned, end_one, give_up, passes_share_histories,
+    published_records_were_noted, turn_of,
+};

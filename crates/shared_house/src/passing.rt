@@ -1,17 +1,18 @@
 //! What the passes of a house know, and how they are split and met.
 
 use crate::houses::House;
-use crate::passes::HousePass;
 use lease_disk::LeaseDisk;
 use pcp_base::{Memory, Moment};
 use std::alloc::Global;
+use turned_shards::HousePass;
 
 impl<D: LeaseDisk + Drop> House<D> {
     ghost use Rattle.std.specs.Prelude.{◌≡◌, IfOk, OnErr};
-    ghost use Rattle.shared_house.specs.HouseCalls.{HearsHouse, IsPassOf, IsUsedUp, MeetsHouse, SplitsHouse};
+    ghost use Rattle.shared_house.specs.HouseCalls.{HearsHouse, IsPassOf, IsUsedUp, MeetsHouse};
+    ghost use Rattle.shared_house.specs.HouseCalls.{SplitsHouse};
 
-    /// What the epoch word tells: the greatest base that any pass raised. It takes no memory and waits
-    /// for nobody.
+    /// What the epoch word tells: the greatest base that any pass raised. It takes no memory and
+    /// waits for nobody.
     pub fn told(&self, pass: &mut HousePass<D>) -> Moment
         requires pass { IsPassOf self.now pass.old }
         ensures pass { IsPassOf self.now pass.new }

@@ -1,21 +1,24 @@
 //! A call behind the turn of an external address.
-ghost use Rattle.std.specs.Prelude.{◌≡◌, ◌≤◌, ◌++◌, ℕ, [], List, length, map, max, true, false, None, IfOk, IfErr, OnOk, OnErr};
+ghost use Rattle.std.specs.Prelude.{◌≡◌, ◌≤◌, ◌++◌, ℕ, [], List, length, map, max, true, false};
+ghost use Rattle.std.specs.Prelude.{None, IfOk, IfErr, OnOk, OnErr};
 ghost use Rattle.pcp_base.specs.declared.datagrams.Entry.{Entry};
 ghost use Rattle.pcp_base.specs.Configs.{IsConfig};
 ghost use Rattle.journal_sides.specs.declared.layout.TheConstants.{MOST_RECORDS};
 ghost use Rattle.lease_store.specs.Lookups.{lease_count};
 ghost use Rattle.turn_lock.specs.Passes.{after_note};
-ghost use Rattle.shared_house.specs.BatchEntries.{reply_in};
-ghost use Rattle.shared_house.specs.HeldCalls.{FailsHeld, HearsAndRaises, HearsMore, IsHeldBy, IsPassBehind, LosesHeld, NotesOwn, RefusesHeld, RefusesLoss, ServesHeld, SettlesHeld, raised_to};
-ghost use Rattle.shared_house.specs.HouseCalls.{LosesHouse, RefusesHouse, ServesHouse, batch_behind, loss_behind, raised_behind, raised_by_loss};
-ghost use Rattle.shared_house.specs.Publishing.{told_of};
-ghost use Rattle.shared_house.specs.ShardCalls.{IsBatchOf, batch_entries, faults_of, loss_entries};
-ghost use Rattle.shared_house.specs.Shards.{StandsFor};
+ghost use Rattle.turned_shards.specs.BatchEntries.{reply_in};
+ghost use Rattle.shared_house.specs.HeldCalls.{FailsHeld, HearsAndRaises, HearsMore, IsPassBehind};
+ghost use Rattle.shared_house.specs.HeldCalls.{LosesHeld, NotesOwn, RefusesHeld, RefusesLoss};
+ghost use Rattle.shared_house.specs.HeldCalls.{ServesHeld, SettlesHeld, raised_to};
+ghost use Rattle.shared_house.specs.HouseCalls.{LosesHouse, RefusesHouse, ServesHouse};
+ghost use Rattle.shared_house.specs.HouseCalls.{batch_behind, loss_behind, raised_behind};
+ghost use Rattle.shared_house.specs.HouseCalls.{raised_by_loss};
+ghost use Rattle.turned_shards.specs.HeldShards.{IsHeldBy};
+ghost use Rattle.turned_shards.specs.Publishing.{told_of};
+ghost use Rattle.turned_shards.specs.ShardCalls.{IsBatchOf, batch_entries, faults_of, loss_entries};
+ghost use Rattle.turned_shards.specs.Shards.{StandsFor};
 
-use crate::passes::HousePass;
-use crate::publishing::{publish_held, publish_rest};
 use crate::served::Served;
-use crate::shards::Shard;
 use epoch_word::EpochWord;
 use lane_index::Told;
 use lease_disk::LeaseDisk;
@@ -24,6 +27,7 @@ use shard_book::BookFault;
 use std::alloc::Global;
 use std::sync::Wait;
 use turn_lock::{Held, Pass, Turn};
+use turned_shards::{HousePass, Shard, publish_held, publish_rest};
 
 /// Notes what the held shard has added.
 fn note_added<D: LeaseDisk + Drop>(
@@ -136,8 +140,8 @@ fn answer_held<D: LeaseDisk + Drop>(
     told
 }
 
-/// Loses the leases of the held shard, which is settled, notes the entry of the loss, and raises the
-/// epoch word to the base.
+/// Loses the leases of the held shard, which is settled, notes the entry of the loss, and raises
+/// the epoch word to the base.
 fn lose_held<D: LeaseDisk + Drop>(
     alloc: Global,
     turn: &Turn<Shard<D>>,

@@ -1,13 +1,12 @@
 //! Books that are put behind turns one after the other.
-ghost use Rattle.std.specs.Prelude.{◌≡◌, ◌≤◌, ◌<◌, ◌+◌, ℕ, [], ◌∷◌, length, map, vec_capacity, IfOk, IfErr, OnOk, OnErr};
+ghost use Rattle.std.specs.Prelude.{◌≡◌, ◌≤◌, ◌<◌, ◌+◌, ℕ, [], ◌∷◌, length, map, vec_capacity};
+ghost use Rattle.std.specs.Prelude.{IfOk, IfErr, OnOk, OnErr};
 ghost use Rattle.pcp_base.specs.declared.configs.TheConstants.{MOST_EXTERNALS};
 ghost use Rattle.shared_house.specs.Beginnings.{BeginAll, ComeBack};
-ghost use Rattle.shared_house.specs.Turned.{AddsOne, AllMayBegin, AreUnshared, HasRoomFor, TakesApart};
-ghost use Rattle.shared_house.specs.Turnings.{MayBegin};
+ghost use Rattle.shared_house.specs.Turned.{AddsOne, AllMayBegin, AreUnshared, HasRoomFor};
+ghost use Rattle.shared_house.specs.Turned.{TakesApart};
+ghost use Rattle.turned_shards.specs.Turnings.{MayBegin};
 
-use crate::passes::HousePass;
-use crate::shards::Shard;
-use crate::turning::{Unturned, turn_of, untake};
 use epoch_word::EpochSeat;
 use lane_index::Lane;
 use lease_disk::{DiskPair, LeaseDisk};
@@ -17,6 +16,7 @@ use shard_book::Book;
 use std::alloc::Global;
 use std::sync::Wait;
 use turn_lock::Turn;
+use turned_shards::{HousePass, Shard, Unturned, turn_of, untake};
 
 /// External addresses whose books stand behind turns, in order, with their first passes and lanes.
 pub(crate) struct Turned<D: LeaseDisk> {
@@ -118,8 +118,8 @@ fn take_apart<D: LeaseDisk + Drop, R: Wait>(rt: &R, made: Turned<D>, books: &mut
     passes.destroy_empty();
 }
 
-/// Puts each book behind a turn, in order, with a seat of its own. Without memory all pairs come back,
-/// before the spare ones, in the vector that has those.
+/// Puts each book behind a turn, in order, with a seat of its own. Without memory all pairs come
+/// back, before the spare ones, in the vector that has those.
 pub(crate) fn turn_all<D: LeaseDisk + Drop, R: Wait>(
     rt: &R,
     alloc: Global,

@@ -5,8 +5,8 @@ use Rattle.pcp_base.specs.declared.configs.Config.{Config}
 use Rattle.lane_index.specs.Lanes.{LaneKnowledge}
 use Rattle.turn_lock.specs.Passes.{TurnName}
 use Rattle.shard_book.specs.Books.{BookView}
-use Rattle.shared_house.specs.declared.openings.Opening.{Opening}
-use Rattle.shared_house.specs.declared.passes.HousePass.{HousePass}
+use Rattle.turned_shards.specs.declared.openings.Opening.{Opening}
+use Rattle.turned_shards.specs.declared.passes.HousePass.{HousePass}
 use Rattle.shared_house.specs.Beginnings.{BeginAll}
 use Rattle.shared_house.specs.Endings.{AreAtHome, IsAtHome}
 use Rattle.shared_house.specs.HouseCalls.{BeginsAt, HouseView, IsPassOf}

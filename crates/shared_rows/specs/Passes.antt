@@ -3,8 +3,8 @@ use Rattle.std.specs.Prelude.{◌≡◌, ℕ, List, Some}
 use Rattle.std.specs.List.{AllByRecursion, slice_get}
 use Rattle.logbook.specs.Pages.{Book}
 use Rattle.lane_index.specs.Lanes.{LaneKnowledge, ToldRecords}
-use Rattle.shared_house.specs.declared.openings.Opening.{Opening}
-use Rattle.shared_house.specs.declared.passes.HousePass.{HousePass}
+use Rattle.turned_shards.specs.declared.openings.Opening.{Opening}
+use Rattle.turned_shards.specs.declared.passes.HousePass.{HousePass}
 use Rattle.shared_house.specs.Endings.{AreAtHome}
 use Rattle.shared_house.specs.HouseCalls.{BeginsAt, HouseView, IsPassOf}
 

@@ -11,7 +11,9 @@ returns-clause-served g c =
     let q = c.settle_and_answer-told.new.pass in
     let e = c.settle_and_answer-told.ensures in
     if-ok-two c.settle_and_answer-told.result _ _ _ e.served e.published (λ served done shown.
-    serves-house d.tells d.seen d.moment d.left_since d.may_leave d.faults o c.args.now c.args.batch.now c.args.pass.now c.take-held.new.pass q c.give.new.pass served.replies.items served.told c.take-held.ensures.pass done shown c.give.ensures e.held.stands.leads.legal)
+    serves-house d.tells d.seen d.moment d.left_since d.may_leave d.faults o c.args.now
+    c.args.batch.now c.args.pass.now c.take-held.new.pass q c.give.new.pass served.replies.items
+    served.told c.take-held.ensures.pass done shown c.give.ensures e.held.stands.leads.legal)
 
 pub returns-clause-refused : goal.returns-clause-refused
 returns-clause-refused g c =
@@ -20,4 +22,8 @@ returns-clause-refused g c =
     let q = c.settle_and_answer-told.new.pass in
     let e = c.settle_and_answer-told.ensures in
     if-err-weaker c.settle_and_answer-told.result _ _ e.refused (λ fault done.
-    refuses-house d.tells d.seen d.moment d.left_since d.may_leave d.faults o c.args.now c.args.pass.now c.take-held.new.pass q c.give.new.pass (λ (log : List Entry). batch_behind o log c.args.now q.epoch.heard c.args.batch.now) (raised_behind o) fault c.take-held.ensures.pass done c.give.ensures e.held.stands.leads.legal)
+    refuses-house d.tells d.seen d.moment d.left_since d.may_leave d.faults o c.args.now
+    c.args.pass.now c.take-held.new.pass q c.give.new.pass
+    (λ (log : List Entry). batch_behind o log c.args.now q.epoch.heard c.args.batch.now)
+    (raised_behind o) fault c.take-held.ensures.pass done c.give.ensures
+    e.held.stands.leads.legal)

@@ -8,7 +8,9 @@ pub returns-in-Err-clause-refused : goal.returns-in-Err-clause-refused
 returns-in-Err-clause-refused g c =
     let o = c.args.turn.now.key in
     let q = c.settle_and_publish.new.pass in
-    c.in-Err.ensures.refused (λ (log : List Entry). batch_behind o log c.args.now q.epoch.heard c.args.batch.now) (raised_behind o)
+    c.in-Err.ensures.refused
+    (λ (log : List Entry). batch_behind o log c.args.now q.epoch.heard c.args.batch.now)
+    (raised_behind o)
 
 pub returns-in-Ok-clause-served : goal.returns-in-Ok-clause-served
 returns-in-Ok-clause-served g c =
@@ -17,7 +19,9 @@ returns-in-Ok-clause-served g c =
     let s = c.in-Ok.ensures in
     let a = c.answer_and_publish.ensures in
     if-ok-both c.answer_and_publish.result _ _ _ a.served a.told (λ notes served told.
-    serves-held d.tells d.seen d.moment d.left_since d.may_leave d.faults o c.args.config.now c.args.now c.args.batch.now c.settle_and_publish.new.held c.args.pass.now c.settle_and_publish.new.pass c.answer_and_publish.new.pass served.replies.items
+    serves-held d.tells d.seen d.moment d.left_since d.may_leave d.faults o c.args.config.now
+    c.args.now c.args.batch.now c.settle_and_publish.new.held c.args.pass.now
+    c.settle_and_publish.new.pass c.answer_and_publish.new.pass served.replies.items
     c.requires.batch.config_is s.settled s.held.stands s.epoch notes told a.heard)
 
 pub returns-in-Ok-clause-refused : goal.returns-in-Ok-clause-refused
@@ -27,5 +31,7 @@ returns-in-Ok-clause-refused g c =
     let s = c.in-Ok.ensures in
     let a = c.answer_and_publish.ensures in
     if-err-weaker c.answer_and_publish.result _ _ a.refused (λ fault refused.
-    fails-held d.tells d.seen d.moment d.left_since d.may_leave d.faults o c.args.config.now c.args.now c.args.batch.now c.settle_and_publish.new.held c.args.pass.now c.settle_and_publish.new.pass c.answer_and_publish.new.pass fault
+    fails-held d.tells d.seen d.moment d.left_since d.may_leave d.faults o c.args.config.now
+    c.args.now c.args.batch.now c.settle_and_publish.new.held c.args.pass.now
+    c.settle_and_publish.new.pass c.answer_and_publish.new.pass fault
     c.requires.batch.config_is s.settled s.held.stands s.epoch refused a.heard)

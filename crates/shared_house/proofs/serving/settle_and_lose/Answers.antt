@@ -8,7 +8,8 @@ pub returns-in-Err-clause-refused : goal.returns-in-Err-clause-refused
 returns-in-Err-clause-refused g c =
     let o = c.args.turn.now.key in
     let q = c.settle_and_publish.new.pass in
-    c.in-Err.ensures.refused (λ (log : List Entry). loss_behind o log c.args.now q.epoch.heard) (raised_by_loss o c.args.now)
+    c.in-Err.ensures.refused (λ (log : List Entry). loss_behind o log c.args.now q.epoch.heard)
+    (raised_by_loss o c.args.now)
 
 pub returns-in-Ok-clause-lost : goal.returns-in-Ok-clause-lost
 returns-in-Ok-clause-lost g c =
@@ -17,7 +18,9 @@ returns-in-Ok-clause-lost g c =
     let s = c.in-Ok.ensures in
     let a = c.lose_and_publish.ensures in
     if-ok-both c.lose_and_publish.result _ _ _ a.lost a.counted (λ notes lost counted.
-    loses-held d.tells d.seen d.moment d.left_since d.may_leave d.faults o c.args.now c.settle_and_publish.new.held c.lose_and_publish.new.held c.args.pass.now c.settle_and_publish.new.pass c.lose_and_publish.new.pass lost.0
+    loses-held d.tells d.seen d.moment d.left_since d.may_leave d.faults o c.args.now
+    c.settle_and_publish.new.held c.lose_and_publish.new.held c.args.pass.now
+    c.settle_and_publish.new.pass c.lose_and_publish.new.pass lost.0
     s.settled s.held.stands a.held.stands s.epoch notes counted a.heard)
 
 pub returns-in-Ok-clause-refused : goal.returns-in-Ok-clause-refused
@@ -27,5 +30,7 @@ returns-in-Ok-clause-refused g c =
     let s = c.in-Ok.ensures in
     let a = c.lose_and_publish.ensures in
     if-err-weaker c.lose_and_publish.result _ _ a.refused (λ fault refused.
-    refuses-loss d.tells d.seen d.moment d.left_since d.may_leave d.faults o c.args.now c.settle_and_publish.new.held c.lose_and_publish.new.held c.args.pass.now c.settle_and_publish.new.pass c.lose_and_publish.new.pass fault
+    refuses-loss d.tells d.seen d.moment d.left_since d.may_leave d.faults o c.args.now
+    c.settle_and_publish.new.held c.lose_and_publish.new.held c.args.pass.now
+    c.settle_and_publish.new.pass c.lose_and_publish.new.pass fault
     s.settled s.held.stands a.held.stands s.epoch refused a.heard)

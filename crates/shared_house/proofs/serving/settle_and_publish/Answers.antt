@@ -1,19 +1,24 @@
 use Rattle.std.proofs.Common.{◌∙◌, ap, sym}
-use Rattle.shared_house.specs.declared.shards.Shard.{Shard}
+use Rattle.turned_shards.specs.declared.shards.Shard.{Shard}
 use Rattle.shared_house.specs.HeldCalls.{raised_to}
-use Rattle.shared_house.proofs.HeldLemmas.{if-err-weaker, on-ok, settles-on, unsettled-held, unshown-held}
+use Rattle.shared_house.proofs.HeldLemmas.{if-err-weaker, on-ok, settles-on, unsettled-held}
+use Rattle.shared_house.proofs.HeldLemmas.{unshown-held}
 use Rattle.shared_house.proofs.serving.settle_and_publish.Goals as goal
 
 pub returns-in-Ok-clause-epoch : goal.returns-in-Ok-clause-epoch
 returns-in-Ok-clause-epoch g c =
     let e = c.in-Ok.ensures in
-    e.epoch ∙ ap (λ (x : Shard g.row.D.Denot). raised_to x.book.state.base c.args.pass.now.epoch) (sym c.publish_rest.ensures.same)
+    e.epoch ∙ ap (λ (x : Shard g.row.D.Denot). raised_to x.book.state.base c.args.pass.now.epoch)
+    (sym c.publish_rest.ensures.same)
 
 pub returns-in-Ok-clause-settled : goal.returns-in-Ok-clause-settled
 returns-in-Ok-clause-settled g c =
     let d = g.D.LeaseDisk in
     let o = c.args.turn.now.key in
-    on-ok c.publish_rest.result _ (settles-on d.tells d.seen d.moment d.left_since d.may_leave d.faults o c.args.now c.args.pass.now c.settle_held.new.pass c.settle_held.new.held c.publish_rest.new.held c.publish_rest.ensures.same c.in-Ok.ensures.settled)
+    on-ok c.publish_rest.result _
+    (settles-on d.tells d.seen d.moment d.left_since d.may_leave d.faults o c.args.now
+    c.args.pass.now c.settle_held.new.pass c.settle_held.new.held c.publish_rest.new.held
+    c.publish_rest.ensures.same c.in-Ok.ensures.settled)
 
 pub returns-in-Ok-clause-refused : goal.returns-in-Ok-clause-refused
 returns-in-Ok-clause-refused g c own up =
@@ -21,7 +26,9 @@ returns-in-Ok-clause-refused g c own up =
     let o = c.args.turn.now.key in
     let e = c.in-Ok.ensures in
     if-err-weaker c.publish_rest.result _ _ c.publish_rest.ensures.memory (λ fault is.
-    unshown-held d.tells d.seen d.moment d.left_since d.may_leave d.faults o c.args.now c.settle_held.new.held c.args.pass.now c.settle_held.new.pass own up fault is e.settled e.held.stands e.epoch)
+    unshown-held d.tells d.seen d.moment d.left_since d.may_leave d.faults o c.args.now
+    c.settle_held.new.held c.args.pass.now c.settle_held.new.pass own up fault is e.settled
+    e.held.stands e.epoch)
 
 pub returns-in-Err-clause-refused : goal.returns-in-Err-clause-refused
 returns-in-Err-clause-refused g c own up =
@@ -29,5 +36,6 @@ returns-in-Err-clause-refused g c own up =
     let o = c.args.turn.now.key in
     let q = c.settle_held.new.pass in
     let e = c.in-Err.ensures in
-    unsettled-held d.tells d.seen d.moment d.left_since d.may_leave d.faults o c.args.now c.args.held.now c.settle_held.new.held c.args.pass.now q own up c.in-Err.fault
+    unsettled-held d.tells d.seen d.moment d.left_since d.may_leave d.faults o c.args.now
+    c.args.held.now c.settle_held.new.held c.args.pass.now q own up c.in-Err.fault
     c.requires.held.stands e.refused e.epoch e.same

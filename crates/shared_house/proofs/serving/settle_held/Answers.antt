@@ -1,7 +1,7 @@
 use Rattle.std.specs.Prelude.{is_err}
 use Rattle.std.proofs.Common.{◌≡◌, ◌∙◌, sym, subst, rules}
-use Rattle.shared_house.specs.declared.shards.Shard.{Shard}
-use Rattle.shared_house.specs.Shards.{StandsFor}
+use Rattle.turned_shards.specs.declared.shards.Shard.{Shard}
+use Rattle.turned_shards.specs.Shards.{StandsFor}
 use Rattle.shared_house.proofs.HeldLemmas.{settled-by}
 use Rattle.shared_house.proofs.serving.settle_held.Goals as goal
 
@@ -9,8 +9,18 @@ pub returns-clause-settled : goal.returns-clause-settled
 returns-clause-settled g c =
     let d = g.D.LeaseDisk in
     let told : c.is_err.result ≡ is_err c.settle-told.result = search rules in
-    let here : StandsFor d.tells d.seen d.may_leave d.faults c.args.turn.now.key c.value.result.now c.args.pass.now.history.seen =
-    subst (λ (s : Shard g.row.D.Denot). StandsFor d.tells d.seen d.may_leave d.faults c.args.turn.now.key s c.args.pass.now.history.seen) (sym c.value.ensures.value) c.requires.held.stands in
-    settled-by d.tells d.seen d.moment d.left_since d.may_leave d.faults c.args.turn.now.key c.args.now c.settle-told.result c.is_err.result c.value.result.now c.settle-told.new.self c.value-2.result.now
-    c.args.pass.now (record { shard = c.args.pass.now.shard; history = c.note_added.new.pass; epoch = c.raise.new.seat }) told here c.settle-told.ensures.settled
+    let here : StandsFor d.tells d.seen d.may_leave d.faults c.args.turn.now.key c.value.result.now
+    c.args.pass.now.history.seen =
+    subst (λ (s : Shard g.row.D.Denot). StandsFor d.tells d.seen d.may_leave d.faults
+    c.args.turn.now.key s c.args.pass.now.history.seen)
+    (sym c.value.ensures.value) c.requires.held.stands in
+    settled-by d.tells d.seen d.moment d.left_since d.may_leave d.faults c.args.turn.now.key
+    c.args.now c.settle-told.result c.is_err.result c.value.result.now c.settle-told.new.self
+    c.value-2.result.now
+    c.args.pass.now
+    (record {
+      shard = c.args.pass.now.shard;
+      history = c.note_added.new.pass;
+      epoch = c.raise.new.seat;
+    }) told here c.settle-told.ensures.settled
     c.note_added.ensures.pass (c.value-2.ensures.value ∙ c.note_added.ensures.held)

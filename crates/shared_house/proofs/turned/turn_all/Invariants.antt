@@ -7,7 +7,8 @@ abbrev pub invariant-loop-place : goal.invariant-loop-place
 invariant-loop-place g l =
     let d = g.D.LeaseDisk in
     record {
-      so : AreTurnedTo l.config l.fn.books.items l.books.items l.place l.made l.fn.seats.items l.seats.items;
+      so : AreTurnedTo l.config l.fn.books.items l.books.items l.place l.made l.fn.seats.items
+          l.seats.items;
       may : AllMayBegin d.tells d.seen d.may_leave l.config l.place l.books.items;
       left : length l.books.items + l.place ≡ length l.fn.books.items;
       seats : length l.seats.items ≡ length l.books.items;

@@ -1,7 +1,7 @@
 use Rattle.std.proofs.Common.{◌≡◌, ◌∙◌, ◌<◌, take, drop, length, Some, refl, ap, sym, subst, arith}
 use Rattle.std.specs.List.{slice_get}
 use Rattle.std.proofs.lemmas.Option.{slice_get_read}
-use Rattle.shared_house.specs.declared.passes.HousePass.{HousePass}
+use Rattle.turned_shards.specs.declared.passes.HousePass.{HousePass}
 use Rattle.shared_rows.specs.Passes.{Follows}
 use Rattle.shared_rows.proofs.PassLemmas.{set-all}
 use Rattle.shared_rows.proofs.threads.serve_all.Goals as goal

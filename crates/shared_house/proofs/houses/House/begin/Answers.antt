@@ -12,20 +12,25 @@ use Rattle.shared_house.proofs.houses.House.begin.Goals as goal
 pub returns-in-Err-clause-refused : goal.returns-in-Err-clause-refused
 returns-in-Err-clause-refused g c =
     let d = g.D.LeaseDisk in
-    inl (memory_touches_none d.tells d.seen d.moment d.left_since d.may_leave d.faults c.args.m c.args.config.now.externals c.args.disks.items c.requires.enough)
+    inl (memory_touches_none d.tells d.seen d.moment d.left_since d.may_leave d.faults c.args.m
+    c.args.config.now.externals c.args.disks.items c.requires.enough)
 
 pub begin_with-requires-clause-books : goal.begin_with-requires-clause-books
 begin_with-requires-clause-books g c =
     let d = g.D.LeaseDisk in
     let opened = c.in-Ok-open_books.opened in
-    subst (λ (config : Config). AllMayBegin d.tells d.seen d.may_leave config 0 opened.books.items) (sym c.in-Ok.ensures)
-    (may-begin d.tells d.seen d.moment d.left_since d.may_leave d.faults c.args.config.now c.args.m c.args.disks.items opened.books.items opened.spare.items c.requires.config c.in-Ok-open_books.ensures.opened c.in-Ok-open_books.ensures.books)
+    subst (λ (config : Config). AllMayBegin d.tells d.seen d.may_leave config 0 opened.books.items)
+    (sym c.in-Ok.ensures)
+    (may-begin d.tells d.seen d.moment d.left_since d.may_leave d.faults c.args.config.now c.args.m
+    c.args.disks.items opened.books.items opened.spare.items c.requires.config
+    c.in-Ok-open_books.ensures.opened c.in-Ok-open_books.ensures.books)
 
 pub begin_with-requires-clause-count : goal.begin_with-requires-clause-count
 begin_with-requires-clause-count g c =
     let d = g.D.LeaseDisk in
     let opened = c.in-Ok-open_books.opened in
-    counted d.tells d.seen d.moment d.left_since d.may_leave d.faults c.args.config.now c.args.m c.args.disks.items opened.books.items opened.spare.items c.in-Ok-open_books.ensures.opened
+    counted d.tells d.seen d.moment d.left_since d.may_leave d.faults c.args.config.now c.args.m
+    c.args.disks.items opened.books.items opened.spare.items c.in-Ok-open_books.ensures.opened
     ∙ ap (λ (config : Config). length config.externals) (sym c.in-Ok.ensures)
 
 pub returns-in-Ok-begin_with-clause-begun : goal.returns-in-Ok-begin_with-clause-begun
@@ -36,24 +41,36 @@ returns-in-Ok-begin_with-clause-begun g c =
     record {
       books = opened.books.items;
       founds = opened.founds.items;
-      opened = subst (λ (spare : List (DiskPair g.row.D.Denot)). OpensAll d.tells d.seen d.moment d.left_since d.may_leave d.faults c.args.config.now c.args.m c.args.config.now.externals c.args.disks.items opened.books.items spare)
+      opened = subst
+          (λ (spare : List (DiskPair g.row.D.Denot)). OpensAll d.tells d.seen d.moment d.left_since
+          d.may_leave d.faults c.args.config.now c.args.m c.args.config.now.externals
+          c.args.disks.items opened.books.items spare)
           (sym c.in-Ok-begin_with.ensures.spare) c.in-Ok-open_books.ensures.opened;
       found = c.in-Ok-open_books.ensures.founds;
-      begins = subst (λ (config : Config). BeginsWith config opened.books.items opened.founds.items begun) c.in-Ok.ensures c.in-Ok-begin_with.ensures.begun;
+      begins = subst
+          (λ (config : Config). BeginsWith config opened.books.items opened.founds.items begun)
+          c.in-Ok.ensures c.in-Ok-begin_with.ensures.begun;
     }
 
 pub returns-in-Ok-begin_with-clause-passes : goal.returns-in-Ok-begin_with-clause-passes
 returns-in-Ok-begin_with-clause-passes g c =
     let begun = c.in-Ok-begin_with.begun in
     let books = c.in-Ok-open_books.opened.books.items in
-    let all : BeginAll begun.house.config 0 books begun.house.turns begun.passes.items begun.lanes.items =
-    subst (λ (config : Config). BeginAll config 0 books begun.house.turns begun.passes.items begun.lanes.items) (sym c.in-Ok-begin_with.ensures.config) c.in-Ok-begin_with.ensures.begun.each in
-    are-passes begun.house books begun.passes.items begun.lanes.items all _ _ c.in-Ok-begin_with.ensures.begun.epochs
+    let all : BeginAll begun.house.config 0 books begun.house.turns begun.passes.items
+    begun.lanes.items =
+    subst (λ (config : Config). BeginAll config 0 books begun.house.turns begun.passes.items
+    begun.lanes.items) (sym c.in-Ok-begin_with.ensures.config)
+    c.in-Ok-begin_with.ensures.begun.each in
+    are-passes begun.house books begun.passes.items begun.lanes.items all _ _
+    c.in-Ok-begin_with.ensures.begun.epochs
 
 pub returns-in-Ok-begin_with-clause-home : goal.returns-in-Ok-begin_with-clause-home
 returns-in-Ok-begin_with-clause-home g c =
     let begun = c.in-Ok-begin_with.begun in
     let books = c.in-Ok-open_books.opened.books.items in
-    let all : BeginAll begun.house.config 0 books begun.house.turns begun.passes.items begun.lanes.items =
-    subst (λ (config : Config). BeginAll config 0 books begun.house.turns begun.passes.items begun.lanes.items) (sym c.in-Ok-begin_with.ensures.config) c.in-Ok-begin_with.ensures.begun.each in
+    let all : BeginAll begun.house.config 0 books begun.house.turns begun.passes.items
+    begun.lanes.items =
+    subst (λ (config : Config). BeginAll config 0 books begun.house.turns begun.passes.items
+    begun.lanes.items) (sym c.in-Ok-begin_with.ensures.config)
+    c.in-Ok-begin_with.ensures.begun.each in
     are-at-home begun.house books begun.passes.items begun.lanes.items all

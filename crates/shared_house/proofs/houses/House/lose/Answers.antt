@@ -16,10 +16,12 @@ returns-in-Ok-clause-pass g c =
     let turns = c.self.inside.turns.items in
     let here : turns ≡ house.turns = ap (λ h. h.turns) c.self.view_is in
     let there : slice_get turns shard ≡ Some p.turn = ap (λ l. slice_get l shard) here ∙ p.there in
-    let is : turn ≡ p.turn = c.index-turn.ensures ∙ get_or_from_slice_get turns shard p.turn turn there in
+    let is : turn ≡ p.turn = c.index-turn.ensures
+    ∙ get_or_from_slice_get turns shard p.turn turn there in
     let word : c.self.inside.word ≡ house.word = ap (λ h. h.word) c.self.view_is in
     let new = c.lose_behind.new.pass in
-    passes-on house c.args.pass.now new turn c.self.inside.word p is word c.in-Ok.ensures.pass c.in-Ok.ensures.shard
+    passes-on house c.args.pass.now new turn c.self.inside.word p is word c.in-Ok.ensures.pass
+    c.in-Ok.ensures.shard
 
 pub returns-in-Err-clause-pass : goal.returns-in-Err-clause-pass
 returns-in-Err-clause-pass g c =
@@ -31,10 +33,12 @@ returns-in-Err-clause-pass g c =
     let turns = c.self.inside.turns.items in
     let here : turns ≡ house.turns = ap (λ h. h.turns) c.self.view_is in
     let there : slice_get turns shard ≡ Some p.turn = ap (λ l. slice_get l shard) here ∙ p.there in
-    let is : turn ≡ p.turn = c.index-turn.ensures ∙ get_or_from_slice_get turns shard p.turn turn there in
+    let is : turn ≡ p.turn = c.index-turn.ensures
+    ∙ get_or_from_slice_get turns shard p.turn turn there in
     let word : c.self.inside.word ≡ house.word = ap (λ h. h.word) c.self.view_is in
     let new = c.lose_behind.new.pass in
-    passes-on house c.args.pass.now new turn c.self.inside.word p is word c.in-Err.ensures.pass c.in-Err.ensures.shard
+    passes-on house c.args.pass.now new turn c.self.inside.word p is word c.in-Err.ensures.pass
+    c.in-Err.ensures.shard
 
 pub returns-in-Ok-clause-lost : goal.returns-in-Ok-clause-lost
 returns-in-Ok-clause-lost g c o begins =
@@ -46,11 +50,13 @@ returns-in-Ok-clause-lost g c o begins =
     let turns = c.self.inside.turns.items in
     let here : turns ≡ house.turns = ap (λ h. h.turns) c.self.view_is in
     let there : slice_get turns shard ≡ Some p.turn = ap (λ l. slice_get l shard) here ∙ p.there in
-    let is : turn ≡ p.turn = c.index-turn.ensures ∙ get_or_from_slice_get turns shard p.turn turn there in
+    let is : turn ≡ p.turn = c.index-turn.ensures
+    ∙ get_or_from_slice_get turns shard p.turn turn there in
     let word : c.self.inside.word ≡ house.word = ap (λ h. h.word) c.self.view_is in
     let new = c.lose_behind.new.pass in
     let key : turn.key ≡ o = ap (λ n. n.key) is ∙ begins-with house shard o p.turn p.there begins in
-    subst (λ k. LosesHouse k d.tells d.seen d.moment d.left_since d.may_leave d.faults c.args.now c.args.pass.now new c.in-Ok.lost.0 c.in-Ok.lost.1) key c.in-Ok.ensures.lost
+    subst (λ k. LosesHouse k d.tells d.seen d.moment d.left_since d.may_leave d.faults c.args.now
+    c.args.pass.now new c.in-Ok.lost.0 c.in-Ok.lost.1) key c.in-Ok.ensures.lost
 
 pub returns-in-Err-clause-refused : goal.returns-in-Err-clause-refused
 returns-in-Err-clause-refused g c o begins =
@@ -62,8 +68,15 @@ returns-in-Err-clause-refused g c o begins =
     let turns = c.self.inside.turns.items in
     let here : turns ≡ house.turns = ap (λ h. h.turns) c.self.view_is in
     let there : slice_get turns shard ≡ Some p.turn = ap (λ l. slice_get l shard) here ∙ p.there in
-    let is : turn ≡ p.turn = c.index-turn.ensures ∙ get_or_from_slice_get turns shard p.turn turn there in
+    let is : turn ≡ p.turn = c.index-turn.ensures
+    ∙ get_or_from_slice_get turns shard p.turn turn there in
     let word : c.self.inside.word ≡ house.word = ap (λ h. h.word) c.self.view_is in
     let new = c.lose_behind.new.pass in
-    let key : turn.key ≡ o = ap (λ n. n.key) is ∙ begins-with house shard o p.turn p.there begins in
-    (c.in-Err.fault, c.fault_at.ensures, subst (λ k. RefusesHouse k d.tells d.seen d.moment d.left_since d.may_leave d.faults c.args.now (λ (log : List Entry). loss_behind k log c.args.now new.epoch.heard) (raised_by_loss k c.args.now) c.args.pass.now new c.in-Err.fault) key c.in-Err.ensures.refused)
+    let key : turn.key ≡ o = ap (λ n. n.key) is ∙ begins-with house shard o p.turn p.there begins in (
+      c.in-Err.fault,
+      c.fault_at.ensures,
+      subst (λ k. RefusesHouse k d.tells d.seen d.moment d.left_since d.may_leave d.faults
+          c.args.now (λ (log : List Entry). loss_behind k log c.args.now new.epoch.heard)
+          (raised_by_loss k c.args.now) c.args.pass.now new c.in-Err.fault)
+          key c.in-Err.ensures.refused,
+    )

@@ -10,7 +10,8 @@ pub returns-in_default-clause-pass : goal.returns-in_default-clause-pass
 returns-in_default-clause-pass g c =
     let old = c.args.pass.now in
     let same : c.split.new.pass ≡ old.history = search rules in
-    subst (λ (h : PassKnowledge Entry). IsPassOf c.args.self.now (record old { history = h })) (sym same) c.requires.pass
+    subst (λ (h : PassKnowledge Entry). IsPassOf c.args.self.now (record old { history = h }))
+    (sym same) c.requires.pass
 
 pub meet-requires-clause-turn : goal.meet-requires-clause-turn
 meet-requires-clause-turn g c =
@@ -21,7 +22,8 @@ meet-requires-clause-turn g c =
     let turns = c.self.inside.turns.items in
     let here : turns ≡ house.turns = ap (λ h. h.turns) c.self.view_is in
     let there : slice_get turns shard ≡ Some p.turn = ap (λ l. slice_get l shard) here ∙ p.there in
-    let is : turn ≡ p.turn = c.index-turn.ensures ∙ get_or_from_slice_get turns shard p.turn turn there in
+    let is : turn ≡ p.turn = c.index-turn.ensures
+    ∙ get_or_from_slice_get turns shard p.turn turn there in
     let named : c.args.pass.now.history.turn ≡ turn.id = p.same ∙ ap (λ n. n.id) (sym is) in
     let parts = c.in-Ok.ensures.ok in
     (ap (λ k. k.turn) parts.kept_is ∙ named, ap (λ k. k.turn) parts.new_is ∙ named)

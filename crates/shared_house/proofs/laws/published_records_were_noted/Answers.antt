@@ -1,5 +1,0 @@
-use Rattle.shared_house.proofs.LaneLemmas.{published-noted}
-use Rattle.shared_house.proofs.laws.published_records_were_noted.Goals as goal
-
-pub returns : goal.returns
-returns g c = let d = g.D.LeaseDisk in λ o s noted stands. published-noted d.tells d.seen d.may_leave d.faults o s noted stands

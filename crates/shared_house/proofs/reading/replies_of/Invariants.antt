@@ -1,7 +1,0 @@
-use Rattle.std.proofs.Common.{◌≡◌, take}
-use Rattle.shared_house.specs.BatchEntries.{asked_in}
-use Rattle.shared_house.specs.Reading.{replies_to}
-use Rattle.shared_house.proofs.reading.replies_of.Given as goal
-
-abbrev pub invariant-loop-k : goal.invariant-loop-k
-invariant-loop-k l = l.replies.items ≡ replies_to l.address (take l.k (asked_in l._config l.batch)) (take l.k l.answers)

@@ -1,0 +1,12 @@
+mod Histories
+mod RecordsOf
+mod LaneLemmas
+mod Answering
+mod Standing
+mod Settling
+mod Keeping
+mod SettledLanes
+mod ReadLemmas
+mod BatchCalls
+mod TurnEnds
+mod LaneOpenings

@@ -1,0 +1,230 @@
+-- A shard stands for its history still, with what a call adds.
+use Rattle.std.specs.List.{AllByRecursion}
+use Rattle.std.specs.Option.{option_map_or}
+use Rattle.std.proofs.Common.{◌≡◌, ◌≢◌, ◌∙◌, ℕ, ◌≤◌, ◌<◌, ◌^◌, List, [], ◌∷◌, ◌++◌, true, false}
+use Rattle.std.proofs.Common.{Option, Some, None, refl, ap, sym, subst, arith}
+use Rattle.std.proofs.lemmas.List.{append-nil}
+use Rattle.pcp_base.specs.declared.datagrams.Entry.{Entry}
+use Rattle.pcp_base.specs.declared.records.Record.{Record}
+use Rattle.pcp_base.specs.Apply.{apply_all}
+use Rattle.pcp_base.specs.States.{State}
+use Rattle.lease_disk.specs.Pairs.{PairHasCause}
+use Rattle.lease_store.specs.declared.terms.Terms.{Terms}
+use Rattle.lease_store.specs.LeaseTerms.{terms_of}
+use Rattle.journal_sides.specs.declared.errors.JournalFault.TheVariants.{Disk}
+use Rattle.shard_book.specs.Books.{IsBook}
+use Rattle.lease_histories.specs.Entries.{entry_kind}
+use Rattle.lease_histories.specs.Legal.{IsLegal, IsOpening, records_of}
+use Rattle.lease_histories.specs.Laws.{FaultsComeNext, NextIsLegal}
+use Rattle.turned_shards.specs.declared.openings.Opening.{Opening}
+use Rattle.turned_shards.specs.declared.shards.Shard.{Shard}
+use Rattle.turned_shards.specs.BatchEntries.{fault_at}
+use Rattle.turned_shards.specs.FaultCounts.{HaveRisenBy, ends_in_fault, fault_count, is_of_fault}
+use Rattle.turned_shards.specs.Shards.{LeadsTo, MayCome, StandsFor, served_by}
+use Rattle.turned_shards.proofs.Histories.{after-all, after-one, faults-append, last-append}
+use Rattle.turned_shards.proofs.Histories.{risen-more, risen-on, state-append}
+
+-- a history with a fault behind it ends in one
+ends-fault : (log : List Entry) (m base : ℕ) → ends_in_fault (log ++ fault_at m base ∷ []) ≡ true
+ends-fault log m base =
+    ap (λ (o : Option Entry). option_map_or (λ (e : Entry). is_of_fault (entry_kind e)) o false)
+    (last-append None log (fault_at m base) [])
+
+module _ {D : Type 0} where
+  -- the same history leads to a shard of the same state, moment and base
+  pub leads-same : (o : Opening D) (s t : Shard D) (log : List Entry) → LeadsTo o s log →
+      t.book.state ≡ s.book.state → t.moment ≡ s.moment → t.base ≡ s.base → LeadsTo o t log
+  leads-same o s t log leads a b c =
+      record {
+        legal = leads.legal;
+        state = leads.state ∙ sym a;
+        moment = leads.moment
+            ∙ sym b;
+        base = leads.base ∙ sym c;
+      }
+
+  -- what was in doubt is so still
+  pub may-come-still : (o : Opening D) (s t : Shard D) → MayCome o s → t.book.state ≡ s.book.state →
+      t.book.unsure ≡ s.book.unsure → t.moment ≡ s.moment → t.base ≡ s.base → t.doubt ≡ s.doubt →
+      t.doubt_moment ≡ s.doubt_moment → t.doubt_base ≡ s.doubt_base → MayCome o t
+  may-come-still o s t may state unsure moment base doubt m b =
+      record {
+        some = λ none. may.some (sym doubt ∙ none);
+        next = λ log leads. subst
+            (λ (es : List Entry). IsLegal (served_by o) o.book.state (log ++ es)) (sym doubt)
+            (may.next log (leads-same o t s log leads (sym state) (sym moment) (sym base)));
+        records = ap records_of doubt ∙ may.records ∙ sym unsure;
+        at = subst (λ (es : List Entry). AllByRecursion
+            (λ (e : Entry). (e.moment ≡ t.doubt_moment) × (e.base ≡ t.doubt_base)) es) (sym doubt)
+            (subst (λ (k : ℕ). AllByRecursion
+            (λ (e : Entry). (e.moment ≡ k) × (e.base ≡ t.doubt_base)) s.doubt) (sym m)
+            (subst (λ (k : ℕ). AllByRecursion
+            (λ (e : Entry). (e.moment ≡ s.doubt_moment) × (e.base ≡ k)) s.doubt)
+            (sym b) may.at));
+        no_faults = ap fault_count doubt ∙ may.no_faults;
+        in_range = (let p = may.in_range in omega arith);
+        later = (let p = may.later in omega arith);
+      }
+
+  -- the entries in doubt have come
+  pub leads-in : (o : Opening D) (s t : Shard D) (log : List Entry) → LeadsTo o s log →
+      MayCome o s → t.book.state ≡ apply_all s.book.state s.book.unsure →
+      t.moment ≡ s.doubt_moment → t.base ≡ s.doubt_base → LeadsTo o t (log ++ s.doubt)
+  leads-in o s t log leads may state moment base =
+      let after = after-all o.book.state log s.doubt s.doubt_moment s.doubt_base may.some may.at in
+      record {
+        legal = may.next log leads;
+        state = state-append o.book.state log s.doubt
+            ∙ ap (λ (u : State). apply_all u (records_of s.doubt)) leads.state
+            ∙ ap (λ (rs : List Record). apply_all s.book.state rs) may.records ∙ sym state;
+        moment = after.0 ∙ sym moment;
+        base = after.1 ∙ sym base;
+      }
+
+  -- a fault stands behind the history, and leads to the same
+  pub leads-fault : NextIsLegal → FaultsComeNext →
+      (o : Opening D) (s t : Shard D) (log : List Entry) → IsOpening (served_by o) o.book.state →
+      LeadsTo o s log → t.book.state ≡ s.book.state →
+      t.moment ≡ s.moment → t.base ≡ s.base → LeadsTo o t (log ++ fault_at s.moment s.base ∷ [])
+  leads-fault next faults o s t log opening leads state moment base =
+      let e : Entry = fault_at s.moment s.base in
+      let after = after-one o.book.state log e in
+      record {
+        legal = next (served_by o) o.book.state log e leads.legal
+            (faults (served_by o) o.book.state log e opening leads.legal refl (sym leads.moment)
+            (sym leads.base));
+        state = state-append o.book.state log (e ∷ []) ∙ leads.state ∙ sym state;
+        moment = after.0 ∙ sym moment;
+        base = after.1 ∙ sym base;
+      }
+
+  -- what StandsFor says but of the lane
+  pub record Holds (tells : Type 0) (seen : D → List ℕ) (may_leave : D → List ℕ → Type 0)
+      (counts : D → ℕ) (o : Opening D) (s : Shard D) (log : List Entry) : Type 0 where
+    pub opening : IsOpening (served_by o) o.book.state
+    pub terms : s.book.terms ≡ terms_of (served_by o).external o.config
+    pub address : s.address ≡ s.book.terms.external.address
+    pub book : IsBook tells seen may_leave s.book
+    pub leads : LeadsTo o s log
+    pub in_range : s.moment < 2 ^ 40
+    pub later : s.book.last ≤ s.moment
+    pub doubt : s.book.fault ≡ Some Disk → MayCome o s
+    pub sure : s.book.fault ≢ Some Disk → s.doubt ≡ []
+    pub failed : s.book.fault ≡ Some Disk → ends_in_fault log ≡ true
+    pub risen : HaveRisenBy counts o.book.journal.pair s.book.journal.pair (fault_count log)
+
+  module _ (tells : Type 0) (seen : D → List ℕ) (may_leave : D → List ℕ → Type 0)
+      (counts : D → ℕ) where
+    abbrev Stands : Opening D → Shard D → List Entry → Type 0
+    Stands = StandsFor tells seen may_leave counts
+
+    abbrev Held : Opening D → Shard D → List Entry → Type 0
+    Held = Holds tells seen may_leave counts
+
+    -- the entries added were noted
+    pub stands-noted : (o : Opening D) (s : Shard D) (log : List Entry) → Stands o s log →
+        Stands o (record s { added = [] }) log
+    stands-noted o s log stands =
+        record {
+          opening = stands.opening;
+          terms = stands.terms;
+          address = stands.address;
+          book = stands.book;
+          leads = leads-same o s (record s { added = [] }) log stands.leads refl refl refl;
+          in_range = stands.in_range;
+          later = stands.later;
+          doubt = λ failed. may-come-still o s (record s { added = [] })
+              (stands.doubt failed) refl refl refl refl refl refl refl;
+          sure = stands.sure;
+          failed = stands.failed;
+          risen = stands.risen;
+          indexed = record {
+            index = stands.indexed.index;
+            opening = stands.indexed.opening;
+            leases = stands.indexed.leases;
+            records = stands.indexed.records;
+            noted = s.unpushed.items;
+            unnoted = sym (append-nil s.unpushed.items);
+          };
+        }
+
+    -- nothing is added, and the history leads to the same
+    pub stands-still : (o : Opening D) (s t : Shard D) (log : List Entry) (F : Type 0) →
+        Stands o s log → t.book.state ≡ s.book.state → t.book.terms ≡ s.book.terms →
+        IsBook tells seen may_leave t.book →
+        PairHasCause counts s.book.journal.pair t.book.journal.pair F → t.moment ≡ s.moment →
+        t.base ≡ s.base → t.address ≡ s.address → t.book.last ≤ t.moment →
+        (t.book.fault ≡ Some Disk → MayCome o t) → (t.book.fault ≢ Some Disk → t.doubt ≡ []) →
+        (t.book.fault ≡ Some Disk → ends_in_fault log ≡ true) → Held o t (log ++ [])
+    stands-still o s t log F stands state terms book cause moment base address later doubt sure
+        failed =
+        subst (Held o t) (sym (append-nil log)) (record {
+          opening = stands.opening;
+          terms = terms ∙ stands.terms;
+          address = address ∙ stands.address ∙ ap (λ (k : Terms). k.external.address) (sym terms);
+          book = book;
+          leads = leads-same o s t log stands.leads state moment base;
+          in_range = (let p = stands.in_range in omega arith);
+          later = later;
+          doubt = doubt;
+          sure = sure;
+          failed = failed;
+          risen = risen-on counts o.book.journal.pair s.book.journal.pair t.book.journal.pair
+              (fault_count log) F stands.risen cause;
+        })
+
+    -- a fault is added
+    pub stands-fault : NextIsLegal → FaultsComeNext →
+        (o : Opening D) (s t : Shard D) (log : List Entry) (F : Type 0) → F → Stands o s log →
+        t.book.state ≡ s.book.state → t.book.terms ≡ s.book.terms →
+        IsBook tells seen may_leave t.book →
+        PairHasCause counts s.book.journal.pair t.book.journal.pair F → t.moment ≡ s.moment →
+        t.base ≡ s.base → t.address ≡ s.address → t.book.last ≤ t.moment →
+        (t.book.fault ≡ Some Disk → MayCome o t) → (t.book.fault ≢ Some Disk → t.doubt ≡ []) →
+        Held o t (log ++ fault_at s.moment s.base ∷ [])
+    stands-fault next faults o s t log F failed stands state terms book cause moment base address
+        later doubt sure =
+        record {
+          opening = stands.opening;
+          terms = terms ∙ stands.terms;
+          address = address ∙ stands.address ∙ ap (λ (k : Terms). k.external.address) (sym terms);
+          book = book;
+          leads = leads-fault next faults o s t log stands.opening stands.leads state moment base;
+          in_range = (let p = stands.in_range in omega arith);
+          later = later;
+          doubt = doubt;
+          sure = sure;
+          failed = λ _. ends-fault log s.moment s.base;
+          risen = subst (HaveRisenBy counts o.book.journal.pair t.book.journal.pair)
+              (sym (faults-append log (fault_at s.moment s.base ∷ [])))
+              (risen-more counts o.book.journal.pair s.book.journal.pair t.book.journal.pair
+              (fault_count log) F failed stands.risen cause);
+        }
+
+    -- entries that are no faults are added
+    pub stands-with : (o : Opening D) (s t : Shard D) (log es : List Entry) (F : Type 0) →
+        Stands o s log → LeadsTo o t (log ++ es) → fault_count es ≡ 0 →
+        t.book.terms ≡ s.book.terms → t.address ≡ s.address →
+        IsBook tells seen may_leave t.book →
+        PairHasCause counts s.book.journal.pair t.book.journal.pair F → t.moment < 2 ^ 40 →
+        t.book.last ≤ t.moment →
+        t.book.fault ≡ None → t.doubt ≡ [] → Held o t (log ++ es)
+    stands-with o s t log es F stands leads none terms address book cause in_range later settled
+        sure =
+        let all : fault_count (log ++ es) ≡ fault_count log =
+        (let p = faults-append log es in omega arith) in
+        record {
+          opening = stands.opening;
+          terms = terms ∙ stands.terms;
+          address = address ∙ stands.address ∙ ap (λ (k : Terms). k.external.address) (sym terms);
+          book = book;
+          leads = leads;
+          in_range = in_range;
+          later = later;
+          doubt = λ failed. absurd cc;
+          sure = λ _. sure;
+          failed = λ failed. absurd cc;
+          risen = subst (HaveRisenBy counts o.book.journal.pair t.book.journal.pair) (sym all)
+              (risen-on counts o.book.journal.pair s.book.journal.pair t.book.journal.pair
+              (fault_count log) F stands.risen cause);
+        }

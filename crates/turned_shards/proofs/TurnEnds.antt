@@ -1,0 +1,140 @@
+-- A book goes behind a turn, and is taken out for good.
+use Rattle.std.specs.Option.{option_map}
+use Rattle.std.proofs.Common.{◌≡◌, ◌≢◌, ◌∙◌, ℕ, List, [], ◌++◌, Option, Some, None, inl, inr, refl}
+use Rattle.std.proofs.Common.{ap, sym, subst, arith}
+use Rattle.pcp_base.specs.declared.addresses.Address.{Address}
+use Rattle.pcp_base.specs.declared.configs.Config.{Config}
+use Rattle.pcp_base.specs.declared.configs.External.{External}
+use Rattle.pcp_base.specs.declared.datagrams.Entry.{Entry}
+use Rattle.pcp_base.specs.declared.records.Record.{Record}
+use Rattle.pcp_base.specs.Apply.{apply_all}
+use Rattle.pcp_base.specs.States.{State}
+use Rattle.lease_disk.specs.Pairs.{HoldsNow}
+use Rattle.journal_sides.specs.declared.errors.JournalFault.{JournalFault}
+use Rattle.journal_sides.specs.declared.errors.JournalFault.TheVariants.{Disk, Memory}
+use Rattle.journal_sides.specs.Journals.{StandsFor as StandsForState, StandsForWithOrWithout}
+use Rattle.lane_index.specs.Lanes.{LaneKnowledge, WriterKnowledge}
+use Rattle.shard_book.specs.Books.{BookView}
+use Rattle.lease_histories.specs.Legal.{records_of, state_after}
+use Rattle.lease_histories.specs.Laws.{NothingIsLegal}
+use Rattle.turned_shards.specs.declared.openings.Opening.{Opening}
+use Rattle.turned_shards.specs.declared.shards.Shard.{Shard}
+use Rattle.turned_shards.specs.Inside.{fresh_shard}
+use Rattle.turned_shards.specs.Shards.{StandsFor, served_by}
+use Rattle.turned_shards.specs.Turnings.{MayBegin, StandsStill, first_lane, first_writer}
+use Rattle.turned_shards.specs.Turnings.{opening_of}
+
+-- the address at a place
+pub named-by : (o : Option External) (x : External) (a : Address) →
+    option_map {U = Address} (λ (y : External). y.address) o ≡ Some a → o ≡ Some x → a ≡ x.address
+named-by None x a h at = absurd cc
+named-by (Some y) x a h at =
+    let same : y ≡ x = cc in
+    let is : y.address ≡ a = cc in
+    sym is ∙ ap (λ (z : External). z.address) same
+
+module _ {D : Type 0} (tells : Type 0) (seen : D → List ℕ) (may_leave : D → List ℕ → Type 0)
+    (counts : D → ℕ) where
+  -- nothing was published yet, and there is no record
+  no-records : (w : WriterKnowledge) (waiting : List Record) → w.published ≡ [] → w.pending ≡ [] →
+      waiting ≡ [] → (w.published ++ w.pending) ++ waiting ≡ []
+  no-records w waiting published pending none =
+      ap (λ (rs : List Record). (rs ++ w.pending) ++ waiting) published
+      ∙ ap (λ (rs : List Record). rs ++ waiting) pending ∙ none
+
+  -- a book that was just opened stands for a history without entries
+  pub stands-new : NothingIsLegal →
+      (config : Config) (place : ℕ) (address : Address) (book : BookView D)
+      (writer : WriterKnowledge) (lane : LaneKnowledge) (s : Shard D) →
+      address ≡ book.terms.external.address →
+      MayBegin tells seen may_leave config place book → writer ≡ first_writer lane book →
+      lane ≡ first_lane writer book → s.unpushed.items ≡ [] →
+      StandsFor tells seen may_leave counts (opening_of config place book lane)
+      (fresh_shard address book writer s) []
+  stands-new nothing config place address book writer lane s named may writer_is lane_is waiting =
+      let o : Opening D = opening_of config place book lane in
+      let none : book.fault ≡ None = may.settled in
+      record {
+        opening = record {
+          config = may.config_is;
+          there = may.there;
+          reached = may.is.reached;
+          started = may.is.started;
+        };
+        terms = may.terms;
+        address = named;
+        book = may.is;
+        leads = record {
+          legal = nothing (served_by o) book.state;
+          state = refl;
+          moment = sym may.last;
+          base = refl;
+        };
+        in_range = may.is.last;
+        later = omega arith;
+        doubt = λ failed. absurd (cc (failed, none));
+        sure = λ _. refl;
+        failed = λ failed. absurd (cc (failed, none));
+        risen = record { later_a = omega arith; later_b = omega arith; by = λ a b. omega arith };
+        indexed = record {
+          index = ap (λ (k : WriterKnowledge). k.index) writer_is;
+          opening = ap (λ (k : WriterKnowledge). k.opening) writer_is
+              ∙ sym (ap (λ (k : LaneKnowledge). k.opening) lane_is);
+          leases = ap (λ (k : LaneKnowledge). k.opening) lane_is;
+          records = no-records writer s.unpushed.items
+              (ap (λ (k : WriterKnowledge). k.published) writer_is)
+              (ap (λ (k : WriterKnowledge). k.pending) writer_is) waiting;
+          noted = [];
+          unnoted = waiting;
+        };
+      }
+
+  -- what is in doubt, by its records
+  unsure-by : (o : Opening D) (s : Shard D) (log : List Entry) →
+      StandsFor tells seen may_leave counts o s log → (f : Option JournalFault) → s.book.fault ≡ f →
+      records_of s.doubt ≡ s.book.unsure
+  unsure-by o s log stands (Some Disk) h = (stands.doubt h).records
+  unsure-by o s log stands (Some Memory) h =
+      let other : s.book.fault ≢ Some Disk = λ failed. absurd (cc (h, failed)) in
+      ap records_of (stands.sure other) ∙ sym (stands.book.sure other)
+  unsure-by o s log stands None h =
+      let other : s.book.fault ≢ Some Disk = λ failed. absurd (cc (h, failed)) in
+      ap records_of (stands.sure other) ∙ sym (stands.book.sure other)
+
+  -- what a crash leaves
+  pub images-of : (o : Opening D) (s : Shard D) (log : List Entry) →
+      StandsFor tells seen may_leave counts o s log → tells →
+      HoldsNow may_leave
+      (StandsForWithOrWithout (state_after o.book.state log) (records_of s.doubt))
+      s.book.journal.pair
+  images-of o s log stands told =
+      subst (λ (u : State). HoldsNow may_leave (StandsForWithOrWithout u (records_of s.doubt))
+      s.book.journal.pair) (sym stands.leads.state)
+      (subst (λ (rs : List Record). HoldsNow may_leave
+      (StandsForWithOrWithout s.book.state rs) s.book.journal.pair)
+      (sym (unsure-by o s log stands s.book.fault refl)) (stands.book.images told))
+
+  -- nothing is in doubt behind a history without entries
+  none-unsure : (o : Opening D) (s : Shard D) → StandsFor tells seen may_leave counts o s [] →
+      s.book.unsure ≡ []
+  none-unsure o s stands = stands.book.sure (λ failed. absurd (cc (stands.failed failed)))
+
+  or-without : (u v : State) (rs : List Record) (x y : List ℕ) → u ≡ v → rs ≡ [] →
+      StandsForWithOrWithout u rs x y → StandsForState v x y
+  or-without u v rs x y same none (inl stands) =
+      subst (λ (w : State). StandsForState w x y) same stands
+  or-without u v rs x y same none (inr stands) =
+      subst (λ (w : State). StandsForState w x y) same
+      (subst (λ (ks : List Record). StandsForState (apply_all u ks) x y) none stands)
+
+  -- what stands for a history without entries has the state that was opened
+  pub still-of : (o : Opening D) (s : Shard D) → StandsFor tells seen may_leave counts o s [] →
+      StandsStill tells may_leave counts o.book s.book
+  still-of o s stands = record {
+    state = sym stands.leads.state;
+    images = λ told x y leaves_a leaves_b. or-without s.book.state o.book.state s.book.unsure x y
+        (sym stands.leads.state) (none-unsure o s stands)
+        (stands.book.images told x y leaves_a leaves_b);
+    later_a = stands.risen.later_a;
+    later_b = stands.risen.later_b;
+  }

@@ -1,0 +1,32 @@
+use Rattle.std.proofs.Common.{◌∙◌, refl, ap, sym, subst}
+use Rattle.lease_disk.specs.Pairs.{HoldsNow}
+use Rattle.journal_sides.specs.Journals.{StandsForWithOrWithout}
+use Rattle.lease_histories.specs.Legal.{records_of, state_after}
+use Rattle.turned_shards.proofs.TurnEnds.{images-of}
+use Rattle.turned_shards.proofs.turning.end_one.Goals as goal
+
+pub returns : goal.returns
+returns g c =
+    let d = g.D.LeaseDisk in
+    let took = c.take-held.ensures in
+    let s = c.take-held.result in
+    let o = c.args.turn.key in
+    let log = c.take-held.new.pass.seen in
+    let more = took.pass.seen in
+    let pair = c.close.ensures ∙ ap (λ k. k.book.journal.pair) c.keep.ensures in
+    record {
+      others = more.0;
+      shard = refl;
+      epoch = refl;
+      knows = sym more.1;
+      mine = took.pass.mine;
+      settled = took.pass.settled;
+      kept = s;
+      stands = took.value;
+      pair_is = pair;
+      legal = took.value.leads.legal;
+      images = λ told. subst
+          (HoldsNow d.may_leave
+          (StandsForWithOrWithout (state_after o.book.state log) (records_of s.doubt))) (sym pair)
+          (images-of d.tells d.seen d.may_leave d.faults o s log took.value told);
+    }

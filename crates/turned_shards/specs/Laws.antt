@@ -1,0 +1,28 @@
+-- What holds of the passes of an external address, and of what is published (our own).
+use Rattle.std.specs.Prelude.{◌≡◌, ℕ, List, ◌++◌}
+use Rattle.pcp_base.specs.declared.datagrams.Entry.{Entry}
+use Rattle.lease_histories.specs.Legal.{records_of}
+use Rattle.turn_lock.specs.Laws.{ViewsShareHistory}
+use Rattle.turned_shards.specs.declared.openings.Opening.{Opening}
+use Rattle.turned_shards.specs.declared.shards.Shard.{Shard}
+use Rattle.turned_shards.specs.Shards.{StandsFor}
+
+-- What the shard's lane has published are the records of the first of these entries.
+pub record IsPublishedOf {D : Type 0} (s : Shard D) (noted : List Entry) : Type 0 where
+  pub first : List Entry
+  pub more : List Entry
+  pub noted_is : noted ≡ first ++ more
+  pub published : s.writer.published ≡ records_of first
+
+module _ (D : Type 0) (tells : Type 0) (seen : D → List ℕ) (may_leave : D → List ℕ → Type 0)
+    (faults : D → ℕ) where
+  -- of two passes of one external address, what the one has seen begins what the other has seen
+  abbrev pub PassesShareHistories : Type 0
+  PassesShareHistories = (o : Opening D) →
+      ViewsShareHistory (Shard D) Entry (StandsFor tells seen may_leave faults o) (λ s. s.added)
+
+  -- A shard that stands for entries that were noted and those added since has published records of
+  -- noted ones alone.
+  abbrev pub PublishedWereNoted : Type 0
+  PublishedWereNoted = (o : Opening D) (s : Shard D) (noted : List Entry) →
+      StandsFor tells seen may_leave faults o s (noted ++ s.added) → IsPublishedOf s noted

@@ -1,0 +1,10 @@
+pub mod BatchEntries
+pub mod FaultCounts
+pub mod HeldShards
+pub mod Inside
+pub mod Laws
+pub mod Publishing
+pub mod Reading
+pub mod ShardCalls
+pub mod Shards
+pub mod Turnings
