@@ -1,7 +1,10 @@
 # `make demo` builds the proved program, stops it in the middle of the example and plays on; `make test` is the merge gate;
 # `make rows` runs the commands of rows/ over the proved program; `make edits` tries each wrong body of edits/, or those of some
-# crates (`make edits NAMES="lease_disk pcp_codec"`), which the prover must refuse; `make help` prints the program's usage.
-.PHONY: demo test rows edits help
+# crates (`make edits NAMES="lease_disk pcp_codec"`), which the prover must refuse; `make help` prints the program's usage. `make install`
+# puts the proved program, its page, a unit for systemd and a configuration below DESTDIR and PREFIX.
+.PHONY: demo test rows edits help install
+
+PREFIX = /usr/local
 
 demo:
 	@cd crates/pcp && rt run -- --version
@@ -19,3 +22,10 @@ edits:
 
 help:
 	@cd crates/pcp && rt run -- --help
+
+install:
+	@cd crates/pcp && rt run -- --version
+	install -D -m 755 crates/pcp/out/pcp $(DESTDIR)$(PREFIX)/bin/pcp
+	install -D -m 644 docs/pcp.8 $(DESTDIR)$(PREFIX)/share/man/man8/pcp.8
+	install -D -m 644 examples/pcp.service $(DESTDIR)$(PREFIX)/lib/systemd/system/pcp.service
+	install -D -m 644 examples/server.toml $(DESTDIR)$(PREFIX)/share/doc/pcp/server.toml
