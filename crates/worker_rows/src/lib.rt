@@ -1,0 +1,20 @@
+//! Tests of a house that is served by workers: shards that don't wait for one another, many jobs at
+//! once, and inboxes and outboxes that fail.
+#![tactic(auto)]
+
+#[cfg(test)]
+mod configs;
+#[cfg(test)]
+mod crowds;
+#[cfg(test)]
+mod edges;
+#[cfg(test)]
+mod failing;
+#[cfg(test)]
+mod flags;
+#[cfg(test)]
+mod held;
+#[cfg(test)]
+mod requests;
+#[cfg(test)]
+mod serving;
