@@ -57,11 +57,27 @@ pub(crate) fn ask_over(rt: &HostRuntime, words: &[String]) -> Result<ToolStatus,
         Some(told) => {
             let second = UdpInbox::of(Some(told));
             let mut from = TwoInboxes { first, second };
-            run_client(alloc, words, &mut up, &mut from, &mut clock, &mut entropy, &mut out)
+            run_client(
+                alloc,
+                words,
+                &mut up,
+                &mut from,
+                &mut clock,
+                &mut entropy,
+                &mut out,
+            )
         }
         None => {
             let mut from = first;
-            run_client(alloc, words, &mut up, &mut from, &mut clock, &mut entropy, &mut out)
+            run_client(
+                alloc,
+                words,
+                &mut up,
+                &mut from,
+                &mut clock,
+                &mut entropy,
+                &mut out,
+            )
         }
     };
     Ok(status)
