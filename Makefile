@@ -1,5 +1,5 @@
-# `make demo` builds the proved program, stops it in the middle of the example and plays on; `make test` is the merge gate;
-# `make rows` runs the commands of rows/ over the proved program; `make edits` tries each wrong body of edits/, or those of some
+# `make demo` builds the proved program, stops it in the middle of the example and plays on, and does the same with a server over UDP;
+# `make test` is the merge gate; `make rows` runs the commands of rows/ over the proved program; `make edits` tries each wrong body of edits/, or those of some
 # crates (`make edits NAMES="lease_disk pcp_codec"`), which the prover must refuse; `make help` prints the program's usage. `make install`
 # puts the proved program, its page, a unit for systemd and a configuration below DESTDIR and PREFIX.
 .PHONY: demo test rows edits help install
@@ -9,6 +9,7 @@ PREFIX = /usr/local
 demo:
 	@cd crates/pcp && rt run -- --version
 	@bash examples/demo.sh crates/pcp/out/pcp
+	@python3 examples/serve_demo.py crates/pcp/out/pcp
 
 test:
 	bash .ci/run
