@@ -1,2 +1,5 @@
 pub mod CommandLemmas
 pub mod PartLemmas
+pub mod PlainEnds
+pub mod PlainLemmas
+pub mod PlainWalks

@@ -2,4 +2,5 @@ pub mod Commands
 pub mod Options
 pub mod Parses
 pub mod Parts
+pub mod PlainWords
 pub mod Values

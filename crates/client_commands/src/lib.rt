@@ -2,6 +2,7 @@
 #![tactic(auto)]
 
 mod commands;
+mod laws;
 mod options;
 mod parses;
 mod values;
@@ -10,3 +11,4 @@ pub use commands::{
     ClientCommand, DEFAULT_LIFETIME, DEFAULT_TRIES, MOST_TRIES, MapWanted, Mapping, PeerWanted,
     Target, command_of, help_of,
 };
+pub use laws::plain_words_are_commands;
