@@ -1,5 +1,9 @@
-//! Tests of what a client writes and reads, and of what it does over time.
+//! Tests of what a client writes and reads, and of what it does over time; an example of a host that embeds one.
 #![tactic(auto)]
+
+mod keeping;
+
+pub use keeping::Keeper;
 
 #[cfg(test)]
 mod clients;
