@@ -8,6 +8,8 @@ ghost use Rattle.server_commands.specs.declared.statuses.Status.TheVariants as S
 mod inboxes;
 mod kept;
 mod places;
+mod relay_inboxes;
+mod relays;
 mod serve;
 mod sockets;
 mod told;
@@ -15,6 +17,7 @@ mod tools;
 
 use crate::kept::KeptSource;
 use crate::places::{Places, journals_in, may_open, places_of};
+use crate::relays::{may_relay, relay_over};
 use crate::serve::serve_over;
 use crate::told::{beginning_of, look_at, told_of};
 use crate::tools::{ask_over, may_ask};
@@ -41,7 +44,8 @@ const USAGE: &str = "usage: pcp serve CONFIG JOURNALS PORT LANEPORT
        pcp map OPTIONS..
        pcp peer OPTIONS..
        pcp announce OPTIONS..
-       pcp map --help (or peer, announce)
+       pcp proxy OPTIONS..
+       pcp map --help (or peer, announce, proxy)
        pcp --help
        pcp --version
 
@@ -79,13 +83,20 @@ map, peer, announce
 
           pcp map --server 192.0.2.254 --own 10.0.0.5 --protocol udp --port 5000
 
+proxy Relays what clients ask at port 5351 of its inner address to a server, and
+      the replies to them, until it is stopped by the octet ff and 'stop', sent
+      to that port, or to port 5350, from 127.0.0.1. KEY has 64 hexadecimal
+      digits that no client knows.
+
+          pcp proxy --server 192.0.2.9 --own 192.0.2.2 --inner 10.0.0.2 --key KEY
+
 Exit status, and the line on standard error:
 
     0  nothing
     2  pcp: words refused
     3  pcp: configuration refused: too long (or: not toml, not a configuration)
     4  pcp: script refused at line N
-    5  pcp: read failed (of serve also: a port is taken)
+    5  pcp: read failed (of serve and proxy also: a port is taken)
     6  pcp: write failed
     7  pcp: disk of shard N failed (N counts the external addresses from 0)
     8  pcp: out of memory
@@ -207,6 +218,7 @@ fn run<R: Threads + Wait + Sync>(
         [word] if word.as_str() == "--help" => Ended::with(rt, tell(rt, USAGE)),
         [word] if word.as_str() == "--version" => Ended::with(rt, tell(rt, VERSION)),
         _ if may_ask(words) => ask(rt, words),
+        _ if may_relay(words) => relay(threads, rt, words),
         _ => match run_at(threads, rt, words, &places_of(words), explains) {
             Ok(ended) => ended,
             Err(Memory) => Ended::with(rt, Status::Memory),
@@ -219,6 +231,18 @@ fn ask(rt: &HostRuntime, words: &[String]) -> Ended {
     match help_of(rt.alloc(), words) {
         Ok(Some(help)) => Ended::with(rt, tell(rt, help.as_str())),
         Ok(None) => match ask_over(rt, words) {
+            Ok(status) => Ended::with_tool(rt, status),
+            Err(Memory) => Ended::with(rt, Status::Memory),
+        },
+        Err(Memory) => Ended::with(rt, Status::Memory),
+    }
+}
+
+/// Runs the relay, or prints its help.
+fn relay<R: Wait>(waits: &R, rt: &HostRuntime, words: &[String]) -> Ended {
+    match proxy_commands::help_of(rt.alloc(), words) {
+        Ok(Some(help)) => Ended::with(rt, tell(rt, help.as_str())),
+        Ok(None) => match relay_over(waits, rt, words) {
             Ok(status) => Ended::with_tool(rt, status),
             Err(Memory) => Ended::with(rt, Status::Memory),
         },

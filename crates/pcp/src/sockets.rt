@@ -18,6 +18,14 @@ pub(crate) fn socket_of_all(rt: &HostRuntime, port: u16) -> Option<UdpSocket> {
     }
 }
 
+/// The same socket once more; none where the system gives none.
+pub(crate) fn same_socket(socket: &Option<UdpSocket>) -> Option<UdpSocket> {
+    match socket {
+        Some(socket) => socket.try_clone().ok(),
+        None => None,
+    }
+}
+
 /// The address as sockets take it.
 pub(crate) fn ip_of(address: Address) -> IpAddr {
     let v6 = Ipv6Addr::from_octets(address.0);

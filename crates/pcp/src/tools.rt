@@ -1,6 +1,6 @@
 //! The client's commands over the sockets of this host.
 use crate::inboxes::TwoInboxes;
-use crate::sockets::{ip_of, socket_at, socket_of_all};
+use crate::sockets::{ip_of, same_socket, socket_at, socket_of_all};
 use client_commands::{ClientCommand, Target, command_of};
 use client_runs::run_client;
 use pcp_base::{Address, Memory};
@@ -11,7 +11,7 @@ use std::net::UdpSocket;
 use tool_commands::ToolStatus;
 
 /// The port at which clients hear announcements and updates (RFC 6887, section 19.1).
-const CLIENT_PORT: u16 = 5350;
+pub(crate) const CLIENT_PORT: u16 = 5350;
 
 /// Where the system has random octets.
 const RANDOM: &str = "/dev/urandom";
@@ -44,11 +44,7 @@ fn asking_socket(rt: &HostRuntime, own: Option<Address>) -> Option<UdpSocket> {
 pub(crate) fn ask_over(rt: &HostRuntime, words: &[String]) -> Result<ToolStatus, Memory> {
     let alloc = rt.alloc();
     let socket = asking_socket(rt, own_in(alloc, words)?);
-    let sending = match &socket {
-        Some(socket) => socket.try_clone().ok(),
-        None => None,
-    };
-    let mut up = UdpOutbox::of(sending);
+    let mut up = UdpOutbox::of(same_socket(&socket));
     let mut clock = SystemClock::of(rt);
     let mut entropy = FileEntropy::new(rt, String::from_str(alloc, RANDOM)?);
     let mut out = StdSink::new(rt.stdout());
