@@ -5,6 +5,7 @@ ghost use Rattle.std.specs.Prelude.{◌≡◌, ◌≢◌};
 ghost use Rattle.std.specs.declared.io.ErrorKind.TheVariants.{OutOfMemory};
 ghost use Rattle.server_commands.specs.declared.statuses.Status.TheVariants as Statuses;
 
+mod causes;
 mod inboxes;
 mod kept;
 mod places;
@@ -15,6 +16,7 @@ mod sockets;
 mod told;
 mod tools;
 
+use crate::causes::tell_tool_words;
 use crate::kept::KeptSource;
 use crate::places::{Places, journals_in, may_open, places_of};
 use crate::relays::{may_relay, relay_over};
@@ -106,9 +108,9 @@ Exit status, and the line on standard error:
    13  pcp: too many turns
    14  pcp: stopped
 
-Where the environment has PCP_EXPLAIN, more lines tell why a configuration is
-refused or a disk failed, and which journals serve, play and load found blank
-or damaged.
+Where the environment has PCP_EXPLAIN, more lines tell why words, a
+configuration or a script are refused, what can't be read, why a disk failed,
+and which journals serve, play and load found blank or damaged.
 ";
 
 const VERSION: &str = "pcp 0.1.0\n";
@@ -137,11 +139,16 @@ impl Ended {
         }
     }
 
-    /// A command of a tool ended so.
-    fn with_tool(rt: &HostRuntime, status: ToolStatus) -> Ended {
+    /// A command of a tool ended so, of these words.
+    fn with_tool(rt: &HostRuntime, words: &[String], status: ToolStatus, explains: bool) -> Ended {
+        let mut told = Vec::new(rt.alloc());
+        if explains && status == ToolStatus::WordsRefused {
+            // Without memory for it nothing is told.
+            let _ = tell_tool_words(rt.alloc(), &mut told, words);
+        }
         Ended {
             status: EndStatus::Tool(status),
-            told: Vec::new(rt.alloc()),
+            told,
         }
     }
 }
@@ -217,8 +224,8 @@ fn run<R: Threads + Wait + Sync>(
     match words {
         [word] if word.as_str() == "--help" => Ended::with(rt, tell(rt, USAGE)),
         [word] if word.as_str() == "--version" => Ended::with(rt, tell(rt, VERSION)),
-        _ if may_ask(words) => ask(rt, words),
-        _ if may_relay(words) => relay(threads, rt, words),
+        _ if may_ask(words) => ask(rt, words, explains),
+        _ if may_relay(words) => relay(threads, rt, words, explains),
         _ => match run_at(threads, rt, words, &places_of(words), explains) {
             Ok(ended) => ended,
             Err(Memory) => Ended::with(rt, Status::Memory),
@@ -227,11 +234,11 @@ fn run<R: Threads + Wait + Sync>(
 }
 
 /// Runs a command of the client, or prints its help.
-fn ask(rt: &HostRuntime, words: &[String]) -> Ended {
+fn ask(rt: &HostRuntime, words: &[String], explains: bool) -> Ended {
     match help_of(rt.alloc(), words) {
         Ok(Some(help)) => Ended::with(rt, tell(rt, help.as_str())),
         Ok(None) => match ask_over(rt, words) {
-            Ok(status) => Ended::with_tool(rt, status),
+            Ok(status) => Ended::with_tool(rt, words, status, explains),
             Err(Memory) => Ended::with(rt, Status::Memory),
         },
         Err(Memory) => Ended::with(rt, Status::Memory),
@@ -239,11 +246,11 @@ fn ask(rt: &HostRuntime, words: &[String]) -> Ended {
 }
 
 /// Runs the relay, or prints its help.
-fn relay<R: Wait>(waits: &R, rt: &HostRuntime, words: &[String]) -> Ended {
+fn relay<R: Wait>(waits: &R, rt: &HostRuntime, words: &[String], explains: bool) -> Ended {
     match proxy_commands::help_of(rt.alloc(), words) {
         Ok(Some(help)) => Ended::with(rt, tell(rt, help.as_str())),
         Ok(None) => match relay_over(waits, rt, words) {
-            Ok(status) => Ended::with_tool(rt, status),
+            Ok(status) => Ended::with_tool(rt, words, status, explains),
             Err(Memory) => Ended::with(rt, Status::Memory),
         },
         Err(Memory) => Ended::with(rt, Status::Memory),
@@ -305,7 +312,7 @@ fn run_at<R: Threads + Wait + Sync>(
     if !explains {
         return Ok(Ended::with(rt, status));
     }
-    match told_of(alloc, status, config.kept(), &found, &disks) {
+    match told_of(rt, words, status, config.kept(), &found, &disks) {
         Ok(told) => Ok(Ended {
             status: EndStatus::Server(status),
             told,

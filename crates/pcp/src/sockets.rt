@@ -3,18 +3,20 @@ ghost use Rattle.std.specs.Prelude.{◌≡◌, IfOk, IfSome, length};
 
 use pcp_base::{Address, Memory};
 use pcp_io::{UdpLane, UdpOutbox};
+use std::io;
 use std::net::{IpAddr, Ipv4Addr, Ipv6Addr, UdpSocket};
 
-/// A socket of this address and port; none where the system gives none.
-pub(crate) fn socket_at(rt: &HostRuntime, ip: IpAddr, port: u16) -> Option<UdpSocket> {
-    UdpSocket::bind(rt, (ip, port)).ok()
+/// A socket of this address and port, or why the system gives none.
+pub(crate) fn bound_at(rt: &HostRuntime, ip: IpAddr, port: u16) -> io::Result<UdpSocket> {
+    UdpSocket::bind(rt, (ip, port))
 }
 
 /// A socket of this port at all addresses of this host: IPv6 and IPv4 at once where the host has IPv6.
-pub(crate) fn socket_of_all(rt: &HostRuntime, port: u16) -> Option<UdpSocket> {
-    match socket_at(rt, IpAddr::V6(Ipv6Addr::UNSPECIFIED), port) {
-        Some(socket) => Some(socket),
-        None => socket_at(rt, IpAddr::V4(Ipv4Addr::UNSPECIFIED), port),
+/// Else why there is none of IPv4.
+pub(crate) fn bound_to_all(rt: &HostRuntime, port: u16) -> io::Result<UdpSocket> {
+    match bound_at(rt, IpAddr::V6(Ipv6Addr::UNSPECIFIED), port) {
+        Ok(socket) => Ok(socket),
+        Err(_) => bound_at(rt, IpAddr::V4(Ipv4Addr::UNSPECIFIED), port),
     }
 }
 
@@ -24,6 +26,16 @@ pub(crate) fn same_socket(socket: &Option<UdpSocket>) -> Option<UdpSocket> {
         Some(socket) => socket.try_clone().ok(),
         None => None,
     }
+}
+
+/// A socket of this address and port; none where the system gives none.
+pub(crate) fn socket_at(rt: &HostRuntime, ip: IpAddr, port: u16) -> Option<UdpSocket> {
+    bound_at(rt, ip, port).ok()
+}
+
+/// A socket of this port at all addresses of this host; none where the system gives none.
+pub(crate) fn socket_of_all(rt: &HostRuntime, port: u16) -> Option<UdpSocket> {
+    bound_to_all(rt, port).ok()
 }
 
 /// The address as sockets take it.

@@ -1,12 +1,13 @@
 //! What people are told who ask for more than a status.
-use crate::places::pair_at;
+use crate::causes::{script_cause, tell_words, unread_cause};
+use crate::places::{pair_at, places_of};
 use journal_dump::found_in;
 use lease_disk::{DiskPair, FileDisk, LeaseDisk};
 use lease_journal::Found;
 use pcp_base::{Address, Config, MOST_EXTERNALS, Memory};
 use pcp_config::{explain, read_config};
 use pcp_server::Status;
-use serve_commands::ServePlan;
+use serve_commands::{ServePlan, serve_of};
 use std::alloc::Global;
 use std::io;
 use std::io::ErrorKind;
@@ -39,13 +40,21 @@ fn found_at(alloc: Global, pair: &mut DiskPair<FileDisk<&HostRuntime>>) -> Optio
 /// Why a command ended so, where that is known, and one line for each external address of the
 /// configuration whose journal was found blank or damaged.
 pub(crate) fn told_of(
-    alloc: Global,
+    rt: &HostRuntime,
+    words: &[String],
     status: Status,
     config: Option<&[u8]>,
     found: &[Option<Found>],
     disks: &[DiskPair<FileDisk<&HostRuntime>>],
 ) -> Result<Vec<String>, Memory> {
+    let alloc = rt.alloc();
     let mut told = Vec::new(alloc);
+    if status == Status::WordsRefused {
+        tell_words(alloc, &mut told, words)?;
+    }
+    if let Some(cause) = outside_cause(rt, words, status, config)? {
+        told.push(cause)?;
+    }
     if let Some(cause) = cause_of(alloc, status, config, disks)? {
         told.push(cause)?;
     }
@@ -53,6 +62,21 @@ pub(crate) fn told_of(
         tell_found(alloc, &mut told, text, found)?;
     }
     Ok(told)
+}
+
+/// Why a script is refused, or something can't be read: what the system says when it is tried again.
+fn outside_cause(
+    rt: &HostRuntime,
+    words: &[String],
+    status: Status,
+    config: Option<&[u8]>,
+) -> Result<Option<String>, Memory> {
+    let places = places_of(words);
+    match status {
+        Status::ScriptRefused(line) => script_cause(rt, config, places.script, line),
+        Status::ReadFault => unread_cause(rt, &places, serve_of(words)),
+        _ => Ok(None),
+    }
 }
 
 /// Why a configuration is refused, or a disk failed.

@@ -150,7 +150,10 @@ fn fault_of_externals(table: &Table) -> Option<Fault<'_>> {
         expected: Expected::Externals,
     };
     let Some(value) = value_at(table, "external") else {
-        return Some(list);
+        return Some(Fault {
+            place: Place::Key("external"),
+            expected: Expected::Key,
+        });
     };
     let Some(rows) = value.as_array() else {
         return Some(list);
@@ -180,18 +183,26 @@ fn fault_of_external(index: usize, row: &Value) -> Option<Fault<'_>> {
     })
 }
 
+// A key that must be there, and what was expected of its value; where it isn't there, that alone.
+fn required<'a>(table: &Table, key: &'a str, expected: Expected) -> (&'a str, Expected) {
+    match value_at(table, key) {
+        Some(_) => (key, expected),
+        None => (key, Expected::Key),
+    }
+}
+
 fn fault_of_external_table(table: &Table) -> Option<(&str, Expected)> {
     if let Some(key) = unknown_key(table, &EXTERNAL_KEYS) {
         return Some((key, Expected::NoSuchKey));
     }
     if address_at(table, "address").is_none() {
-        return Some(("address", Expected::Address));
+        return Some(required(table, "address", Expected::Address));
     }
     let Some(low) = number_at(table, "low", 1, LAST_PORT) else {
-        return Some(("low", Expected::Number(1, LAST_PORT)));
+        return Some(required(table, "low", Expected::Number(1, LAST_PORT)));
     };
     if number_at(table, "high", low, LAST_PORT).is_none() {
-        return Some(("high", Expected::Number(low, LAST_PORT)));
+        return Some(required(table, "high", Expected::Number(low, LAST_PORT)));
     }
     None
 }
@@ -248,10 +259,10 @@ fn fault_of_subscriber_table<'a>(
         return Some((key, Expected::NoSuchKey));
     }
     if prefix_at(table, "prefix").is_none() {
-        return Some(("prefix", Expected::Prefix));
+        return Some(required(table, "prefix", Expected::Prefix));
     }
     let Some(value) = value_at(table, "external") else {
-        return Some(("external", Expected::ExternalAddress));
+        return Some(("external", Expected::Key));
     };
     if index_of(externals, value).is_none() {
         return Some(("external", Expected::ExternalAddress));

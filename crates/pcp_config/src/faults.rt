@@ -21,6 +21,8 @@ pub(crate) enum Place<'a> {
 #[derive(Clone, Copy)]
 pub(crate) enum Expected {
     NoSuchKey,
+    /// The key is missing.
+    Key,
     /// A whole number from the first to the second.
     Number(u32, u32),
     Prefixes,
@@ -35,7 +37,7 @@ pub(crate) enum Expected {
 
 impl fmt::Display for Fault<'_> {
     fn fmt<W: fmt::Write>(&self, f: &mut fmt::Formatter<W>) -> fmt::Result {
-        write!(f, "{}: expected {}", self.place, self.expected)
+        write!(f, "{}: {}", self.place, self.expected)
     }
 }
 
@@ -54,16 +56,17 @@ impl fmt::Display for Place<'_> {
 impl fmt::Display for Expected {
     fn fmt<W: fmt::Write>(&self, f: &mut fmt::Formatter<W>) -> fmt::Result {
         match self {
-            Expected::NoSuchKey => f.write_str("no such key"),
-            Expected::Number(low, high) => write!(f, "a whole number from {low} to {high}"),
-            Expected::Prefixes => write!(f, "a list of at most {MOST_THIRD_PARTIES} prefixes"),
-            Expected::Prefix => f.write_str("a prefix such as \"10.0.0.0/8\""),
-            Expected::Externals => write!(f, "1 to {MOST_EXTERNALS} tables"),
-            Expected::DifferentAddresses => f.write_str("tables with different addresses"),
-            Expected::Table => f.write_str("a table"),
-            Expected::Address => f.write_str("an address such as \"192.0.2.1\""),
-            Expected::ExternalAddress => f.write_str("the address of an external"),
-            Expected::Subscribers => write!(f, "at most {MOST_SUBSCRIBERS} tables"),
+            Expected::NoSuchKey => f.write_str("unknown key"),
+            Expected::Key => f.write_str("missing"),
+            Expected::Number(low, high) => write!(f, "expected a whole number from {low} to {high}"),
+            Expected::Prefixes => write!(f, "expected a list of at most {MOST_THIRD_PARTIES} prefixes"),
+            Expected::Prefix => f.write_str("expected a prefix such as \"10.0.0.0/8\""),
+            Expected::Externals => write!(f, "expected 1 to {MOST_EXTERNALS} tables"),
+            Expected::DifferentAddresses => f.write_str("expected tables with different addresses"),
+            Expected::Table => f.write_str("expected a table"),
+            Expected::Address => f.write_str("expected an address such as \"192.0.2.1\", or 32 hexadecimal digits"),
+            Expected::ExternalAddress => f.write_str("expected the address of an external"),
+            Expected::Subscribers => write!(f, "expected at most {MOST_SUBSCRIBERS} tables"),
         }
     }
 }

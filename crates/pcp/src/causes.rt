@@ -1,0 +1,154 @@
+//! Why words, a script or a read are at fault, for people who ask.
+use crate::places::Places;
+use crate::sockets::{bound_at, bound_to_all};
+use pcp_base::{Config, MOST_EXTERNALS, Memory};
+use pcp_config::read_config;
+use pcp_io::{FileSource, Source};
+use pcp_script::LONGEST_LINE;
+use refusal_causes::{line_cause, words_cause};
+use serve_commands::ServePlan;
+use std::alloc::Global;
+use std::fs;
+use std::fs::File;
+use std::io::Read;
+use std::net::{IpAddr, Ipv4Addr};
+
+/// Why the words are no command of the server, and where commands are told.
+pub(crate) fn tell_words(
+    alloc: Global,
+    told: &mut Vec<String>,
+    words: &[String],
+) -> Result<(), Memory> {
+    if let Some(cause) = words_cause(alloc, words)? {
+        told.push(cause)?;
+    }
+    told.push(String::from_str(alloc, "see pcp --help")?)?;
+    Ok(())
+}
+
+/// Where the words of a tool's command are told.
+pub(crate) fn tell_tool_words(
+    alloc: Global,
+    told: &mut Vec<String>,
+    words: &[String],
+) -> Result<(), Memory> {
+    match words {
+        [command, ..] => told.push(format!(in alloc; "see pcp {command} --help")?)?,
+        [] => {}
+    }
+    Ok(())
+}
+
+/// What can't be read: the configuration, the script, or a port of a server. Each is tried once more,
+/// but for a pipe.
+pub(crate) fn unread_cause(
+    rt: &HostRuntime,
+    places: &Places<'_>,
+    plan: Option<ServePlan>,
+) -> Result<Option<String>, Memory> {
+    if let Some(cause) = file_cause(rt, places.config)? {
+        return Ok(Some(cause));
+    }
+    match plan {
+        Some(plan) => port_cause(rt, plan),
+        None => file_cause(rt, places.script),
+    }
+}
+
+/// Why a file can't be read; none where it can, or where it is none that may be read twice.
+fn file_cause(rt: &HostRuntime, path: &str) -> Result<Option<String>, Memory> {
+    let alloc = rt.alloc();
+    if let Ok(found) = fs::metadata(rt, path) {
+        if !found.is_file() && !found.is_dir() {
+            return Ok(None);
+        }
+    }
+    let mut octet = [0];
+    let error = match File::open(rt, path) {
+        Ok(mut file) => match file.read(&mut octet) {
+            Ok(_) => return Ok(None),
+            Err(error) => error,
+        },
+        Err(error) => error,
+    };
+    Ok(Some(format!(in alloc; "{path}: {error}")?))
+}
+
+/// Why a port of a server can't be had.
+fn port_cause(rt: &HostRuntime, plan: ServePlan) -> Result<Option<String>, Memory> {
+    let alloc = rt.alloc();
+    let ServePlan { port, lane_port } = plan;
+    if let Err(error) = bound_to_all(rt, port) {
+        return Ok(Some(format!(in alloc; "port {port}: {error}")?));
+    }
+    for place in 0..MOST_EXTERNALS as u16 {
+        let lane = lane_port.saturating_add(place);
+        if let Err(error) = bound_at(rt, IpAddr::V4(Ipv4Addr::LOCALHOST), lane) {
+            return Ok(Some(format!(in alloc; "port {lane} of 127.0.0.1: {error}")?));
+        }
+    }
+    Ok(None)
+}
+
+/// Why this line of a script, numbered from 1, is none; none where the script can't be read twice.
+pub(crate) fn script_cause(
+    rt: &HostRuntime,
+    config: Option<&[u8]>,
+    path: &str,
+    number: u64,
+) -> Result<Option<String>, Memory> {
+    let alloc = rt.alloc();
+    let Some(config) = config_in(alloc, config) else {
+        return Ok(None);
+    };
+    match fs::metadata(rt, path) {
+        Ok(found) if found.is_file() => {}
+        _ => return Ok(None),
+    }
+    let mut source = FileSource::new(rt, String::from_str(alloc, path)?);
+    match line_at(alloc, &mut source, number)? {
+        Some(text) => line_cause(alloc, &config, &text),
+        None => Ok(None),
+    }
+}
+
+/// The configuration that these octets are.
+fn config_in(alloc: Global, octets: Option<&[u8]>) -> Option<Config> {
+    read_config(alloc, octets?).ok()
+}
+
+/// The line of this number, from 1, without its line feed; of a longer one than a script may have, its
+/// first octets, one more than that. None where the source fails.
+fn line_at<S: Source>(
+    alloc: Global,
+    source: &mut S,
+    number: u64,
+) -> Result<Option<Vec<u8>>, Memory> {
+    let mut line = Vec::new(alloc);
+    let mut place = 1;
+    let mut piece = [0; 4_096];
+    for _ in 0..u64::MAX {
+        let Ok(count) = source.read(&mut piece) else {
+            return Ok(None);
+        };
+        if count == 0 || place > number {
+            return Ok(Some(line));
+        }
+        place = add_piece(&mut line, &piece[..count], place, number)?;
+    }
+    Ok(None)
+}
+
+/// Adds what this piece has of the line of this number, where the piece begins in the line at `place`;
+/// gives the line in which it ends.
+fn add_piece(line: &mut Vec<u8>, piece: &[u8], place: u64, number: u64) -> Result<u64, Memory> {
+    let mut place = place;
+    for octet in piece {
+        if *octet == b'\n' {
+            place = place.saturating_add(1);
+        } else if place == number && line.len() <= LONGEST_LINE {
+            line.push(*octet)?;
+        }
+    }
+    Ok(place)
+}

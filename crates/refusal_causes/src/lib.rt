@@ -1,0 +1,11 @@
+//! What people are told of words that are no command and of a text that is no line of a script.
+#![tactic(auto)]
+
+mod commands;
+mod fields;
+mod lines;
+#[cfg(test)]
+mod tests;
+
+pub use commands::words_cause;
+pub use lines::line_cause;
