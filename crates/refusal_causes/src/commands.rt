@@ -1,5 +1,5 @@
 //! Words that are no command of the server.
-ghost use Rattle.std.specs.Prelude.{◌≡◌, IfOk, IfNone, None, map, string_bytes};
+ghost use Rattle.std.specs.Prelude.{◌≡◌, ◌≢◌, IfOk, None, map, string_bytes};
 ghost use Rattle.serve_commands.specs.Words.{IsServeWords};
 ghost use Rattle.serve_commands.specs.declared.commands.ServePlan.{ServePlan};
 ghost use Rattle.server_commands.specs.Words.{IsCommand};
@@ -93,10 +93,16 @@ pub fn words_cause(alloc: Global, words: &[String]) -> Result<Option<String>, Me
         → IfOk result (λ told. told ≡ None) }
     ensures serve { (plan : ServePlan) → IsServeWords (map string_bytes words.now) plan
         → IfOk result (λ told. told ≡ None) }
+    ensures refused { ((command : Command) → ¬ (IsCommand (map string_bytes words.now) command))
+        → ((plan : ServePlan) → ¬ (IsServeWords (map string_bytes words.now) plan))
+        → IfOk result (λ told. told ≢ None) }
 {
-    if command_of(words).is_some() || serve_of(words).is_some() {
+    let None = command_of(words) else {
         return Ok(None);
-    }
+    };
+    let None = serve_of(words) else {
+        return Ok(None);
+    };
     let line = match words {
         [command, rest @ ..] => command_cause(alloc, command.as_str(), rest)?,
         [] => String::from_str(alloc, "no command")?,

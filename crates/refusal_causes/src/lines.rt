@@ -1,5 +1,5 @@
 //! Texts that are no line of a script.
-ghost use Rattle.std.specs.Prelude.{◌≡◌, IfOk, None};
+ghost use Rattle.std.specs.Prelude.{◌≡◌, ◌≢◌, IfOk, None};
 ghost use Rattle.pcp_script.specs.Lines.{IsLine};
 ghost use Rattle.pcp_script.specs.declared.lines.Line.{Line};
 
@@ -71,8 +71,10 @@ static EVENT: [Field; 2] = [
 /// A line, without a line feed, that tells a person why the text, which is given without its line feed,
 /// is no line of a script; none exactly where it is one.
 pub fn line_cause(alloc: Global, config: &Config, text: &[u8]) -> Result<Option<String>, Memory>
-    ensures { (line : Line) → IsLine config.now.externals text.now line
+    ensures line { (line : Line) → IsLine config.now.externals text.now line
         → IfOk result (λ told. told ≡ None) }
+    ensures refused { ((line : Line) → ¬ (IsLine config.now.externals text.now line))
+        → IfOk result (λ told. told ≢ None) }
 {
     match read_line(alloc, config, text) {
         Ok(_) => Ok(None),
@@ -105,14 +107,9 @@ fn cause_of(alloc: Global, externals: &[External], text: &[u8]) -> Result<String
 /// The fields of a text, which its spaces part.
 fn split(alloc: Global, text: &[u8]) -> Result<Vec<&[u8]>, Memory> {
     let mut fields = Vec::new(alloc);
-    let mut start = 0;
-    for (place, octet) in text.iter().enumerate() {
-        if *octet == b' ' {
-            fields.push(&text[start..place])?;
-            start = place + 1;
-        }
+    for field in text.split(|octet| *octet == b' ') {
+        fields.push(field)?;
     }
-    fields.push(&text[start..])?;
     Ok(fields)
 }
 
