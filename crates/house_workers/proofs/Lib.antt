@@ -1,6 +1,7 @@
 pub mod CallLemmas
 pub mod EndLemmas
 pub mod FaultLemmas
+pub mod FullLemmas
 pub mod NoteLemmas
 pub mod OrderLemmas
 pub mod OwnLemmas

@@ -1,8 +1,12 @@
 -- What holds of the run of an external address (our own).
-use Rattle.std.specs.Prelude.{ℕ, ◌*◌, ◌≤◌, List}
-use Rattle.std.specs.List.{sum_by}
+use Rattle.std.specs.Prelude.{ℕ, ◌*◌, ◌<◌, ◌≤◌, List, Ok}
+use Rattle.std.specs.List.{AllByRecursion, sum_by}
+use Rattle.pcp_base.specs.declared.addresses.Address.{Address}
+use Rattle.pcp_base.specs.declared.configs.Config.{Config}
 use Rattle.lease_disk.specs.declared.disks.DiskPair.{DiskPair}
 use Rattle.job_queue.specs.declared.batches.TheConstants.{MOST_BATCH}
+use Rattle.job_queue.specs.declared.jobs.TheConstants.{MOST_JOBS}
+use Rattle.job_workers.specs.declared.tallies.TallyRow.{TallyRow}
 use Rattle.job_workers.specs.Sends.{HasRisenBy}
 use Rattle.job_workers.specs.Works.{unsent_in}
 use Rattle.job_dispatch.specs.Dispatches.{Dispatched}
@@ -12,9 +16,15 @@ use Rattle.turned_shards.specs.declared.openings.Opening.{Opening}
 use Rattle.turned_shards.specs.declared.passes.HousePass.{HousePass}
 use Rattle.turned_shards.specs.FaultCounts.{HaveRisenBy}
 use Rattle.shared_house.specs.HouseCalls.{HouseView}
+use Rattle.shared_house.specs.declared.beginning.Begun.{Begun}
 use Rattle.turned_shards.specs.Turnings.{EndsOne}
 use Rattle.house_workers.specs.HouseCallsOf.{calls_of}
 use Rattle.house_workers.specs.OwnEntries.{HandsReplies, NotesInOrder, StandInOrder, answered_in, own_in}
+use Rattle.house_workers.specs.ServingAll.{Edges, ServesToEnd}
+
+-- jobs were dropped at a full queue only where at least `MOST_JOBS` were put, which were all taken
+abbrev pub IsFilled : TallyRow → Type 0
+IsFilled row = 0 < row.full → MOST_JOBS ≤ row.taken
 
 module _ (D : Type 0) (tells : Type 0) (seen : D → List ℕ) (moment : D → ℕ)
     (left_since : D → ℕ → List ℕ → Type 0) (may_leave : D → List ℕ → Type 0) (faults : D → ℕ)
@@ -68,3 +78,11 @@ module _ (D : Type 0) (tells : Type 0) (seen : D → List ℕ) (moment : D → �
         (o : Opening D) (ended : HousePass D) (pair : DiskPair D) →
         EndsOne tells seen may_leave faults o r.new.pass ended pair →
         AreFewFaults o pair r.row.faulted
+
+    -- So it is with each row that serving tells at its end.
+    abbrev pub FullQueuesWereFilled : Type 0
+    FullQueuesWereFilled = (config : Config) (groups : List Address) (port : ℕ) (begun : Begun D)
+        (old new : Edges) (rows : List TallyRow) (pairs : List (DiskPair D)) →
+        ServesToEnd tells seen moment left_since may_leave faults config groups port begun old new
+        (Ok rows) pairs →
+        AllByRecursion IsFilled rows

@@ -1,5 +1,5 @@
 //! What holds of the run of an external address. A proof that needs a law calls its function.
-ghost use Rattle.house_workers.specs.Laws.{FaultsAreCounted, JobsAreCounted, OwnEntriesAreInOrder, OwnEntriesAreNoted, RepliesAreOfOwnEntries, UnsentAreCounted};
+ghost use Rattle.house_workers.specs.Laws.{FaultsAreCounted, FullQueuesWereFilled, JobsAreCounted, OwnEntriesAreInOrder, OwnEntriesAreNoted, RepliesAreOfOwnEntries, UnsentAreCounted};
 
 use lease_disk::LeaseDisk;
 
@@ -37,4 +37,10 @@ pub fn jobs_are_counted<D: LeaseDisk>()
 /// The replies that count as unsent are at most as many as the count of the outbox rose.
 pub fn unsent_are_counted<D: LeaseDisk>()
     ensures { UnsentAreCounted D D.tells D.seen D.moment D.left_since D.may_leave D.faults }
+{}
+
+/// Jobs of an external address are dropped at a full queue only where at least `MOST_JOBS` of them were
+/// put: of each row of the tally `taken` is at least that where `full` is above 0.
+pub fn full_queues_were_filled<D: LeaseDisk>()
+    ensures { FullQueuesWereFilled D D.tells D.seen D.moment D.left_since D.may_leave D.faults }
 {}
