@@ -58,13 +58,21 @@ impl fmt::Display for Expected {
         match self {
             Expected::NoSuchKey => f.write_str("unknown key"),
             Expected::Key => f.write_str("missing"),
-            Expected::Number(low, high) => write!(f, "expected a whole number from {low} to {high}"),
-            Expected::Prefixes => write!(f, "expected a list of at most {MOST_THIRD_PARTIES} prefixes"),
+            Expected::Number(low, high) => write!(
+                f,
+                "expected a whole number from {low} to {high}"
+            ),
+            Expected::Prefixes => write!(
+                f,
+                "expected a list of at most {MOST_THIRD_PARTIES} prefixes"
+            ),
             Expected::Prefix => f.write_str("expected a prefix such as \"10.0.0.0/8\""),
             Expected::Externals => write!(f, "expected 1 to {MOST_EXTERNALS} tables"),
             Expected::DifferentAddresses => f.write_str("expected tables with different addresses"),
             Expected::Table => f.write_str("expected a table"),
-            Expected::Address => f.write_str("expected an address such as \"192.0.2.1\", or 32 hexadecimal digits"),
+            Expected::Address => f.write_str(
+                "expected an address such as \"192.0.2.1\", or 32 hexadecimal digits",
+            ),
             Expected::ExternalAddress => f.write_str("expected the address of an external"),
             Expected::Subscribers => write!(f, "expected at most {MOST_SUBSCRIBERS} tables"),
         }
