@@ -67,14 +67,96 @@ fn under(alloc: Global, head: &[u8; 24], message: &[u8]) -> Result<Vec<u8>, Memo
     Ok(octets)
 }
 
-fn sent_up(out: ProxyOut) -> Option<Octets> {
-    match out {
-        ProxyOut::Up(octets) => Some(octets),
-        _ => None,
+fn new_relay(alloc: Global) -> Result<Proxy, Memory> {
+    Proxy::new(alloc, OWN, SERVER, [7; 32])
+}
+
+// What goes up of the request of 10.0.0.last; nothing is an empty text.
+fn asked_up(alloc: Global, relay: &mut Proxy, last: u8, now_ms: u64) -> Result<Octets, Memory> {
+    match relay.from_client(alloc, &request(alloc, last)?, now_ms)? {
+        ProxyOut::Up(octets) => Ok(octets),
+        _ => Ok(Octets::of(Vec::new(alloc))),
     }
 }
 
-fn sent_nothing(out: &ProxyOut) -> bool {
+fn is_to(down: &Option<Datagram>, peer: Address, port: u16, octets: &[u8]) -> bool {
+    match down {
+        Some(d) => d.peer == peer && d.port == port && d.octets.items() == octets,
+        None => false,
+    }
+}
+
+// Whether 10.0.0.last is told, once, the second head over its request where the server says the first one
+// over what went up, twice.
+fn is_answered(
+    alloc: Global,
+    relay: &mut Proxy,
+    last: u8,
+    said: &[u8; 24],
+    told: &[u8; 24],
+) -> Result<bool, Memory> {
+    let up = asked_up(alloc, relay, last, 1_000)?;
+    let reply = datagram(alloc, SERVER, &under(alloc, said, up.items())?)?;
+    let first = relay.from_server(alloc, &reply, 2_000)?;
+    let again = relay.from_server(alloc, &reply, 2_000)?;
+    let wanted = under(alloc, told, &REQUEST)?;
+    let peer = Address::v4(10, 0, 0, last);
+    Ok(is_to(&first, peer, 40_000, &wanted) && again.is_none())
+}
+
+fn is_written(alloc: Global, wanted: &[u8]) -> Result<bool, Memory> {
+    let mut out = Vec::new(alloc);
+    write_relayed(alloc, &mut out, &REQUEST, Code::NotAuthorized, 1_800, 11)?;
+    Ok(out.as_slice() == wanted)
+}
+
+#[test]
+fn texts(rt: HostRuntime) -> Result<(), Fail> {
+    let alloc = rt.alloc();
+    assert!(rt; upstream_nonce(&[7; 32], &Address::v4(10, 0, 0, 5), &NONCE).0 == UPSTREAM_NONCE);
+    assert!(rt; is_written(alloc, &under(alloc, &AUTHORIZED_HEAD, &REQUEST)?)?);
+    let up = asked_up(alloc, &mut new_relay(alloc)?, 5, 1_000)?;
+    assert!(rt; up.items() == UPSTREAM.as_slice());
+    Ok(())
+}
+
+// Two clients with one nonce and one port; then an upstream server that doesn't let the relay ask for
+// others.
+fn are_pairs(alloc: Global, relay: &mut Proxy) -> Result<bool, Memory> {
+    let five = is_answered(alloc, relay, 5, &SUCCESS_HEAD, &SUCCESS_HEAD)?;
+    let six = is_answered(alloc, relay, 6, &SUCCESS_HEAD, &SUCCESS_HEAD)?;
+    let refused = is_answered(alloc, relay, 5, &OPTION_HEAD, &AUTHORIZED_HEAD)?;
+    Ok(five && six && refused)
+}
+
+#[test]
+fn pairs(rt: HostRuntime) -> Result<(), Fail> {
+    let alloc = rt.alloc();
+    assert!(rt; are_pairs(alloc, &mut new_relay(alloc)?)?);
+    Ok(())
+}
+
+// Whether the relay answers with this epoch.
+fn tells_epoch(out: &ProxyOut, epoch: u8) -> bool {
+    match out {
+        ProxyOut::Reply(reply) => reply.octets.items().get(11) == Some(&epoch),
+        _ => false,
+    }
+}
+
+// It says nothing before it heard an epoch; then the announcement goes on, and two seconds later, by whole
+// seconds, the relay answers by itself.
+fn is_announced(alloc: Global, relay: &mut Proxy) -> Result<bool, Memory> {
+    let asked = datagram(alloc, Address::v4(10, 0, 0, 5), &ASKED)?;
+    let told = datagram(alloc, SERVER, &TOLD)?;
+    let before = relay.from_client(alloc, &asked, 0)?;
+    let down = relay.from_server(alloc, &told, 1_900)?;
+    let after = relay.from_client(alloc, &asked, 3_100)?;
+    let everyone = Address::v4(224, 0, 0, 1);
+    Ok(is_nothing(&before) && is_to(&down, everyone, 5_350, &TOLD) && tells_epoch(&after, 12))
+}
+
+fn is_nothing(out: &ProxyOut) -> bool {
     match out {
         ProxyOut::Nothing => true,
         _ => false,
@@ -82,61 +164,25 @@ fn sent_nothing(out: &ProxyOut) -> bool {
 }
 
 #[test]
-fn texts(rt: HostRuntime) -> Result<(), Fail> {
-    let alloc = rt.alloc();
-    assert!(rt; upstream_nonce(&[7; 32], &Address::v4(10, 0, 0, 5), &NONCE).0 == UPSTREAM_NONCE);
-    let mut relay = Proxy::new(alloc, OWN, SERVER, [7; 32])?;
-    let up = sent_up(relay.from_client(alloc, &request(alloc, 5)?, 1_000)?).ok_or("up")?;
-    assert!(rt; up.items() == UPSTREAM.as_slice());
-    let mut out = Vec::new(alloc);
-    write_relayed(alloc, &mut out, &REQUEST, Code::NotAuthorized, 1_800, 11)?;
-    assert!(rt; out.as_slice() == under(alloc, &AUTHORIZED_HEAD, &REQUEST)?.as_slice());
-    Ok(())
-}
-
-// Two clients with one nonce and one port; each upstream reply comes twice.
-#[test]
-fn pairs(rt: HostRuntime) -> Result<(), Fail> {
-    let alloc = rt.alloc();
-    let mut relay = Proxy::new(alloc, OWN, SERVER, [7; 32])?;
-    for last in [5, 6] {
-        let sent = relay.from_client(alloc, &request(alloc, last)?, 1_000)?;
-        let up = sent_up(sent).ok_or("up")?;
-        let reply = under(alloc, &SUCCESS_HEAD, up.items())?;
-        let reply = datagram(alloc, SERVER, &reply)?;
-        let down = relay.from_server(alloc, &reply, 2_000)?.ok_or("down")?;
-        assert!(rt; down.peer == Address::v4(10, 0, 0, last) && down.port == 40_000);
-        assert!(rt; down.octets.items() == under(alloc, &SUCCESS_HEAD, &REQUEST)?.as_slice());
-        assert!(rt; relay.from_server(alloc, &reply, 2_000)?.is_none());
-    }
-    // an upstream server that doesn't let the relay ask for others
-    let sent = relay.from_client(alloc, &request(alloc, 5)?, 3_000)?;
-    let up = sent_up(sent).ok_or("up")?;
-    let reply = datagram(alloc, SERVER, &under(alloc, &OPTION_HEAD, up.items())?)?;
-    let down = relay.from_server(alloc, &reply, 4_000)?.ok_or("down")?;
-    assert!(rt; down.octets.items() == under(alloc, &AUTHORIZED_HEAD, &REQUEST)?.as_slice());
-    Ok(())
-}
-
-#[test]
 fn announcements(rt: HostRuntime) -> Result<(), Fail> {
     let alloc = rt.alloc();
-    let mut relay = Proxy::new(alloc, OWN, SERVER, [7; 32])?;
-    let asked = datagram(alloc, Address::v4(10, 0, 0, 5), &ASKED)?;
-    assert!(rt; sent_nothing(&relay.from_client(alloc, &asked, 0)?));
-    let told = datagram(alloc, SERVER, &TOLD)?;
-    let down = relay.from_server(alloc, &told, 1_900)?.ok_or("down")?;
-    assert!(rt; down.peer == Address::v4(224, 0, 0, 1) && down.port == 5_350);
-    assert!(rt; down.octets.items() == TOLD.as_slice());
-    // two seconds later, by whole seconds
-    let ProxyOut::Reply(reply) = relay.from_client(alloc, &asked, 3_100)? else {
-        return Err("reply".into());
-    };
-    assert!(rt; reply.octets.items().get(11) == Some(&12));
-    relay.from_client(alloc, &request(alloc, 5)?, 4_000)?;
-    assert!(rt; relay.tick(63_999) == 0);
-    assert!(rt; relay.tick(64_000) == 1);
-    assert!(rt; relay.tick(64_000) == 0);
+    assert!(rt; is_announced(alloc, &mut new_relay(alloc)?)?);
+    Ok(())
+}
+
+// How many requests go at these times of one that was asked at 4,000 milliseconds.
+fn dropped(alloc: Global, relay: &mut Proxy) -> Result<[u32; 3], Memory> {
+    asked_up(alloc, relay, 5, 4_000)?;
+    let early = relay.tick(63_999);
+    let due = relay.tick(64_000);
+    let late = relay.tick(64_000);
+    Ok([early, due, late])
+}
+
+#[test]
+fn waits(rt: HostRuntime) -> Result<(), Fail> {
+    let alloc = rt.alloc();
+    assert!(rt; dropped(alloc, &mut new_relay(alloc)?)? == [0, 1, 0]);
     Ok(())
 }
 
