@@ -1,0 +1,94 @@
+-- A run: a client hears an error and its epoch, all leases are lost, and it hears the next epoch.
+use Rattle.std.specs.Prelude.{replicate, slice_get}
+use Rattle.std.proofs.Common.{◌≡◌, ℕ, true, false, List, [], ◌∷◌, Option, Some, None, refl}
+use Rattle.pcp_base.specs.declared.addresses.Address.{Address}
+use Rattle.pcp_base.specs.declared.asks.Ask.{Ask}
+use Rattle.pcp_base.specs.declared.asks.Ask.TheVariants as Asks
+use Rattle.pcp_base.specs.declared.leases.Protocol.TheVariants as Protocols
+use Rattle.pcp_base.specs.States.{empty_state}
+use Rattle.client_core.specs.declared.meanings.EpochFound.{EpochFound}
+use Rattle.client_core.specs.declared.meanings.EpochFound.TheVariants as Epochs
+use Rattle.pcp_options.specs.Verdicts.{verdict_of}
+use Rattle.lease_histories.specs.Routes.{verdict_of_datagram}
+use Rattle.lease_core.specs.DecideMap.{decide_map}
+use Rattle.lease_store.specs.Lookups.{next_inside}
+use Rattle.lease_store.specs.Picks.{pick}
+use Rattle.client_core.specs.declared.epochs.HeardEpoch.{HeardEpoch}
+use Rattle.client_core.specs.declared.events.HeldLease.{HeldLease}
+use Rattle.client_core.specs.Clients.{heard_of, held_by}
+use Rattle.loss_world.specs.HouseLosses.{Loses}
+use Rattle.loss_world.specs.Packets.{Packet, datagram_of}
+use Rattle.loss_world.specs.Steps.{run}
+use Rattle.loss_world.specs.Worlds.{Beginning, ClientHost, Event, World, ToServer, ToClient, ClientTicks, Wants, Fails, Passes, begun}
+
+abbrev host : ℕ → Address
+host n = record { 0 = 0 ∷ 0 ∷ 0 ∷ 0 ∷ 0 ∷ 0 ∷ 0 ∷ 0 ∷ 0 ∷ 0 ∷ 255 ∷ 255 ∷ 10 ∷ 0 ∷ 0 ∷ n ∷ [] }
+
+abbrev asking : ℕ → Ask
+asking port = Asks.Map (record {
+  endpoint = record { address = host 2; protocol = Protocols.Tcp; port = port };
+  nonce = record { 0 = replicate 12 7 };
+  lifetime = 3600;
+  port = 0;
+  address = host 0;
+  prefer = false;
+  set = None;
+  filters = [];
+})
+
+-- a server with one external port, and so much quota; without any each request is refused
+abbrev beginning_by : ℕ → Beginning
+beginning_by quota = record {
+  clock = 1600000;
+  server = host 1;
+  config = record {
+    quota = quota;
+    lifetime_min = 120;
+    lifetime_max = 86400;
+    third_party = [];
+    externals = (record { address = host 9; low = 5000; high = 5000 }) ∷ [];
+    subscribers = (record { prefix = record { bits = 0; address = host 0 }; external = 0 }) ∷ [];
+  };
+  openings = (record empty_state { base = 1000; last = 1000; started = true }) ∷ [];
+  relays = [];
+  clients = (record { own = host 2; server = host 1; port = 5350 }) ∷ [];
+}
+
+abbrev beginning : Beginning
+beginning = beginning_by 0
+
+-- its first reply tells 600 at 1600
+abbrev first : List Event
+first = Wants 0 None (asking 80) ∷ ClientTicks 0 0 ∷ ToServer 0 ∷ ToClient 0 0 0 ∷ []
+
+-- a loss at 2000, and a request for a second want at 2003
+abbrev both : List Event
+both =
+    Wants 0 None (asking 80) ∷ ClientTicks 0 0 ∷ ToServer 0 ∷ ToClient 0 0 0 ∷ Passes 400000 ∷ Fails 0 Loses ∷ Passes 3000
+    ∷ Wants 0 None (asking 81) ∷ ClientTicks 0 0 ∷ ToServer 0 ∷ []
+
+abbrev told_to : Option ClientHost → Option HeardEpoch
+told_to None = None
+told_to (Some h) = h.client.heard
+
+-- what the packet that was sent last is to the client
+abbrev found_by : World → Option ClientHost → Option Packet → EpochFound
+found_by w None p = Epochs.Unread
+found_by w (Some h) None = Epochs.Unread
+found_by w (Some h) (Some p) = (heard_of h.client (datagram_of p) w.clock).epoch
+
+pub first-is-told : told_to (slice_get (run (begun beginning) first).clients 0) ≡ Some (record { server = 600; seconds = 1600 })
+unfolding verdict_of_datagram verdict_of decide_map
+first-is-told = refl
+
+pub second-is-found : found_by (run (begun beginning) both) (slice_get (run (begun beginning) both).clients 0) (slice_get (run (begun beginning) both).bag 0) ≡ Epochs.Invalid
+unfolding verdict_of_datagram verdict_of decide_map
+second-is-found = refl
+
+abbrev held_of : Option ClientHost → Option HeldLease
+held_of None = None
+held_of (Some h) = held_by h.client 0
+
+pub lease-is-held : held_of (slice_get (run (begun (beginning_by 1)) first).clients 0) ≡ Some (record { address = host 9; external = 5000; until_ms = 5200000 })
+unfolding verdict_of_datagram verdict_of decide_map pick next_inside
+lease-is-held = refl

@@ -1,0 +1,208 @@
+-- What each event makes of a world (our own). What can't happen changes nothing.
+use Rattle.std.specs.Prelude.{ℕ, ◌+◌, Bool, List, [], ◌∷◌, ◌++◌, map, length, reverse, Option, Some, None, slice_get, slice_set, if◌then◌else◌}
+use Rattle.pcp_base.specs.declared.addresses.Address.{Address}
+use Rattle.pcp_base.specs.declared.asks.Ask.{Ask}
+use Rattle.pcp_base.specs.declared.datagrams.Datagram.{Datagram}
+use Rattle.pcp_base.specs.declared.datagrams.Entry.{Entry}
+use Rattle.pcp_base.specs.Epoch.{epoch_of}
+use Rattle.pcp_options.specs.declared.responses.Response.{Response}
+use Rattle.lease_histories.specs.PlainHouses.{PlainHouse, PlainShard, greatest_base, packet_after, packet_entry, raised}
+use Rattle.lease_histories.specs.Routes.{route_of}
+use Rattle.client_core.specs.declared.meanings.Meaning.{Meaning}
+use Rattle.client_core.specs.declared.meanings.Meaning.TheVariants.{Nothing, Says}
+use Rattle.client_core.specs.Clients.{after_end, after_heard, after_tick, after_want, free_id, meaning_of, request_due}
+use Rattle.proxy_core.specs.declared.outs.ProxyOut.{ProxyOut}
+use Rattle.proxy_core.specs.declared.outs.ProxyOut.TheVariants as Outs
+use Rattle.pcp_base.specs.Tables.{same_address}
+use Rattle.proxy_core.specs.Relays.{Relay, on_client, on_server, on_tick, response_from}
+use Rattle.loss_world.specs.HouseLosses.{Cause, Renumbers, entries_of, house_after, is_loss, updates_by}
+use Rattle.loss_world.specs.Packets.{Origin, Packet, datagram_of, seconds}
+use Rattle.loss_world.specs.Worlds.{World, RelayHost, ClientHost, Renumbering, Event, ToServer, ToRelay, ToClient, RelayTicks, ClientTicks, Wants, Ends, Fails, Passes}
+
+abbrev pub second : World → ℕ
+second w = seconds w.clock
+
+-- the port of servers (RFC 6887, section 19.5)
+abbrev pub servers_port : ℕ
+servers_port = 5351
+
+-- whether a packet is for the host of an address
+abbrev pub is_reached : Packet → Address → Bool
+is_reached p own = same_address p.out.peer own
+
+-- with a packet more, if there is one
+abbrev pub sends : World → Option Packet → World
+sends w None = w
+sends w (Some p) = record w { bag = p ∷ w.bag }
+
+-- ---- the server
+
+-- what the server sends now, behind so many losses, with this epoch
+abbrev pub told_now : World → ℕ → ℕ → Datagram → Packet
+told_now w losses epoch out = record {
+  sender = w.server;
+  port = servers_port;
+  out = out;
+  sent = w.clock;
+  origin = Some (record { losses = losses; sent = w.clock; epoch = epoch });
+}
+
+abbrev pub reply_to : Datagram → Entry → Datagram
+reply_to d e = record { peer = d.peer; port = d.port; octets = e.reply }
+
+abbrev pub answered : World → Datagram → Option Entry → World
+answered w d None = w
+answered w d (Some e) = record w {
+  house = packet_after w.house (second w) d;
+  history = (record { place = route_of w.house.config d; entry = e }) ∷ w.history;
+  bag = told_now w (length w.losses) (epoch_of e.moment e.base) (reply_to d e) ∷ w.bag;
+}
+
+abbrev pub to_server : World → Option Packet → World
+to_server w None = w
+to_server w (Some p) =
+    if is_reached p w.server
+    then answered w (datagram_of p) (packet_entry w.house (second w) (datagram_of p)) else w
+
+-- ---- relays
+
+abbrev pub with_relay : World → ℕ → RelayHost → World
+with_relay w k host = record w { relays = slice_set w.relays k host }
+
+-- what a relay sends now
+abbrev pub relayed : World → Relay → Option Origin → Datagram → Packet
+relayed w relay origin out =
+    record { sender = relay.own; port = servers_port; out = out; sent = w.clock; origin = origin }
+
+abbrev pub sent_down : World → Relay → Option Origin → Option Datagram → Option Packet
+sent_down w relay origin None = None
+sent_down w relay origin (Some out) = Some (relayed w relay origin out)
+
+-- the relay's own reply has the origin of the last epoch that it heard
+abbrev pub sent_by : World → RelayHost → ProxyOut → Option Packet
+sent_by w host Outs.Nothing = None
+sent_by w host (Outs.Reply out) = Some (relayed w host.relay host.origin out)
+sent_by w host (Outs.Up octets) =
+    Some (relayed w host.relay None (record { peer = host.relay.server; port = servers_port; octets = octets }))
+
+-- the origin of the epoch heard last, behind a datagram that may be a response
+abbrev pub origin_after : Option Response → Option Origin → Option Origin → Option Origin
+origin_after None came last = last
+origin_after (Some r) came last = came
+
+-- A datagram whose peer is the relay's server comes from upstream, any other from a client.
+abbrev pub from_upstream : World → ℕ → RelayHost → Packet → World
+from_upstream w k host p = sends
+    (with_relay w k (record {
+      relay = (on_server host.relay (datagram_of p) w.clock).relay;
+      origin = origin_after (response_from host.relay.server (datagram_of p)) p.origin host.origin;
+    }))
+    (sent_down w host.relay p.origin (on_server host.relay (datagram_of p) w.clock).out)
+
+abbrev pub from_client : World → ℕ → RelayHost → Packet → World
+from_client w k host p = sends
+    (with_relay w k (record host { relay = (on_client host.relay (datagram_of p) w.clock).relay }))
+    (sent_by w host (on_client host.relay (datagram_of p) w.clock).out)
+
+abbrev pub to_relay : World → ℕ → Option RelayHost → Option Packet → World
+to_relay w k None p = w
+to_relay w k (Some host) None = w
+to_relay w k (Some host) (Some p) =
+    if is_reached p host.relay.own
+    then if same_address p.sender host.relay.server then from_upstream w k host p else from_client w k host p
+    else w
+
+abbrev pub relay_ticks : World → ℕ → Option RelayHost → World
+relay_ticks w k None = w
+relay_ticks w k (Some host) = with_relay w k (record host { relay = (on_tick host.relay w.clock).relay })
+
+-- ---- clients
+
+abbrev pub with_client : World → ℕ → ClientHost → World
+with_client w k host = record w { clients = slice_set w.clients k host }
+
+abbrev pub origin_heard : Meaning → Option Origin → Option Origin → Option Origin
+origin_heard Nothing came last = last
+origin_heard (Says epoch word) came last = came
+
+abbrev pub hears : World → ℕ → ClientHost → Packet → ℕ → World
+hears w k host p word = with_client w k (record host {
+  client = after_heard host.client (datagram_of p) w.clock word;
+  origin = origin_heard (meaning_of host.client (datagram_of p)) p.origin host.origin;
+})
+
+abbrev pub to_client : World → ℕ → ℕ → Option ClientHost → Option Packet → World
+to_client w k word None p = w
+to_client w k word (Some host) None = w
+to_client w k word (Some host) (Some p) = if is_reached p host.client.own then hears w k host p word else w
+
+abbrev pub asked : World → ClientHost → Option (List ℕ) → Option Packet
+asked w host None = None
+asked w host (Some octets) = Some (record {
+  sender = host.client.own;
+  port = host.port;
+  out = record { peer = host.client.server; port = servers_port; octets = octets };
+  sent = w.clock;
+  origin = None;
+})
+
+abbrev pub client_ticks : World → ℕ → ℕ → Option ClientHost → World
+client_ticks w k word None = w
+client_ticks w k word (Some host) = sends
+    (with_client w k (record host { client = after_tick host.client w.clock word }))
+    (asked w host (request_due host.client w.clock))
+
+abbrev pub wanting : World → ℕ → ClientHost → Option Address → Ask → Option ℕ → World
+wanting w k host third ask None = w
+wanting w k host third ask (Some id) =
+    with_client w k (record host { client = after_want host.client id third ask w.clock })
+
+abbrev pub client_wants : World → ℕ → Option ClientHost → Option Address → Ask → World
+client_wants w k None third ask = w
+client_wants w k (Some host) third ask = wanting w k host third ask (free_id host.client)
+
+abbrev pub client_ends : World → ℕ → ℕ → Option ClientHost → World
+client_ends w k id None = w
+client_ends w k id (Some host) = with_client w k (record host { client = after_end host.client id w.clock })
+
+-- ---- losses
+
+abbrev pub renumbered : World → ℕ → Cause → List Renumbering
+renumbered w place (Renumbers a) = (record { moment = second w; place = place; address = a }) ∷ w.renumberings
+renumbered w place cause = w.renumberings
+
+-- the house after a loss, and what it tells
+abbrev pub lost : World → ℕ → PlainShard → Cause → PlainHouse → World
+lost w place shard cause after = record w {
+  house = after;
+  history = reverse (map (λ e. record { place = place; entry = e })
+      (entries_of w.house shard (raised (second w) shard) cause)) ++ w.history;
+  losses = (record { number = length w.losses; moment = second w }) ∷ w.losses;
+  renumberings = renumbered w place cause;
+  bag = map (told_now w (length w.losses + 1) (epoch_of (raised (second w) shard) (greatest_base after)))
+      (updates_by shard.state (raised (second w) shard) (greatest_base after) cause) ++ w.bag;
+}
+
+abbrev pub fails : World → ℕ → Cause → Option PlainShard → World
+fails w place cause None = w
+fails w place cause (Some shard) =
+    if is_loss shard cause
+    then lost w place shard cause (house_after w.house place shard (raised (second w) shard) cause) else w
+
+-- ---- all
+
+abbrev pub happens : World → Event → World
+happens w (ToServer p) = to_server w (slice_get w.bag p)
+happens w (ToRelay p k) = to_relay w k (slice_get w.relays k) (slice_get w.bag p)
+happens w (ToClient p k word) = to_client w k word (slice_get w.clients k) (slice_get w.bag p)
+happens w (RelayTicks k) = relay_ticks w k (slice_get w.relays k)
+happens w (ClientTicks k word) = client_ticks w k word (slice_get w.clients k)
+happens w (Wants k third ask) = client_wants w k (slice_get w.clients k) third ask
+happens w (Ends k id) = client_ends w k id (slice_get w.clients k)
+happens w (Fails place cause) = fails w place cause (slice_get w.house.shards place)
+happens w (Passes ms) = record w { clock = w.clock + ms }
+
+-- a whole schedule, the first event first
+abbrev pub run : World → List Event → World
+run w [] = w
+run w (e ∷ es) = run (happens w e) es
