@@ -10,6 +10,8 @@ mod clients;
 #[cfg(test)]
 mod heads;
 #[cfg(test)]
+mod hours;
+#[cfg(test)]
 mod wants;
 #[cfg(test)]
 mod words;

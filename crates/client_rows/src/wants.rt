@@ -15,11 +15,18 @@ use pcp_base::{Address, Ask, Datagram, Filter, FilterList, MapAsk, Octets};
 use std::alloc::{AllocError, Global};
 use std::test::Fail;
 
-const SERVER: Address = Address([0, 0, 0, 0, 0, 0, 0, 0, 0, 0, 0xff, 0xff, 192, 0, 2, 9]);
+pub(crate) const SERVER: Address = Address([
+    0, 0, 0, 0, 0, 0, 0, 0, 0, 0, 0xff, 0xff, 192, 0, 2, 9,
+]);
 
 // The internal port, the lifetime, the external port, and the last octet of an external address 192.0.2.x;
 // both 0 where none is suggested.
-struct Port(u16, u32, u16, u8);
+pub(crate) struct Port(
+    pub(crate) u16,
+    pub(crate) u32,
+    pub(crate) u16,
+    pub(crate) u8,
+);
 
 // What is done, and what comes of it.
 enum Step {
@@ -57,7 +64,7 @@ fn filters(alloc: Global, internal: u16) -> Result<Vec<Filter>, AllocError>
     Ok(Vec::new(alloc))
 }
 
-fn ask(alloc: Global, internal: u16) -> Result<MapAsk, AllocError>
+pub(crate) fn ask(alloc: Global, internal: u16) -> Result<MapAsk, AllocError>
     ensures { IfOk result (λ ask. CanBeWanted (Asks.Map ask)) }
 {
     let mut from = endpoint(OWN);
@@ -115,7 +122,12 @@ fn request(alloc: Global, port: &Port) -> Result<Vec<u8>, AllocError> {
 }
 
 // A reply for a port.
-fn reply(alloc: Global, code: u8, epoch: u32, port: &Port) -> Result<Vec<u8>, AllocError> {
+pub(crate) fn reply(
+    alloc: Global,
+    code: u8,
+    epoch: u32,
+    port: &Port,
+) -> Result<Vec<u8>, AllocError> {
     let front = [2, 0x81, 0, code];
     let lifetime = port.1.to_be_bytes();
     let epoch = epoch.to_be_bytes();
@@ -135,7 +147,7 @@ fn reply(alloc: Global, code: u8, epoch: u32, port: &Port) -> Result<Vec<u8>, Al
 }
 
 // An announcement.
-fn announced(alloc: Global, epoch: u32) -> Result<Vec<u8>, AllocError> {
+pub(crate) fn announced(alloc: Global, epoch: u32) -> Result<Vec<u8>, AllocError> {
     let epoch = epoch.to_be_bytes();
     joined(alloc, &[&[2, 0x80, 0, 0, 0, 0, 0, 0], &epoch, &[0; 12]])
 }

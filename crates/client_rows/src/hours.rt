@@ -1,0 +1,64 @@
+//! A mapping that is kept over hours.
+use crate::clients::OWN;
+use crate::keeping::Keeper;
+use crate::wants::{Port, SERVER, announced, ask, reply};
+use pcp_base::{Datagram, Octets};
+use std::alloc::Global;
+use std::test::Fail;
+
+fn from_server(octets: Vec<u8>) -> Datagram {
+    Datagram {
+        peer: SERVER,
+        port: 5351,
+        octets: Octets::of(octets),
+    }
+}
+
+// What is asked at this second is granted for an hour, at this epoch; gives whether something was.
+fn is_asked(keeper: &mut Keeper, alloc: Global, second: u32, epoch: u32) -> Result<bool, Fail> {
+    let now = 1000 * u64::from(second);
+    if keeper.due(alloc, now, 0)?.is_none() {
+        return Ok(false);
+    }
+    let octets = reply(alloc, 0, epoch, &Port(5000, 3600, 1024, 1))?;
+    keeper.hear(alloc, &from_server(octets), now, 0)?;
+    Ok(true)
+}
+
+fn begun(alloc: Global) -> Result<Keeper, Fail> {
+    let ask = ask(alloc, 5000)?;
+    Ok(Keeper::begin(alloc, SERVER, OWN, ask, 0)?)
+}
+
+// Whether over three hours it always has its mapping, and asks at once and then whenever half of an hour is
+// over: so 6 times, since the word is 0.
+fn is_kept(alloc: Global) -> Result<bool, Fail> {
+    let mut keeper = begun(alloc)?;
+    for second in 0..10_800 {
+        let asked = is_asked(&mut keeper, alloc, second, second)?;
+        if asked != (second % 1800 == 0) || keeper.mapping().is_none() {
+            return Ok(false);
+        }
+    }
+    Ok(true)
+}
+
+#[test]
+fn a_mapping_is_kept(rt: HostRuntime) -> Result<(), Fail> {
+    assert!(rt; is_kept(rt.alloc())?);
+    Ok(())
+}
+
+#[test]
+fn a_loss_is_mended(rt: HostRuntime) -> Result<(), Fail> {
+    let alloc = rt.alloc();
+    let mut keeper = begun(alloc)?;
+    let asked = is_asked(&mut keeper, alloc, 100, 100)?;
+    assert!(rt; asked && keeper.mapping().is_some());
+    // The server began anew.
+    keeper.hear(alloc, &from_server(announced(alloc, 1)?), 200_000, 0)?;
+    assert!(rt; keeper.mapping().is_none());
+    let asked = is_asked(&mut keeper, alloc, 200, 1)?;
+    assert!(rt; asked && keeper.mapping().is_some());
+    Ok(())
+}
