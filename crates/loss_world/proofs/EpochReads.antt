@@ -38,7 +38,7 @@ use Rattle.lease_histories.specs.Entries.{reply_text_of}
 use Rattle.proxy_core.specs.Down.{down_body, down_error, down_items, down_success, down_text, is_success, nonce_of, refuses_added, relayed_text}
 
 -- where there is a response it is this one
-by-test : (b : Bool) (x r : Response) → cond b (Some x) None ≡ Some r → x ≡ r
+pub by-test : (b : Bool) (x r : Response) → cond b (Some x) None ≡ Some r → x ≡ r
 by-test true x r h = cc
 by-test false x r h = absurd cc
 

@@ -123,7 +123,7 @@ matches relay d r None h = record {
 }
 matches relay d r (Some key) h = record { heard = refl; last = refl; passed = λ sent e. told-to r (waiting_at key relay.waits) sent e }
 
-read-here : (b : Bool) (x : Option Response) (r : Response) → cond b x None ≡ Some r → x ≡ Some r
+pub read-here : (b : Bool) (x : Option Response) (r : Response) → cond b x None ≡ Some r → x ≡ Some r
 read-here true x r h = h
 read-here false x r h = absurd cc
 

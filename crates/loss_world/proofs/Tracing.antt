@@ -1,7 +1,7 @@
 -- Each success in the bag, and so each lease that a client holds, is traced to an entry of the history.
 use Rattle.std.specs.Prelude.{Contains, bytes_eq, map, replicate, reverse, unwrap_or, slice_get}
 use Rattle.std.specs.List.{AllByRecursion}
-use Rattle.std.proofs.Common.{◌≡◌, ◌∙◌, ◌⊎◌, inl, inr, ℕ, zero, suc, true, List, [], ◌∷◌, ◌++◌, Option, Some, None, refl, ap, sym, subst}
+use Rattle.std.proofs.Common.{◌≡◌, ◌∙◌, ◌⊎◌, inl, inr, ℕ, zero, suc, true, cond, List, [], ◌∷◌, ◌++◌, Option, Some, None, refl, ap, sym, subst}
 use Rattle.std.proofs.lemmas.Bool.{cond_both}
 use Rattle.std.proofs.lemmas.Slice.Eq.{bytes_eq-Decides}
 use Rattle.pcp_base.proofs.Members.{All-IsIn, All-weaker, Contains-from_IsIn, IsIn, IsIn-from_Contains}
@@ -22,39 +22,31 @@ use Rattle.client_core.specs.declared.meanings.Meaning.TheVariants.{Nothing, Say
 use Rattle.client_core.specs.Clients.{ClientView, after_end, after_heard, after_meaning, after_tick, after_want, counted, free_id, meaning_of, request_due}
 use Rattle.client_core.specs.Meanings.{want_at}
 use Rattle.client_core.specs.Wants.{WantView}
-use Rattle.loss_world.specs.Disclosure.{Grants, IsGranted, IsNoRenumbering, IsRenumbered, LeasesAreGrantedDirectly, rewritten}
+use Rattle.pcp_base.specs.Tables.{same_address}
+use Rattle.proxy_core.specs.declared.outs.ProxyOut.{ProxyOut}
+use Rattle.proxy_core.specs.declared.outs.ProxyOut.TheVariants as Outs
+use Rattle.proxy_core.specs.Relays.{Relay, on_client, on_server, on_tick, response_from}
+use Rattle.proxy_core.specs.Runs as Runs
+use Rattle.loss_world.specs.Disclosure.{HasOctets, IsGranted, IsNoRenumbering, IsRenumbered, LeasesAreGrantedDirectly, LeasesAreGrantedThroughRelays, rewritten}
 use Rattle.loss_world.specs.HouseLosses.{Cause, Loses, Restarts, Renumbers, entries_of, house_after, is_loss}
-use Rattle.loss_world.specs.Packets.{Packet, datagram_of}
-use Rattle.loss_world.specs.Steps.{answered, asked, client_ends, client_ticks, client_wants, fails, happens, hears, is_reached, lost, relay_ticks, run, second, sends, to_client, to_relay, to_server, wanting, with_client}
+use Rattle.loss_world.specs.Packets.{Origin, Packet, datagram_of}
+use Rattle.loss_world.specs.Steps.{answered, asked, client_ends, client_ticks, client_wants, fails, from_client, from_upstream, happens, hears, is_reached, lost, origin_after, relay_ticks, relayed, run, sent_by, sent_down, with_relay, second, sends, to_client, to_relay, to_server, wanting, with_client}
 use Rattle.loss_world.specs.Worlds.{Beginning, ClientHost, ClientTerms, RelayHost, RelayTerms, Renumbering, World, Event, ToServer, ToRelay, ToClient, RelayTicks, ClientTicks, Wants, Ends, Fails, Passes, begun, client_begun, relay_begun}
 use Rattle.loss_world.proofs.Held.{AreTold, SlotHolds, WantHolds, end-holds, heard-holds, slot-at, tick-holds, want-holds}
 use Rattle.loss_world.proofs.HouseFacts.{All-got, All-set}
+use Rattle.loss_world.proofs.BagGrows.{before, run-before}
+use Rattle.loss_world.proofs.CodeReads.{GrantsNothing}
+use Rattle.loss_world.proofs.RelayDown.{IsOurs, RelayLaws, nothing-told, ours-next, own-grants, server-told}
+use Rattle.loss_world.proofs.RelayFacts.{on-client}
 use Rattle.loss_world.proofs.Saying.{request-none}
+use Rattle.loss_world.proofs.Traces.{HostHolds, IsToldPacket, IsTraced}
 
--- ---- a success that goes to an address, by its third party and its data
+abbrev IsOurHost : Beginning → RelayHost → Type 0
+IsOurHost b h = IsOurs b h.relay
 
-pub record IsTraced (b : Beginning) (history : List HouseEntry) (renumberings : List Renumbering) (to : Address) (third : Option Address) (c : Common) : Type 0 where
-  pub entry : HouseEntry
-  pub among : Contains history entry
-  pub told : Common
-  pub grants : Grants entry told (unwrap_or third to)
-  pub relays : List RelayTerms
-  pub on_the_way : AllByRecursion (Contains b.relays) relays
-  pub rewritten_to : told.nonce ≡ rewritten relays to c.nonce
-  pub protocol : told.protocol ≡ c.protocol
-  pub internal : told.internal ≡ c.internal
-  pub external : told.external ≡ c.external
-  pub address : (told.address ≡ c.address) ⊎ IsRenumbered renumberings entry c.address
-
-abbrev pub IsToldPacket : Beginning → List HouseEntry → List Renumbering → Packet → Type 0
-IsToldPacket b history renumberings p = AreTold (IsTraced b history renumberings p.out.peer) p.out.octets
-
-abbrev pub HostHolds : Beginning → List HouseEntry → List Renumbering → ClientHost → Type 0
-HostHolds b history renumberings h = AllByRecursion (SlotHolds (IsTraced b history renumberings h.client.own)) h.client.wants
-
--- what holds of a world without relays
+-- what holds of a world whose external addresses stay
 pub record Traces (b : Beginning) (w : World) : Type 0 where
-  pub relays : w.relays ≡ []
+  pub relays : AllByRecursion (IsOurHost b) w.relays
   pub bag : AllByRecursion (IsToldPacket b w.history w.renumberings) w.bag
   pub clients : AllByRecursion (HostHolds b w.history w.renumberings) w.clients
 
@@ -152,15 +144,95 @@ to-server b w (Some p) h =
     cond_both (is_reached p w.server) (answered w (datagram_of p) (packet_entry w.house (second w) (datagram_of p))) w (Traces b)
     (λ _. answer b w (datagram_of p) (packet_entry w.house (second w) (datagram_of p)) h refl) (λ _. h)
 
--- ---- relays: there are none
+-- ---- relays
 
-no-relay : (b : Beginning) (w : World) (k : ℕ) (p : Option Packet) (rs : List RelayHost) → w.relays ≡ rs → rs ≡ [] → Traces b w → Traces b (to_relay w k (slice_get rs k) p)
-no-relay b w k p [] is none h = h
-no-relay b w k p (r ∷ rs) is none h = absurd cc
+same-address : (x y : Address) → bytes_eq x.0 y.0 ≡ true → x ≡ y
+same-address x y h = ap (λ (o : List ℕ). record { 0 = o }) ((bytes_eq-Decides x.0 y.0).0 h)
 
-no-tick : (b : Beginning) (w : World) (k : ℕ) (rs : List RelayHost) → rs ≡ [] → Traces b w → Traces b (relay_ticks w k (slice_get rs k))
-no-tick b w k [] none h = h
-no-tick b w k (r ∷ rs) none h = absurd cc
+-- where there is a relay, all packets are of octets
+abbrev pub MayRelay : Beginning → List Packet → Type 0
+MayRelay b bag = (t : RelayTerms) → Contains b.relays t → AllByRecursion HasOctets bag
+
+with-relay : (b : Beginning) (w : World) (k : ℕ) (r : RelayHost) → Traces b w → IsOurHost b r
+    → Traces b (with_relay w k r)
+with-relay b w k r h is =
+    record { relays = All-set (IsOurHost b) w.relays k r h.relays is; bag = h.bag; clients = h.clients }
+
+sends-told : (b : Beginning) (w : World) (p : Option Packet) → Traces b w
+    → ((x : Packet) → p ≡ Some x → IsToldPacket b w.history w.renumberings x) → Traces b (sends w p)
+sends-told b w None h f = h
+sends-told b w (Some x) h f = record { relays = h.relays; bag = (f x refl, h.bag); clients = h.clients }
+
+down-packet : (b : Beginning) (w : World) (relay : Relay) (origin : Option Origin) (out : Option Datagram)
+    → ((sent : Datagram) → out ≡ Some sent → AreTold (IsTraced b w.history w.renumberings sent.peer) sent.octets)
+    → (x : Packet) → sent_down w relay origin out ≡ Some x → IsToldPacket b w.history w.renumberings x
+down-packet b w relay origin None f x e = absurd cc
+down-packet b w relay origin (Some sent) f x e =
+    let same : relayed w relay origin sent ≡ x = cc in
+    subst (IsToldPacket b w.history w.renumberings) same (f sent refl)
+
+from-upstream : RelayLaws → (b : Beginning) (w : World) (k : ℕ) (r : RelayHost) (p : Packet) → Traces b w
+    → IsOurHost b r → IsToldPacket b w.history w.renumberings p → HasOctets p
+    → is_reached p r.relay.own ≡ true → Traces b (from_upstream w k r p)
+from-upstream laws b w k r p h is told are here =
+    let d = datagram_of p in
+    let step = on_server r.relay d w.clock in
+    let to = same-address p.out.peer r.relay.own here in
+    let came : AreTold (IsTraced b w.history w.renumberings r.relay.own) p.out.octets =
+    subst (λ a. AreTold (IsTraced b w.history w.renumberings a) p.out.octets) to told in
+    let host : RelayHost = record {
+      relay = step.relay;
+      origin = origin_after (response_from r.relay.server d) p.origin r.origin;
+    } in
+    sends-told b (with_relay w k host) (sent_down w r.relay p.origin step.out)
+    (with-relay b w k host h (ours-next laws.waits b r.relay (Runs.Server d w.clock) is))
+    (down-packet b w r.relay p.origin step.out
+    (λ sent e. server-told laws b w.history w.renumberings r.relay is d are came sent w.clock e))
+
+up-packet : (b : Beginning) (w : World) (r : RelayHost) (out : ProxyOut)
+    → ((sent : Datagram) → out ≡ Outs.Reply sent → GrantsNothing sent.octets)
+    → ((octets : List ℕ) → out ≡ Outs.Up octets → response_of octets ≡ None)
+    → (x : Packet) → sent_by w r out ≡ Some x → IsToldPacket b w.history w.renumberings x
+up-packet b w r Outs.Nothing f g x e = absurd cc
+up-packet b w r (Outs.Reply sent) f g x e =
+    let same : relayed w r.relay r.origin sent ≡ x = cc in
+    subst (IsToldPacket b w.history w.renumberings) same
+    (nothing-told (IsTraced b w.history w.renumberings sent.peer) sent.octets (f sent refl))
+up-packet b w r (Outs.Up octets) f g x e =
+    let none = g octets refl in
+    let out : Datagram = record { peer = r.relay.server; port = 5351; octets = octets } in
+    let same : relayed w r.relay None out ≡ x = cc in
+    subst (IsToldPacket b w.history w.renumberings) same (λ y c read success lasts has. absurd cc)
+
+from-client : RelayLaws → (b : Beginning) (w : World) (k : ℕ) (r : RelayHost) (p : Packet) → Traces b w
+    → IsOurHost b r → Traces b (from_client w k r p)
+from-client laws b w k r p h is =
+    let d = datagram_of p in
+    let step = on_client r.relay d w.clock in
+    let host : RelayHost = record r { relay = step.relay } in
+    sends-told b (with_relay w k host) (sent_by w r step.out)
+    (with-relay b w k host h (ours-next laws.waits b r.relay (Runs.Client d w.clock) is))
+    (up-packet b w r step.out (λ sent e. own-grants laws.errors r.relay d w.clock sent e) (on-client r.relay d w.clock).up)
+
+to-relay : RelayLaws → (b : Beginning) (w : World) (k : ℕ) (r : Option RelayHost) (p : Option Packet)
+    → Traces b w → ((x : RelayHost) → r ≡ Some x → IsOurHost b x)
+    → ((x : Packet) → p ≡ Some x → IsToldPacket b w.history w.renumberings x)
+    → ((t : RelayTerms) → Contains b.relays t → (x : Packet) → p ≡ Some x → HasOctets x)
+    → Traces b (to_relay w k r p)
+to-relay laws b w k None p h f g o = h
+to-relay laws b w k (Some r) None h f g o = h
+to-relay laws b w k (Some r) (Some p) h f g o =
+    let is = f r refl in
+    cond_both (is_reached p r.relay.own) (cond (same_address p.sender r.relay.server) (from_upstream w k r p) (from_client w k r p)) w (Traces b)
+    (λ here. cond_both (same_address p.sender r.relay.server) (from_upstream w k r p) (from_client w k r p) (Traces b)
+    (λ _. from-upstream laws b w k r p h is (g p refl) (o is.terms is.among p refl) here)
+    (λ _. from-client laws b w k r p h is)) (λ _. h)
+
+relay-ticks : RelayLaws → (b : Beginning) (w : World) (k : ℕ) (r : Option RelayHost) → Traces b w
+    → ((x : RelayHost) → r ≡ Some x → IsOurHost b x) → Traces b (relay_ticks w k r)
+relay-ticks laws b w k None h f = h
+relay-ticks laws b w k (Some r) h f =
+    with-relay b w k (record r { relay = (on_tick r.relay w.clock).relay }) h (ours-next laws.waits b r.relay (Runs.Tick w.clock) (f r refl))
 
 -- ---- clients
 
@@ -170,9 +242,6 @@ with-host b w k c h is = record { relays = h.relays; bag = h.bag; clients = All-
 own-same : (c : ClientView) (now word : ℕ) (m : Meaning) → (after_meaning c now word m).own ≡ c.own
 own-same c now word Nothing = refl
 own-same c now word (Says epoch said) = refl
-
-same-address : (x y : Address) → bytes_eq x.0 y.0 ≡ true → x ≡ y
-same-address x y h = ap (λ (o : List ℕ). record { 0 = o }) ((bytes_eq-Decides x.0 y.0).0 h)
 
 to-client : (b : Beginning) (w : World) (k word : ℕ) (c : Option ClientHost) (p : Option Packet) → Traces b w → ((x : ClientHost) → c ≡ Some x → HostHolds b w.history w.renumberings x) →
     ((x : Packet) → p ≡ Some x → IsToldPacket b w.history w.renumberings x) → Traces b (to_client w k word c p)
@@ -240,22 +309,42 @@ fails-at b w place cause (Some shard) n h =
 
 -- ---- all
 
-next-traces : (b : Beginning) (w : World) (e : Event) → IsNoRenumbering e → Traces b w → Traces b (happens w e)
-next-traces b w (ToServer p) n h = to-server b w (slice_get w.bag p) h
-next-traces b w (ToRelay p k) n h = no-relay b w k (slice_get w.bag p) w.relays refl h.relays h
-next-traces b w (ToClient p k word) n h =
+next-traces : RelayLaws → (b : Beginning) (w : World) (e : Event) → IsNoRenumbering e
+    → MayRelay b w.bag → Traces b w → Traces b (happens w e)
+next-traces laws b w (ToServer p) n o h = to-server b w (slice_get w.bag p) h
+next-traces laws b w (ToRelay p k) n o h =
+    to-relay laws b w k (slice_get w.relays k) (slice_get w.bag p) h
+    (λ x there. All-got (IsOurHost b) w.relays k x h.relays there)
+    (λ x there. All-got (IsToldPacket b w.history w.renumberings) w.bag p x h.bag there)
+    (λ t among x there. All-got HasOctets w.bag p x (o t among) there)
+next-traces laws b w (ToClient p k word) n o h =
     to-client b w k word (slice_get w.clients k) (slice_get w.bag p) h
-    (λ x there. All-got (HostHolds b w.history w.renumberings) w.clients k x h.clients there) (λ x there. All-got (IsToldPacket b w.history w.renumberings) w.bag p x h.bag there)
-next-traces b w (RelayTicks k) n h = no-tick b w k w.relays h.relays h
-next-traces b w (ClientTicks k word) n h = client-ticks b w k word (slice_get w.clients k) h (λ x there. All-got (HostHolds b w.history w.renumberings) w.clients k x h.clients there)
-next-traces b w (Wants k third ask) n h = client-wants b w k (slice_get w.clients k) third ask h (λ x there. All-got (HostHolds b w.history w.renumberings) w.clients k x h.clients there)
-next-traces b w (Ends k id) n h = client-ends b w k id (slice_get w.clients k) h (λ x there. All-got (HostHolds b w.history w.renumberings) w.clients k x h.clients there)
-next-traces b w (Fails place cause) n h = fails-at b w place cause (slice_get w.house.shards place) n h
-next-traces b w (Passes ms) n h = record { relays = h.relays; bag = h.bag; clients = h.clients }
+    (λ x there. All-got (HostHolds b w.history w.renumberings) w.clients k x h.clients there)
+    (λ x there. All-got (IsToldPacket b w.history w.renumberings) w.bag p x h.bag there)
+next-traces laws b w (RelayTicks k) n o h =
+    relay-ticks laws b w k (slice_get w.relays k) h
+    (λ x there. All-got (IsOurHost b) w.relays k x h.relays there)
+next-traces laws b w (ClientTicks k word) n o h =
+    client-ticks b w k word (slice_get w.clients k) h
+    (λ x there. All-got (HostHolds b w.history w.renumberings) w.clients k x h.clients there)
+next-traces laws b w (Wants k third ask) n o h =
+    client-wants b w k (slice_get w.clients k) third ask h
+    (λ x there. All-got (HostHolds b w.history w.renumberings) w.clients k x h.clients there)
+next-traces laws b w (Ends k id) n o h =
+    client-ends b w k id (slice_get w.clients k) h
+    (λ x there. All-got (HostHolds b w.history w.renumberings) w.clients k x h.clients there)
+next-traces laws b w (Fails place cause) n o h = fails-at b w place cause (slice_get w.house.shards place) n h
+next-traces laws b w (Passes ms) n o h = record { relays = h.relays; bag = h.bag; clients = h.clients }
 
-run-traces : (b : Beginning) (events : List Event) (w : World) → AllByRecursion IsNoRenumbering events → Traces b w → Traces b (run w events)
-run-traces b [] w n h = h
-run-traces b (e ∷ es) w n h = run-traces b es (happens w e) n.1 (next-traces b w e n.0 h)
+run-traces : RelayLaws → (b : Beginning) (events : List Event) (w : World)
+    → AllByRecursion IsNoRenumbering events → MayRelay b (run w events).bag → Traces b w
+    → Traces b (run w events)
+run-traces laws b [] w n o h = h
+run-traces laws b (e ∷ es) w n o h =
+    let after : MayRelay b (happens w e).bag =
+    λ t among. run-before HasOctets es (happens w e) (o t among) in
+    let now : MayRelay b w.bag = λ t among. before HasOctets w e (after t among) in
+    run-traces laws b es (happens w e) n.1 o (next-traces laws b w e n.0 now h)
 
 nothing-held : (T : Option Address → Common → Type 0) (n : ℕ) → AllByRecursion (SlotHolds T) (replicate n None)
 nothing-held T zero = tt
@@ -265,8 +354,20 @@ clients-begin : (b : Beginning) (ts : List ClientTerms) → AllByRecursion (Host
 clients-begin b [] = tt
 clients-begin b (t ∷ ts) = (nothing-held (IsTraced b [] [] t.own) 64, clients-begin b ts)
 
-begins : (b : Beginning) → b.relays ≡ [] → Traces b (begun b)
-begins b none = record { relays = ap (map relay_begun) none; bag = tt; clients = clients-begin b b.clients }
+relays-begin : (b : Beginning) (ts : List RelayTerms) → ((t : RelayTerms) → IsIn t ts → Contains b.relays t)
+    → AllByRecursion (IsOurHost b) (map relay_begun ts)
+relays-begin b [] f = tt
+relays-begin b (t ∷ ts) f = (
+  record { terms = t; among = f t (inl refl); own = refl; key = refl; waits = tt },
+  relays-begin b ts (λ x k. f x (inr k)),
+)
+
+begins : (b : Beginning) → Traces b (begun b)
+begins b = record {
+  relays = relays-begin b b.relays (λ t k. Contains-from_IsIn b.relays t k);
+  bag = tt;
+  clients = clients-begin b b.clients;
+}
 
 held-traced : (b : Beginning) (w : World) (own : Address) (x : Option WantView) (want : WantView) (lease : HeldLease) → SlotHolds (IsTraced b w.history w.renumberings own) x → x ≡ Some want → want.lease ≡ Some lease → IsGranted b w own want lease
 held-traced b w own None want lease h e is = absurd cc
@@ -295,9 +396,22 @@ held-traced b w own (Some y) want lease h e is =
     told-address a x h same (inl e) = inl (e ∙ same)
     told-address a x h same (inr r) = inr (subst (IsRenumbered w.renumberings h) same r)
 
-pub leases-granted-directly : LeasesAreGrantedDirectly
-leases-granted-directly b events host id want lease none no_renumbering among at is =
+leases-granted-by : RelayLaws → (b : Beginning) (events : List Event) (host : ClientHost) (id : ℕ)
+    (want : WantView) (lease : HeldLease) → AllByRecursion IsNoRenumbering events
+    → MayRelay b (run (begun b) events).bag → Contains (run (begun b) events).clients host
+    → want_at host.client.wants id ≡ Some want → want.lease ≡ Some lease
+    → IsGranted b (run (begun b) events) host.client.own want lease
+leases-granted-by laws b events host id want lease stay may among at is =
     let w = run (begun b) events in
-    let traces = run-traces b events (begun b) no_renumbering (begins b none) in
+    let traces = run-traces laws b events (begun b) stay may (begins b) in
     let holds = All-IsIn (HostHolds b w.history w.renumberings) w.clients host traces.clients (IsIn-from_Contains w.clients host among) in
     held-traced b w host.client.own (want_at host.client.wants id) want lease (slot-at (IsTraced b w.history w.renumberings host.client.own) host.client.wants id holds) at is
+
+pub leases-granted-directly : RelayLaws → LeasesAreGrantedDirectly
+leases-granted-directly laws b events host id want lease none stay among at is =
+    leases-granted-by laws b events host id want lease stay
+    (λ t there. absurd (IsIn-from_Contains [] t (subst (λ ts. Contains ts t) none there))) among at is
+
+pub leases-granted-through : RelayLaws → LeasesAreGrantedThroughRelays
+leases-granted-through laws b events host id want lease octets stay among at is =
+    leases-granted-by laws b events host id want lease stay (λ t there. octets) among at is

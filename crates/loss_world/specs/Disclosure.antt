@@ -15,6 +15,7 @@ use Rattle.pcp_codec.specs.declared.requests.Body.TheVariants.{Announce, Map, Pe
 use Rattle.pcp_options.specs.declared.responses.Response.{Response}
 use Rattle.pcp_options.specs.Asking.{third_of}
 use Rattle.pcp_options.specs.ReadResponses.{response_of}
+use Rattle.pcp_options.specs.Responses.{AreOctets}
 use Rattle.client_core.specs.declared.epochs.HeardEpoch.{HeardEpoch}
 use Rattle.client_core.specs.declared.events.HeldLease.{HeldLease}
 use Rattle.client_core.specs.declared.meanings.EpochFound.TheVariants.{Invalid}
@@ -97,6 +98,19 @@ LeasesAreGrantedDirectly =
     Contains (run (begun b) events).clients host →
     want_at host.client.wants id ≡ Some want → want.lease ≡ Some lease →
     IsGranted b (run (begun b) events) host.client.own want lease
+
+-- With relays it is so where every packet is of octets, as those of a network are.
+abbrev pub HasOctets : Packet → Type 0
+HasOctets p = AreOctets p.out.octets
+
+abbrev pub LeasesAreGrantedThroughRelays : Type 0
+LeasesAreGrantedThroughRelays =
+    (b : Beginning) (events : List Event) (host : ClientHost) (id : ℕ) (want : WantView)
+    (lease : HeldLease)
+    → AllByRecursion HasOctets (run (begun b) events).bag → AllByRecursion IsNoRenumbering events
+    → Contains (run (begun b) events).clients host
+    → want_at host.client.wants id ≡ Some want → want.lease ≡ Some lease
+    → IsGranted b (run (begun b) events) host.client.own want lease
 
 -- ---- where replies come from
 

@@ -1,21 +1,29 @@
 //! What clients may believe in a world that loses, repeats and reorders packets.
-ghost use Rattle.loss_world.specs.Disclosure.{ClientsHaveOrigins, LeasesAreGrantedDirectly, LossesAreFound, RepliesHaveOrigins};
+ghost use Rattle.loss_world.specs.Disclosure.{ClientsHaveOrigins, LeasesAreGrantedDirectly, LeasesAreGrantedThroughRelays, LossesAreFound, RepliesHaveOrigins};
 
 use client_core::losses_are_heard;
 use lease_core::decisions_change_leases;
+use option_laws::{refusals_are_errors, what_is_read_fits};
+use pcp_options::successes_are_read;
+use proxy_core::waits_are_kept;
 
 /// Whatever is lost, repeated or reordered, and through any number of relays: each response that was
 /// sent has its origin in a reply or an update of the server, and so has each epoch that a client
 /// heard. A client that hears two replies, between whose origins leases were lost, finds the second
-/// epoch invalid where the first was high enough (RFC 6887, section 8.5). Without relays, and while no
-/// external address changes, a lease that a client holds is one that the server granted to its
-/// endpoint and its nonce.
+/// epoch invalid where the first was high enough (RFC 6887, section 8.5). While no external address
+/// changes, a lease that a client holds is one that the server granted to its endpoint and to its
+/// nonce, as the relays on the way rewrote it.
 pub fn world_law()
-    ensures leases { LeasesAreGrantedDirectly }
+    ensures leases { LeasesAreGrantedThroughRelays }
+    ensures direct { LeasesAreGrantedDirectly }
     ensures replies { RepliesHaveOrigins }
     ensures clients { ClientsHaveOrigins }
     ensures losses { LossesAreFound }
 {
     decisions_change_leases();
     losses_are_heard();
+    what_is_read_fits();
+    refusals_are_errors();
+    successes_are_read();
+    waits_are_kept();
 }
