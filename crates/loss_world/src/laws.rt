@@ -11,8 +11,8 @@ use proxy_core::waits_are_kept;
 /// sent has its origin in a reply or an update of the server, and so has each epoch that a client
 /// heard. A client that hears two replies, between whose origins leases were lost, finds the second
 /// epoch invalid where the first was high enough (RFC 6887, section 8.5). While no external address
-/// changes, a lease that a client holds is one that the server granted to its endpoint and to its
-/// nonce, as the relays on the way rewrote it.
+/// changes, and where all packets are of octets, a lease that a client holds is one that the server
+/// granted to its endpoint and to its nonce, as the relays on the way rewrote it.
 pub fn world_law()
     ensures leases { LeasesAreGrantedThroughRelays }
     ensures direct { LeasesAreGrantedDirectly }
