@@ -15,8 +15,8 @@ use std::alloc::Global;
 use std::sync::Wait;
 use std::test::Fail;
 
-// Whether the lane finds 10.0.0.5 with its UDP port 5000 at the first external port.
-fn finds<R: Wait>(rt: &R, lane: &mut Lane) -> bool
+/// Whether the lane finds 10.0.0.5 with its UDP port 5000 at the first external port.
+pub(crate) fn finds<R: Wait>(rt: &R, lane: &mut Lane) -> bool
     ensures { lane.new.index ≡ lane.old.index }
 {
     let remote = Address::v4(198, 51, 100, 7);
@@ -26,8 +26,8 @@ fn finds<R: Wait>(rt: &R, lane: &mut Lane) -> bool
     }
 }
 
-// Whether the lane finds a lease that was granted, once it was told.
-fn learns_grant<D: LeaseDisk + Drop, R: Wait>(
+/// Whether the lane finds a lease that was granted, once it was told.
+pub(crate) fn learns_grant<D: LeaseDisk + Drop, R: Wait>(
     rt: &R,
     alloc: Global,
     house: &House<D>,

@@ -1,4 +1,5 @@
-//! Tests of a house of many threads: disks that fail, what a lane learns, and eight threads at once.
+//! Tests of a house of many threads: disks that fail, what a lane learns, a lookup
+//! while a sync waits, and eight threads at once.
 #![tactic(auto)]
 
 #[cfg(test)]
@@ -11,6 +12,10 @@ mod ends;
 mod faults;
 #[cfg(test)]
 mod grants;
+#[cfg(test)]
+mod held;
+#[cfg(test)]
+mod held_disks;
 #[cfg(test)]
 mod lanes;
 #[cfg(test)]
