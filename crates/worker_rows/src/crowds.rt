@@ -1,7 +1,7 @@
 //! Many jobs at as many external addresses as may be.
 
 use crate::configs::config_of;
-use crate::edges::{outboxes, silent_links};
+use crate::edges::{outboxes, silent_links, still_clock};
 use crate::requests::{Ask, granted_by, request};
 use crate::serving::serve_blank;
 use job_workers::TallyRow;
@@ -85,8 +85,9 @@ fn serve_crowd<R: Threads + Wait + Sync>(rt: &R, alloc: Global) -> Result<bool, 
     let mut inbox = crowd(alloc)?;
     let mut outs = outboxes(alloc)?;
     let mut links = silent_links(alloc)?;
+    let clock = still_clock(alloc)?;
     let ended = serve_blank(
-        rt, alloc, &config, &mut inbox, &mut outs, &mut links, &NoGate,
+        rt, alloc, &config, clock, &mut inbox, &mut outs, &mut links, &NoGate,
     )?;
     match &ended.tally {
         Ok(tally) => are_whole(alloc, tally.items(), &outs),

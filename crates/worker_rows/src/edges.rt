@@ -19,12 +19,17 @@ pub(crate) fn disks(alloc: Global, count: usize) -> Result<Vec<DiskPair<MemoryDi
     Ok(disks)
 }
 
+/// A clock that stands still.
+pub(crate) fn still_clock(alloc: Global) -> Result<StepClock, Memory> {
+    let times = Vec::from_array(alloc, [1_000_000])?;
+    StepClock::new(alloc, times)
+}
+
 /// So many clocks that stand still.
 pub(crate) fn clocks(alloc: Global, count: usize) -> Result<Vec<StepClock>, Memory> {
     let mut clocks = Vec::new(alloc);
     for _ in 0..count {
-        let times = Vec::from_array(alloc, [1_000_000])?;
-        clocks.push(StepClock::new(alloc, times)?)?;
+        clocks.push(still_clock(alloc)?)?;
     }
     Ok(clocks)
 }

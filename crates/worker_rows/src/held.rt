@@ -1,6 +1,7 @@
 //! A shard that is held while another one and a lane go on.
 
 use crate::configs::config_of;
+use crate::edges::still_clock;
 use crate::flags::{Flags, HoldingGate, HoldingInbox, TellingLink, TellingOutbox};
 use crate::requests::{Ask, request};
 use crate::serving::serve_blank;
@@ -57,7 +58,10 @@ fn serve_held<R: Threads + Wait + Sync>(
     let mut outs = telling_outboxes(alloc, flags)?;
     let mut links = telling_links(alloc, flags)?;
     let gate = HoldingGate { flags };
-    let ended = serve_blank(rt, alloc, &config, &mut inbox, &mut outs, &mut links, &gate)?;
+    let clock = still_clock(alloc)?;
+    let ended = serve_blank(
+        rt, alloc, &config, clock, &mut inbox, &mut outs, &mut links, &gate,
+    )?;
     if ended.tally.is_err() || outs.len() < 2 {
         return Ok(None);
     }

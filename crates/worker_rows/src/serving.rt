@@ -6,7 +6,7 @@ use crate::edges::{clocks, disks};
 use house_workers::serve_all;
 use job_workers::Tally;
 use pcp_base::{Config, MOST_EXTERNALS, Memory, Moment};
-use pcp_io::{Gate, Inbox, LaneLink, Outbox};
+use pcp_io::{Gate, Inbox, LaneLink, Outbox, StepClock};
 use request_workers::ServeFault;
 use shared_house::House;
 use std::alloc::Global;
@@ -20,7 +20,7 @@ pub(crate) struct Ended {
     pub pairs: usize,
 }
 
-/// Serves with these edges until the inbox stops or fails.
+/// Serves with these edges, and this clock of the dispatcher, until the inbox stops or fails.
 pub(crate) fn serve_blank<
     R: Threads + Wait + Sync,
     I: Inbox,
@@ -31,6 +31,7 @@ pub(crate) fn serve_blank<
     rt: &R,
     alloc: Global,
     config: &Config,
+    clock: StepClock,
     inbox: &mut I,
     outs: &mut [O],
     links: &mut [L],
@@ -39,7 +40,8 @@ pub(crate) fn serve_blank<
     requires { IsConfig config.now }
 {
     let disks = disks(alloc, MOST_EXTERNALS)?;
-    let mut clocks = clocks(alloc, 2 * MOST_EXTERNALS + 1)?;
+    let mut clocks = clocks(alloc, 2 * MOST_EXTERNALS)?;
+    clocks.push(clock)?;
     if disks.len() < config.externals.items().len()
         || outs.len() != MOST_EXTERNALS + 1
         || links.len() != MOST_EXTERNALS
