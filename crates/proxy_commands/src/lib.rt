@@ -2,8 +2,10 @@
 #![tactic(auto)]
 
 mod commands;
+mod laws;
 mod options;
 mod parses;
 mod values;
 
 pub use commands::{ProxyCommand, command_of, help_of};
+pub use laws::plain_words_are_commands;

@@ -1,0 +1,177 @@
+-- Plain words are read as the command that they say.
+use Rattle.std.proofs.Common.{◌≡◌, ◌≢◌, ℕ, ◌<◌, ◌^◌, List, [], ◌∷◌, ◌++◌, map, length, Option, Some, None, inl, inr, arith, refl, sym, subst, ap, ◌∙◌, codes, true, false, decimal, All, ne_eqb}
+use Rattle.std.specs.List.{AllPass}
+use Rattle.std.specs.Prelude.{Bool, IfSome, Ok, is_some}
+use Rattle.std.proofs.lemmas.List.Elements.{All-contains, All-from_recursion, All-head, All-nil, All-tail}
+use Rattle.std.specs.Net.Text.{dotted_text}
+use Rattle.hex.specs.Hex.{decode_sized, is_hex_digit}
+use Rattle.hex.proofs.HexLemmas.{decode_of-ok, decode_sized-ok, decode_sized-twice}
+use Rattle.std.proofs.lemmas.Fmt.{decimal_is_IsNumeral}
+use Rattle.std.proofs.lemmas.Str.Parse.{digit_from_value}
+use Rattle.std.specs.Str.Parse.{AllDigits}
+use Rattle.std.specs.Str.{bytes_eq}
+use Rattle.clap.specs.Lexer.{long_of}
+use Rattle.clap.specs.Simple.{Shape, built}
+use Rattle.clap.specs.Faults.{check_fault}
+use Rattle.clap.specs.Takes.{is_given}
+use Rattle.clap.specs.Walk.{Row, Rule, Text, arg_by_id, arg_by_long}
+use Rattle.pcp_base.specs.AddressTexts.{IsAddressText}
+use Rattle.pcp_base.specs.declared.addresses.Address.{Address}
+use Rattle.client_commands.specs.Commands.{value_in}
+use Rattle.client_commands.specs.PlainWords.{AreGiven, Given, IsOneOf, flag, option, value_given}
+use Rattle.client_commands.specs.Values.{IsAddressAt}
+use Rattle.client_commands.proofs.PlainEnds.{AreFound, IsReadAs, all_found, built_help, help_adds_none, help_defaults_well, is_read, options_add_none, options_default_well, other_name, rows_have, rows_say, same_name}
+use Rattle.client_commands.proofs.PlainWalks.{AreGood, IsOption, IsValue, built_option, row_of}
+use Rattle.proxy_commands.specs.declared.commands.ProxyCommand.{ProxyCommand}
+use Rattle.proxy_commands.specs.Commands.{IsCommand, IsProxyIn, proxy_app}
+use Rattle.proxy_commands.specs.Keys.{IsKeyAt}
+use Rattle.proxy_commands.specs.PlainWords.{ArePlainWords, proxy_options}
+
+-- ---- values begin with no hyphen
+
+abbrev HasNoHyphen : Text → Type 0
+HasNoHyphen text = (rest : Text) → text ≡ 45 ∷ rest → ⊥
+
+is_value : (text : Text) → HasNoHyphen text → IsValue text
+is_value [] bare = record { long = refl; short = refl; more = refl }
+is_value (x ∷ xs) bare =
+    let other = ne_eqb x 45 (λ e. bare xs (ap (λ (y : ℕ). y ∷ xs) e)) in
+    record {
+      long = rw other refl;
+      short = rw other refl;
+      more = other_name (x ∷ xs) (45 ∷ 45 ∷ []) (λ e. bare (45 ∷ []) e);
+    }
+
+-- a text of hexadecimal digits
+bare_pairs : (n : ℕ) (text octets : Text) → decode_sized text n ≡ Ok octets → HasNoHyphen text
+bare_pairs n text octets is rest e =
+    let whole = sym (decode_sized-twice text n (decode_sized-ok text n octets is)) ∙ is in
+    let digits = subst (AllPass is_hex_digit) e (decode_of-ok text octets whole).1 in
+    let first : false ≡ true = digits 0 45 (omega arith) in
+    absurd (cc (first))
+
+-- it begins with something else
+abbrev BeginsWell : Text → Type 0
+BeginsWell text = (x : ℕ) × (xs : Text) × (text ≡ x ∷ xs) × (x ≢ 45)
+
+begins_more : (text after : Text) → BeginsWell text → BeginsWell (text ++ after)
+begins_more text after well = (well.0, well.1 ++ after, ap (λ (t : Text). t ++ after) well.2, well.3)
+
+begins_bare : (text : Text) → BeginsWell text → HasNoHyphen text
+begins_bare text well rest e =
+    let both : well.0 ∷ well.1 ≡ 45 ∷ rest = sym well.2 ∙ e in
+    well.3 (cc)
+
+begins_digits : (text : Text) → AllDigits 10 text → 0 < length text → BeginsWell text
+begins_digits [] digits some = absurd (omega (arith, some))
+begins_digits (x ∷ xs) digits some = (x, xs, refl, λ same. omega (arith, same, digit_from_value x digits.0))
+
+begins_number : (n : ℕ) → n < 2 ^ 64 → BeginsWell (decimal n)
+begins_number n fits = begins_digits (decimal n) (decimal_is_IsNumeral n fits).0.1 (decimal_is_IsNumeral n fits).0.0
+
+begins_dotted : (a b c d : ℕ) → a < 256 → BeginsWell (dotted_text a b c d)
+begins_dotted a b c d fits =
+    let dot = codes "." in
+    begins_more _ (decimal d) (begins_more _ dot (begins_more _ (decimal c) (begins_more _ dot (begins_more _ (decimal b) (begins_more _ dot (begins_number a (omega (arith, fits))))))))
+
+address_value : (given : Option Text) (a : Address) → IsAddressAt given a → IfSome given IsValue
+address_value None a is = absurd is
+address_value (Some text) a is = is_value text (either is)
+  where
+    either : IsAddressText text a → HasNoHyphen text
+    either (inl dotted) =
+        let d = dotted.1 in
+        begins_bare text (subst BeginsWell (sym d.spelled) (begins_dotted d.a d.b d.c d.d d.fit.0))
+    either (inr long) = bare_pairs 16 text a.0 long
+
+key_value : (given : Option Text) (key : List ℕ) → IsKeyAt given key → IfSome given IsValue
+key_value None key is = absurd is
+key_value (Some text) key is = is_value text (bare_pairs 32 text key is)
+
+-- ---- what must be there
+
+address_there : (given : Option Text) (a : Address) → IsAddressAt given a → is_some given ≡ true
+address_there None a is = absurd is
+address_there (Some text) a is = refl
+
+key_there : (given : Option Text) (key : List ℕ) → IsKeyAt given key → is_some given ≡ true
+key_there None key is = absurd is
+key_there (Some text) key is = refl
+
+-- ---- each word is good
+
+-- an option of the command, and what is given for it
+abbrev IsAllowed : List Rule → List Given → Text → Type 0
+IsAllowed c all name = IsOption c true name × IfSome (value_given all name) IsValue
+
+allowed : (c : List Rule) (all : List Given) (name : Text) → long_of (45 ∷ 45 ∷ name) ≡ Some (name, None)
+    → bytes_eq (45 ∷ 45 ∷ name) (45 ∷ 45 ∷ []) ≡ false → arg_by_long c name ≡ Some (built_option true name) → arg_by_id c name ≡ Some (built_option true name)
+    → IfSome (value_given all name) IsValue → IsAllowed c all name
+allowed c all name word more long id value =
+    (record { word = record { long = word; more = more; same = same_name name }; long = long; id = id }, value)
+
+all_good : (c : List Rule) (options : List Text) (all gs : List Given) → All (IsAllowed c all) options
+    → All (IsOneOf options []) gs → AreFound all gs → AreGood c gs
+all_good c options all [] allow each found = tt
+all_good c options all (option name value ∷ gs) allow each found =
+    let is = All-contains (IsAllowed c all) options name allow (All-head (IsOneOf options []) (option name value) gs each) in (
+      (true, is.0, subst (λ (o : Option Text). IfSome o IsValue) found.0 is.1),
+      all_good c options all gs allow (All-tail (IsOneOf options []) (option name value) gs each) found.1,
+    )
+all_good c options all (flag name ∷ gs) allow each found =
+    absurd (All-contains (λ (t : Text). ⊥) [] name (All-nil (λ (t : Text). ⊥)) (All-head (IsOneOf options []) (flag name) gs each))
+
+-- ---- the command
+
+abbrev proxy_needs : List (Bool × Text)
+proxy_needs = (true, codes "server") ∷ (true, codes "own") ∷ (true, codes "inner") ∷ (true, codes "key") ∷ []
+
+abbrev proxy_shape : Shape
+proxy_shape = (built proxy_app).top
+
+-- nothing is missing where these are given
+proxy_has : (rows : List Row) → is_given (codes "server") rows ≡ true → is_given (codes "own") rows ≡ true → is_given (codes "inner") rows ≡ true
+    → is_given (codes "key") rows ≡ true → check_fault proxy_shape rows false ≡ []
+proxy_has rows a b c d = rw (a, b, c, d) refl
+
+-- what the values say stays
+proxy_moves : (v w : Text → Option Text) (command : ProxyCommand) → v (codes "server") ≡ w (codes "server") → v (codes "own") ≡ w (codes "own")
+    → v (codes "inner") ≡ w (codes "inner") → v (codes "key") ≡ w (codes "key") → IsProxyIn w command → IsProxyIn v command
+proxy_moves v w command a b c d is = record { server = rw a is.server; own = rw b is.own; inner = rw c is.inner; key = rw d is.key }
+
+module _ (gs : List Given) (words : List Text) (command : ProxyCommand) (given : AreGiven (codes "proxy") proxy_options [] words gs)
+    (is : IsProxyIn (value_given gs) command) where
+  proxy_good : AreGood proxy_shape.rules gs
+  proxy_good =
+      let c = proxy_shape.rules in
+      all_good c proxy_options gs gs (All-from_recursion (IsAllowed c gs) proxy_options (
+        allowed c gs (codes "server") refl refl refl refl (address_value _ _ is.server),
+        (
+          allowed c gs (codes "own") refl refl refl refl (address_value _ _ is.own),
+          (
+            allowed c gs (codes "inner") refl refl refl refl (address_value _ _ is.inner),
+            (allowed c gs (codes "key") refl refl refl refl (key_value _ _ is.key), tt),
+          ),
+        ),
+      )) given.each (all_found gs given.once)
+
+  proxy_read : IsReadAs proxy_shape gs (map row_of gs)
+  proxy_read =
+      let rows = map row_of gs in
+      is_read proxy_shape gs rows proxy_good given.once
+      (options_default_well proxy_needs (built_help ∷ []) rows ∙ help_defaults_well rows)
+      (options_add_none proxy_needs (built_help ∷ []) rows ∙ help_adds_none rows)
+      (proxy_has rows (rows_have gs (codes "server") ∙ address_there _ _ is.server) (rows_have gs (codes "own") ∙ address_there _ _ is.own)
+      (rows_have gs (codes "inner") ∙ address_there _ _ is.inner) (rows_have gs (codes "key") ∙ key_there _ _ is.key))
+
+  proxy_taken : IsCommand words command
+  proxy_taken =
+      let rows = map row_of gs in
+      let says = rows_say gs in
+      let said : IsProxyIn (value_in rows) command = proxy_moves (value_in rows) (value_given gs) command
+      (says (codes "server")) (says (codes "own")) (says (codes "inner")) (says (codes "key")) is in
+      subst (λ words. IsCommand words command) (sym given.spelled)
+      (record { named = refl; behind = record { rows = rows; taken = (proxy_read.takes, sym proxy_read.finds); said = said } })
+
+pub plain_is_command : (words : List Text) (command : ProxyCommand) → ArePlainWords words command → IsCommand words command
+plain_is_command words command plain = proxy_taken plain.0 words command plain.1 plain.2
