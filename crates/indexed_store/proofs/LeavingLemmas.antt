@@ -13,7 +13,7 @@ use Rattle.pcp_base.proofs.Same.{same_endpoint-Decides, same_address-Decides}
 use Rattle.std.proofs.lemmas.Bool.{and_from, eq-eqb}
 use Rattle.end_table.proofs.EndMaps.{filter_others, shorter}
 use Rattle.indexed_store.specs.Leaving.{AreLeaving}
-use Rattle.indexed_store.proofs.Uniques.{one-key, one-peer}
+use Rattle.indexed_store.proofs.Uniques.{AtMostOne, one-key, one-peer}
 
 pub not_back : (b : Bool) → not b ≡ true → b ≡ false
 not_back true h = absurd (let no_way : false ≡ true = h in cc)
@@ -23,8 +23,93 @@ pub not_forth : (b : Bool) → not b ≡ false → b ≡ true
 not_forth true h = refl
 not_forth false h = absurd (let no_way : true ≡ false = h in cc)
 
-pub peer_own : (l : PeerLease) → is_peer_of l.endpoint l.remote l.remote_port l ≡ true
-peer_own l = and_from _ _ (and_from _ _ ((same_endpoint-Decides l.endpoint l.endpoint).1 refl) ((same_address-Decides l.remote l.remote).1 refl)) (eq-eqb l.remote_port l.remote_port refl)
+-- where no lease has ended, all are live
+pub all_live : {X : Type 0} (p : X → Bool) (xs : List X) → find (λ x. not (p x)) xs ≡ None
+    → xs ≡ filter p xs
+all_live p xs h = sym (filter-all p xs
+    (All-weaker (λ x. not (p x) ≡ false) (λ x. p x ≡ true) (λ x e. not_forth (p x) e) xs
+    (find-none (λ x. not (p x)) xs h)))
+
+none_dead : {X : Type 0} (p : X → Bool) (xs : List X) → xs ≡ filter p xs
+    → (x : X) → IsIn x (filter (λ y. not (p y)) xs) → ⊥
+none_dead p xs all x i =
+    let k = IsIn-filter (λ y. not (p y)) xs x i in
+    let alive = IsIn-filter p xs x (subst (λ (ys : List _). IsIn x ys) all k.0) in
+    unlike (p x) alive.1 (not_back (p x) k.1)
+
+-- ---- one lease of a list, of either kind
+
+-- what leases own is what each of them owns
+record IsOwned {L : Type 0} (own : L → List Owner) (owned : List L → List Owner) : Type 0 where
+  of_one : (ls : List L) (o : Owner) → IsIn o (owned ls) → (x : L) × IsIn x ls × IsIn o (own x)
+  of_all : (ls : List L) (x : L) (o : Owner) → IsIn x ls → IsIn o (own x) → IsIn o (owned ls)
+
+-- the lease has ended, and is the only one with its key
+record IsOut {L : Type 0} (is_live has_key : L → Bool) (ls : List L) (l : L) : Type 0 where
+  among : IsIn l ls
+  ended : is_live l ≡ false
+  key : has_key l ≡ true
+  one : AtMostOne has_key ls
+
+module _ {L : Type 0} (is_live has_key : L → Bool) (ls : List L) (l : L)
+    (out : IsOut is_live has_key ls l) where
+  abbrev others : List L
+  others = filter (λ x. not (has_key x)) ls
+
+  abbrev ended_of : List L → List L
+  ended_of xs = filter (λ x. not (is_live x)) xs
+
+  only : (x : L) → IsIn x ls → has_key x ≡ true → x ≡ l
+  only x i k = out.one x l i out.among k out.key
+
+  same_live : filter is_live others ≡ filter is_live ls
+  same_live = filter_others is_live has_key ls (λ x i k. ap is_live (only x i k) ∙ out.ended)
+
+  fewer : length others < length ls
+  fewer = shorter (λ x. not (has_key x)) ls l out.among (ap not out.key)
+
+  still_ended : (x : L) → IsIn x (ended_of ls) → has_key x ≡ false → IsIn x (ended_of others)
+  still_ended x i other =
+      let was = IsIn-filter (λ y. not (is_live y)) ls x i in
+      let stays = filter-IsIn (λ y. not (has_key y)) ls x was.0 (ap not other) in
+      filter-IsIn (λ y. not (is_live y)) others x stays was.1
+
+  -- what leases that have ended own is owned by this one, or by others of them
+  owned_parts : (own : L → List Owner) (owned : List L → List Owner) → IsOwned own owned
+      → (o : Owner) → IsIn o (owned (ended_of ls)) → IsIn o (own l) ⊎ IsIn o (owned (ended_of others))
+  owned_parts own owned laws o i =
+      let x = laws.of_one (ended_of ls) o i in
+      let was = IsIn-filter (λ y. not (is_live y)) ls x.0 x.1 in
+      elim (two_ways (has_key x.0)) [
+        | inl same ↦ inl (subst (λ (y : L). IsIn o (own y)) (only x.0 was.0 same) x.2)
+        | inr other ↦ inr (laws.of_all (ended_of others) x.0 o (still_ended x.0 x.1 other) x.2)
+      ]
+
+abbrev one_owner : PeerLease → List Owner
+one_owner l = peer_owner l ∷ []
+
+owned_by_maps : IsOwned map_owners (flat_map map_owners)
+owned_by_maps = record { of_one = IsIn-flat_map map_owners; of_all = flat_map-IsIn map_owners }
+
+owned_by_peers : IsOwned one_owner (map peer_owner)
+owned_by_peers = record {
+  of_one = λ ls o i. (let x = IsIn-map peer_owner ls o i in (x.0, x.1, inl x.2));
+  of_all = λ ls x o i own. elim own [
+    | inl is ↦ subst (λ (z : Owner). IsIn z (map peer_owner ls)) is (map-IsIn peer_owner ls x i)
+    | inr none ↦ absurd none
+  ];
+}
+
+peer_own : (l : PeerLease) → is_peer_of l.endpoint l.remote l.remote_port l ≡ true
+peer_own l =
+    let endpoint = (same_endpoint-Decides l.endpoint l.endpoint).1 refl in
+    let remote = (same_address-Decides l.remote l.remote).1 refl in
+    and_from _ _ (and_from _ _ endpoint remote) (eq-eqb l.remote_port l.remote_port refl)
+
+-- ---- the table
+
+pub begins : (m : ℕ) (t : Table) (left : List Owner) → Sound t → AreLeaving m t t left
+begins m t left sound = record { sound = sound; live_same = refl; left_all = λ o h. inr h }
 
 abbrev live_map : ℕ → MapLease → Bool
 live_map m l = nat_lt m l.expiry
@@ -32,112 +117,129 @@ live_map m l = nat_lt m l.expiry
 abbrev live_peer : ℕ → PeerLease → Bool
 live_peer m l = nat_lt m l.expiry
 
-pub begins : (m : ℕ) (t : Table) (left : List Owner) → Sound t → AreLeaving m t t left
-begins m t left sound = record { sound = sound; live_same = refl; left_all = λ o h. inr h }
+abbrev map_part : Table → List Owner
+map_part t = flat_map map_owners t.maps
+
+abbrev peer_part : Table → List Owner
+peer_part t = map peer_owner t.peers
+
+all_pass : {X : Type 0} (xs : List X) → filter (λ x. true) xs ≡ xs
+all_pass [] = refl
+all_pass (x ∷ xs) = ap (λ ys. x ∷ ys) (all_pass xs)
+
+Sound-filter_peers : (t : Table) (p : PeerLease → Bool) → Sound t
+    → Sound (record t { peers = filter p t.peers })
+Sound-filter_peers t p sound =
+    subst (λ (maps : List MapLease). Sound (record { maps = maps; peers = filter p t.peers }))
+    (all_pass t.maps) (Sound-filter t (λ x. true) p sound)
 
 module _ (m : ℕ) (start t : Table) (left : List Owner) (h : AreLeaving m start t left) where
+  -- the table that is left has the same live leases, and what is owned no more is left
+  leave : (gone : Table) (own : List Owner) → Sound gone → live gone m ≡ live t m
+      → ((o : Owner) → IsIn o (owners (dead t m)) → IsIn o own ⊎ IsIn o (owners (dead gone m)))
+      → AreLeaving m start gone (left ++ own)
+  leave gone own sound same parts = record {
+    sound = sound;
+    live_same = same ∙ h.live_same;
+    left_all = λ o c. elim (h.left_all o c) [
+      | inl before ↦ inl (Contains-from_IsIn (left ++ own) o
+          (IsIn-left left own o (IsIn-from_Contains left o before)))
+      | inr dead_yet ↦ elim (parts o (IsIn-from_Contains (owners (dead t m)) o dead_yet)) [
+        | inl now ↦ inl (Contains-from_IsIn (left ++ own) o (IsIn-right left own o now))
+        | inr stays ↦ inr (Contains-from_IsIn (owners (dead gone m)) o stays)
+      ]
+    ];
+  }
+
   module _ (l : MapLease) (among : Contains t.maps l) (ended : live_map m l ≡ false) where
-    abbrev other_map : MapLease → Bool
-    other_map x = not (is_map_of (first_endpoint l) x)
+    abbrev has_map_key : MapLease → Bool
+    has_map_key x = is_map_of (first_endpoint l) x
 
-    there : IsIn l t.maps × (not (live_map m l) ≡ true)
-    there = (IsIn-from_Contains t.maps l among, ap not ended)
+    abbrev map_gone : Table
+    map_gone = record t { maps = filter (λ x. not (has_map_key x)) t.maps }
 
-    only : (x : MapLease) → IsIn x t.maps → is_map_of (first_endpoint l) x ≡ true → x ≡ l
-    only x i k = one-key t (first_endpoint l) h.sound x l i there.0 k (key-own l)
-
-    map_parts : (o : Owner) → IsIn o (owners (dead t m)) → IsIn o (left ++ map_owners l) ⊎ IsIn o (owners (dead (record t { maps = filter other_map t.maps }) m))
-    map_parts o k = elim (IsIn-append (flat_map map_owners (dead t m).maps) (map peer_owner (dead t m).peers) o k) [
-      | inr b ↦ inr (IsIn-right (flat_map map_owners (dead (record t { maps = filter other_map t.maps }) m).maps) (map peer_owner (dead t m).peers) o b)
-      | inl a ↦ (let r = IsIn-flat_map map_owners (dead t m).maps o a in
-          let kept = IsIn-filter (λ (x : MapLease). not (live_map m x)) t.maps r.0 r.1 in
-          elim (two_ways (is_map_of (first_endpoint l) r.0)) [
-            | inl same ↦ inl (IsIn-right left (map_owners l) o (subst (λ (x : MapLease). IsIn o (map_owners x)) (only r.0 kept.0 same) r.2))
-            | inr other ↦ inr (IsIn-left (flat_map map_owners (dead (record t { maps = filter other_map t.maps }) m).maps) (map peer_owner (dead t m).peers) o
-                (flat_map-IsIn map_owners (dead (record t { maps = filter other_map t.maps }) m).maps r.0 o
-                (filter-IsIn (λ (x : MapLease). not (live_map m x)) (filter other_map t.maps) r.0 (filter-IsIn other_map t.maps r.0 kept.0 (ap not other)) kept.1) r.2))
-          ])
-    ]
-
-    pub leave_map : AreLeaving m start (record t { maps = filter other_map t.maps }) (left ++ map_owners l)
-    leave_map = record {
-      sound = Sound-filter_maps t other_map h.sound;
-      live_same = ap (λ (maps : List MapLease). record { maps = maps; peers = filter (live_peer m) t.peers }) (filter_others (live_map m) (is_map_of (first_endpoint l)) t.maps (λ x i k. ap (live_map m) (only x i k) ∙ not_back _ there.1)) ∙ h.live_same;
-      left_all = λ o c. elim (h.left_all o c) [
-        | inl a ↦ inl (Contains-from_IsIn (left ++ map_owners l) o (IsIn-left left (map_owners l) o (IsIn-from_Contains left o a)))
-        | inr b ↦ elim (map_parts o (IsIn-from_Contains (owners (dead t m)) o b)) [
-          | inl gone ↦ inl (Contains-from_IsIn (left ++ map_owners l) o gone)
-          | inr stays ↦ inr (Contains-from_IsIn (owners (dead (record t { maps = filter other_map t.maps }) m)) o stays)
-        ]
-      ];
+    map_out : IsOut (live_map m) has_map_key t.maps l
+    map_out = record {
+      among = IsIn-from_Contains t.maps l among;
+      ended = ended;
+      key = key-own l;
+      one = one-key t (first_endpoint l) h.sound;
     }
 
-    pub fewer_maps : length (filter other_map t.maps) < length t.maps
-    fewer_maps = shorter other_map t.maps l there.0 (ap not (key-own l))
+    map_parts : (o : Owner) → IsIn o (owners (dead t m))
+        → IsIn o (map_owners l) ⊎ IsIn o (owners (dead map_gone m))
+    map_parts o i =
+        let of_others = map_part (dead map_gone m) in let of_peers = peer_part (dead t m) in
+        elim (IsIn-append (map_part (dead t m)) of_peers o i) [
+          | inl a ↦ elim (owned_parts _ _ _ _ map_out _ _ owned_by_maps o a) [
+            | inl own ↦ inl own
+            | inr other ↦ inr (IsIn-left of_others of_peers o other)
+          ]
+          | inr b ↦ inr (IsIn-right of_others of_peers o b)
+        ]
+
+    pub leave_map : AreLeaving m start map_gone (left ++ map_owners l)
+    leave_map = leave map_gone (map_owners l)
+        (Sound-filter_maps t (λ x. not (has_map_key x)) h.sound)
+        (ap (λ (ls : List MapLease). record (live t m) { maps = ls }) (same_live _ _ _ _ map_out))
+        map_parts
+
+    pub fewer_maps : length map_gone.maps < length t.maps
+    fewer_maps = fewer _ _ _ _ map_out
 
   module _ (l : PeerLease) (among : Contains t.peers l) (ended : live_peer m l ≡ false) where
-    abbrev other_peer : PeerLease → Bool
-    other_peer x = not (is_peer_of l.endpoint l.remote l.remote_port x)
+    abbrev has_peer_key : PeerLease → Bool
+    has_peer_key x = is_peer_of l.endpoint l.remote l.remote_port x
 
-    peer_there : IsIn l t.peers × (not (live_peer m l) ≡ true)
-    peer_there = (IsIn-from_Contains t.peers l among, ap not ended)
+    abbrev peer_gone : Table
+    peer_gone = record t { peers = filter (λ x. not (has_peer_key x)) t.peers }
 
-    only_peer : (x : PeerLease) → IsIn x t.peers → is_peer_of l.endpoint l.remote l.remote_port x ≡ true → x ≡ l
-    only_peer x i k = one-peer l.endpoint l.remote l.remote_port t h.sound x l i peer_there.0 k (peer_own l)
-
-    peer_parts : (o : Owner) → IsIn o (owners (dead t m)) → IsIn o (left ++ peer_owner l ∷ []) ⊎ IsIn o (owners (dead (record t { peers = filter other_peer t.peers }) m))
-    peer_parts o k = elim (IsIn-append (flat_map map_owners (dead t m).maps) (map peer_owner (dead t m).peers) o k) [
-      | inl a ↦ inr (IsIn-left (flat_map map_owners (dead t m).maps) (map peer_owner (dead (record t { peers = filter other_peer t.peers }) m).peers) o a)
-      | inr b ↦ (let r = IsIn-map peer_owner (dead t m).peers o b in
-          let kept = IsIn-filter (λ (x : PeerLease). not (live_peer m x)) t.peers r.0 r.1 in
-          elim (two_ways (is_peer_of l.endpoint l.remote l.remote_port r.0)) [
-            | inl same ↦ inl (IsIn-right left (peer_owner l ∷ []) o (inl (ap peer_owner (sym (only_peer r.0 kept.0 same)) ∙ r.2)))
-            | inr other ↦ inr (IsIn-right (flat_map map_owners (dead t m).maps) (map peer_owner (dead (record t { peers = filter other_peer t.peers }) m).peers) o
-                (subst (λ (z : Owner). IsIn z (map peer_owner (dead (record t { peers = filter other_peer t.peers }) m).peers)) r.2 (map-IsIn peer_owner (dead (record t { peers = filter other_peer t.peers }) m).peers r.0
-                (filter-IsIn (λ (x : PeerLease). not (live_peer m x)) (filter other_peer t.peers) r.0 (filter-IsIn other_peer t.peers r.0 kept.0 (ap not other)) kept.1))))
-          ])
-    ]
-
-    all_pass : (xs : List MapLease) → filter (λ x. true) xs ≡ xs
-    all_pass [] = refl
-    all_pass (x ∷ xs) = ap (λ ys. x ∷ ys) (all_pass xs)
-
-    pub leave_peer : AreLeaving m start (record t { peers = filter other_peer t.peers }) (left ++ peer_owner l ∷ [])
-    leave_peer = record {
-      sound = subst (λ (maps : List MapLease). Sound (record { maps = maps; peers = filter other_peer t.peers })) (all_pass t.maps) (Sound-filter t (λ x. true) other_peer h.sound);
-      live_same = ap (λ (peers : List PeerLease). record { maps = filter (live_map m) t.maps; peers = peers }) (filter_others (live_peer m) (is_peer_of l.endpoint l.remote l.remote_port) t.peers (λ x i k. ap (live_peer m) (only_peer x i k) ∙ not_back _ peer_there.1)) ∙ h.live_same;
-      left_all = λ o c. elim (h.left_all o c) [
-        | inl a ↦ inl (Contains-from_IsIn (left ++ peer_owner l ∷ []) o (IsIn-left left (peer_owner l ∷ []) o (IsIn-from_Contains left o a)))
-        | inr b ↦ elim (peer_parts o (IsIn-from_Contains (owners (dead t m)) o b)) [
-          | inl gone ↦ inl (Contains-from_IsIn (left ++ peer_owner l ∷ []) o gone)
-          | inr stays ↦ inr (Contains-from_IsIn (owners (dead (record t { peers = filter other_peer t.peers }) m)) o stays)
-        ]
-      ];
+    peer_out : IsOut (live_peer m) has_peer_key t.peers l
+    peer_out = record {
+      among = IsIn-from_Contains t.peers l among;
+      ended = ended;
+      key = peer_own l;
+      one = one-peer l.endpoint l.remote l.remote_port t h.sound;
     }
 
-    pub fewer_peers : length (filter other_peer t.peers) < length t.peers
-    fewer_peers = shorter other_peer t.peers l peer_there.0 (ap not (peer_own l))
+    peer_parts : (o : Owner) → IsIn o (owners (dead t m))
+        → IsIn o (one_owner l) ⊎ IsIn o (owners (dead peer_gone m))
+    peer_parts o i =
+        let of_maps = map_part (dead t m) in let of_others = peer_part (dead peer_gone m) in
+        elim (IsIn-append of_maps (peer_part (dead t m)) o i) [
+          | inl a ↦ inr (IsIn-left of_maps of_others o a)
+          | inr b ↦ elim (owned_parts _ _ _ _ peer_out _ _ owned_by_peers o b) [
+            | inl own ↦ inl own
+            | inr other ↦ inr (IsIn-right of_maps of_others o other)
+          ]
+        ]
 
--- where no lease has ended, all are live
-pub all_live : {X : Type 0} (p : X → Bool) (xs : List X) → find (λ x. not (p x)) xs ≡ None → xs ≡ filter p xs
-all_live p xs h = sym (filter-all p xs (All-weaker (λ x. not (p x) ≡ false) (λ x. p x ≡ true) (λ x e. not_forth (p x) e) xs (find-none (λ x. not (p x)) xs h)))
+    pub leave_peer : AreLeaving m start peer_gone (left ++ one_owner l)
+    leave_peer = leave peer_gone (one_owner l)
+        (Sound-filter_peers t (λ x. not (has_peer_key x)) h.sound)
+        (ap (λ (ls : List PeerLease). record (live t m) { peers = ls })
+        (same_live _ _ _ _ peer_out))
+        peer_parts
+
+    pub fewer_peers : length peer_gone.peers < length t.peers
+    fewer_peers = fewer _ _ _ _ peer_out
 
 -- in the end, the table is that of the live leases, and all others are left
-pub stays_live : (m : ℕ) (start t : Table) (left : List Owner) → AreLeaving m start t left → t.maps ≡ (live t m).maps → t.peers ≡ (live t m).peers → t ≡ live start m
-stays_live m start t left h maps peers =
-    ap (λ (x : List MapLease). record { maps = x; peers = t.peers }) maps ∙ ap (λ (x : List PeerLease). record { maps = (live t m).maps; peers = x }) peers ∙ h.live_same
+module _ (m : ℕ) (start t : Table) (left : List Owner) (h : AreLeaving m start t left)
+    (maps : t.maps ≡ (live t m).maps) (peers : t.peers ≡ (live t m).peers) where
+  pub stays_live : t ≡ live start m
+  stays_live = ap (λ (ls : List MapLease). record t { maps = ls }) maps
+      ∙ ap (λ (ls : List PeerLease). record { maps = (live t m).maps; peers = ls }) peers
+      ∙ h.live_same
 
-none_dead : {X : Type 0} (p : X → Bool) (xs : List X) → xs ≡ filter p xs → (x : X) → IsIn x (filter (λ y. not (p y)) xs) → ⊥
-none_dead p xs all x i =
-    let k = IsIn-filter (λ y. not (p y)) xs x i in
-    unlike (p x) (IsIn-filter p xs x (subst (λ (ys : List _). IsIn x ys) all k.0)).1 (not_back (p x) k.1)
-
-pub all_left : (m : ℕ) (start t : Table) (left : List Owner) → AreLeaving m start t left → t.maps ≡ (live t m).maps → t.peers ≡ (live t m).peers →
-    (o : Owner) → Contains (owners (dead start m)) o → Contains left o
-all_left m start t left h maps peers o c = elim (h.left_all o c) [
-  | inl a ↦ a
-  | inr b ↦ elim (IsIn-append (flat_map map_owners (dead t m).maps) (map peer_owner (dead t m).peers) o (IsIn-from_Contains (owners (dead t m)) o b)) [
-    | inl x ↦ absurd (let r = IsIn-flat_map map_owners (dead t m).maps o x in none_dead (live_map m) t.maps maps r.0 r.1)
-    | inr y ↦ absurd (let r = IsIn-map peer_owner (dead t m).peers o y in none_dead (live_peer m) t.peers peers r.0 r.1)
+  pub all_left : (o : Owner) → Contains (owners (dead start m)) o → Contains left o
+  all_left o c = elim (h.left_all o c) [
+    | inl gone ↦ gone
+    | inr stays ↦ elim (IsIn-append (map_part (dead t m)) (peer_part (dead t m)) o
+        (IsIn-from_Contains (owners (dead t m)) o stays)) [
+          | inl a ↦ absurd (let x = owned_by_maps.of_one (dead t m).maps o a in
+              none_dead (live_map m) t.maps maps x.0 x.1)
+          | inr b ↦ absurd (let x = owned_by_peers.of_one (dead t m).peers o b in
+              none_dead (live_peer m) t.peers peers x.0 x.1)
+        ]
   ]
-]
