@@ -1,5 +1,5 @@
 -- Leases that go out of a table because they have ended.
-use Rattle.std.proofs.Common.{◌≡◌, ℕ, ◌<◌, ◌⊎◌, nat_lt, not, Bool, true, false, List, [], ◌∷◌, ◌++◌, map, flat_map, filter, find, length, Contains, Some, None, refl, sym, ap, ◌∙◌, subst, inl, inr}
+use Rattle.std.proofs.Common.{◌≡◌, ℕ, ◌<◌, ◌⊎◌, nat_lt, not, Bool, true, false, List, [], ◌∷◌, ◌++◌, map, flat_map, filter, find, length, Contains, None, refl, sym, ap, ◌∙◌, subst, inl, inr}
 use Rattle.pcp_base.specs.declared.leases.MapLease.{MapLease}
 use Rattle.pcp_base.specs.declared.leases.PeerLease.{PeerLease}
 use Rattle.pcp_base.specs.declared.leases.Owner.{Owner}
@@ -76,7 +76,8 @@ module _ {L : Type 0} (is_live has_key : L → Bool) (ls : List L) (l : L)
 
   -- what leases that have ended own is owned by this one, or by others of them
   owned_parts : (own : L → List Owner) (owned : List L → List Owner) → IsOwned own owned
-      → (o : Owner) → IsIn o (owned (ended_of ls)) → IsIn o (own l) ⊎ IsIn o (owned (ended_of others))
+      → (o : Owner) → IsIn o (owned (ended_of ls))
+      → IsIn o (own l) ⊎ IsIn o (owned (ended_of others))
   owned_parts own owned laws o i =
       let x = laws.of_one (ended_of ls) o i in
       let was = IsIn-filter (λ y. not (is_live y)) ls x.0 x.1 in
@@ -111,6 +112,31 @@ peer_own l =
 pub begins : (m : ℕ) (t : Table) (left : List Owner) → Sound t → AreLeaving m t t left
 begins m t left sound = record { sound = sound; live_same = refl; left_all = λ o h. inr h }
 
+-- the same of an equal table and equal owners
+pub leaving_same : (m : ℕ) (start t u : Table) (left more : List Owner) → u ≡ t → more ≡ left
+    → AreLeaving m start t left → AreLeaving m start u more
+leaving_same m start t u left more tables owners h =
+    subst (λ (x : Table). AreLeaving m start x more) (sym tables)
+    (subst (λ (os : List Owner). AreLeaving m start t os) (sym owners) h)
+
+-- the table that is left has the same live leases, and what is owned no more is left
+leave : (m : ℕ) (start t gone : Table) (left own : List Owner) → AreLeaving m start t left
+    → Sound gone → live gone m ≡ live t m
+    → ((o : Owner) → IsIn o (owners (dead t m)) → IsIn o own ⊎ IsIn o (owners (dead gone m)))
+    → AreLeaving m start gone (left ++ own)
+leave m start t gone left own h sound same parts = record {
+  sound = sound;
+  live_same = same ∙ h.live_same;
+  left_all = λ o c. elim (h.left_all o c) [
+    | inl before ↦ inl (Contains-from_IsIn (left ++ own) o
+        (IsIn-left left own o (IsIn-from_Contains left o before)))
+    | inr there ↦ elim (parts o (IsIn-from_Contains (owners (dead t m)) o there)) [
+      | inl now ↦ inl (Contains-from_IsIn (left ++ own) o (IsIn-right left own o now))
+      | inr stays ↦ inr (Contains-from_IsIn (owners (dead gone m)) o stays)
+    ]
+  ];
+}
+
 abbrev live_map : ℕ → MapLease → Bool
 live_map m l = nat_lt m l.expiry
 
@@ -123,6 +149,57 @@ map_part t = flat_map map_owners t.maps
 abbrev peer_part : Table → List Owner
 peer_part t = map peer_owner t.peers
 
+-- ---- a MAP lease goes out
+
+abbrev map_key : MapLease → MapLease → Bool
+map_key l x = is_map_of (first_endpoint l) x
+
+abbrev pub without_map : Table → MapLease → Table
+without_map t l = record t { maps = filter (λ x. not (map_key l x)) t.maps }
+
+module _ (m : ℕ) (t : Table) (sound : Sound t)
+    (l : MapLease) (among : Contains t.maps l) (ended : live_map m l ≡ false) where
+  abbrev map_gone : Table
+  map_gone = without_map t l
+
+  map_out : IsOut (live_map m) (map_key l) t.maps l
+  map_out = record {
+    among = IsIn-from_Contains t.maps l among;
+    ended = ended;
+    key = key-own l;
+    one = one-key t (first_endpoint l) sound;
+  }
+
+  map_parts : (o : Owner) → IsIn o (owners (dead t m))
+      → IsIn o (map_owners l) ⊎ IsIn o (owners (dead map_gone m))
+  map_parts o i =
+      let of_others = map_part (dead map_gone m) in let of_peers = peer_part (dead t m) in
+      elim (IsIn-append (map_part (dead t m)) of_peers o i) [
+        | inl a ↦ elim (owned_parts _ _ _ _ map_out _ _ owned_by_maps o a) [
+          | inl own ↦ inl own
+          | inr other ↦ inr (IsIn-left of_others of_peers o other)
+        ]
+        | inr b ↦ inr (IsIn-right of_others of_peers o b)
+      ]
+
+  pub leave_map : (start : Table) (left : List Owner) → AreLeaving m start t left
+      → AreLeaving m start map_gone (left ++ map_owners l)
+  leave_map start left h = leave m start t map_gone left (map_owners l) h
+      (Sound-filter_maps t (λ x. not (map_key l x)) sound)
+      (ap (λ (ls : List MapLease). record (live t m) { maps = ls }) (same_live _ _ _ _ map_out))
+      map_parts
+
+  pub fewer_maps : length map_gone.maps < length t.maps
+  fewer_maps = fewer _ _ _ _ map_out
+
+-- ---- a PEER lease goes out
+
+abbrev peer_key : PeerLease → PeerLease → Bool
+peer_key l x = is_peer_of l.endpoint l.remote l.remote_port x
+
+abbrev pub without_peer : Table → PeerLease → Table
+without_peer t l = record t { peers = filter (λ x. not (peer_key l x)) t.peers }
+
 all_pass : {X : Type 0} (xs : List X) → filter (λ x. true) xs ≡ xs
 all_pass [] = refl
 all_pass (x ∷ xs) = ap (λ ys. x ∷ ys) (all_pass xs)
@@ -133,113 +210,54 @@ Sound-filter_peers t p sound =
     subst (λ (maps : List MapLease). Sound (record { maps = maps; peers = filter p t.peers }))
     (all_pass t.maps) (Sound-filter t (λ x. true) p sound)
 
-module _ (m : ℕ) (start t : Table) (left : List Owner) (h : AreLeaving m start t left) where
-  -- the table that is left has the same live leases, and what is owned no more is left
-  leave : (gone : Table) (own : List Owner) → Sound gone → live gone m ≡ live t m
-      → ((o : Owner) → IsIn o (owners (dead t m)) → IsIn o own ⊎ IsIn o (owners (dead gone m)))
-      → AreLeaving m start gone (left ++ own)
-  leave gone own sound same parts = record {
-    sound = sound;
-    live_same = same ∙ h.live_same;
-    left_all = λ o c. elim (h.left_all o c) [
-      | inl before ↦ inl (Contains-from_IsIn (left ++ own) o
-          (IsIn-left left own o (IsIn-from_Contains left o before)))
-      | inr dead_yet ↦ elim (parts o (IsIn-from_Contains (owners (dead t m)) o dead_yet)) [
-        | inl now ↦ inl (Contains-from_IsIn (left ++ own) o (IsIn-right left own o now))
-        | inr stays ↦ inr (Contains-from_IsIn (owners (dead gone m)) o stays)
-      ]
-    ];
+module _ (m : ℕ) (t : Table) (sound : Sound t)
+    (l : PeerLease) (among : Contains t.peers l) (ended : live_peer m l ≡ false) where
+  abbrev peer_gone : Table
+  peer_gone = without_peer t l
+
+  peer_out : IsOut (live_peer m) (peer_key l) t.peers l
+  peer_out = record {
+    among = IsIn-from_Contains t.peers l among;
+    ended = ended;
+    key = peer_own l;
+    one = one-peer l.endpoint l.remote l.remote_port t sound;
   }
 
-  module _ (l : MapLease) (among : Contains t.maps l) (ended : live_map m l ≡ false) where
-    abbrev has_map_key : MapLease → Bool
-    has_map_key x = is_map_of (first_endpoint l) x
-
-    abbrev map_gone : Table
-    map_gone = record t { maps = filter (λ x. not (has_map_key x)) t.maps }
-
-    map_out : IsOut (live_map m) has_map_key t.maps l
-    map_out = record {
-      among = IsIn-from_Contains t.maps l among;
-      ended = ended;
-      key = key-own l;
-      one = one-key t (first_endpoint l) h.sound;
-    }
-
-    map_parts : (o : Owner) → IsIn o (owners (dead t m))
-        → IsIn o (map_owners l) ⊎ IsIn o (owners (dead map_gone m))
-    map_parts o i =
-        let of_others = map_part (dead map_gone m) in let of_peers = peer_part (dead t m) in
-        elim (IsIn-append (map_part (dead t m)) of_peers o i) [
-          | inl a ↦ elim (owned_parts _ _ _ _ map_out _ _ owned_by_maps o a) [
-            | inl own ↦ inl own
-            | inr other ↦ inr (IsIn-left of_others of_peers o other)
-          ]
-          | inr b ↦ inr (IsIn-right of_others of_peers o b)
+  peer_parts : (o : Owner) → IsIn o (owners (dead t m))
+      → IsIn o (one_owner l) ⊎ IsIn o (owners (dead peer_gone m))
+  peer_parts o i =
+      let of_maps = map_part (dead t m) in let of_others = peer_part (dead peer_gone m) in
+      elim (IsIn-append of_maps (peer_part (dead t m)) o i) [
+        | inl a ↦ inr (IsIn-left of_maps of_others o a)
+        | inr b ↦ elim (owned_parts _ _ _ _ peer_out _ _ owned_by_peers o b) [
+          | inl own ↦ inl own
+          | inr other ↦ inr (IsIn-right of_maps of_others o other)
         ]
+      ]
 
-    pub leave_map : AreLeaving m start map_gone (left ++ map_owners l)
-    leave_map = leave map_gone (map_owners l)
-        (Sound-filter_maps t (λ x. not (has_map_key x)) h.sound)
-        (ap (λ (ls : List MapLease). record (live t m) { maps = ls }) (same_live _ _ _ _ map_out))
-        map_parts
+  pub leave_peer : (start : Table) (left : List Owner) → AreLeaving m start t left
+      → AreLeaving m start peer_gone (left ++ one_owner l)
+  leave_peer start left h = leave m start t peer_gone left (one_owner l) h
+      (Sound-filter_peers t (λ x. not (peer_key l x)) sound)
+      (ap (λ (ls : List PeerLease). record (live t m) { peers = ls }) (same_live _ _ _ _ peer_out))
+      peer_parts
 
-    pub fewer_maps : length map_gone.maps < length t.maps
-    fewer_maps = fewer _ _ _ _ map_out
+  pub fewer_peers : length peer_gone.peers < length t.peers
+  fewer_peers = fewer _ _ _ _ peer_out
 
-  module _ (l : PeerLease) (among : Contains t.peers l) (ended : live_peer m l ≡ false) where
-    abbrev has_peer_key : PeerLease → Bool
-    has_peer_key x = is_peer_of l.endpoint l.remote l.remote_port x
+-- ---- the end
 
-    abbrev peer_gone : Table
-    peer_gone = record t { peers = filter (λ x. not (has_peer_key x)) t.peers }
-
-    peer_out : IsOut (live_peer m) has_peer_key t.peers l
-    peer_out = record {
-      among = IsIn-from_Contains t.peers l among;
-      ended = ended;
-      key = peer_own l;
-      one = one-peer l.endpoint l.remote l.remote_port t h.sound;
-    }
-
-    peer_parts : (o : Owner) → IsIn o (owners (dead t m))
-        → IsIn o (one_owner l) ⊎ IsIn o (owners (dead peer_gone m))
-    peer_parts o i =
-        let of_maps = map_part (dead t m) in let of_others = peer_part (dead peer_gone m) in
-        elim (IsIn-append of_maps (peer_part (dead t m)) o i) [
-          | inl a ↦ inr (IsIn-left of_maps of_others o a)
-          | inr b ↦ elim (owned_parts _ _ _ _ peer_out _ _ owned_by_peers o b) [
-            | inl own ↦ inl own
-            | inr other ↦ inr (IsIn-right of_maps of_others o other)
-          ]
-        ]
-
-    pub leave_peer : AreLeaving m start peer_gone (left ++ one_owner l)
-    leave_peer = leave peer_gone (one_owner l)
-        (Sound-filter_peers t (λ x. not (has_peer_key x)) h.sound)
-        (ap (λ (ls : List PeerLease). record (live t m) { peers = ls })
-        (same_live _ _ _ _ peer_out))
-        peer_parts
-
-    pub fewer_peers : length peer_gone.peers < length t.peers
-    fewer_peers = fewer _ _ _ _ peer_out
-
--- in the end, the table is that of the live leases, and all others are left
-module _ (m : ℕ) (start t : Table) (left : List Owner) (h : AreLeaving m start t left)
-    (maps : t.maps ≡ (live t m).maps) (peers : t.peers ≡ (live t m).peers) where
-  pub stays_live : t ≡ live start m
-  stays_live = ap (λ (ls : List MapLease). record t { maps = ls }) maps
-      ∙ ap (λ (ls : List PeerLease). record { maps = (live t m).maps; peers = ls }) peers
-      ∙ h.live_same
-
-  pub all_left : (o : Owner) → Contains (owners (dead start m)) o → Contains left o
-  all_left o c = elim (h.left_all o c) [
-    | inl gone ↦ gone
-    | inr stays ↦ elim (IsIn-append (map_part (dead t m)) (peer_part (dead t m)) o
-        (IsIn-from_Contains (owners (dead t m)) o stays)) [
-          | inl a ↦ absurd (let x = owned_by_maps.of_one (dead t m).maps o a in
-              none_dead (live_map m) t.maps maps x.0 x.1)
-          | inr b ↦ absurd (let x = owned_by_peers.of_one (dead t m).peers o b in
-              none_dead (live_peer m) t.peers peers x.0 x.1)
-        ]
-  ]
+-- where all leases of the table are live, those that were dead at the start are left
+pub all_left : (m : ℕ) (start t : Table) (left : List Owner) → AreLeaving m start t left
+    → t.maps ≡ (live t m).maps → t.peers ≡ (live t m).peers
+    → (o : Owner) → Contains (owners (dead start m)) o → Contains left o
+all_left m start t left h maps peers o c = elim (h.left_all o c) [
+  | inl gone ↦ gone
+  | inr stays ↦ elim (IsIn-append (map_part (dead t m)) (peer_part (dead t m)) o
+      (IsIn-from_Contains (owners (dead t m)) o stays)) [
+        | inl a ↦ absurd (let x = owned_by_maps.of_one (dead t m).maps o a in
+            none_dead (live_map m) t.maps maps x.0 x.1)
+        | inr b ↦ absurd (let x = owned_by_peers.of_one (dead t m).peers o b in
+            none_dead (live_peer m) t.peers peers x.0 x.1)
+      ]
+]

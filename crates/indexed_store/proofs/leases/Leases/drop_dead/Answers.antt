@@ -7,7 +7,10 @@ use Rattle.indexed_store.proofs.leases.Leases.drop_dead.Goals as goal
 pub returns-clause-left : goal.returns-clause-left
 returns-clause-left c = both_ok c.drop_peers.result _ _ _ (λ leaving all.
     let t = c.args.self.now in let m = c.args.m in let new = c.drop_peers.new.self in
-    let maps : new.maps ≡ filter (λ (l : MapLease). nat_lt m l.expiry) new.maps =
-    c.drop_peers.ensures.maps ∙ c.in_ok-drop_maps.ensures.all ∙ ap (λ (ls : List MapLease). filter (λ (l : MapLease). nat_lt m l.expiry) ls) (sym c.drop_peers.ensures.maps) in
-    all_left m t new c.drop_peers.new.left.items (leaving t (c.in_ok-drop_maps.ensures.leaving t (begins m t c.args.left.now.items c.requires))) maps all)
+    let alive : List MapLease → List MapLease = filter (λ (l : MapLease). nat_lt m l.expiry) in
+    let maps : new.maps ≡ alive new.maps = c.drop_peers.ensures.maps
+    ∙ c.in_ok-drop_maps.ensures.all ∙ ap alive (sym c.drop_peers.ensures.maps) in
+    let first = begins m t c.args.left.now.items c.requires in
+    let last = leaving t (c.in_ok-drop_maps.ensures.leaving t first) in
+    all_left m t new c.drop_peers.new.left.items last maps all)
     c.drop_peers.ensures.leaving c.drop_peers.ensures.all
