@@ -17,15 +17,16 @@ use Rattle.clap.specs.Takes.{is_given}
 use Rattle.clap.specs.Walk.{Row, Rule, Text, arg_by_id, arg_by_long}
 use Rattle.pcp_base.specs.AddressTexts.{IsAddressText}
 use Rattle.pcp_base.specs.declared.addresses.Address.{Address}
-use Rattle.client_commands.specs.Commands.{value_in}
+use Rattle.client_commands.specs.Commands.{port_range, value_in}
 use Rattle.client_commands.specs.PlainWords.{AreGiven, Given, IsOneOf, flag, option, value_given}
-use Rattle.client_commands.specs.Values.{IsAddressAt}
+use Rattle.client_commands.specs.Values.{IsAddressAt, IsNumberAt}
 use Rattle.client_commands.proofs.PlainEnds.{AreFound, IsReadAs, all_found, built_help, help_adds_none, help_defaults_well, is_read, options_add_none, options_default_well, other_name, rows_have, rows_say, same_name}
 use Rattle.client_commands.proofs.PlainWalks.{AreGood, IsOption, IsValue, built_option, row_of}
+use Rattle.proxy_commands.specs.declared.commands.CascadeCommand.{CascadeCommand}
 use Rattle.proxy_commands.specs.declared.commands.ProxyCommand.{ProxyCommand}
-use Rattle.proxy_commands.specs.Commands.{IsCommand, IsProxyIn, proxy_app}
+use Rattle.proxy_commands.specs.Commands.{IsCascadeCommand, IsCascadeIn, IsCommand, IsProxyIn, cascade_app, proxy_app}
 use Rattle.proxy_commands.specs.Keys.{IsKeyAt}
-use Rattle.proxy_commands.specs.PlainWords.{ArePlainWords, proxy_options}
+use Rattle.proxy_commands.specs.PlainWords.{ArePlainCascadeWords, ArePlainWords, cascade_options, proxy_options}
 
 -- ---- values begin with no hyphen
 
@@ -88,6 +89,11 @@ key_value : (given : Option Text) (key : List ℕ) → IsKeyAt given key → IfS
 key_value None key is = absurd is
 key_value (Some text) key is = is_value text (bare_pairs 32 text key is)
 
+port_value : (given : Option Text) (port : ℕ) → IsNumberAt port_range given port → IfSome given IsValue
+port_value None port is = tt
+port_value (Some text) port is =
+    is_value text (begins_bare text (subst BeginsWell (sym is.0) (begins_number port (omega (arith, is.2)))))
+
 -- ---- what must be there
 
 address_there : (given : Option Text) (a : Address) → IsAddressAt given a → is_some given ≡ true
@@ -97,6 +103,10 @@ address_there (Some text) a is = refl
 key_there : (given : Option Text) (key : List ℕ) → IsKeyAt given key → is_some given ≡ true
 key_there None key is = absurd is
 key_there (Some text) key is = refl
+
+port_there : (given : Option Text) (port : ℕ) → IsNumberAt port_range given port → is_some given ≡ true
+port_there None port is = absurd (cc)
+port_there (Some text) port is = refl
 
 -- ---- each word is good
 
@@ -121,23 +131,36 @@ all_good c options all (option name value ∷ gs) allow each found =
 all_good c options all (flag name ∷ gs) allow each found =
     absurd (All-contains (λ (t : Text). ⊥) [] name (All-nil (λ (t : Text). ⊥)) (All-head (IsOneOf options []) (flag name) gs each))
 
--- ---- the command
+-- ---- the options of each command
 
 abbrev proxy_needs : List (Bool × Text)
 proxy_needs = (true, codes "server") ∷ (true, codes "own") ∷ (true, codes "inner") ∷ (true, codes "key") ∷ []
 
+abbrev cascade_needs : List (Bool × Text)
+cascade_needs = proxy_needs ++ (true, codes "low") ∷ (true, codes "high") ∷ []
+
 abbrev proxy_shape : Shape
 proxy_shape = (built proxy_app).top
+
+abbrev cascade_shape : Shape
+cascade_shape = (built cascade_app).top
 
 -- nothing is missing where these are given
 proxy_has : (rows : List Row) → is_given (codes "server") rows ≡ true → is_given (codes "own") rows ≡ true → is_given (codes "inner") rows ≡ true
     → is_given (codes "key") rows ≡ true → check_fault proxy_shape rows false ≡ []
 proxy_has rows a b c d = rw (a, b, c, d) refl
 
+cascade_has : (rows : List Row) → is_given (codes "server") rows ≡ true → is_given (codes "own") rows ≡ true → is_given (codes "inner") rows ≡ true
+    → is_given (codes "key") rows ≡ true → is_given (codes "low") rows ≡ true → is_given (codes "high") rows ≡ true
+    → check_fault cascade_shape rows false ≡ []
+cascade_has rows a b c d e f = rw (a, b, c, d, e, f) refl
+
 -- what the values say stays
 proxy_moves : (v w : Text → Option Text) (command : ProxyCommand) → v (codes "server") ≡ w (codes "server") → v (codes "own") ≡ w (codes "own")
     → v (codes "inner") ≡ w (codes "inner") → v (codes "key") ≡ w (codes "key") → IsProxyIn w command → IsProxyIn v command
 proxy_moves v w command a b c d is = record { server = rw a is.server; own = rw b is.own; inner = rw c is.inner; key = rw d is.key }
+
+-- ---- proxy
 
 module _ (gs : List Given) (words : List Text) (command : ProxyCommand) (given : AreGiven (codes "proxy") proxy_options [] words gs)
     (is : IsProxyIn (value_given gs) command) where
@@ -173,5 +196,56 @@ module _ (gs : List Given) (words : List Text) (command : ProxyCommand) (given :
       subst (λ words. IsCommand words command) (sym given.spelled)
       (record { named = refl; behind = record { rows = rows; taken = (proxy_read.takes, sym proxy_read.finds); said = said } })
 
+-- ---- cascade
+
+module _ (gs : List Given) (words : List Text) (command : CascadeCommand) (given : AreGiven (codes "cascade") cascade_options [] words gs)
+    (is : IsCascadeIn (value_given gs) command) where
+  cascade_good : AreGood cascade_shape.rules gs
+  cascade_good =
+      let c = cascade_shape.rules in
+      all_good c cascade_options gs gs (All-from_recursion (IsAllowed c gs) cascade_options (
+        allowed c gs (codes "server") refl refl refl refl (address_value _ _ is.relay.server),
+        (
+          allowed c gs (codes "own") refl refl refl refl (address_value _ _ is.relay.own),
+          (
+            allowed c gs (codes "inner") refl refl refl refl (address_value _ _ is.relay.inner),
+            (
+              allowed c gs (codes "key") refl refl refl refl (key_value _ _ is.relay.key),
+              (
+                allowed c gs (codes "low") refl refl refl refl (port_value _ _ is.low),
+                (allowed c gs (codes "high") refl refl refl refl (port_value _ _ is.high), tt),
+              ),
+            ),
+          ),
+        ),
+      )) given.each (all_found gs given.once)
+
+  cascade_read : IsReadAs cascade_shape gs (map row_of gs)
+  cascade_read =
+      let rows = map row_of gs in
+      is_read cascade_shape gs rows cascade_good given.once
+      (options_default_well cascade_needs (built_help ∷ []) rows ∙ help_defaults_well rows)
+      (options_add_none cascade_needs (built_help ∷ []) rows ∙ help_adds_none rows)
+      (cascade_has rows (rows_have gs (codes "server") ∙ address_there _ _ is.relay.server) (rows_have gs (codes "own") ∙ address_there _ _ is.relay.own)
+      (rows_have gs (codes "inner") ∙ address_there _ _ is.relay.inner) (rows_have gs (codes "key") ∙ key_there _ _ is.relay.key)
+      (rows_have gs (codes "low") ∙ port_there _ _ is.low) (rows_have gs (codes "high") ∙ port_there _ _ is.high))
+
+  cascade_taken : IsCascadeCommand words command
+  cascade_taken =
+      let rows = map row_of gs in
+      let says = rows_say gs in
+      let relay : IsProxyIn (value_in rows) command.relay = proxy_moves (value_in rows) (value_given gs) command.relay
+      (says (codes "server")) (says (codes "own")) (says (codes "inner")) (says (codes "key")) is.relay in
+      let low : IsNumberAt port_range (value_in rows (codes "low")) command.low = rw (says (codes "low")) is.low in
+      let high : IsNumberAt port_range (value_in rows (codes "high")) command.high = rw (says (codes "high")) is.high in
+      let said : IsCascadeIn (value_in rows) command = record { relay = relay; low = low; high = high; order = is.order } in
+      subst (λ words. IsCascadeCommand words command) (sym given.spelled)
+      (record { named = refl; behind = record { rows = rows; taken = (cascade_read.takes, sym cascade_read.finds); said = said } })
+
+-- ---- both
+
 pub plain_is_command : (words : List Text) (command : ProxyCommand) → ArePlainWords words command → IsCommand words command
 plain_is_command words command plain = proxy_taken plain.0 words command plain.1 plain.2
+
+pub plain_is_cascade : (words : List Text) (command : CascadeCommand) → ArePlainCascadeWords words command → IsCascadeCommand words command
+plain_is_cascade words command plain = cascade_taken plain.0 words command plain.1 plain.2

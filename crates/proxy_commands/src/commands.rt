@@ -1,14 +1,14 @@
-//! The command that the words are.
+//! The commands that the words are.
 ghost use Rattle.std.specs.Prelude.{◌≡◌, ◌↔◌, IsTrue, IfOk, map, option_map, string_bytes};
 ghost use Rattle.clap.specs.Words.{found_of, rows_of};
 ghost use Rattle.client_commands.specs.Commands.{IsNamed, IsOnly, value_in};
-ghost use Rattle.proxy_commands.specs.Commands.{IsCommand, IsProxyIn, IsTaken};
-ghost use Rattle.proxy_commands.specs.Parts.{proxy_with};
+ghost use Rattle.proxy_commands.specs.Commands.{IsCascadeCommand, IsCascadeIn, IsCommand, IsProxyIn, IsTakenBy, cascade_app, proxy_app};
+ghost use Rattle.proxy_commands.specs.Parts.{cascade_with, proxy_with};
 
-use crate::options::proxy_command;
+use crate::options::{cascade_command, proxy_command};
 use crate::parses::found_in;
-use crate::values::{address_at, key_at};
-use clap::ArgMatches;
+use crate::values::{address_at, key_at, port_at};
+use clap::{ArgMatches, Command};
 use pcp_base::{Address, Memory};
 use std::alloc::Global;
 
@@ -25,6 +25,17 @@ pub struct ProxyCommand {
     pub key: [u8; 32],
 }
 
+/// What a relay beside a translator of its own is told. It isn't printed, since it has the key.
+#[derive(Clone, Copy, PartialEq, Eq)]
+pub struct CascadeCommand {
+    /// What every relay is told.
+    pub relay: ProxyCommand,
+    /// The lowest local port that stands for a client's, at least 1.
+    pub low: u16,
+    /// The highest one, at least `low`.
+    pub high: u16,
+}
+
 /// The command that the words are: `proxy`, and its options. None exactly where the first word
 /// isn't that, `clap` refuses the words behind it, or a value isn't one of its option.
 pub fn command_of(alloc: Global, words: &[String]) -> Result<Option<ProxyCommand>, Memory>
@@ -32,6 +43,18 @@ pub fn command_of(alloc: Global, words: &[String]) -> Result<Option<ProxyCommand
 {
     if first_is(words, "proxy") {
         return proxy_of(alloc, words);
+    }
+    Ok(None)
+}
+
+/// The command that the words are: `cascade`, and its options. None exactly where the first word
+/// isn't that, `clap` refuses the words behind it, a value isn't one of its option, or the lowest
+/// port exceeds the highest.
+pub fn cascade_command_of(alloc: Global, words: &[String]) -> Result<Option<CascadeCommand>, Memory>
+    ensures { IfOk result (IsOnly (IsCascadeCommand (map string_bytes words.now))) }
+{
+    if first_is(words, "cascade") {
+        return cascade_of(alloc, words);
     }
     Ok(None)
 }
@@ -46,26 +69,47 @@ fn first_is(words: &[String], name: &str) -> bool
     }
 }
 
-/// The text of the command's help, where the words are its name and `--help`.
+/// The text of a command's help, where the words are the name of one and `--help`.
 pub fn help_of(alloc: Global, words: &[String]) -> Result<Option<String>, Memory> {
     let [name, help] = words else {
         return Ok(None);
     };
-    if name.as_str() != "proxy" || help.as_str() != "--help" {
+    if help.as_str() != "--help" {
         return Ok(None);
     }
-    let mut command = proxy_command(alloc)?;
+    match name.as_str() {
+        "proxy" => told_by(proxy_command(alloc)?),
+        "cascade" => told_by(cascade_command(alloc)?),
+        _ => Ok(None),
+    }
+}
+
+fn told_by(command: Command<'static>) -> Result<Option<String>, Memory> {
+    let mut command = command;
     Ok(Some(command.render_help()?))
 }
 
-/// The command that the words behind the first one say.
+/// The `proxy` that the words behind the first one say.
 fn proxy_of(alloc: Global, words: &[String]) -> Result<Option<ProxyCommand>, Memory>
-    ensures { IfOk result (IsOnly (IsTaken (map string_bytes words.now))) }
+    ensures { IfOk result (IsOnly (IsTakenBy proxy_app IsProxyIn (map string_bytes words.now))) }
 {
     let command = proxy_command(alloc)?;
     let found = found_in(command, words)?;
     match found {
         Some(matches) => Ok(proxy_in(&matches)),
+        None => Ok(None),
+    }
+}
+
+/// The `cascade` that the words behind the first one say.
+fn cascade_of(alloc: Global, words: &[String]) -> Result<Option<CascadeCommand>, Memory>
+    ensures { IfOk result
+        (IsOnly (IsTakenBy cascade_app IsCascadeIn (map string_bytes words.now))) }
+{
+    let command = cascade_command(alloc)?;
+    let found = found_in(command, words)?;
+    match found {
+        Some(matches) => Ok(cascade_in(&matches)),
         None => Ok(None),
     }
 }
@@ -103,4 +147,32 @@ fn proxy_with(
         inner: inner?,
         key: key?,
     })
+}
+
+fn cascade_in(matches: &ArgMatches<'_>) -> Option<CascadeCommand>
+    ensures { IsOnly (IsCascadeIn (value_in (rows_of (found_of matches.now)))) result }
+{
+    cascade_with(
+        proxy_in(matches),
+        port_at(value_in(matches, "low")),
+        port_at(value_in(matches, "high")),
+    )
+}
+
+fn cascade_with(
+    relay: Option<ProxyCommand>,
+    low: Option<u16>,
+    high: Option<u16>,
+) -> Option<CascadeCommand>
+    ensures { result ≡ cascade_with relay low high }
+{
+    let command = CascadeCommand {
+        relay: relay?,
+        low: low?,
+        high: high?,
+    };
+    if command.high < command.low {
+        return None;
+    }
+    Some(command)
 }

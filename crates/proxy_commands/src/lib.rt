@@ -1,4 +1,4 @@
-//! The command of the relay: its words, which `clap` reads, and its help.
+//! The commands of the relays: their words, which `clap` reads, and their help.
 #![tactic(auto)]
 
 mod commands;
@@ -7,5 +7,5 @@ mod options;
 mod parses;
 mod values;
 
-pub use commands::{ProxyCommand, command_of, help_of};
+pub use commands::{CascadeCommand, ProxyCommand, cascade_command_of, command_of, help_of};
 pub use laws::plain_words_are_commands;
