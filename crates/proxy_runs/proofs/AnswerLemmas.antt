@@ -1,5 +1,5 @@
 -- What goes down answers what came.
-use Rattle.std.proofs.Common.{◌≡◌, ℕ, ◌⊎◌, ◌||◌, Bool, true, false, cond, nat_lt, List, [], ◌∷◌, ◌++◌, length, Option, None, Some, refl, sym, ap, ◌∙◌, subst, append_assoc, append-nil}
+use Rattle.std.proofs.Common.{◌≡◌, ℕ, ◌||◌, Bool, true, false, cond, nat_lt, List, [], ◌∷◌, ◌++◌, length, Option, None, Some, refl, sym, ◌∙◌, subst, append_assoc}
 use Rattle.std.specs.Prelude.{⊤, option_to_list}
 use Rattle.std.specs.List.{AllByRecursion}
 use Rattle.pcp_base.specs.declared.addresses.Address.{Address}
@@ -24,8 +24,9 @@ use Rattle.proxy_core.specs.Runs.Event.{Client, Server, Tick}
 use Rattle.proxy_core.specs.Up.{up_key, up_text}
 use Rattle.proxy_core.specs.Waits.{is_full, kept}
 use Rattle.proxy_runs.specs.Answers.{Answers, DownIsAnswered, IsAnswered}
-use Rattle.proxy_runs.specs.Sending.{down_by, down_for, down_for_all}
-use Rattle.proxy_runs.proofs.TurnLemmas.{run-append}
+use Rattle.proxy_runs.specs.Proxying.{proxying}
+use Rattle.relay_runs.specs.Machines as machines
+use Rattle.relay_runs.specs.Sending.{down_by, down_for, down_for_all}
 
 -- ---- the relay's own reply goes to the sender
 
@@ -61,6 +62,17 @@ all-to start front d now Nothing h = tt
 all-to start front d now (Reply r) h = (h, tt)
 all-to start front d now (Up octets) h = tt
 
+-- ---- events as the run sees them
+
+run-append : (r : Relay) (xs ys : List Event) → run r (xs ++ ys) ≡ run (run r xs) ys
+run-append r [] ys = refl
+run-append r (x ∷ xs) ys = run-append (next r x) xs ys
+
+same-next : (r : Relay) (e : Event) → next r e ≡ machines.next proxying r e
+same-next r (Client d now) = refl
+same-next r (Server d now) = refl
+same-next r (Tick now) = refl
+
 -- ---- what goes down for one event
 
 all-said : (start : Relay) (front : List Event) (d : Datagram) (now : ℕ) (out : Option Datagram)
@@ -69,7 +81,7 @@ all-said start front d now None h = tt
 all-said start front d now (Some sent) h = (h sent refl, tt)
 
 one-answered : RepliesStandForPairs → (own server : Address) (key : List ℕ) (front : List Event) (e : Event) →
-    AllByRecursion (Answers (new_relay own server key) front e) (down_for (run (new_relay own server key) front) e)
+    AllByRecursion (Answers (new_relay own server key) front e) (down_for proxying (run (new_relay own server key) front) e)
 one-answered law own server key front (Client d now) =
     let start = new_relay own server key in
     let relay = run start front in
@@ -93,16 +105,16 @@ module _ (law : RepliesStandForPairs) (own server : Address) (key : List ℕ) wh
   abbrev start : Relay
   start = new_relay own server key
 
-  from-front : (front es : List Event) → AllByRecursion (IsAnswered start (front ++ es)) (down_for_all (run start front) es)
+  from-front : (front es : List Event) → AllByRecursion (IsAnswered start (front ++ es)) (down_for_all proxying (run start front) es)
   from-front front [] = tt
   from-front front (e ∷ es) =
       let more : front ++ e ∷ es ≡ (front ++ e ∷ []) ++ es = sym (append_assoc front (e ∷ []) es) in
-      let after : run start (front ++ e ∷ []) ≡ next (run start front) e = run-append start front (e ∷ []) in
-      let rest : AllByRecursion (IsAnswered start (front ++ e ∷ es)) (down_for_all (next (run start front) e) es) =
-      subst (λ (r : Relay). AllByRecursion (IsAnswered start (front ++ e ∷ es)) (down_for_all r es)) after
-      (subst (λ (all : List Event). AllByRecursion (IsAnswered start all) (down_for_all (run start (front ++ e ∷ [])) es)) (sym more) (from-front (front ++ e ∷ []) es)) in
-      all-append (IsAnswered start (front ++ e ∷ es)) (down_for (run start front) e) (down_for_all (next (run start front) e) es)
-      (all-weaker (Answers start front e) (IsAnswered start (front ++ e ∷ es)) (down_for (run start front) e)
+      let after : run start (front ++ e ∷ []) ≡ machines.next proxying (run start front) e = run-append start front (e ∷ []) ∙ same-next (run start front) e in
+      let rest : AllByRecursion (IsAnswered start (front ++ e ∷ es)) (down_for_all proxying (machines.next proxying (run start front) e) es) =
+      subst (λ (r : Relay). AllByRecursion (IsAnswered start (front ++ e ∷ es)) (down_for_all proxying r es)) after
+      (subst (λ (all : List Event). AllByRecursion (IsAnswered start all) (down_for_all proxying (run start (front ++ e ∷ [])) es)) (sym more) (from-front (front ++ e ∷ []) es)) in
+      all-append (IsAnswered start (front ++ e ∷ es)) (down_for proxying (run start front) e) (down_for_all proxying (machines.next proxying (run start front) e) es)
+      (all-weaker (Answers start front e) (IsAnswered start (front ++ e ∷ es)) (down_for proxying (run start front) e)
       (λ sent h. record { before = front; event = e; behind = es; came = refl; answers = h }) (one-answered law own server key front e)) rest
 
 pub down-answered : RepliesStandForPairs → DownIsAnswered

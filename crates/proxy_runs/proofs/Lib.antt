@@ -1,4 +1,1 @@
 pub mod AnswerLemmas
-pub mod HandLemmas
-pub mod RunLemmas
-pub mod TurnLemmas

@@ -6,7 +6,8 @@ use Rattle.pcp_base.specs.declared.datagrams.Datagram.{Datagram}
 use Rattle.proxy_core.specs.Relays.{Relay, new_relay}
 use Rattle.proxy_core.specs.Runs.{Event, IsAnnouncement, StandsForPair}
 use Rattle.proxy_core.specs.Runs.Event.{Client, Server, Tick}
-use Rattle.proxy_runs.specs.Sending.{down_for_all}
+use Rattle.proxy_runs.specs.Proxying.{proxying}
+use Rattle.relay_runs.specs.Sending.{down_for_all}
 
 -- The relay's own reply goes to the sender. For a datagram of the server goes down what it says to
 -- a request that went up before, for the client that asked it, or an announcement.
@@ -28,4 +29,4 @@ pub record IsAnswered (start : Relay) (events : List Event) (sent : Datagram) : 
 abbrev pub DownIsAnswered : Type 0
 DownIsAnswered = (own server : Address) (key : List ℕ) (events : List Event)
     → AllByRecursion (IsAnswered (new_relay own server key) events)
-    (down_for_all (new_relay own server key) events)
+    (down_for_all proxying (new_relay own server key) events)

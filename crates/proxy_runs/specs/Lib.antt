@@ -1,6 +1,3 @@
 pub mod Answers
-pub mod Handing
+pub mod Proxying
 pub mod ProxyRuns
-pub mod Sending
-pub mod Steps
-pub mod Turns

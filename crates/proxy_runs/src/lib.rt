@@ -3,10 +3,9 @@
 #![tactic(auto)]
 
 mod laws;
-mod packets;
+mod machines;
 mod runs;
-mod sends;
 
 pub use laws::what_goes_down_is_answered;
-pub use packets::SERVER_PORT;
+pub use relay_runs::SERVER_PORT;
 pub use runs::run_proxy;

@@ -1,109 +1,19 @@
-//! The run of a relay.
-ghost use Rattle.std.specs.Prelude.{◌≡◌, ◌≤◌, ◌⊎◌, length, map, string_bytes};
-ghost use Rattle.pcp_io.specs.declared.inboxes.TheConstants.{LONGEST_DATAGRAM};
+//! The run of the command.
+ghost use Rattle.std.specs.Prelude.{◌≡◌, ◌⊎◌, map, string_bytes};
 ghost use Rattle.pcp_io.specs.Faults.{HasRisen};
 ghost use Rattle.proxy_commands.specs.Commands.{IsCommand};
 ghost use Rattle.proxy_commands.specs.declared.commands.ProxyCommand.{ProxyCommand};
 ghost use Rattle.tool_commands.specs.declared.statuses.ToolStatus.TheVariants.{Done, Memory};
-ghost use Rattle.proxy_runs.specs.ProxyRuns.{EndsRelay, RunsProxy};
-ghost use Rattle.proxy_runs.specs.Steps.{IsTurn};
+ghost use Rattle.proxy_runs.specs.ProxyRuns.{RunsProxy};
 
-use crate::packets::relay_item;
-use pcp_base::Address;
-use pcp_io::{Clock, Inbox, Incoming, LONGEST_DATAGRAM, Outbox};
+use crate::machines::ProxyMachine;
+use pcp_io::{Clock, Inbox, Outbox};
 use proxy_commands::command_of;
 use proxy_core::Proxy;
+use relay_runs::run_relay;
 use std::alloc::Global;
 use std::sync::Wait;
 use tool_commands::ToolStatus;
-
-/// One item of the inbox, at one time of the clock. How the run ended, where it did.
-fn do_turn<O: Outbox, I: Inbox, T: Clock>(
-    alloc: Global,
-    server: &Address,
-    proxy: &mut Proxy,
-    down: &mut O,
-    up: &mut O,
-    from: &mut I,
-    clock: &mut T,
-    room: &mut [u8],
-) -> Option<ToolStatus>
-    requires { LONGEST_DATAGRAM ≤ length room.old }
-    ensures { IsTurn server.now proxy.old proxy.new result
-        (record {
-          outs = record {
-            down = record { sent = O.sent down.old; faults = O.faults down.old };
-            up = record { sent = O.sent up.old; faults = O.faults up.old };
-          };
-          left = I.left from.old;
-          faults = I.faults from.old;
-          times = T.times clock.old;
-        })
-        (record {
-          outs = record {
-            down = record { sent = O.sent down.new; faults = O.faults down.new };
-            up = record { sent = O.sent up.new; faults = O.faults up.new };
-          };
-          left = I.left from.new;
-          faults = I.faults from.new;
-          times = T.times clock.new;
-        }) }
-{
-    let Ok(incoming) = from.take(room) else {
-        return Some(ToolStatus::LinkFault);
-    };
-    if incoming == Incoming::Stop {
-        return Some(ToolStatus::Done);
-    }
-    let now_ms = clock.now();
-    proxy.tick(now_ms);
-    if relay_item(alloc, server, proxy, down, up, incoming, room, now_ms).is_err() {
-        return Some(ToolStatus::Memory);
-    }
-    None
-}
-
-/// Relays what comes until the inbox stops or fails, or no memory is found for a datagram.
-fn relay_all<R: Wait, O: Outbox, I: Inbox, T: Clock>(
-    rt: &R,
-    alloc: Global,
-    server: &Address,
-    proxy: &mut Proxy,
-    down: &mut O,
-    up: &mut O,
-    from: &mut I,
-    clock: &mut T,
-    room: &mut [u8],
-) -> ToolStatus
-    requires { LONGEST_DATAGRAM ≤ length room.old }
-    ensures { EndsRelay server.now proxy.old result
-        (record {
-          outs = record {
-            down = record { sent = O.sent down.old; faults = O.faults down.old };
-            up = record { sent = O.sent up.old; faults = O.faults up.old };
-          };
-          left = I.left from.old;
-          faults = I.faults from.old;
-          times = T.times clock.old;
-        })
-        (record {
-          outs = record {
-            down = record { sent = O.sent down.new; faults = O.faults down.new };
-            up = record { sent = O.sent up.new; faults = O.faults up.new };
-          };
-          left = I.left from.new;
-          faults = I.faults from.new;
-          times = T.times clock.new;
-        }) }
-{
-    for _ in rt.forever() {
-        let ended = do_turn(alloc, server, proxy, down, up, from, clock, room);
-        if let Some(status) = ended {
-            return status;
-        }
-    }
-    unreachable!()
-}
 
 /// Relays between clients and an upstream server as the words say (RFC 7648 in role), until the
 /// inbox gives a stop. For each item of `from` the clock is read once, the relay ticks, and then
@@ -160,10 +70,7 @@ pub fn run_proxy<R: Wait, O: Outbox, I: Inbox, T: Clock>(
     let Ok(proxy) = Proxy::new(alloc, command.own, command.server, command.key) else {
         return ToolStatus::Memory;
     };
-    let mut proxy = proxy;
-    let mut room = [0; LONGEST_DATAGRAM];
+    let mut machine = ProxyMachine::of(proxy);
     let server = &command.server;
-    relay_all(
-        rt, alloc, server, &mut proxy, down, up, from, clock, &mut room,
-    )
+    run_relay(rt, alloc, server, &mut machine, down, up, from, clock)
 }

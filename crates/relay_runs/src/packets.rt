@@ -1,15 +1,17 @@
 //! What a relay sends for what came.
-ghost use Rattle.std.specs.Prelude.{◌≡◌, ◌≤◌, [], ◌∷◌, length, IfOk, IfSome, OnOk, OnErr};
+ghost use Rattle.std.specs.Prelude.{◌≡◌, ◌<◌, ◌≤◌, [], ◌∷◌, length, IfOk, IfSome, OnOk, OnErr};
+ghost use Rattle.pcp_io.specs.declared.clocks.TheConstants.{END_OF_TIME_MS};
 ghost use Rattle.pcp_io.specs.Takes.{filled, item_of};
-ghost use Rattle.proxy_runs.specs.Handing.{Hands};
-ghost use Rattle.proxy_runs.specs.Sending.{down_by, up_by};
-ghost use Rattle.proxy_runs.specs.Steps.{Does};
-ghost use Rattle.proxy_runs.specs.Turns.{IsPacket, event_of, packet_event};
+ghost use Rattle.relay_runs.specs.Handing.{Hands};
+ghost use Rattle.relay_runs.specs.Sending.{down_by, up_by};
+ghost use Rattle.relay_runs.specs.Steps.{Does};
+ghost use Rattle.relay_runs.specs.Turns.{IsPacket, event_of, packet_event};
 
+use crate::machines::RelayMachine;
 use crate::sends::{send_one, send_reply};
 use pcp_base::{Address, Datagram, Memory, Octets};
 use pcp_io::{Incoming, Outbox};
-use proxy_core::{Proxy, ProxyOut};
+use proxy_core::ProxyOut;
 use std::alloc::Global;
 
 /// The port on which servers listen (RFC 6887, section 19.1).
@@ -47,17 +49,18 @@ fn to_server(server: &Address, octets: Octets) -> Datagram
 
 /// What is sent for a datagram at a time in milliseconds: one whose peer is the server came from
 /// upstream, and any other from a client. After `Memory` nothing was sent.
-fn relay_packet<O: Outbox>(
+fn relay_packet<M: RelayMachine, O: Outbox>(
     alloc: Global,
     server: &Address,
-    proxy: &mut Proxy,
+    machine: &mut M,
     down: &mut O,
     up: &mut O,
     datagram: &Datagram,
     now_ms: u64,
 ) -> Result<(), Memory>
-    ensures ok { OnOk result (Does server.now (packet_event server.now datagram.now now_ms ∷ [])
-        proxy.old proxy.new
+    requires { now_ms < END_OF_TIME_MS }
+    ensures ok { OnOk result (Does M.machine server.now
+        (packet_event server.now datagram.now now_ms ∷ []) machine.old machine.new
         (record {
           down = record { sent = O.sent down.old; faults = O.faults down.old };
           up = record { sent = O.sent up.old; faults = O.faults up.old };
@@ -69,11 +72,11 @@ fn relay_packet<O: Outbox>(
     ensures err { OnErr result ((down.new ≡ down.old) × (up.new ≡ up.old)) }
 {
     if datagram.peer == *server {
-        let reply = proxy.from_server(alloc, datagram, now_ms)?;
+        let reply = machine.from_server(alloc, datagram, now_ms)?;
         send_reply(down, &reply);
         return Ok(());
     }
-    let out = proxy.from_client(alloc, datagram, now_ms)?;
+    let out = machine.from_client(alloc, datagram, now_ms)?;
     send_out(server, down, up, out);
     Ok(())
 }
@@ -92,19 +95,20 @@ fn datagram_from(alloc: Global, peer: Address, port: u16, octets: &[u8]) -> Resu
 
 /// What is sent for what a take gave, at a time in milliseconds: packets are relayed, and anything
 /// else is ignored. After `Memory` nothing was sent for a packet.
-pub(crate) fn relay_item<O: Outbox>(
+pub(crate) fn relay_item<M: RelayMachine, O: Outbox>(
     alloc: Global,
     server: &Address,
-    proxy: &mut Proxy,
+    machine: &mut M,
     down: &mut O,
     up: &mut O,
     incoming: Incoming,
     room: &[u8],
     now_ms: u64,
 ) -> Result<(), Memory>
-    requires { filled incoming ≤ length room.now }
+    requires fits { filled incoming ≤ length room.now }
+    requires time { now_ms < END_OF_TIME_MS }
     ensures ok { IfSome (item_of incoming room.now) (λ item. OnOk result
-        (Does server.now (event_of server.now item now_ms) proxy.old proxy.new
+        (Does M.machine server.now (event_of server.now item now_ms) machine.old machine.new
         (record {
           down = record { sent = O.sent down.old; faults = O.faults down.old };
           up = record { sent = O.sent up.old; faults = O.faults up.old };
@@ -119,7 +123,7 @@ pub(crate) fn relay_item<O: Outbox>(
     match incoming {
         Incoming::Packet { peer, port, length } => {
             let datagram = datagram_from(alloc, peer, port, &room[..length])?;
-            relay_packet(alloc, server, proxy, down, up, &datagram, now_ms)
+            relay_packet(alloc, server, machine, down, up, &datagram, now_ms)
         }
         Incoming::Lose(_address) => Ok(()),
         Incoming::Quiet => Ok(()),

@@ -1,6 +1,6 @@
 //! Datagrams to an outbox.
 ghost use Rattle.std.specs.Prelude.{◌∷◌, [], option_to_list};
-ghost use Rattle.proxy_runs.specs.Handing.{Hands, HandsAll};
+ghost use Rattle.relay_runs.specs.Handing.{Hands, HandsAll};
 
 use pcp_base::Datagram;
 use pcp_io::Outbox;

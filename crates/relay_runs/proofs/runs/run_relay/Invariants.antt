@@ -1,10 +1,10 @@
-use Rattle.proxy_runs.proofs.TurnLemmas.{HasRun}
-use Rattle.proxy_runs.proofs.runs.relay_all.Given as goal
+use Rattle.relay_runs.proofs.TurnLemmas.{HasRun}
+use Rattle.relay_runs.proofs.runs.run_relay.Given as goal
 
 abbrev pub invariant-loop : goal.invariant-loop
 invariant-loop g l =
     (goal.iterator-loop g).can_next l.iterator' × (goal.iterator-loop g).is_finite l.iterator'
-    × HasRun l.server l.fn.proxy l.proxy
+    × HasRun g.M.RelayMachine.machine l.server l.fn.machine l.machine
     (record {
       outs = record {
         down = record { sent = g.O.Outbox.sent l.fn.down; faults = g.O.Outbox.faults l.fn.down };

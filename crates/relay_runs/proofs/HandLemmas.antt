@@ -4,7 +4,7 @@ use Rattle.std.proofs.lemmas.List.{append-nil, map-append}
 use Rattle.std.proofs.lemmas.List.Elements.{filter-append}
 use Rattle.pcp_base.specs.declared.datagrams.Datagram.{Datagram}
 use Rattle.pcp_io.specs.Sends.{sent_with}
-use Rattle.proxy_runs.specs.Handing.{Handed, Hands, HandsAll, HasRisenBy, Told, lost_count, taken_of}
+use Rattle.relay_runs.specs.Handing.{Handed, Hands, HandsAll, HasRisenBy, Told, lost_count, taken_of}
 
 sent_with-append : (before : Option (List Datagram)) (xs ys : List Datagram) → sent_with (sent_with before xs) ys ≡ sent_with before (xs ++ ys)
 sent_with-append None xs ys = refl
