@@ -1,6 +1,6 @@
-//! Words of the relay's command, and its help.
+//! Words of the relays' commands, and their help.
 use pcp_base::{Address, Memory};
-use proxy_commands::{ProxyCommand, command_of, help_of};
+use proxy_commands::{CascadeCommand, ProxyCommand, cascade_command_of, command_of, help_of};
 use std::alloc::Global;
 use std::test::Fail;
 
@@ -83,14 +83,80 @@ fn options_are_read(rt: HostRuntime) -> Result<(), Fail> {
     Ok(())
 }
 
+// What a `cascade` says in front of its ports.
+static CASCADE_FRONT: &str =
+    "cascade --server 192.0.2.9 --own 10.0.0.2 --inner 10.0.0.1 --key 000102030405060708090a0b0c0d0e0f101112131415161718191a1b1c1d1e1f";
+
+// Its ports, and whether it is a command with them.
+static RANGES: [(&str, bool); 11] = [
+    ("--low 20000 --high 29999", true),
+    ("--high 65535 --low 1", true),
+    ("--low 20000 --high 20000", true),
+    ("--low 20001 --high 20000", false),
+    ("--low 0 --high 20000", false),
+    ("--low 1 --high 65536", false),
+    ("--low 020 --high 20000", false),
+    ("--low +20 --high 20000", false),
+    ("--low 20", false),
+    ("--high 20", false),
+    ("--low 20 --high 30 --low 20", false),
+];
+
+fn read_range(alloc: Global, range: &str) -> Result<Option<CascadeCommand>, Memory> {
+    let mut words = words_of(alloc, CASCADE_FRONT)?;
+    for word in range.split(' ') {
+        words.push(String::from_str(alloc, word)?)?;
+    }
+    cascade_command_of(alloc, &words)
+}
+
+#[test]
+fn ranges_of_ports(rt: HostRuntime) -> Result<(), Fail> {
+    for (range, is) in &RANGES {
+        let Ok(found) = read_range(rt.alloc(), range) else {
+            return Err("no memory".into());
+        };
+        assert!(rt; found.is_some() == *is, "{range}");
+    }
+    Ok(())
+}
+
+#[test]
+fn cascade_options_are_read(rt: HostRuntime) -> Result<(), Fail> {
+    let alloc = rt.alloc();
+    let (range, _is) = RANGES[0];
+    let command = read_range(alloc, range)?.ok_or("a command")?;
+    assert!(rt; command.low == 20_000 && command.high == 29_999);
+    assert!(rt; command.relay.own == Address::v4(10, 0, 0, 2));
+    let (proxy, _is) = WORDS[0];
+    assert!(rt; cascade_command_of(alloc, &words_of(alloc, proxy)?)?.is_none());
+    Ok(())
+}
+
+// Whether the help for these words has this.
+fn helps(alloc: Global, words: &str, part: &str) -> Result<bool, Memory> {
+    match help_of(alloc, &words_of(alloc, words)?)? {
+        Some(help) => Ok(help.as_str().contains(part)),
+        None => Ok(false),
+    }
+}
+
 #[test]
 fn help_has_an_example(rt: HostRuntime) -> Result<(), Fail> {
     let alloc = rt.alloc();
-    let help = help_of(alloc, &words_of(alloc, "proxy --help")?)?.ok_or("help")?;
     assert!(rt;
-        help.as_str()
-            .contains("Example: pcp proxy --server 192.0.2.9"),
-        "{help}"
+        helps(
+            alloc,
+            "proxy --help",
+            "Example: pcp proxy --server 192.0.2.9"
+        )?
+    );
+    assert!(rt;
+        helps(
+            alloc,
+            "cascade --help",
+            "Example: pcp cascade --server 192.0.2.9"
+        )?
     );
     assert!(rt; help_of(alloc, &words_of(alloc, "proxy")?)?.is_none());
     Ok(())
