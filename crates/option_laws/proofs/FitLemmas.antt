@@ -1,7 +1,7 @@
 -- The fields that are read of octets fit.
 use Rattle.std.specs.List.{AllByRecursion, cons_option}
 use Rattle.std.specs.Int.{from_be_bytes, w16}
-use Rattle.std.proofs.Common.{◌≡◌, ℕ, zero, suc, ◌+◌, ◌^◌, ◌<◌, ◌==◌, ◌&&◌, ◌||◌, not, Bool, true, false, cond, List, [], ◌∷◌, take, drop, Option, Some, None, refl, sym, ap, ◌∙◌, subst, arith}
+use Rattle.std.proofs.Common.{◌≡◌, ℕ, zero, suc, ◌+◌, ◌^◌, ◌<◌, ◌==◌, ◌&&◌, ◌||◌, not, Bool, true, false, cond, List, [], ◌∷◌, take, drop, Option, Some, None, refl, sym, ap, subst, arith}
 use Rattle.std.specs.Prelude.{⊤, option_map, Result, Ok, Err}
 use Rattle.std.proofs.lemmas.Bool.{and_parts}
 use Rattle.pcp_base.specs.declared.addresses.Address.{Address}
@@ -15,10 +15,9 @@ use Rattle.pcp_base.specs.declared.leases.Filter as Filters
 use Rattle.pcp_base.specs.Cases.{first_case}
 use Rattle.pcp_base.specs.Codes.{code_number}
 use Rattle.pcp_base.specs.Pairing.{place_of}
-use Rattle.pcp_codec.specs.declared.requests.Body.{Body}
 use Rattle.pcp_codec.specs.declared.requests.Frame.{Frame}
 use Rattle.pcp_codec.specs.declared.responses.Head.{Head}
-use Rattle.pcp_codec.specs.Fields.{octet, u16_at, u32_at}
+use Rattle.pcp_codec.specs.Fields.{octet, u32_at}
 use Rattle.pcp_codec.specs.Framing.{is_silent}
 use Rattle.pcp_codec.specs.Requests.{body_of, data_length, frame_of}
 use Rattle.pcp_codec.specs.Responses.{code_of, head_of, head_with, is_framed}
@@ -27,7 +26,7 @@ use Rattle.pcp_options.specs.declared.options.Item.{Item}
 use Rattle.pcp_options.specs.declared.options.Item.TheVariants.{ThirdParty, PreferFailure, Filter, PortSet}
 use Rattle.pcp_options.specs.declared.responses.Response.{Response}
 use Rattle.pcp_options.specs.declared.verdicts.Verdict.{Verdict}
-use Rattle.pcp_options.specs.declared.verdicts.Verdict.TheVariants.{Silent, Refuse, Asked}
+use Rattle.pcp_options.specs.declared.verdicts.Verdict.TheVariants.{Silent, Asked}
 use Rattle.pcp_options.specs.Asking.{subject_of, third_of, ask_of}
 use Rattle.pcp_options.specs.Options.{FoundOption, fill, found_after, found_in, item_of, items_of}
 use Rattle.pcp_options.specs.ReadResponses.{are_single, are_whole, is_mapped, is_whole, response_as, response_of, response_under, text_behind, whole_front}
@@ -35,7 +34,7 @@ use Rattle.pcp_options.specs.Replies.{opcode_of_body}
 use Rattle.pcp_options.specs.Responses.{AreOctets, FitsBody, FitsItem}
 use Rattle.pcp_options.specs.Verdicts.{asked_by, asked_for, behind_data, options_in, request_steps, verdict_by, verdict_of}
 use Rattle.pcp_options.proofs.ReplyLaws.{body-fits}
-use Rattle.option_laws.specs.Fitting.{FitsRequest, FitsResponse, IsMapped, RequestsFit, ResponsesAreMapped, ResponsesFit}
+use Rattle.option_laws.specs.Fitting.{RequestsFit, ResponsesAreMapped, ResponsesFit}
 
 -- ---- octets
 
@@ -45,17 +44,17 @@ octets-take (suc n) [] h i = omega arith
 octets-take (suc n) (x ∷ text) h zero = h zero
 octets-take (suc n) (x ∷ text) h (suc i) = octets-take n text (λ j. h (suc j)) i
 
-octets-drop : (n : ℕ) (text : List ℕ) → AreOctets text → AreOctets (drop n text)
+pub octets-drop : (n : ℕ) (text : List ℕ) → AreOctets text → AreOctets (drop n text)
 octets-drop zero text h i = h i
 octets-drop (suc n) [] h i = omega arith
 octets-drop (suc n) (x ∷ text) h i = octets-drop n text (λ j. h (suc j)) i
 
 -- ---- options
 
-abbrev HasOctets : FoundOption → Type 0
+abbrev pub HasOctets : FoundOption → Type 0
 HasOctets o = AreOctets o.content
 
-found-octets : (n : ℕ) (text : List ℕ) → AreOctets text → AllByRecursion HasOctets (found_after n text)
+pub found-octets : (n : ℕ) (text : List ℕ) → AreOctets text → AllByRecursion HasOctets (found_after n text)
 found-octets (suc n) [] h = tt
 found-octets (suc n) (x ∷ rest) h = found-octets n rest (λ i. h (suc i))
 found-octets zero [] h = tt
@@ -72,7 +71,7 @@ front-by : (b : Bool) (o : FoundOption) (os : List FoundOption) → HasOctets o 
 front-by true o os h all = (h, all)
 front-by false o os h all = tt
 
-front-octets : (os : List FoundOption) → AllByRecursion HasOctets os → AllByRecursion HasOctets (whole_front os)
+pub front-octets : (os : List FoundOption) → AllByRecursion HasOctets os → AllByRecursion HasOctets (whole_front os)
 front-octets [] h = tt
 front-octets (o ∷ os) h = front-by (is_whole o) o (whole_front os) h.0 (front-octets os h.1)
 
@@ -142,7 +141,7 @@ parts-under message (Some head) r e h =
       single = single-by head.code (are_whole os) (are_single (items_of (whole_front os))) tests.1;
     })
 
-parts-of : (message : List ℕ) (r : Response) → response_of message ≡ Some r → HasParts message r
+pub parts-of : (message : List ℕ) (r : Response) → response_of message ≡ Some r → HasParts message r
 parts-of message r h = parts-under message (head_of message) r refl h
 
 pub responses-fit : ResponsesFit
@@ -175,7 +174,7 @@ asked-by : (config : Config) (source : Address) (frame : Frame) (items : List It
 asked-by config source frame items (Some refusal) place ask told h = absurd cc
 asked-by config source frame items None place ask told h = by-place items config frame (subject_of source (third_of items)) place ask told h
 
-items-asked : (config : Config) (source : Address) (message : List ℕ) (place : ℕ) (ask : Ask) (items : List Item) → verdict_of config source message ≡ Asked place ask items
+pub items-asked : (config : Config) (source : Address) (message : List ℕ) (place : ℕ) (ask : Ask) (items : List Item) → verdict_of config source message ≡ Asked place ask items
     → items ≡ items_of (options_in (frame_of message) message)
 unfolding verdict_of
 items-asked config source message place ask items h = either (is_silent message) h

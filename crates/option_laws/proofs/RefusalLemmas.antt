@@ -1,6 +1,6 @@
 -- No step of a verdict refuses with the code of a success.
 use Rattle.std.specs.List.{AllByRecursion}
-use Rattle.std.proofs.Common.{◌≡◌, ◌≢◌, ℕ, ◌==◌, Bool, true, false, cond, List, [], ◌∷◌, ◌++◌, Option, Some, None, refl, sym, ap, subst}
+use Rattle.std.proofs.Common.{◌≡◌, ◌≢◌, ℕ, ◌==◌, Bool, true, false, cond, List, [], ◌∷◌, ◌++◌, Option, Some, None, refl, subst}
 use Rattle.std.specs.Prelude.{Result, Ok, Err}
 use Rattle.pcp_base.specs.declared.addresses.Address.{Address}
 use Rattle.pcp_base.specs.declared.asks.Ask.{Ask}
@@ -19,11 +19,11 @@ use Rattle.pcp_codec.specs.Framing.{frame_steps, is_silent}
 use Rattle.pcp_codec.specs.Requests.{frame_of}
 use Rattle.pcp_options.specs.declared.options.Item.{Item}
 use Rattle.pcp_options.specs.declared.verdicts.Verdict.{Verdict}
-use Rattle.pcp_options.specs.declared.verdicts.Verdict.TheVariants.{Silent, Refuse, Asked}
+use Rattle.pcp_options.specs.declared.verdicts.Verdict.TheVariants.{Silent, Refuse}
 use Rattle.pcp_options.specs.Asking.{ask_by, ask_of, endpoint_of, filters_of, map_ask, peer_ask, seen_of, subject_of, third_of}
 use Rattle.pcp_options.specs.Options.{FoundOption, items_of}
 use Rattle.pcp_options.specs.Steps.{is_again, is_ignored, known_steps, option_steps, options_steps, steps_after}
-use Rattle.pcp_options.specs.Verdicts.{asked_by, asked_for, later_steps, options_in, request_steps, third_steps, verdict_by, verdict_of}
+use Rattle.pcp_options.specs.Verdicts.{asked_by, later_steps, options_in, request_steps, third_steps, verdict_by, verdict_of}
 use Rattle.option_laws.specs.Refusals.{RefusalsAreErrors}
 
 -- a step that refuses, refuses with an error

@@ -1,5 +1,6 @@
 //! The laws.
 ghost use Rattle.option_laws.specs.Fitting.{RequestsFit, ResponsesFit, ResponsesAreMapped};
+ghost use Rattle.option_laws.specs.Octets.{OctetsAreAsked, OctetsAreRead, RefusalsAreOctets, RequestsAreOctets, SuccessesAreOctets};
 ghost use Rattle.option_laws.specs.Refusals.{RefusalsAreErrors};
 
 /// What is read of octets fits its types: numbers, addresses and nonces of a response, and of a
@@ -14,4 +15,15 @@ pub fn what_is_read_fits()
 /// The code of a refusal is never that of a success.
 pub fn refusals_are_errors()
     ensures { RefusalsAreErrors }
+{}
+
+/// Requests, successes and refusals are written in octets where their nonces, protocols, addresses and
+/// prefixes are of octets; and these are so in what is read of octets, of a response and of a
+/// request that is asked.
+pub fn messages_are_octets()
+    ensures requests { RequestsAreOctets }
+    ensures successes { SuccessesAreOctets }
+    ensures refusals { RefusalsAreOctets }
+    ensures read { OctetsAreRead }
+    ensures asked { OctetsAreAsked }
 {}

@@ -3,4 +3,4 @@
 
 mod laws;
 
-pub use laws::{refusals_are_errors, what_is_read_fits};
+pub use laws::{messages_are_octets, refusals_are_errors, what_is_read_fits};
