@@ -1,4 +1,5 @@
 //! The laws.
+ghost use Rattle.decision_laws.specs.Addresses.{AnswersTellTheAddress};
 ghost use Rattle.decision_laws.specs.Granting.{MapsAreGranted, PeersAreGranted};
 
 /// A lease that a decision keeps is one of the table, of which only the expiry and the filters
@@ -7,4 +8,9 @@ ghost use Rattle.decision_laws.specs.Granting.{MapsAreGranted, PeersAreGranted};
 pub fn leases_are_granted()
     ensures maps { MapsAreGranted }
     ensures peers { PeersAreGranted }
+{}
+
+/// An answer that grants tells the external address of the terms.
+pub fn answers_tell_the_address()
+    ensures { AnswersTellTheAddress }
 {}

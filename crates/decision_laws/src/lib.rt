@@ -3,4 +3,4 @@
 
 mod laws;
 
-pub use laws::leases_are_granted;
+pub use laws::{answers_tell_the_address, leases_are_granted};
