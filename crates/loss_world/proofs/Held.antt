@@ -277,7 +277,7 @@ to-read : (octets : List ℕ) (wants : List (Option WantView)) (x : Option Respo
 to-read octets wants None read = tt
 to-read octets wants (Some r) read = to-all octets wants r r.body read refl
 
-means : (c : ClientView) (d : Datagram) → Granting d.octets c.wants (meaning_of c d)
+pub means : (c : ClientView) (d : Datagram) → Granting d.octets c.wants (meaning_of c d)
 means c d = cond_both (bytes_eq d.peer.0 c.server.0) (said_in c.wants (response_of d.octets)) Nothing (Granting d.octets c.wants) (λ _. to-read d.octets c.wants (response_of d.octets) refl) (λ _. tt)
 
 -- ---- what a datagram makes of all wants

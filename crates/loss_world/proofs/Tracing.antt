@@ -12,6 +12,7 @@ use Rattle.pcp_base.specs.declared.datagrams.Entry.{Entry}
 use Rattle.pcp_codec.specs.declared.requests.Common.{Common}
 use Rattle.pcp_options.specs.Asking.{third_of}
 use Rattle.pcp_options.specs.ReadResponses.{response_of}
+use Rattle.pcp_options.specs.Responses.{AreOctets}
 use Rattle.lease_histories.specs.Entries.{Request, request_entry, request_of}
 use Rattle.lease_histories.specs.HouseHistories.{HouseEntry}
 use Rattle.lease_histories.specs.PlainHouses.{PlainHouse, PlainShard, entry_by, greatest_base, packet_entry, raised, served_at}
@@ -27,19 +28,19 @@ use Rattle.proxy_core.specs.declared.outs.ProxyOut.{ProxyOut}
 use Rattle.proxy_core.specs.declared.outs.ProxyOut.TheVariants as Outs
 use Rattle.proxy_core.specs.Relays.{Relay, on_client, on_server, on_tick, response_from}
 use Rattle.proxy_core.specs.Runs as Runs
-use Rattle.loss_world.specs.Disclosure.{HasOctets, IsGranted, IsNoRenumbering, IsRenumbered, LeasesAreGrantedDirectly, LeasesAreGrantedThroughRelays, rewritten}
+use Rattle.loss_world.specs.Disclosure.{IsGranted, IsNoRenumbering, IsRenumbered, LeasesAreGranted, rewritten}
 use Rattle.loss_world.specs.HouseLosses.{Cause, Loses, Restarts, Renumbers, entries_of, house_after, is_loss}
 use Rattle.loss_world.specs.Packets.{Origin, Packet, datagram_of}
 use Rattle.loss_world.specs.Steps.{answered, asked, client_ends, client_ticks, client_wants, fails, from_client, from_upstream, happens, hears, is_reached, lost, origin_after, relay_ticks, relayed, run, sent_by, sent_down, with_relay, second, sends, to_client, to_relay, to_server, wanting, with_client}
-use Rattle.loss_world.specs.Worlds.{Beginning, ClientHost, ClientTerms, RelayHost, RelayTerms, Renumbering, World, Event, ToServer, ToRelay, ToClient, RelayTicks, ClientTicks, Wants, Ends, Fails, Passes, begun, client_begun, relay_begun}
+use Rattle.loss_world.specs.Worlds.{Beginning, ClientHost, ClientTerms, IsEventValue, RelayHost, RelayTerms, Renumbering, World, Event, ToServer, ToRelay, ToClient, RelayTicks, ClientTicks, Wants, Ends, Fails, Passes, begun, client_begun, relay_begun}
 use Rattle.loss_world.proofs.Held.{AreTold, SlotHolds, WantHolds, end-holds, heard-holds, slot-at, tick-holds, want-holds}
 use Rattle.loss_world.proofs.HouseFacts.{All-got, All-set}
-use Rattle.loss_world.proofs.BagGrows.{before, run-before}
 use Rattle.loss_world.proofs.CodeReads.{GrantsNothing}
 use Rattle.loss_world.proofs.RelayDown.{IsOurs, RelayLaws, nothing-told, ours-next, own-grants, server-told}
 use Rattle.loss_world.proofs.RelayFacts.{on-client}
 use Rattle.loss_world.proofs.Saying.{request-none}
 use Rattle.loss_world.proofs.Traces.{HostHolds, IsToldPacket, IsTraced}
+use Rattle.loss_world.proofs.Values.{EventTells, PacketIsMessage, ValueLaws, Values, begin-values, next-values}
 
 abbrev IsOurHost : Beginning → RelayHost → Type 0
 IsOurHost b h = IsOurs b h.relay
@@ -149,10 +150,6 @@ to-server b w (Some p) h =
 same-address : (x y : Address) → bytes_eq x.0 y.0 ≡ true → x ≡ y
 same-address x y h = ap (λ (o : List ℕ). record { 0 = o }) ((bytes_eq-Decides x.0 y.0).0 h)
 
--- where there is a relay, all packets are of octets
-abbrev pub MayRelay : Beginning → List Packet → Type 0
-MayRelay b bag = (t : RelayTerms) → Contains b.relays t → AllByRecursion HasOctets bag
-
 with-relay : (b : Beginning) (w : World) (k : ℕ) (r : RelayHost) → Traces b w → IsOurHost b r
     → Traces b (with_relay w k r)
 with-relay b w k r h is =
@@ -172,7 +169,7 @@ down-packet b w relay origin (Some sent) f x e =
     subst (IsToldPacket b w.history w.renumberings) same (f sent refl)
 
 from-upstream : RelayLaws → (b : Beginning) (w : World) (k : ℕ) (r : RelayHost) (p : Packet) → Traces b w
-    → IsOurHost b r → IsToldPacket b w.history w.renumberings p → HasOctets p
+    → IsOurHost b r → IsToldPacket b w.history w.renumberings p → AreOctets p.out.octets
     → is_reached p r.relay.own ≡ true → Traces b (from_upstream w k r p)
 from-upstream laws b w k r p h is told are here =
     let d = datagram_of p in
@@ -217,7 +214,7 @@ from-client laws b w k r p h is =
 to-relay : RelayLaws → (b : Beginning) (w : World) (k : ℕ) (r : Option RelayHost) (p : Option Packet)
     → Traces b w → ((x : RelayHost) → r ≡ Some x → IsOurHost b x)
     → ((x : Packet) → p ≡ Some x → IsToldPacket b w.history w.renumberings x)
-    → ((t : RelayTerms) → Contains b.relays t → (x : Packet) → p ≡ Some x → HasOctets x)
+    → ((x : Packet) → p ≡ Some x → PacketIsMessage x)
     → Traces b (to_relay w k r p)
 to-relay laws b w k None p h f g o = h
 to-relay laws b w k (Some r) None h f g o = h
@@ -225,7 +222,7 @@ to-relay laws b w k (Some r) (Some p) h f g o =
     let is = f r refl in
     cond_both (is_reached p r.relay.own) (cond (same_address p.sender r.relay.server) (from_upstream w k r p) (from_client w k r p)) w (Traces b)
     (λ here. cond_both (same_address p.sender r.relay.server) (from_upstream w k r p) (from_client w k r p) (Traces b)
-    (λ _. from-upstream laws b w k r p h is (g p refl) (o is.terms is.among p refl) here)
+    (λ _. from-upstream laws b w k r p h is (g p refl) (o p refl).0.octets here)
     (λ _. from-client laws b w k r p h is)) (λ _. h)
 
 relay-ticks : RelayLaws → (b : Beginning) (w : World) (k : ℕ) (r : Option RelayHost) → Traces b w
@@ -309,42 +306,51 @@ fails-at b w place cause (Some shard) n h =
 
 -- ---- all
 
-next-traces : RelayLaws → (b : Beginning) (w : World) (e : Event) → IsNoRenumbering e
-    → MayRelay b w.bag → Traces b w → Traces b (happens w e)
-next-traces laws b w (ToServer p) n o h = to-server b w (slice_get w.bag p) h
-next-traces laws b w (ToRelay p k) n o h =
+next-traces : RelayLaws → (b : Beginning) (w : World) (e : Event) → IsNoRenumbering e → Values w → Traces b w → Traces b (happens w e)
+next-traces laws b w (ToServer p) n v h = to-server b w (slice_get w.bag p) h
+next-traces laws b w (ToRelay p k) n v h =
     to-relay laws b w k (slice_get w.relays k) (slice_get w.bag p) h
     (λ x there. All-got (IsOurHost b) w.relays k x h.relays there)
     (λ x there. All-got (IsToldPacket b w.history w.renumberings) w.bag p x h.bag there)
-    (λ t among x there. All-got HasOctets w.bag p x (o t among) there)
-next-traces laws b w (ToClient p k word) n o h =
+    (λ x there. All-got PacketIsMessage w.bag p x v.bag there)
+next-traces laws b w (ToClient p k word) n v h =
     to-client b w k word (slice_get w.clients k) (slice_get w.bag p) h
     (λ x there. All-got (HostHolds b w.history w.renumberings) w.clients k x h.clients there)
     (λ x there. All-got (IsToldPacket b w.history w.renumberings) w.bag p x h.bag there)
-next-traces laws b w (RelayTicks k) n o h =
+next-traces laws b w (RelayTicks k) n v h =
     relay-ticks laws b w k (slice_get w.relays k) h
     (λ x there. All-got (IsOurHost b) w.relays k x h.relays there)
-next-traces laws b w (ClientTicks k word) n o h =
+next-traces laws b w (ClientTicks k word) n v h =
     client-ticks b w k word (slice_get w.clients k) h
     (λ x there. All-got (HostHolds b w.history w.renumberings) w.clients k x h.clients there)
-next-traces laws b w (Wants k third ask) n o h =
+next-traces laws b w (Wants k third ask) n v h =
     client-wants b w k (slice_get w.clients k) third ask h
     (λ x there. All-got (HostHolds b w.history w.renumberings) w.clients k x h.clients there)
-next-traces laws b w (Ends k id) n o h =
+next-traces laws b w (Ends k id) n v h =
     client-ends b w k id (slice_get w.clients k) h
     (λ x there. All-got (HostHolds b w.history w.renumberings) w.clients k x h.clients there)
-next-traces laws b w (Fails place cause) n o h = fails-at b w place cause (slice_get w.house.shards place) n h
-next-traces laws b w (Passes ms) n o h = record { relays = h.relays; bag = h.bag; clients = h.clients }
+next-traces laws b w (Fails place cause) n v h = fails-at b w place cause (slice_get w.house.shards place) n h
+next-traces laws b w (Passes ms) n v h = record { relays = h.relays; bag = h.bag; clients = h.clients }
 
-run-traces : RelayLaws → (b : Beginning) (events : List Event) (w : World)
-    → AllByRecursion IsNoRenumbering events → MayRelay b (run w events).bag → Traces b w
+no-updates : (w : World) (e : Event) → IsNoRenumbering e → EventTells w e
+no-updates w (ToServer p) n = tt
+no-updates w (ToRelay p k) n = tt
+no-updates w (ToClient p k word) n = tt
+no-updates w (RelayTicks k) n = tt
+no-updates w (ClientTicks k word) n = tt
+no-updates w (Wants k third ask) n = tt
+no-updates w (Ends k id) n = tt
+no-updates w (Fails place Loses) n = λ shard there base. tt
+no-updates w (Fails place Restarts) n = λ shard there base. tt
+no-updates w (Fails place (Renumbers a)) n = absurd n
+no-updates w (Passes ms) n = tt
+
+run-traces : RelayLaws → ValueLaws → (b : Beginning) (events : List Event) (w : World)
+    → AllByRecursion IsEventValue events → AllByRecursion IsNoRenumbering events → Values w → Traces b w
     → Traces b (run w events)
-run-traces laws b [] w n o h = h
-run-traces laws b (e ∷ es) w n o h =
-    let after : MayRelay b (happens w e).bag =
-    λ t among. run-before HasOctets es (happens w e) (o t among) in
-    let now : MayRelay b w.bag = λ t among. before HasOctets w e (after t among) in
-    run-traces laws b es (happens w e) n.1 o (next-traces laws b w e n.0 now h)
+run-traces laws values b [] w are n v h = h
+run-traces laws values b (e ∷ es) w are n v h =
+    run-traces laws values b es (happens w e) are.1 n.1 (next-values values w e are.0 (no-updates w e n.0) v) (next-traces laws b w e n.0 v h)
 
 nothing-held : (T : Option Address → Common → Type 0) (n : ℕ) → AllByRecursion (SlotHolds T) (replicate n None)
 nothing-held T zero = tt
@@ -396,22 +402,9 @@ held-traced b w own (Some y) want lease h e is =
     told-address a x h same (inl e) = inl (e ∙ same)
     told-address a x h same (inr r) = inr (subst (IsRenumbered w.renumberings h) same r)
 
-leases-granted-by : RelayLaws → (b : Beginning) (events : List Event) (host : ClientHost) (id : ℕ)
-    (want : WantView) (lease : HeldLease) → AllByRecursion IsNoRenumbering events
-    → MayRelay b (run (begun b) events).bag → Contains (run (begun b) events).clients host
-    → want_at host.client.wants id ≡ Some want → want.lease ≡ Some lease
-    → IsGranted b (run (begun b) events) host.client.own want lease
-leases-granted-by laws b events host id want lease stay may among at is =
+pub leases-granted : RelayLaws → ValueLaws → LeasesAreGranted
+leases-granted laws values b events host id want lease begin are stay among at is =
     let w = run (begun b) events in
-    let traces = run-traces laws b events (begun b) stay may (begins b) in
+    let traces = run-traces laws values b events (begun b) are stay (begin-values b begin.hosts) (begins b) in
     let holds = All-IsIn (HostHolds b w.history w.renumberings) w.clients host traces.clients (IsIn-from_Contains w.clients host among) in
     held-traced b w host.client.own (want_at host.client.wants id) want lease (slot-at (IsTraced b w.history w.renumberings host.client.own) host.client.wants id holds) at is
-
-pub leases-granted-directly : RelayLaws → LeasesAreGrantedDirectly
-leases-granted-directly laws b events host id want lease none stay among at is =
-    leases-granted-by laws b events host id want lease stay
-    (λ t there. absurd (IsIn-from_Contains [] t (subst (λ ts. Contains ts t) none there))) among at is
-
-pub leases-granted-through : RelayLaws → LeasesAreGrantedThroughRelays
-leases-granted-through laws b events host id want lease octets stay among at is =
-    leases-granted-by laws b events host id want lease stay (λ t there. octets) among at is

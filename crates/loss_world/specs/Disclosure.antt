@@ -15,7 +15,6 @@ use Rattle.pcp_codec.specs.declared.requests.Body.TheVariants.{Announce, Map, Pe
 use Rattle.pcp_options.specs.declared.responses.Response.{Response}
 use Rattle.pcp_options.specs.Asking.{third_of}
 use Rattle.pcp_options.specs.ReadResponses.{response_of}
-use Rattle.pcp_options.specs.Responses.{AreOctets}
 use Rattle.client_core.specs.declared.epochs.HeardEpoch.{HeardEpoch}
 use Rattle.client_core.specs.declared.events.HeldLease.{HeldLease}
 use Rattle.client_core.specs.declared.meanings.EpochFound.TheVariants.{Invalid}
@@ -29,7 +28,7 @@ use Rattle.lease_histories.specs.HouseHistories.{HouseEntry}
 use Rattle.loss_world.specs.HouseLosses.{Renumbers}
 use Rattle.loss_world.specs.Packets.{Loss, Origin, Packet, datagram_of, seconds}
 use Rattle.loss_world.specs.Steps.{run, second}
-use Rattle.loss_world.specs.Worlds.{Beginning, ClientHost, Event, Fails, IsBeginning, RelayTerms, Renumbering, World, begun}
+use Rattle.loss_world.specs.Worlds.{Beginning, ClientHost, Event, Fails, IsBeginning, IsEventValue, RelayTerms, Renumbering, World, begun}
 
 -- ---- where a lease comes from
 
@@ -86,28 +85,16 @@ pub record IsGranted (b : Beginning) (w : World) (own : Address) (want : WantVie
   pub external : told.external ≡ lease.external
   pub address : (told.address ≡ lease.address) ⊎ IsRenumbered w.renumberings entry lease.address
 
--- So it is where clients and server talk without relays, and no external address changes.
+-- So it is through any number of relays, while no external address changes.
 abbrev pub IsNoRenumbering : Event → Type 0
 IsNoRenumbering (Fails place (Renumbers a)) = ⊥
 IsNoRenumbering event = ⊤
 
-abbrev pub LeasesAreGrantedDirectly : Type 0
-LeasesAreGrantedDirectly =
-    (b : Beginning) (events : List Event) (host : ClientHost) (id : ℕ) (want : WantView) (lease : HeldLease) →
-    b.relays ≡ [] → AllByRecursion IsNoRenumbering events →
-    Contains (run (begun b) events).clients host →
-    want_at host.client.wants id ≡ Some want → want.lease ≡ Some lease →
-    IsGranted b (run (begun b) events) host.client.own want lease
-
--- With relays it is so where every packet is of octets, as those of a network are.
-abbrev pub HasOctets : Packet → Type 0
-HasOctets p = AreOctets p.out.octets
-
-abbrev pub LeasesAreGrantedThroughRelays : Type 0
-LeasesAreGrantedThroughRelays =
+abbrev pub LeasesAreGranted : Type 0
+LeasesAreGranted =
     (b : Beginning) (events : List Event) (host : ClientHost) (id : ℕ) (want : WantView)
     (lease : HeldLease)
-    → AllByRecursion HasOctets (run (begun b) events).bag → AllByRecursion IsNoRenumbering events
+    → IsBeginning b → AllByRecursion IsEventValue events → AllByRecursion IsNoRenumbering events
     → Contains (run (begun b) events).clients host
     → want_at host.client.wants id ≡ Some want → want.lease ≡ Some lease
     → IsGranted b (run (begun b) events) host.client.own want lease

@@ -1,9 +1,10 @@
 -- A world in which packets are lost, repeated and reordered, and never forged (our own): a server, relays and clients,
 -- one clock, and all packets ever sent.
-use Rattle.std.specs.Prelude.{◌≡◌, ◌≤◌, ℕ, List, [], length, map, Option, None}
+use Rattle.std.specs.Prelude.{◌≡◌, ◌<◌, ◌≤◌, ℕ, List, [], length, map, Option, Some, None, ⊤}
 use Rattle.std.specs.List.{AllByRecursion}
 use Rattle.pcp_base.specs.declared.addresses.Address.{Address}
 use Rattle.pcp_base.specs.declared.asks.Ask.{Ask}
+use Rattle.pcp_base.specs.declared.asks.Ask.TheVariants as Asks
 use Rattle.pcp_base.specs.declared.configs.Config.{Config}
 use Rattle.pcp_base.specs.States.{State}
 use Rattle.pcp_base.specs.Tables.{empty_table}
@@ -13,7 +14,7 @@ use Rattle.lease_histories.specs.Laws.{AreOpenings}
 use Rattle.lease_histories.specs.PlainHouses.{PlainHouse, house_begun}
 use Rattle.client_core.specs.Clients.{ClientView, idle}
 use Rattle.proxy_core.specs.Relays.{Relay, new_relay}
-use Rattle.loss_world.specs.HouseLosses.{Cause}
+use Rattle.loss_world.specs.HouseLosses.{Cause, Renumbers}
 use Rattle.loss_world.specs.Packets.{Loss, Origin, Packet, seconds}
 
 -- a relay, and the origin of the last epoch that it heard
@@ -99,8 +100,27 @@ IsAddressValue a = (length a.0 ≡ 16) × AreOctets a.0
 -- the addresses are values of their type, and keys are octets
 pub record AreHosts (b : Beginning) : Type 0 where
   pub server : IsAddressValue b.server
+  pub externals : AllByRecursion (λ x. IsAddressValue x.address) b.config.externals
   pub relays : AllByRecursion (λ t. IsAddressValue t.own × IsAddressValue t.server × AreOctets t.key) b.relays
   pub clients : AllByRecursion (λ t. IsAddressValue t.own × IsAddressValue t.server) b.clients
+
+-- the nonce and the addresses that are asked with, and those and the prefixes of filters, are of octets
+abbrev pub IsAskValue : Ask → Type 0
+IsAskValue (Asks.Map ask) = AreOctets ask.nonce.0 × AreOctets ask.address.0
+    × AllByRecursion (λ f. (f.prefix < 256) × AreOctets f.remote.0) ask.filters
+IsAskValue (Asks.Peer ask) =
+    AreOctets ask.nonce.0 × AreOctets ask.address.0 × AreOctets ask.remote.0
+IsAskValue ask = ⊤
+
+abbrev pub IsThirdValue : Option Address → Type 0
+IsThirdValue None = ⊤
+IsThirdValue (Some a) = AreOctets a.0
+
+-- what an event names are values of their types
+abbrev pub IsEventValue : Event → Type 0
+IsEventValue (Wants client third ask) = IsThirdValue third × IsAskValue ask
+IsEventValue (Fails place (Renumbers a)) = IsAddressValue a
+IsEventValue event = ⊤
 
 -- no packet, no want and no lease yet, and no last moment of an external address is later than the clock's second
 pub record IsBeginning (b : Beginning) : Type 0 where

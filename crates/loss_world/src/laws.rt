@@ -1,9 +1,10 @@
 //! What clients may believe in a world that loses, repeats and reorders packets.
-ghost use Rattle.loss_world.specs.Disclosure.{ClientsHaveOrigins, LeasesAreGrantedDirectly, LeasesAreGrantedThroughRelays, LossesAreFound, RepliesHaveOrigins};
+ghost use Rattle.loss_world.specs.Disclosure.{ClientsHaveOrigins, LeasesAreGranted, LossesAreFound, RepliesHaveOrigins};
 
 use client_core::losses_are_heard;
+use decision_laws::answers_tell_the_address;
 use lease_core::decisions_change_leases;
-use option_laws::{refusals_are_errors, what_is_read_fits};
+use option_laws::{messages_are_octets, refusals_are_errors, what_is_read_fits};
 use pcp_options::successes_are_read;
 use proxy_core::waits_are_kept;
 
@@ -11,11 +12,10 @@ use proxy_core::waits_are_kept;
 /// sent has its origin in a reply or an update of the server, and so has each epoch that a client
 /// heard. A client that hears two replies, between whose origins leases were lost, finds the second
 /// epoch invalid where the first was high enough (RFC 6887, section 8.5). While no external address
-/// changes, and where all packets are of octets, a lease that a client holds is one that the server
-/// granted to its endpoint and to its nonce, as the relays on the way rewrote it.
+/// changes, a lease that a client holds is one that the server granted to its endpoint and to its
+/// nonce, as the relays on the way rewrote it.
 pub fn world_law()
-    ensures leases { LeasesAreGrantedThroughRelays }
-    ensures direct { LeasesAreGrantedDirectly }
+    ensures leases { LeasesAreGranted }
     ensures replies { RepliesHaveOrigins }
     ensures clients { ClientsHaveOrigins }
     ensures losses { LossesAreFound }
@@ -26,4 +26,6 @@ pub fn world_law()
     refusals_are_errors();
     successes_are_read();
     waits_are_kept();
+    messages_are_octets();
+    answers_tell_the_address();
 }
