@@ -1,5 +1,7 @@
 //! The laws.
+ghost use Rattle.option_laws.specs.Asked.{AsksAreOfRequests};
 ghost use Rattle.option_laws.specs.Fitting.{RequestsFit, ResponsesFit, ResponsesAreMapped};
+ghost use Rattle.option_laws.specs.Grants.{MapGrantsAreRead, PeerGrantsAreRead};
 ghost use Rattle.option_laws.specs.Octets.{OctetsAreAsked, OctetsAreRead, RefusalsAreOctets, RequestsAreOctets, SuccessesAreOctets};
 ghost use Rattle.option_laws.specs.Refusals.{RefusalsAreErrors};
 
@@ -26,4 +28,17 @@ pub fn messages_are_octets()
     ensures refusals { RefusalsAreOctets }
     ensures read { OctetsAreRead }
     ensures asked { OctetsAreAsked }
+{}
+
+/// A request that is asked asks for the endpoint and by the nonce of its data, for TCP or UDP; each
+/// option that may stand once stands once at most.
+pub fn asks_are_of_requests()
+    ensures { AsksAreOfRequests }
+{}
+
+/// The reply that grants a lease is read with the lifetime, the address and the external port that
+/// were granted, and with the other data and the THIRD_PARTY of the request.
+pub fn grants_are_read()
+    ensures maps { MapGrantsAreRead }
+    ensures peers { PeerGrantsAreRead }
 {}

@@ -3,4 +3,7 @@
 
 mod laws;
 
-pub use laws::{messages_are_octets, refusals_are_errors, what_is_read_fits};
+pub use laws::{
+    asks_are_of_requests, grants_are_read, messages_are_octets, refusals_are_errors,
+    what_is_read_fits,
+};
