@@ -39,8 +39,8 @@ clients-begin : (clock : ℕ) (ts : List ClientTerms) → AllByRecursion (IsClie
 clients-begin clock [] = tt
 clients-begin clock (t ∷ ts) = (record { last = omega arith; origin = tt; heard = tt }, clients-begin clock ts)
 
-begins : (b : Beginning) → IsBeginning b → IsWorld (begun b)
-begins b h = record {
+pub begin-world : (b : Beginning) → IsBeginning b → IsWorld (begun b)
+begin-world b h = record {
   house = shards-past (seconds b.clock) b.config.externals b.openings h.past;
   losses = tt;
   relays = relays-begin b.clock b.relays;
@@ -70,12 +70,12 @@ origin-by None x clock losses e h = absurd cc
 origin-by (Some o) x clock losses e h = let same : o ≡ x = cc in subst (IsOrigin clock losses) same h
 
 pub every-world : DecisionsChangeLeases → (b : Beginning) (events : List Event) → IsBeginning b → IsWorld (run (begun b) events)
-every-world law b events is = runs law events (begun b) (begins b is)
+every-world law b events is = runs law events (begun b) (begin-world b is)
 
 pub losses-found : DecisionsChangeLeases → LossesAreHeard → LossesAreFound
 losses-found law heard b events host p is h =
     let w = run (begun b) events in
-    let world = runs law events (begun b) (begins b is) in
+    let world = runs law events (begun b) (begin-world b is) in
     let client = All-IsIn (IsClientHost w.clock w.losses) w.clients host world.clients (IsIn-from_Contains w.clients host h.client) in
     let packet = All-IsIn (IsPacket w.clock w.losses) w.bag p world.bag (IsIn-from_Contains w.bag p h.packet) in
     let spoken = said host.client (datagram_of p) h.epoch h.word h.says in

@@ -1,4 +1,5 @@
--- A run: a client hears an error and its epoch, all leases are lost, and it hears the next epoch.
+-- Runs: a client hears an error and its epoch, all leases are lost, and it hears the next epoch; a client is granted a
+-- lease, and hears of its new address.
 use Rattle.std.specs.Prelude.{replicate, slice_get}
 use Rattle.std.proofs.Common.{◌≡◌, ℕ, true, false, List, [], ◌∷◌, Option, Some, None, refl}
 use Rattle.pcp_base.specs.declared.addresses.Address.{Address}
@@ -16,7 +17,7 @@ use Rattle.lease_store.specs.Picks.{pick}
 use Rattle.client_core.specs.declared.epochs.HeardEpoch.{HeardEpoch}
 use Rattle.client_core.specs.declared.events.HeldLease.{HeldLease}
 use Rattle.client_core.specs.Clients.{heard_of, held_by}
-use Rattle.loss_world.specs.HouseLosses.{Loses}
+use Rattle.loss_world.specs.HouseLosses.{Loses, Renumbers}
 use Rattle.loss_world.specs.Packets.{Packet, datagram_of}
 use Rattle.loss_world.specs.Steps.{run}
 use Rattle.loss_world.specs.Worlds.{Beginning, ClientHost, Event, World, ToServer, ToClient, ClientTicks, Wants, Fails, Passes, begun}
@@ -49,7 +50,7 @@ beginning_by quota = record {
     externals = (record { address = host 9; low = 5000; high = 5000 }) ∷ [];
     subscribers = (record { prefix = record { bits = 0; address = host 0 }; external = 0 }) ∷ [];
   };
-  openings = (record empty_state { base = 1000; last = 1000; started = true }) ∷ [];
+  openings = (record empty_state { base = 1000; address = Some (host 9); last = 1000; started = true }) ∷ [];
   relays = [];
   clients = (record { own = host 2; server = host 1; port = 5350 }) ∷ [];
 }
@@ -92,3 +93,11 @@ held_of (Some h) = held_by h.client 0
 pub lease-is-held : held_of (slice_get (run (begun (beginning_by 1)) first).clients 0) ≡ Some (record { address = host 9; external = 5000; until_ms = 5200000 })
 unfolding verdict_of_datagram verdict_of decide_map pick next_inside
 lease-is-held = refl
+
+-- its external address changes, and the client hears so
+abbrev moved : List Event
+moved = Wants 0 None (asking 80) ∷ ClientTicks 0 0 ∷ ToServer 0 ∷ ToClient 0 0 0 ∷ Fails 0 (Renumbers (host 8)) ∷ ToClient 0 0 0 ∷ []
+
+pub lease-is-moved : held_of (slice_get (run (begun (beginning_by 1)) moved).clients 0) ≡ Some (record { address = host 8; external = 5000; until_ms = 5200000 })
+unfolding verdict_of_datagram verdict_of decide_map pick next_inside
+lease-is-moved = refl

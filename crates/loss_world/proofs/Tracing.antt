@@ -1,16 +1,17 @@
 -- Each success in the bag, and so each lease that a client holds, is traced to an entry of the history.
-use Rattle.std.specs.Prelude.{Contains, bytes_eq, map, replicate, reverse, unwrap_or, slice_get}
+use Rattle.std.specs.Prelude.{Contains, bytes_eq, map, replicate, unwrap_or, slice_get}
 use Rattle.std.specs.List.{AllByRecursion}
-use Rattle.std.proofs.Common.{◌≡◌, ◌∙◌, ◌⊎◌, inl, inr, ℕ, zero, suc, true, cond, List, [], ◌∷◌, ◌++◌, Option, Some, None, refl, ap, sym, subst}
+use Rattle.std.proofs.Common.{◌≡◌, ◌∙◌, ◌⊎◌, inl, inr, ℕ, zero, suc, ◌+◌, true, cond, List, length, [], ◌∷◌, ◌++◌, Option, Some, None, refl, ap, sym, subst}
 use Rattle.std.proofs.lemmas.Bool.{cond_both}
 use Rattle.std.proofs.lemmas.Slice.Eq.{bytes_eq-Decides}
-use Rattle.pcp_base.proofs.Members.{All-IsIn, All-weaker, Contains-from_IsIn, IsIn, IsIn-from_Contains}
+use Rattle.pcp_base.proofs.Members.{All-IsIn, All-append, All-weaker, Contains-from_IsIn, IsIn, IsIn-from_Contains}
 use Rattle.pcp_base.specs.declared.addresses.Address.{Address}
 use Rattle.pcp_base.specs.declared.asks.Ask.{Ask}
 use Rattle.pcp_base.specs.declared.datagrams.Datagram.{Datagram}
 use Rattle.pcp_base.specs.declared.datagrams.Entry.{Entry}
 use Rattle.pcp_codec.specs.declared.requests.Common.{Common}
 use Rattle.pcp_options.specs.Asking.{third_of}
+use Rattle.pcp_options.specs.ReadingLaws.{WrittenSuccessesAreRead}
 use Rattle.pcp_options.specs.ReadResponses.{response_of}
 use Rattle.pcp_options.specs.Responses.{AreOctets}
 use Rattle.lease_histories.specs.Entries.{Request, request_entry, request_of}
@@ -23,24 +24,29 @@ use Rattle.client_core.specs.declared.meanings.Meaning.TheVariants.{Nothing, Say
 use Rattle.client_core.specs.Clients.{ClientView, after_end, after_heard, after_meaning, after_tick, after_want, counted, free_id, meaning_of, request_due}
 use Rattle.client_core.specs.Meanings.{want_at}
 use Rattle.client_core.specs.Wants.{WantView}
+use Rattle.pcp_base.specs.Epoch.{epoch_of}
 use Rattle.pcp_base.specs.Tables.{same_address}
 use Rattle.proxy_core.specs.declared.outs.ProxyOut.{ProxyOut}
 use Rattle.proxy_core.specs.declared.outs.ProxyOut.TheVariants as Outs
 use Rattle.proxy_core.specs.Relays.{Relay, on_client, on_server, on_tick, response_from}
 use Rattle.proxy_core.specs.Runs as Runs
-use Rattle.loss_world.specs.Disclosure.{IsGranted, IsNoRenumbering, IsRenumbered, LeasesAreGranted, rewritten}
-use Rattle.loss_world.specs.HouseLosses.{Cause, Loses, Restarts, Renumbers, entries_of, house_after, is_loss}
+use Rattle.loss_world.specs.Disclosure.{IsGranted, IsRenumbered, LeasesAreGranted, rewritten}
+use Rattle.loss_world.specs.HouseLosses.{Cause, Loses, Restarts, Renumbers, house_after, is_loss, updates_by}
 use Rattle.loss_world.specs.Packets.{Origin, Packet, datagram_of}
-use Rattle.loss_world.specs.Steps.{answered, asked, client_ends, client_ticks, client_wants, fails, from_client, from_upstream, happens, hears, is_reached, lost, origin_after, relay_ticks, relayed, run, sent_by, sent_down, with_relay, second, sends, to_client, to_relay, to_server, wanting, with_client}
+use Rattle.loss_world.specs.Steps.{answered, asked, client_ends, client_ticks, client_wants, fails, from_client, from_upstream, happens, hears, is_reached, lost, origin_after, relay_ticks, relayed, renumbered, run, sent_by, sent_down, with_relay, second, sends, told_now, to_client, to_relay, to_server, wanting, with_client}
 use Rattle.loss_world.specs.Worlds.{Beginning, ClientHost, ClientTerms, IsEventValue, RelayHost, RelayTerms, Renumbering, World, Event, ToServer, ToRelay, ToClient, RelayTicks, ClientTicks, Wants, Ends, Fails, Passes, begun, client_begun, relay_begun}
+use Rattle.loss_world.proofs.Hearing.{begin-world}
 use Rattle.loss_world.proofs.Held.{AreTold, SlotHolds, WantHolds, end-holds, heard-holds, slot-at, tick-holds, want-holds}
 use Rattle.loss_world.proofs.HouseFacts.{All-got, All-set}
 use Rattle.loss_world.proofs.CodeReads.{GrantsNothing}
 use Rattle.loss_world.proofs.RelayDown.{IsOurs, RelayLaws, nothing-told, ours-next, own-grants, server-told}
 use Rattle.loss_world.proofs.RelayFacts.{on-client}
 use Rattle.loss_world.proofs.Saying.{request-none}
+use Rattle.loss_world.proofs.TableSteps.{TableLaws, TablesOf, begin-tables, loss_entries, next-tables}
 use Rattle.loss_world.proofs.Traces.{HostHolds, IsToldPacket, IsTraced}
-use Rattle.loss_world.proofs.Values.{EventTells, PacketIsMessage, ValueLaws, Values, begin-values, next-values}
+use Rattle.loss_world.proofs.Updates.{event-tells, updates-told}
+use Rattle.loss_world.proofs.Values.{PacketIsMessage, ValueLaws, Values, begin-values, next-values}
+use Rattle.loss_world.proofs.WorldSteps.{IsWorld, next-world}
 
 abbrev IsOurHost : Beginning → RelayHost → Type 0
 IsOurHost b h = IsOurs b h.relay
@@ -51,12 +57,28 @@ pub record Traces (b : Beginning) (w : World) : Type 0 where
   pub bag : AllByRecursion (IsToldPacket b w.history w.renumberings) w.bag
   pub clients : AllByRecursion (HostHolds b w.history w.renumberings) w.clients
 
--- ---- the history grows
+-- ---- the history grows, and so do the renumberings
 
-traced-more : (b : Beginning) (history more : List HouseEntry) (rs : List Renumbering) → ((h : HouseEntry) → Contains history h → Contains more h) → (to : Address) (third : Option Address) (c : Common) → IsTraced b history rs to third c → IsTraced b more rs to third c
-traced-more b history more rs f to third c h = record {
+pub record Grows (history more : List HouseEntry) (rs later : List Renumbering) : Type 0 where
+  pub entries : (h : HouseEntry) → Contains history h → Contains more h
+  pub renumberings : (r : Renumbering) → Contains rs r → Contains later r
+
+told-more : (history more : List HouseEntry) (rs later : List Renumbering) → Grows history more rs later
+    → (h : HouseEntry) (told came : Address) → (told ≡ came) ⊎ IsRenumbered rs h came → (told ≡ came) ⊎ IsRenumbered later h came
+told-more history more rs later g h told came (inl e) = inl e
+told-more history more rs later g h told came (inr r) = inr (record {
+  renumbering = r.renumbering;
+  among = g.renumberings r.renumbering r.among;
+  place = r.place;
+  later = r.later;
+  address_is = r.address_is;
+})
+
+traced-more : (b : Beginning) (history more : List HouseEntry) (rs later : List Renumbering) → Grows history more rs later
+    → (to : Address) (third : Option Address) (c : Common) → IsTraced b history rs to third c → IsTraced b more later to third c
+traced-more b history more rs later g to third c h = record {
   entry = h.entry;
-  among = f h.entry h.among;
+  among = g.entries h.entry h.among;
   told = h.told;
   grants = h.grants;
   relays = h.relays;
@@ -65,11 +87,13 @@ traced-more b history more rs f to third c h = record {
   protocol = h.protocol;
   internal = h.internal;
   external = h.external;
-  address = h.address;
+  address = told-more history more rs later g h.entry h.told.address c.address h.address;
 }
 
-packet-more : (b : Beginning) (history more : List HouseEntry) (rs : List Renumbering) → ((h : HouseEntry) → Contains history h → Contains more h) → (p : Packet) → IsToldPacket b history rs p → IsToldPacket b more rs p
-packet-more b history more rs f p h r c read success lasts has = traced-more b history more rs f p.out.peer _ c (h r c read success lasts has)
+packet-more : (b : Beginning) (history more : List HouseEntry) (rs later : List Renumbering) → Grows history more rs later
+    → (p : Packet) → IsToldPacket b history rs p → IsToldPacket b more later p
+packet-more b history more rs later g p h r c read success lasts has =
+    traced-more b history more rs later g p.out.peer _ c (h r c read success lasts has)
 
 slot-more : (T U : Option Address → Common → Type 0) → ((third : Option Address) (c : Common) → T third c → U third c) → (x : Option WantView) → SlotHolds T x → SlotHolds U x
 slot-more T U f None h = tt
@@ -88,10 +112,11 @@ slot-more T U f (Some w) h = λ l e.
       address = is.address;
     }
 
-host-more : (b : Beginning) (history more : List HouseEntry) (rs : List Renumbering) → ((h : HouseEntry) → Contains history h → Contains more h) → (c : ClientHost) → HostHolds b history rs c → HostHolds b more rs c
-host-more b history more rs f c h =
-    All-weaker (SlotHolds (IsTraced b history rs c.client.own)) (SlotHolds (IsTraced b more rs c.client.own))
-    (slot-more (IsTraced b history rs c.client.own) (IsTraced b more rs c.client.own) (traced-more b history more rs f c.client.own)) c.client.wants h
+host-more : (b : Beginning) (history more : List HouseEntry) (rs later : List Renumbering) → Grows history more rs later
+    → (c : ClientHost) → HostHolds b history rs c → HostHolds b more later c
+host-more b history more rs later g c h =
+    All-weaker (SlotHolds (IsTraced b history rs c.client.own)) (SlotHolds (IsTraced b more later c.client.own))
+    (slot-more (IsTraced b history rs c.client.own) (IsTraced b more later c.client.own) (traced-more b history more rs later g c.client.own)) c.client.wants h
 
 behind : (h : HouseEntry) (history : List HouseEntry) (x : HouseEntry) → Contains history x → Contains (h ∷ history) x
 behind h history x k = Contains-from_IsIn (h ∷ history) x (inr (IsIn-from_Contains history x k))
@@ -118,6 +143,7 @@ answer b w d None h is = h
 answer b w d (Some e) h is =
     let from = entry-from w.house (second w) d (slice_get w.house.shards (route_of w.house.config d)) (request_of w.house.config d) e is in
     let new : HouseEntry = record { place = route_of w.house.config d; entry = e } in
+    let grows : Grows w.history (new ∷ w.history) w.renumberings w.renumberings = record { entries = behind new w.history; renumberings = λ r k. k } in
     record {
       relays = h.relays;
       bag = (
@@ -134,9 +160,9 @@ answer b w d (Some e) h is =
           external = refl;
           address = inl refl;
         }),
-        All-weaker (IsToldPacket b w.history w.renumberings) (IsToldPacket b (new ∷ w.history) w.renumberings) (packet-more b w.history (new ∷ w.history) w.renumberings (behind new w.history)) w.bag h.bag,
+        All-weaker (IsToldPacket b w.history w.renumberings) (IsToldPacket b (new ∷ w.history) w.renumberings) (packet-more b w.history (new ∷ w.history) w.renumberings w.renumberings grows) w.bag h.bag,
       );
-      clients = All-weaker (HostHolds b w.history w.renumberings) (HostHolds b (new ∷ w.history) w.renumberings) (host-more b w.history (new ∷ w.history) w.renumberings (behind new w.history)) w.clients h.clients;
+      clients = All-weaker (HostHolds b w.history w.renumberings) (HostHolds b (new ∷ w.history) w.renumberings) (host-more b w.history (new ∷ w.history) w.renumberings w.renumberings grows) w.clients h.clients;
     }
 
 to-server : (b : Beginning) (w : World) (p : Option Packet) → Traces b w → Traces b (to_server w p)
@@ -281,76 +307,114 @@ client-ends b w k id (Some c) h f =
 
 -- ---- losses
 
-loss : (b : Beginning) (w : World) (place : ℕ) (shard : PlainShard) (cause : Cause) (after : PlainHouse) → IsNoRenumbering (Fails place cause) → Traces b w → Traces b (lost w place shard cause after)
-loss b w place shard Loses after n h =
-    let front = reverse (map (λ e. record { place = place; entry = e }) (entries_of w.house shard (raised (second w) shard) Loses)) in
-    record {
-      relays = h.relays;
-      bag = All-weaker (IsToldPacket b w.history w.renumberings) (IsToldPacket b (front ++ w.history) w.renumberings) (packet-more b w.history (front ++ w.history) w.renumberings (behind-all front w.history)) w.bag h.bag;
-      clients = All-weaker (HostHolds b w.history w.renumberings) (HostHolds b (front ++ w.history) w.renumberings) (host-more b w.history (front ++ w.history) w.renumberings (behind-all front w.history)) w.clients h.clients;
-    }
-loss b w place shard Restarts after n h =
-    let front = reverse (map (λ e. record { place = place; entry = e }) (entries_of w.house shard (raised (second w) shard) Restarts)) in
-    record {
-      relays = h.relays;
-      bag = All-weaker (IsToldPacket b w.history w.renumberings) (IsToldPacket b (front ++ w.history) w.renumberings) (packet-more b w.history (front ++ w.history) w.renumberings (behind-all front w.history)) w.bag h.bag;
-      clients = All-weaker (HostHolds b w.history w.renumberings) (HostHolds b (front ++ w.history) w.renumberings) (host-more b w.history (front ++ w.history) w.renumberings (behind-all front w.history)) w.clients h.clients;
-    }
-loss b w place shard (Renumbers a) after n h = absurd n
+renumbered-more : (w : World) (place : ℕ) (cause : Cause) (r : Renumbering) → Contains w.renumberings r
+    → Contains (renumbered w place cause) r
+renumbered-more w place Loses r k = k
+renumbered-more w place Restarts r k = k
+renumbered-more w place (Renumbers a) r k =
+    Contains-from_IsIn (renumbered w place (Renumbers a)) r (inr (IsIn-from_Contains w.renumberings r k))
 
-fails-at : (b : Beginning) (w : World) (place : ℕ) (cause : Cause) (shard : Option PlainShard) → IsNoRenumbering (Fails place cause) → Traces b w → Traces b (fails w place cause shard)
-fails-at b w place cause None n h = h
-fails-at b w place cause (Some shard) n h =
-    cond_both (is_loss shard cause) (lost w place shard cause (house_after w.house place shard (raised (second w) shard) cause)) w (Traces b)
-    (λ _. loss b w place shard cause (house_after w.house place shard (raised (second w) shard) cause) n h) (λ _. h)
+all-told : (b : Beginning) (history : List HouseEntry) (rs : List Renumbering) (w : World) (n epoch : ℕ) (outs : List Datagram)
+    → AllByRecursion (λ out. AreTold (IsTraced b history rs out.peer) out.octets) outs
+    → AllByRecursion (IsToldPacket b history rs) (map (told_now w n epoch) outs)
+all-told b history rs w n epoch [] h = tt
+all-told b history rs w n epoch (out ∷ outs) h = (h.0, all-told b history rs w n epoch outs h.1)
+
+loss-told : WrittenSuccessesAreRead → (b : Beginning) (w : World) (place : ℕ) (shard : PlainShard) (cause : Cause) (base : ℕ)
+    → slice_get w.house.shards place ≡ Some shard → IsEventValue (Fails place cause) → TablesOf w
+    → AllByRecursion (λ out. AreTold (IsTraced b (loss_entries w place shard cause ++ w.history) (renumbered w place cause) out.peer) out.octets)
+    (updates_by shard.state (raised (second w) shard) base cause)
+loss-told law b w place shard Loses base at v t = tt
+loss-told law b w place shard Restarts base at v t = tt
+loss-told law b w place shard (Renumbers a) base at v t =
+    let front = loss_entries w place shard (Renumbers a) in
+    let rs = renumbered w place (Renumbers a) in
+    updates-told law b w.history (front ++ w.history) (behind-all front w.history) rs place (second w) a v
+    (Contains-from_IsIn rs (record { moment = second w; place = place; address = a }) (inl refl)) t.past (raised (second w) shard) base shard.state (t.tables place shard at)
+
+loss : WrittenSuccessesAreRead → (b : Beginning) (w : World) (place : ℕ) (shard : PlainShard) (cause : Cause) (after : PlainHouse)
+    → slice_get w.house.shards place ≡ Some shard → IsEventValue (Fails place cause) → TablesOf w → Traces b w
+    → Traces b (lost w place shard cause after)
+loss law b w place shard cause after at v t h =
+    let m = raised (second w) shard in
+    let base = greatest_base after in
+    let front = loss_entries w place shard cause in
+    let more = front ++ w.history in
+    let rs = renumbered w place cause in
+    let outs = updates_by shard.state m base cause in
+    let n : ℕ = length w.losses + 1 in
+    let grows : Grows w.history more w.renumberings rs = record { entries = behind-all front w.history; renumberings = renumbered-more w place cause } in
+    record {
+      relays = h.relays;
+      bag = All-append (IsToldPacket b more rs) (map (told_now w n (epoch_of m base)) outs) w.bag
+          (all-told b more rs w n (epoch_of m base) outs (loss-told law b w place shard cause base at v t))
+          (All-weaker (IsToldPacket b w.history w.renumberings) (IsToldPacket b more rs) (packet-more b w.history more w.renumberings rs grows) w.bag h.bag);
+      clients = All-weaker (HostHolds b w.history w.renumberings) (HostHolds b more rs) (host-more b w.history more w.renumberings rs grows) w.clients h.clients;
+    }
+
+fails-at : WrittenSuccessesAreRead → (b : Beginning) (w : World) (place : ℕ) (cause : Cause) (shard : Option PlainShard)
+    → slice_get w.house.shards place ≡ shard → IsEventValue (Fails place cause) → TablesOf w → Traces b w → Traces b (fails w place cause shard)
+fails-at law b w place cause None at v t h = h
+fails-at law b w place cause (Some shard) at v t h =
+    let after = house_after w.house place shard (raised (second w) shard) cause in
+    cond_both (is_loss shard cause) (lost w place shard cause after) w (Traces b)
+    (λ _. loss law b w place shard cause after at v t h) (λ _. h)
 
 -- ---- all
 
-next-traces : RelayLaws → (b : Beginning) (w : World) (e : Event) → IsNoRenumbering e → Values w → Traces b w → Traces b (happens w e)
-next-traces laws b w (ToServer p) n v h = to-server b w (slice_get w.bag p) h
-next-traces laws b w (ToRelay p k) n v h =
+next-traces : RelayLaws → (b : Beginning) (w : World) (e : Event) → IsEventValue e → Values w → TablesOf w → Traces b w
+    → Traces b (happens w e)
+next-traces laws b w (ToServer p) v is t h = to-server b w (slice_get w.bag p) h
+next-traces laws b w (ToRelay p k) v is t h =
     to-relay laws b w k (slice_get w.relays k) (slice_get w.bag p) h
     (λ x there. All-got (IsOurHost b) w.relays k x h.relays there)
     (λ x there. All-got (IsToldPacket b w.history w.renumberings) w.bag p x h.bag there)
-    (λ x there. All-got PacketIsMessage w.bag p x v.bag there)
-next-traces laws b w (ToClient p k word) n v h =
+    (λ x there. All-got PacketIsMessage w.bag p x is.bag there)
+next-traces laws b w (ToClient p k word) v is t h =
     to-client b w k word (slice_get w.clients k) (slice_get w.bag p) h
     (λ x there. All-got (HostHolds b w.history w.renumberings) w.clients k x h.clients there)
     (λ x there. All-got (IsToldPacket b w.history w.renumberings) w.bag p x h.bag there)
-next-traces laws b w (RelayTicks k) n v h =
+next-traces laws b w (RelayTicks k) v is t h =
     relay-ticks laws b w k (slice_get w.relays k) h
     (λ x there. All-got (IsOurHost b) w.relays k x h.relays there)
-next-traces laws b w (ClientTicks k word) n v h =
+next-traces laws b w (ClientTicks k word) v is t h =
     client-ticks b w k word (slice_get w.clients k) h
     (λ x there. All-got (HostHolds b w.history w.renumberings) w.clients k x h.clients there)
-next-traces laws b w (Wants k third ask) n v h =
+next-traces laws b w (Wants k third ask) v is t h =
     client-wants b w k (slice_get w.clients k) third ask h
     (λ x there. All-got (HostHolds b w.history w.renumberings) w.clients k x h.clients there)
-next-traces laws b w (Ends k id) n v h =
+next-traces laws b w (Ends k id) v is t h =
     client-ends b w k id (slice_get w.clients k) h
     (λ x there. All-got (HostHolds b w.history w.renumberings) w.clients k x h.clients there)
-next-traces laws b w (Fails place cause) n v h = fails-at b w place cause (slice_get w.house.shards place) n h
-next-traces laws b w (Passes ms) n v h = record { relays = h.relays; bag = h.bag; clients = h.clients }
+next-traces laws b w (Fails place cause) v is t h =
+    fails-at laws.written b w place cause (slice_get w.house.shards place) refl v t h
+next-traces laws b w (Passes ms) v is t h = record { relays = h.relays; bag = h.bag; clients = h.clients }
 
-no-updates : (w : World) (e : Event) → IsNoRenumbering e → EventTells w e
-no-updates w (ToServer p) n = tt
-no-updates w (ToRelay p k) n = tt
-no-updates w (ToClient p k word) n = tt
-no-updates w (RelayTicks k) n = tt
-no-updates w (ClientTicks k word) n = tt
-no-updates w (Wants k third ask) n = tt
-no-updates w (Ends k id) n = tt
-no-updates w (Fails place Loses) n = λ shard there base. tt
-no-updates w (Fails place Restarts) n = λ shard there base. tt
-no-updates w (Fails place (Renumbers a)) n = absurd n
-no-updates w (Passes ms) n = tt
+-- what holds of every world that begins so, and in which events name values
+record Holds (b : Beginning) (w : World) : Type 0 where
+  world : IsWorld w
+  values : Values w
+  tables : TablesOf w
+  traces : Traces b w
 
-run-traces : RelayLaws → ValueLaws → (b : Beginning) (events : List Event) (w : World)
-    → AllByRecursion IsEventValue events → AllByRecursion IsNoRenumbering events → Values w → Traces b w
-    → Traces b (run w events)
-run-traces laws values b [] w are n v h = h
-run-traces laws values b (e ∷ es) w are n v h =
-    run-traces laws values b es (happens w e) are.1 n.1 (next-values values w e are.0 (no-updates w e n.0) v) (next-traces laws b w e n.0 v h)
+-- what the crates below say
+pub record WorldLaws : Type 0 where
+  pub relays : RelayLaws
+  pub values : ValueLaws
+  pub tables : TableLaws
+
+next-holds : WorldLaws → (b : Beginning) (w : World) (e : Event) → IsEventValue e → Holds b w → Holds b (happens w e)
+next-holds laws b w e v h = record {
+  world = next-world laws.tables.changes w e h.world;
+  values = next-values laws.values w e v (event-tells laws.values.octets w e v h.tables) h.values;
+  tables = next-tables laws.tables w e h.values h.world.house h.tables;
+  traces = next-traces laws.relays b w e v h.values h.tables h.traces;
+}
+
+run-holds : WorldLaws → (b : Beginning) (events : List Event) (w : World) → AllByRecursion IsEventValue events → Holds b w
+    → Holds b (run w events)
+run-holds laws b [] w are h = h
+run-holds laws b (e ∷ es) w are h = run-holds laws b es (happens w e) are.1 (next-holds laws b w e are.0 h)
 
 nothing-held : (T : Option Address → Common → Type 0) (n : ℕ) → AllByRecursion (SlotHolds T) (replicate n None)
 nothing-held T zero = tt
@@ -402,9 +466,15 @@ held-traced b w own (Some y) want lease h e is =
     told-address a x h same (inl e) = inl (e ∙ same)
     told-address a x h same (inr r) = inr (subst (IsRenumbered w.renumberings h) same r)
 
-pub leases-granted : RelayLaws → ValueLaws → LeasesAreGranted
-leases-granted laws values b events host id want lease begin are stay among at is =
+pub leases-granted : WorldLaws → LeasesAreGranted
+leases-granted laws b events host id want lease begin are among at is =
     let w = run (begun b) events in
-    let traces = run-traces laws values b events (begun b) are stay (begin-values b begin.hosts) (begins b) in
+    let start : Holds b (begun b) = record {
+      world = begin-world b begin;
+      values = begin-values b begin.hosts;
+      tables = begin-tables b begin;
+      traces = begins b;
+    } in
+    let traces = (run-holds laws b events (begun b) are start).traces in
     let holds = All-IsIn (HostHolds b w.history w.renumberings) w.clients host traces.clients (IsIn-from_Contains w.clients host among) in
     held-traced b w host.client.own (want_at host.client.wants id) want lease (slot-at (IsTraced b w.history w.renumberings host.client.own) host.client.wants id holds) at is

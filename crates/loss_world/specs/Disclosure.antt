@@ -1,6 +1,6 @@
 -- What holds in every world, whatever is lost, repeated or reordered (our own): where a lease that a client holds comes
 -- from, and that a client hears of a loss (RFC 6887, section 8.5).
-use Rattle.std.specs.Prelude.{◌≡◌, ◌⊎◌, ◌+◌, ◌-◌, ◌/◌, ◌<◌, ◌≤◌, ℕ, IsSome, List, [], ◌∷◌, Contains, unwrap_or, Option, Some, ⊤}
+use Rattle.std.specs.Prelude.{◌≡◌, ◌⊎◌, ◌+◌, ◌-◌, ◌/◌, ◌<◌, ◌≤◌, ℕ, IsSome, List, [], ◌∷◌, Contains, unwrap_or, Option, Some}
 use Rattle.std.specs.List.{AllByRecursion}
 use Rattle.pcp_base.specs.declared.addresses.Address.{Address}
 use Rattle.pcp_base.specs.declared.addresses.Nonce.{Nonce}
@@ -25,10 +25,9 @@ use Rattle.client_core.specs.Meanings.{want_at}
 use Rattle.client_core.specs.Wants.{WantView}
 use Rattle.proxy_core.specs.Nonces.{upstream_nonce}
 use Rattle.lease_histories.specs.HouseHistories.{HouseEntry}
-use Rattle.loss_world.specs.HouseLosses.{Renumbers}
 use Rattle.loss_world.specs.Packets.{Loss, Origin, Packet, datagram_of, seconds}
 use Rattle.loss_world.specs.Steps.{run, second}
-use Rattle.loss_world.specs.Worlds.{Beginning, ClientHost, Event, Fails, IsBeginning, IsEventValue, RelayTerms, Renumbering, World, begun}
+use Rattle.loss_world.specs.Worlds.{Beginning, ClientHost, Event, IsBeginning, IsEventValue, RelayTerms, Renumbering, World, begun}
 
 -- ---- where a lease comes from
 
@@ -85,16 +84,12 @@ pub record IsGranted (b : Beginning) (w : World) (own : Address) (want : WantVie
   pub external : told.external ≡ lease.external
   pub address : (told.address ≡ lease.address) ⊎ IsRenumbered w.renumberings entry lease.address
 
--- So it is through any number of relays, while no external address changes.
-abbrev pub IsNoRenumbering : Event → Type 0
-IsNoRenumbering (Fails place (Renumbers a)) = ⊥
-IsNoRenumbering event = ⊤
-
+-- So it is through any number of relays, whatever is lost and whichever external addresses change.
 abbrev pub LeasesAreGranted : Type 0
 LeasesAreGranted =
     (b : Beginning) (events : List Event) (host : ClientHost) (id : ℕ) (want : WantView)
     (lease : HeldLease)
-    → IsBeginning b → AllByRecursion IsEventValue events → AllByRecursion IsNoRenumbering events
+    → IsBeginning b → AllByRecursion IsEventValue events
     → Contains (run (begun b) events).clients host
     → want_at host.client.wants id ≡ Some want → want.lease ≡ Some lease
     → IsGranted b (run (begun b) events) host.client.own want lease
