@@ -10,41 +10,44 @@ use shard_book::Found;
 use std::alloc::Global;
 use std::test::Fail;
 
-/// A lease at 1010 where this device call of side a is the last one.
-fn leased_until(alloc: Global, call: u64) -> Result<(Done, DiskPair<MemoryDisk>), Fail> {
-    let pair = stopping(alloc, NOTHING, NOTHING, false, call)?;
-    run(alloc, pair, 1000, &LEASE)
-}
-
-/// How many device calls of side a there are until a lease is answered.
+/// How many device calls of side a there are until a lease at 1010 is answered.
 fn calls_until_leased(alloc: Global) -> Result<u64, Fail> {
     for call in 0..100 {
-        let (done, _pair) = leased_until(alloc, call)?;
-        if done.went == Went::AsSaid {
+        let pair = stopping(alloc, NOTHING, NOTHING, false, call)?;
+        if done_of(alloc, pair, 1000, &LEASE)?.went == Went::AsSaid {
             return Ok(call);
         }
     }
     Err("no lease is answered".into())
 }
 
-/// How many leases stand in a book that is opened at 1500 and is asked then, where the epoch is 500.
-fn leases_at_1500(alloc: Global, pair: DiskPair<MemoryDisk>) -> Result<Option<u32>, Fail> {
+/// Whether so many leases stand in a book that is opened at 1500 and is asked then, where the epoch
+/// is 500.
+fn stand_at_1500<D: LeaseDisk + Drop>(
+    alloc: Global,
+    pair: DiskPair<D>,
+    leases: u32,
+) -> Result<bool, Fail> {
     match done_of(alloc, pair, 1500, &GOES_ON)?.stands {
-        Some(stands) => Ok(Some(stands.2)),
-        None => Ok(None),
+        Some(stands) => Ok(stands.2 == leases),
+        None => Ok(false),
     }
 }
 
-/// Whether so many leases stand in each image where this device call of side a is the last one.
-fn are_leases(alloc: Global, call: u64, leases: &[u32; 3]) -> Result<bool, Fail> {
-    let (_done, pair) = leased_until(alloc, call)?;
+/// Whether so many leases stand in each image.
+fn are_leases(alloc: Global, pair: &DiskPair<MemoryDisk>, leases: &[u32; 3]) -> Result<bool, Fail> {
     for (choice, count) in leases.iter().enumerate() {
-        let image = stopped(alloc, &pair, choice as u8)?;
-        if leases_at_1500(alloc, image)? != Some(*count) {
+        if !stand_at_1500(alloc, stopped(alloc, pair, choice as u8)?, *count)? {
             return Ok(false);
         }
     }
     Ok(true)
+}
+
+/// Whether that is so after a lease at 1010 where this device call of side a is the last one.
+fn are_left(alloc: Global, call: u64, leases: &[u32; 3]) -> Result<bool, Fail> {
+    let pair = stopping(alloc, NOTHING, NOTHING, false, call)?;
+    are_leases(alloc, &run(alloc, pair, 1000, &LEASE)?.1, leases)
 }
 
 #[test]
@@ -60,7 +63,7 @@ fn cut_calls(rt: HostRuntime) -> Result<(), Fail> {
     ];
     for (left_out, leases) in &rows {
         let call = calls.saturating_sub(*left_out);
-        let left = are_leases(alloc, call, leases)?;
+        let left = are_left(alloc, call, leases)?;
         assert!(rt; left, "{left_out} calls are left out");
     }
     Ok(())

@@ -8,12 +8,14 @@ use crate::lossy_files::{LossyFiles, Stored, Syncs};
 use crate::octets::{COMPACTED, LEASED};
 use crate::opening::{config, moment};
 use crate::requests::{Request, asks_of};
-use lease_disk::{DiskPair, FileDisk, LeaseDisk};
+use lease_disk::{DiskPair, FileDisk, Keepable, LeaseDisk};
 use lease_store::LeaseStore;
 use pcp_base::{Address, External};
 use shard_book::{Book, Found, LeaseBook, Unopened};
 use std::alloc::Global;
+use std::os::unix::fs::FileExt;
 use std::rc::Rc;
+use std::rt::Files;
 use std::test::Fail;
 
 /// The octets of a side, and those that stand in front of it in place of its own.
@@ -34,15 +36,14 @@ fn stored(alloc: Global, side: Side) -> Result<Rc<Stored>, Fail> {
     Ok(Stored::of(alloc, &all)?)
 }
 
-fn disk(
-    alloc: Global,
-    stored: &Rc<Stored>,
-    syncs: &Rc<Syncs>,
-) -> Result<FileDisk<LossyFiles>, Fail> {
-    let files = LossyFiles {
+fn files(stored: &Rc<Stored>, syncs: &Rc<Syncs>) -> Result<LossyFiles, Fail> {
+    Ok(LossyFiles {
         stored: stored.clone()?,
         syncs: syncs.clone()?,
-    };
+    })
+}
+
+fn disk<F: Files + Drop>(alloc: Global, files: F) -> Result<FileDisk<F>, Fail> {
     Ok(FileDisk::new(files, String::from_str(alloc, "folder/side")?))
 }
 
@@ -108,6 +109,24 @@ fn run<D: LeaseDisk + Drop>(
     serve(alloc, opened, now, hosts)
 }
 
+/// The same over two sides of a file system.
+fn run_over<F: Files + Drop>(
+    alloc: Global,
+    a: F,
+    b: F,
+    now: u64,
+    hosts: &[u8],
+) -> Result<Option<Seen>, Fail>
+where
+    F::File: FileExt + Keepable,
+{
+    let pair = DiskPair {
+        a: disk(alloc, a)?,
+        b: disk(alloc, b)?,
+    };
+    run(alloc, pair, now, hosts)
+}
+
 /// A program over the files, which opens a book at `now` and leases to the hosts.
 fn program(
     alloc: Global,
@@ -116,11 +135,8 @@ fn program(
     now: u64,
     hosts: &[u8],
 ) -> Result<Option<Seen>, Fail> {
-    let pair = DiskPair {
-        a: disk(alloc, &sides.a, syncs)?,
-        b: disk(alloc, &sides.b, syncs)?,
-    };
-    run(alloc, pair, now, hosts)
+    let a = files(&sides.a, syncs)?;
+    run_over(alloc, a, files(&sides.b, syncs)?, now, hosts)
 }
 
 /// Both sides after a power loss.
@@ -141,25 +157,37 @@ enum Came {
     Lost,
 }
 
-/// Lets the sync of this number fail.
-fn fail(alloc: Global, row: Row, failing: u16) -> Result<Came, Fail> {
-    let Row(a, b) = row;
-    let sides = DiskPair {
-        a: stored(alloc, a)?,
-        b: stored(alloc, b)?,
-    };
-    let syncs = Syncs::failing(alloc, failing)?;
-    if program(alloc, &sides, &syncs, 2000, &[5, 6])?.is_some() {
+/// What a program finds after a power loss.
+fn found_after(alloc: Global, sides: &Sides, syncs: &Rc<Syncs>) -> Result<Option<Seen>, Fail> {
+    program(alloc, &left(alloc, sides)?, syncs, 4000, &[])
+}
+
+/// What comes of two programs, of whose syncs one may fail, and a power loss.
+fn came_of(alloc: Global, sides: &Sides, syncs: &Rc<Syncs>) -> Result<Came, Fail> {
+    if program(alloc, sides, syncs, 2000, &[5, 6])?.is_some() {
         return Ok(Came::Unharmed);
     }
     // no other sync fails
-    let known = program(alloc, &sides, &syncs, 3000, &[7, 8])?;
-    let found = program(alloc, &left(alloc, &sides)?, &syncs, 4000, &[])?;
+    let known = program(alloc, sides, syncs, 3000, &[7, 8])?;
+    let found = found_after(alloc, sides, syncs)?;
     Ok(if known.is_some() && known == found {
         Came::Kept
     } else {
         Came::Lost
     })
+}
+
+fn sides_of(alloc: Global, row: Row) -> Result<Sides, Fail> {
+    Ok(DiskPair {
+        a: stored(alloc, row.0)?,
+        b: stored(alloc, row.1)?,
+    })
+}
+
+/// Lets the sync of this number fail.
+fn fail(alloc: Global, row: Row, failing: u16) -> Result<Came, Fail> {
+    let syncs = Syncs::failing(alloc, failing)?;
+    came_of(alloc, &sides_of(alloc, row)?, &syncs)
 }
 
 /// Lets each sync fail in turn. The first one after which something is lost, or after which there is

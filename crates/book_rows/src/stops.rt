@@ -12,17 +12,13 @@ use std::test::Fail;
 /// are in it.
 fn may_stand(run: &Run, done: Option<usize>, stands: &Seen) -> bool {
     match done {
-        Some(done) => run
-            .states
-            .iter()
-            .skip(done)
-            .take(2)
-            .any(|state| state == stands),
-        None => run
-            .before
-            .iter()
-            .chain(run.states.iter().take(1))
-            .any(|state| state == stands),
+        Some(done) => {
+            run.states.get(done) == Some(stands)
+                || run.states.get(done.saturating_add(1)) == Some(stands)
+        }
+        None => {
+            run.states.first() == Some(stands) || run.before.iter().any(|state| state == stands)
+        }
     }
 }
 
