@@ -5,30 +5,24 @@ ghost use Rattle.std.specs.Prelude.{◌≡◌, ◌≢◌};
 ghost use Rattle.std.specs.declared.io.ErrorKind.TheVariants.{OutOfMemory};
 ghost use Rattle.server_commands.specs.declared.statuses.Status.TheVariants as Statuses;
 
-mod causes;
-mod inboxes;
-mod kept;
-mod places;
-mod relay_inboxes;
 mod relays;
 mod serve;
-mod sockets;
-mod told;
 mod tools;
 
-use crate::causes::tell_tool_words;
-use crate::kept::KeptSource;
-use crate::places::{Places, journals_in, may_open, places_of};
 use crate::relays::{may_relay, relay_over};
 use crate::serve::serve_over;
-use crate::told::{beginning_of, look_at, told_of};
 use crate::tools::{ask_over, may_ask};
 use client_commands::help_of;
 use config_source::config_of;
+use lease_disk::{DiskPair, FileDisk};
 use lease_journal::Found;
 use pcp_base::Memory;
-use pcp_io::{FileSource, StdSink};
+use pcp_io::{FileSource, Sink, Source, StdSink};
 use pcp_server::{Status, run_once};
+use program_texts::{
+    KeptSource, Places, beginning_of, journals_in, look_at, may_open, places_of, tell_tool_words,
+    told_of,
+};
 use serve_commands::{ServePlan, serve_of};
 use std::alloc::Global;
 use std::env;
@@ -273,51 +267,86 @@ fn run_at<R: Threads + Wait + Sync>(
     places: &Places<'_>,
     explains: bool,
 ) -> Result<Ended, Memory> {
-    let alloc = rt.alloc();
-    let kept = if explains {
+    let path = String::from_str(rt.alloc(), places.config)?;
+    let mut config = KeptSource::of(FileSource::new(rt, path), kept_if(rt.alloc(), explains));
+    if !explains {
+        let (status, _disks) = run_over(threads, rt, words, places, &mut config)?;
+        return Ok(Ended::with(rt, status));
+    }
+    let found = find_journals(rt, words, places);
+    let (status, disks) = run_over(threads, rt, words, places, &mut config)?;
+    Ok(explained(rt, words, status, config.kept(), &found, &disks))
+}
+
+/// Where what a configuration gives is to be kept, if people are to be told more than a status.
+fn kept_if(alloc: Global, explains: bool) -> Option<Vec<u8>> {
+    if explains {
         Some(Vec::new(alloc))
     } else {
         None
-    };
-    let mut found = if explains && may_open(words) {
-        look_at(rt, places.journals)
-    } else {
-        Vec::new(alloc)
-    };
-    let config = FileSource::new(rt, String::from_str(alloc, places.config)?);
-    let mut config = KeptSource::of(config, kept);
-    let mut out = StdSink::new(rt.stdout());
-    let (status, disks) = match serve_of(words) {
-        Some(plan) => {
-            if explains {
-                tell_beginning(rt, plan, places, &found);
-                found.clear();
-            }
-            serve_over(
-                threads,
-                rt,
-                words,
-                plan,
-                places.journals,
-                &mut config,
-                &mut out,
-            )?
-        }
-        None => {
-            let mut script = FileSource::new(rt, String::from_str(alloc, places.script)?);
-            let disks = journals_in(rt, places.journals)?;
-            run_once(alloc, words, &mut config, &mut script, &mut out, disks)
-        }
-    };
-    if !explains {
-        return Ok(Ended::with(rt, status));
     }
-    match told_of(rt, words, status, config.kept(), &found, &disks) {
-        Ok(told) => Ok(Ended {
+}
+
+/// What journals that a command opens were found to be, to be told at its end. An operator is told
+/// before a server begins, and not again.
+fn find_journals(rt: &HostRuntime, words: &[String], places: &Places<'_>) -> Vec<Option<Found>> {
+    if !may_open(words) {
+        return Vec::new(rt.alloc());
+    }
+    let found = look_at(rt, places.journals);
+    match serve_of(words) {
+        Some(plan) => {
+            tell_beginning(rt, plan, places, &found);
+            Vec::new(rt.alloc())
+        }
+        None => found,
+    }
+}
+
+/// Runs a command of the server whose configuration this source gives.
+fn run_over<'a, R: Threads + Wait + Sync, C: Source>(
+    threads: &R,
+    rt: &'a HostRuntime,
+    words: &[String],
+    places: &Places<'_>,
+    config: &mut C,
+) -> Result<(Status, Vec<DiskPair<FileDisk<&'a HostRuntime>>>), Memory> {
+    let mut out = StdSink::new(rt.stdout());
+    match serve_of(words) {
+        Some(plan) => serve_over(threads, rt, words, plan, places.journals, config, &mut out),
+        None => play_over(rt, words, places, config, &mut out),
+    }
+}
+
+/// The same of a command that serves nobody over the network.
+fn play_over<'a, C: Source, W: Sink>(
+    rt: &'a HostRuntime,
+    words: &[String],
+    places: &Places<'_>,
+    config: &mut C,
+    out: &mut W,
+) -> Result<(Status, Vec<DiskPair<FileDisk<&'a HostRuntime>>>), Memory> {
+    let mut script = FileSource::new(rt, String::from_str(rt.alloc(), places.script)?);
+    let disks = journals_in(rt, places.journals)?;
+    Ok(run_once(rt.alloc(), words, config, &mut script, out, disks))
+}
+
+/// A command of the server ended so; what people are told of it beside that, where there is memory for
+/// it.
+fn explained(
+    rt: &HostRuntime,
+    words: &[String],
+    status: Status,
+    config: Option<&[u8]>,
+    found: &[Option<Found>],
+    disks: &[DiskPair<FileDisk<&HostRuntime>>],
+) -> Ended {
+    match told_of(rt, words, status, config, found, disks) {
+        Ok(told) => Ended {
             status: EndStatus::Server(status),
             told,
-        }),
-        Err(Memory) => Ok(Ended::with(rt, status)),
+        },
+        Err(Memory) => Ended::with(rt, status),
     }
 }
 

@@ -1,9 +1,7 @@
 //! The relay over the sockets of this host.
-use crate::relay_inboxes::RelayInbox;
-use crate::sockets::{ip_of, same_socket, socket_at, socket_of_all};
-use crate::tools::CLIENT_PORT;
 use pcp_base::Memory;
 use pcp_io::{SystemClock, UdpOutbox};
+use program_links::{CLIENT_PORT, RelayInbox, ip_of, same_socket, socket_at, socket_of_all};
 use proxy_commands::command_of;
 use proxy_runs::{SERVER_PORT, run_proxy};
 use std::sync::Wait;

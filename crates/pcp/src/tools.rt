@@ -1,17 +1,13 @@
 //! The client's commands over the sockets of this host.
-use crate::inboxes::TwoInboxes;
-use crate::sockets::{ip_of, same_socket, socket_at, socket_of_all};
 use client_commands::{ClientCommand, Target, command_of};
 use client_runs::run_client;
 use pcp_base::{Address, Memory};
-use pcp_io::{StdSink, SystemClock, UdpInbox, UdpOutbox};
+use pcp_io::{Inbox, StdSink, SystemClock, UdpInbox, UdpOutbox};
+use program_links::{CLIENT_PORT, TwoInboxes, ip_of, same_socket, socket_at, socket_of_all};
 use random_words::FileEntropy;
 use std::alloc::Global;
 use std::net::UdpSocket;
 use tool_commands::ToolStatus;
-
-/// The port at which clients hear announcements and updates (RFC 6887, section 19.1).
-pub(crate) const CLIENT_PORT: u16 = 5350;
 
 /// Where the system has random octets.
 const RANDOM: &str = "/dev/urandom";
@@ -42,39 +38,36 @@ fn asking_socket(rt: &HostRuntime, own: Option<Address>) -> Option<UdpSocket> {
 /// Runs a command of the client. Its requests leave from its own address, to which the replies come; it
 /// listens for announcements and updates too, unless another program does.
 pub(crate) fn ask_over(rt: &HostRuntime, words: &[String]) -> Result<ToolStatus, Memory> {
-    let alloc = rt.alloc();
-    let socket = asking_socket(rt, own_in(alloc, words)?);
-    let mut up = UdpOutbox::of(same_socket(&socket));
-    let mut clock = SystemClock::of(rt);
-    let mut entropy = FileEntropy::new(rt, String::from_str(alloc, RANDOM)?);
-    let mut out = StdSink::new(rt.stdout());
-    let first = UdpInbox::of(socket);
-    let status = match socket_of_all(rt, CLIENT_PORT) {
+    let socket = asking_socket(rt, own_in(rt.alloc(), words)?);
+    let up = same_socket(&socket);
+    let mut first = UdpInbox::of(socket);
+    match socket_of_all(rt, CLIENT_PORT) {
         Some(told) => {
             let second = UdpInbox::of(Some(told));
-            let mut from = TwoInboxes { first, second };
-            run_client(
-                alloc,
-                words,
-                &mut up,
-                &mut from,
-                &mut clock,
-                &mut entropy,
-                &mut out,
-            )
+            ask_by(rt, words, up, &mut TwoInboxes { first, second })
         }
-        None => {
-            let mut from = first;
-            run_client(
-                alloc,
-                words,
-                &mut up,
-                &mut from,
-                &mut clock,
-                &mut entropy,
-                &mut out,
-            )
-        }
-    };
-    Ok(status)
+        None => ask_by(rt, words, up, &mut first),
+    }
+}
+
+/// The same, where requests leave by this socket and what comes is taken from this inbox.
+fn ask_by<I: Inbox>(
+    rt: &HostRuntime,
+    words: &[String],
+    up: Option<UdpSocket>,
+    from: &mut I,
+) -> Result<ToolStatus, Memory> {
+    let mut entropy = FileEntropy::new(rt, String::from_str(rt.alloc(), RANDOM)?);
+    let mut up = UdpOutbox::of(up);
+    let mut clock = SystemClock::of(rt);
+    let mut out = StdSink::new(rt.stdout());
+    Ok(run_client(
+        rt.alloc(),
+        words,
+        &mut up,
+        from,
+        &mut clock,
+        &mut entropy,
+        &mut out,
+    ))
 }

@@ -1,10 +1,10 @@
 //! Why words, a script or a read are at fault, for people who ask.
 use crate::places::Places;
-use crate::sockets::{bound_at, bound_to_all};
 use pcp_base::{Config, MOST_EXTERNALS, Memory};
 use pcp_config::read_config;
 use pcp_io::{FileSource, Source};
 use pcp_script::LONGEST_LINE;
+use program_links::{bound_at, bound_to_all};
 use refusal_causes::{line_cause, words_cause};
 use serve_commands::ServePlan;
 use std::alloc::Global;
@@ -26,8 +26,8 @@ pub(crate) fn tell_words(
     Ok(())
 }
 
-/// Where the words of a tool's command are told.
-pub(crate) fn tell_tool_words(
+/// Adds where the words of a tool's command are told. The one error is want of memory.
+pub fn tell_tool_words(
     alloc: Global,
     told: &mut Vec<String>,
     words: &[String],
@@ -82,12 +82,20 @@ fn port_cause(rt: &HostRuntime, plan: ServePlan) -> Result<Option<String>, Memor
         return Ok(Some(format!(in alloc; "port {port}: {error}")?));
     }
     for place in 0..MOST_EXTERNALS as u16 {
-        let lane = lane_port.saturating_add(place);
-        if let Err(error) = bound_at(rt, IpAddr::V4(Ipv4Addr::LOCALHOST), lane) {
-            return Ok(Some(format!(in alloc; "port {lane} of 127.0.0.1: {error}")?));
+        if let Some(cause) = lane_cause(rt, lane_port.saturating_add(place))? {
+            return Ok(Some(cause));
         }
     }
     Ok(None)
+}
+
+/// Why a port of the loopback can't be had.
+fn lane_cause(rt: &HostRuntime, lane: u16) -> Result<Option<String>, Memory> {
+    let alloc = rt.alloc();
+    match bound_at(rt, IpAddr::V4(Ipv4Addr::LOCALHOST), lane) {
+        Ok(_socket) => Ok(None),
+        Err(error) => Ok(Some(format!(in alloc; "port {lane} of 127.0.0.1: {error}")?)),
+    }
 }
 
 /// Why this line of a script, numbered from 1, is none; none where the script can't be read twice.
@@ -98,17 +106,29 @@ pub(crate) fn script_cause(
     number: u64,
 ) -> Result<Option<String>, Memory> {
     let alloc = rt.alloc();
-    let Some(config) = config_in(alloc, config) else {
+    let Some(text) = script_line(rt, path, number)? else {
         return Ok(None);
     };
-    match fs::metadata(rt, path) {
-        Ok(found) if found.is_file() => {}
-        _ => return Ok(None),
-    }
-    let mut source = FileSource::new(rt, String::from_str(alloc, path)?);
-    match line_at(alloc, &mut source, number)? {
-        Some(text) => line_cause(alloc, &config, &text),
+    match config_in(alloc, config) {
+        Some(config) => line_cause(alloc, &config, &text),
         None => Ok(None),
+    }
+}
+
+/// The line of this number of a script; none where it can't be read twice.
+fn script_line(rt: &HostRuntime, path: &str, number: u64) -> Result<Option<Vec<u8>>, Memory> {
+    if !is_file(rt, path) {
+        return Ok(None);
+    }
+    let mut source = FileSource::new(rt, String::from_str(rt.alloc(), path)?);
+    line_at(rt.alloc(), &mut source, number)
+}
+
+/// Whether this is the path of a file, which can be read twice.
+fn is_file(rt: &HostRuntime, path: &str) -> bool {
+    match fs::metadata(rt, path) {
+        Ok(found) => found.is_file(),
+        Err(_) => false,
     }
 }
 

@@ -1,7 +1,7 @@
 //! What comes to a relay.
 ghost use Rattle.std.specs.Prelude.{◌≡◌, ◌≤◌};
 ghost use Rattle.pcp_io.specs.Takes.{filled};
-ghost use Rattle.pcp.specs.Links.{from_clients, from_upstream};
+ghost use Rattle.program_links.specs.Links.{from_clients, from_upstream};
 
 use crate::sockets::same_socket;
 use libc::net as c;
@@ -76,7 +76,7 @@ impl Side {
 /// announces. What has the server's address counts from upstream alone, and from there nothing else
 /// counts.
 #[derive(Drop)]
-pub(crate) struct RelayInbox {
+pub struct RelayInbox {
     server: Address,
     inner: Ear,
     own: Ear,
@@ -87,7 +87,7 @@ pub(crate) struct RelayInbox {
 impl RelayInbox {
     /// The inbox of these sockets. Without the inner or the own one, each take fails; without the one
     /// for announcements none are heard.
-    pub(crate) fn of(
+    pub fn of(
         server: Address,
         inner: Option<UdpSocket>,
         own: Option<UdpSocket>,

@@ -1,5 +1,5 @@
 use Rattle.std.proofs.Common.{◌≡◌, ◌≤◌, length}
-use Rattle.pcp.proofs.sockets.lanes_from.Given as goal
+use Rattle.program_links.proofs.sockets.lanes_from.Given as goal
 
 -- one for each place so far
 abbrev pub invariant-loop-place : goal.invariant-loop-place

@@ -4,7 +4,7 @@ use pcp_io::Source;
 
 /// A source that gives what another one gives, and keeps it to be looked at again.
 #[derive(Drop)]
-pub(crate) struct KeptSource<S: Source> {
+pub struct KeptSource<S: Source> {
     source: S,
     // what it gave; none where nothing is kept, or no memory was found for it
     kept: Option<Vec<u8>>,
@@ -14,14 +14,14 @@ impl<S: Source> KeptSource<S> {
     ghost use Rattle.std.specs.Prelude.{◌≡◌};
 
     /// What this source gives is kept behind these octets; nothing is kept where there are none.
-    pub(crate) fn of(source: S, kept: Option<Vec<u8>>) -> KeptSource<S>
+    pub fn of(source: S, kept: Option<Vec<u8>>) -> KeptSource<S>
         ensures { result.source ≡ source }
     {
         KeptSource { source, kept }
     }
 
     /// What was kept.
-    pub(crate) fn kept(&self) -> Option<&[u8]> {
+    pub fn kept(&self) -> Option<&[u8]> {
         match &self.kept {
             Some(kept) => Some(kept.as_slice()),
             None => None,

@@ -4,32 +4,39 @@ use crate::places::{pair_at, places_of};
 use journal_dump::found_in;
 use lease_disk::{DiskPair, FileDisk, LeaseDisk};
 use lease_journal::Found;
-use pcp_base::{Address, Config, MOST_EXTERNALS, Memory};
+use pcp_base::{Address, Config, External, MOST_EXTERNALS, Memory};
 use pcp_config::{explain, read_config};
-use pcp_server::Status;
 use serve_commands::{ServePlan, serve_of};
+use server_commands::Status;
 use std::alloc::Global;
 use std::io;
 use std::io::ErrorKind;
+use std::rt::Files;
 
 /// What the journals of a folder are found to be before a command opens them; none of one that can't
 /// be read. Where no memory is found, it tells of fewer.
-pub(crate) fn look_at(rt: &HostRuntime, folder: &str) -> Vec<Option<Found>> {
+pub fn look_at(rt: &HostRuntime, folder: &str) -> Vec<Option<Found>> {
     let mut found = Vec::new(rt.alloc());
     for place in 0..MOST_EXTERNALS {
-        // These disks are closed again, so that the command finds its own as they were.
-        let Ok(mut pair) = pair_at(rt, folder, place) else {
+        let Ok(state) = look_at_place(rt, folder, place) else {
             return found;
         };
-        if found.push(found_at(rt.alloc(), &mut pair)).is_err() {
+        if found.push(state).is_err() {
             return found;
         }
     }
     found
 }
 
+/// What the journal at this place is found to be; none where it can't be read. Its disks are closed
+/// again, so that the command finds its own as they were.
+fn look_at_place(rt: &HostRuntime, folder: &str, place: usize) -> Result<Option<Found>, Memory> {
+    let mut pair = pair_at(rt, folder, place)?;
+    Ok(found_at(rt.alloc(), &mut pair))
+}
+
 /// What a journal is found to be. Without an octet it is blank, which takes no store to tell.
-fn found_at(alloc: Global, pair: &mut DiskPair<FileDisk<&HostRuntime>>) -> Option<Found> {
+fn found_at<D: LeaseDisk>(alloc: Global, pair: &mut DiskPair<D>) -> Option<Found> {
     match (pair.a.len(), pair.b.len()) {
         (Ok(0), Ok(0)) => Some(Found::Blank),
         (Ok(_), Ok(_)) => found_in(alloc, pair).ok(),
@@ -38,8 +45,8 @@ fn found_at(alloc: Global, pair: &mut DiskPair<FileDisk<&HostRuntime>>) -> Optio
 }
 
 /// Why a command ended so, where that is known, and one line for each external address of the
-/// configuration whose journal was found blank or damaged.
-pub(crate) fn told_of(
+/// configuration whose journal was found blank or damaged. The one error is want of memory.
+pub fn told_of(
     rt: &HostRuntime,
     words: &[String],
     status: Status,
@@ -47,21 +54,36 @@ pub(crate) fn told_of(
     found: &[Option<Found>],
     disks: &[DiskPair<FileDisk<&HostRuntime>>],
 ) -> Result<Vec<String>, Memory> {
-    let alloc = rt.alloc();
-    let mut told = Vec::new(alloc);
-    if status == Status::WordsRefused {
-        tell_words(alloc, &mut told, words)?;
-    }
-    if let Some(cause) = outside_cause(rt, words, status, config)? {
-        told.push(cause)?;
-    }
-    if let Some(cause) = cause_of(alloc, status, config, disks)? {
-        told.push(cause)?;
-    }
+    let mut told = Vec::new(rt.alloc());
+    tell_causes(rt, &mut told, words, status, config, disks)?;
     if let Some(text) = config {
-        tell_found(alloc, &mut told, text, found)?;
+        tell_found(rt.alloc(), &mut told, text, found)?;
     }
     Ok(told)
+}
+
+/// Adds why a command ended so, where that is known.
+fn tell_causes<F: Files + Drop>(
+    rt: &HostRuntime,
+    told: &mut Vec<String>,
+    words: &[String],
+    status: Status,
+    config: Option<&[u8]>,
+    disks: &[DiskPair<FileDisk<F>>],
+) -> Result<(), Memory> {
+    if status == Status::WordsRefused {
+        tell_words(rt.alloc(), told, words)?;
+    }
+    tell_cause(told, outside_cause(rt, words, status, config)?)?;
+    tell_cause(told, cause_of(rt.alloc(), status, config, disks)?)
+}
+
+/// Adds a cause, where there is one.
+fn tell_cause(told: &mut Vec<String>, cause: Option<String>) -> Result<(), Memory> {
+    if let Some(cause) = cause {
+        told.push(cause)?;
+    }
+    Ok(())
 }
 
 /// Why a script is refused, or something can't be read: what the system says when it is tried again.
@@ -80,11 +102,11 @@ fn outside_cause(
 }
 
 /// Why a configuration is refused, or a disk failed.
-fn cause_of(
+fn cause_of<F: Files + Drop>(
     alloc: Global,
     status: Status,
     config: Option<&[u8]>,
-    disks: &[DiskPair<FileDisk<&HostRuntime>>],
+    disks: &[DiskPair<FileDisk<F>>],
 ) -> Result<Option<String>, Memory> {
     match status {
         Status::ConfigRefused(_) => match config {
@@ -100,9 +122,9 @@ fn cause_of(
 }
 
 /// Why one of two disks failed.
-fn cause_in(
+fn cause_in<F: Files + Drop>(
     alloc: Global,
-    pair: &DiskPair<FileDisk<&HostRuntime>>,
+    pair: &DiskPair<FileDisk<F>>,
 ) -> Result<Option<String>, Memory> {
     match cause_on(alloc, &pair.a)? {
         Some(cause) => Ok(Some(cause)),
@@ -111,7 +133,7 @@ fn cause_in(
 }
 
 /// The path of a disk that failed, and why it did.
-fn cause_on(alloc: Global, disk: &FileDisk<&HostRuntime>) -> Result<Option<String>, Memory> {
+fn cause_on<F: Files + Drop>(alloc: Global, disk: &FileDisk<F>) -> Result<Option<String>, Memory> {
     let Some(error) = disk.last_error() else {
         return Ok(None);
     };
@@ -138,21 +160,37 @@ fn reason_of(error: &io::Error) -> Option<&'static str> {
 }
 
 /// What an operator is told before a server begins: its ports and external addresses, and which
-/// journals were found blank or damaged.
-pub(crate) fn beginning_of(
+/// journals were found blank or damaged. The one error is want of memory.
+pub fn beginning_of(
     alloc: Global,
     plan: ServePlan,
     config: &Config,
     found: &[Option<Found>],
 ) -> Result<Vec<String>, Memory> {
     let mut told = Vec::new(alloc);
-    let ServePlan { port, lane_port } = plan;
-    told.push(format!(in alloc; "serving at port {port}, lanes from port {lane_port} on")?)?;
-    for external in config.externals.items() {
-        tell_address(alloc, &mut told, &external.address)?;
-    }
+    tell_plan(alloc, &mut told, plan)?;
+    tell_addresses(alloc, &mut told, config.externals.items())?;
     tell_states(alloc, &mut told, config.externals.items().len(), found)?;
     Ok(told)
+}
+
+/// Adds a line for the ports of a server.
+fn tell_plan(alloc: Global, told: &mut Vec<String>, plan: ServePlan) -> Result<(), Memory> {
+    let ServePlan { port, lane_port } = plan;
+    told.push(format!(in alloc; "serving at port {port}, lanes from port {lane_port} on")?)?;
+    Ok(())
+}
+
+/// Adds a line for each of these external addresses.
+fn tell_addresses(
+    alloc: Global,
+    told: &mut Vec<String>,
+    externals: &[External],
+) -> Result<(), Memory> {
+    for external in externals {
+        tell_address(alloc, told, &external.address)?;
+    }
+    Ok(())
 }
 
 /// Adds a line for an external address.

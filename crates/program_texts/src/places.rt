@@ -1,7 +1,7 @@
 //! Where a command finds what it reads and writes.
 ghost use Rattle.std.specs.Prelude.{◌≡◌, IfOk, codes, length, string_bytes};
 ghost use Rattle.pcp_base.specs.declared.configs.TheConstants.{MOST_EXTERNALS};
-ghost use Rattle.pcp.specs.Paths.{side_path};
+ghost use Rattle.program_texts.specs.Paths.{side_path};
 
 use lease_disk::{DiskPair, FileDisk};
 use pcp_base::{MOST_EXTERNALS, Memory};
@@ -9,14 +9,17 @@ use std::alloc::Global;
 
 /// The paths of a command; one that it doesn't have is empty.
 #[derive(Clone, Copy)]
-pub(crate) struct Places<'a> {
-    pub(crate) config: &'a str,
-    pub(crate) script: &'a str,
-    pub(crate) journals: &'a str,
+pub struct Places<'a> {
+    /// of the configuration
+    pub config: &'a str,
+    /// of the script
+    pub script: &'a str,
+    /// of the folder that has the journals
+    pub journals: &'a str,
 }
 
 /// The paths that the words name, where they are a command.
-pub(crate) fn places_of(words: &[String]) -> Places<'_> {
+pub fn places_of(words: &[String]) -> Places<'_> {
     match words {
         [command, config, script, journals, ..] if command.as_str() == "play" => Places {
             config: config.as_str(),
@@ -40,7 +43,7 @@ pub(crate) fn places_of(words: &[String]) -> Places<'_> {
 const OPENING: [&str; 3] = ["serve", "play", "load"];
 
 /// Whether the words may be a command that opens journals, and doesn't only read them.
-pub(crate) fn may_open(words: &[String]) -> bool {
+pub fn may_open(words: &[String]) -> bool {
     match words {
         [command, ..] => OPENING.contains(&command.as_str()),
         [] => false,
@@ -88,8 +91,8 @@ pub(crate) fn pair_at<'a>(
     })
 }
 
-/// The disks of all journals in a folder.
-pub(crate) fn journals_in<'a>(
+/// The disks of all journals in a folder. The one error is want of memory.
+pub fn journals_in<'a>(
     rt: &'a HostRuntime,
     folder: &str,
 ) -> Result<Vec<DiskPair<FileDisk<&'a HostRuntime>>>, Memory>

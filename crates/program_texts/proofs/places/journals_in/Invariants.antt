@@ -1,6 +1,6 @@
 use Rattle.std.proofs.Common.{◌≡◌, ◌≤◌, length}
 use Rattle.pcp_base.specs.declared.configs.TheConstants.{MOST_EXTERNALS}
-use Rattle.pcp.proofs.places.journals_in.Given as goal
+use Rattle.program_texts.proofs.places.journals_in.Given as goal
 
 -- a pair for each place so far
 abbrev pub invariant-loop-place : goal.invariant-loop-place

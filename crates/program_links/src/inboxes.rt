@@ -7,9 +7,11 @@ use pcp_io::{Inbox, Incoming, LONGEST_DATAGRAM, UdpInbox};
 
 /// What comes to one socket, and, where nothing does in its waiting time, to a second one.
 #[derive(Drop)]
-pub(crate) struct TwoInboxes {
-    pub(crate) first: UdpInbox,
-    pub(crate) second: UdpInbox,
+pub struct TwoInboxes {
+    /// asked first
+    pub first: UdpInbox,
+    /// asked where nothing came to the first one
+    pub second: UdpInbox,
 }
 
 impl Inbox for TwoInboxes {

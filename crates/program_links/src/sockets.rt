@@ -6,14 +6,17 @@ use pcp_io::{UdpLane, UdpOutbox};
 use std::io;
 use std::net::{IpAddr, Ipv4Addr, Ipv6Addr, UdpSocket};
 
+/// The port at which clients hear announcements and updates (RFC 6887, section 19.1).
+pub const CLIENT_PORT: u16 = 5350;
+
 /// A socket of this address and port, or why the system gives none.
-pub(crate) fn bound_at(rt: &HostRuntime, ip: IpAddr, port: u16) -> io::Result<UdpSocket> {
+pub fn bound_at(rt: &HostRuntime, ip: IpAddr, port: u16) -> io::Result<UdpSocket> {
     UdpSocket::bind(rt, (ip, port))
 }
 
 /// A socket of this port at all addresses of this host: IPv6 and IPv4 at once where the host has IPv6.
 /// Else why there is none of IPv4.
-pub(crate) fn bound_to_all(rt: &HostRuntime, port: u16) -> io::Result<UdpSocket> {
+pub fn bound_to_all(rt: &HostRuntime, port: u16) -> io::Result<UdpSocket> {
     match bound_at(rt, IpAddr::V6(Ipv6Addr::UNSPECIFIED), port) {
         Ok(socket) => Ok(socket),
         Err(_) => bound_at(rt, IpAddr::V4(Ipv4Addr::UNSPECIFIED), port),
@@ -21,7 +24,7 @@ pub(crate) fn bound_to_all(rt: &HostRuntime, port: u16) -> io::Result<UdpSocket>
 }
 
 /// The same socket once more; none where the system gives none.
-pub(crate) fn same_socket(socket: &Option<UdpSocket>) -> Option<UdpSocket> {
+pub fn same_socket(socket: &Option<UdpSocket>) -> Option<UdpSocket> {
     match socket {
         Some(socket) => socket.try_clone().ok(),
         None => None,
@@ -29,17 +32,17 @@ pub(crate) fn same_socket(socket: &Option<UdpSocket>) -> Option<UdpSocket> {
 }
 
 /// A socket of this address and port; none where the system gives none.
-pub(crate) fn socket_at(rt: &HostRuntime, ip: IpAddr, port: u16) -> Option<UdpSocket> {
+pub fn socket_at(rt: &HostRuntime, ip: IpAddr, port: u16) -> Option<UdpSocket> {
     bound_at(rt, ip, port).ok()
 }
 
 /// A socket of this port at all addresses of this host; none where the system gives none.
-pub(crate) fn socket_of_all(rt: &HostRuntime, port: u16) -> Option<UdpSocket> {
+pub fn socket_of_all(rt: &HostRuntime, port: u16) -> Option<UdpSocket> {
     bound_to_all(rt, port).ok()
 }
 
 /// The address as sockets take it.
-pub(crate) fn ip_of(address: Address) -> IpAddr {
+pub fn ip_of(address: Address) -> IpAddr {
     let v6 = Ipv6Addr::from_octets(address.0);
     match v6.to_ipv4_mapped() {
         Some(v4) => IpAddr::V4(v4),

@@ -1,0 +1,12 @@
+//! Which files a command reads and writes, and what people are told who ask for more than a status.
+#![tactic(auto)]
+
+mod causes;
+mod kept;
+mod places;
+mod told;
+
+pub use crate::causes::tell_tool_words;
+pub use crate::kept::KeptSource;
+pub use crate::places::{Places, journals_in, may_open, places_of};
+pub use crate::told::{beginning_of, look_at, told_of};
