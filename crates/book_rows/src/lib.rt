@@ -9,13 +9,9 @@ mod cuts;
 #[cfg(test)]
 mod doings;
 #[cfg(test)]
-mod failed_syncs;
-#[cfg(test)]
 mod faults;
 #[cfg(test)]
 mod lengths;
-#[cfg(test)]
-mod lossy_files;
 #[cfg(test)]
 mod octets;
 #[cfg(test)]

@@ -31,7 +31,7 @@ fn external() -> External
 }
 
 /// A configuration without subscribers, since a book pairs nothing.
-pub(crate) fn config(alloc: Global, external: &External) -> Result<Config, Fail>
+fn config(alloc: Global, external: &External) -> Result<Config, Fail>
     requires { IsExternal external.now }
     ensures { IfOk result IsConfig }
 {

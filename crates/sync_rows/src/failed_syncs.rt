@@ -1,16 +1,14 @@
 //! A program whose sync fails, the next one over what reads give then, and what a power loss leaves of
 //! that one.
 ghost use Rattle.std.specs.Prelude.{◌≡◌, Ok, None, true, IfOk};
-ghost use Rattle.pcp_base.specs.Configs.{IsExternal};
 
-use crate::acts::{Seen, what_stands};
 use crate::lossy_files::{LossyFiles, Stored, Syncs};
 use crate::octets::{COMPACTED, LEASED};
-use crate::opening::{config, moment};
-use crate::requests::{Request, asks_of};
+use crate::opening::{config, external, moment};
+use crate::requests::batch_of;
+use crate::seen::{Seen, what_stands};
 use lease_disk::{DiskPair, FileDisk, Keepable, LeaseDisk};
 use lease_store::LeaseStore;
-use pcp_base::{Address, External};
 use shard_book::{Book, Found, LeaseBook, Unopened};
 use std::alloc::Global;
 use std::os::unix::fs::FileExt;
@@ -58,7 +56,7 @@ fn lease_all<D: LeaseDisk, S: LeaseStore + Drop>(
     ensures { result ≡ Ok true → book.new.fault ≡ None }
 {
     for host in hosts {
-        let asks = asks_of(alloc, &Request::Map(*host, 5000, 3600, 0, 0), 1)?;
+        let asks = batch_of(alloc, *host)?;
         if book.batch(alloc, &asks, moment(now)?, moment(0)?).is_err() {
             return Ok(false);
         }
@@ -83,17 +81,6 @@ fn serve<D: LeaseDisk + Drop, S: LeaseStore + Drop>(
         return Ok(None);
     }
     Ok(Some(what_stands(alloc, &book)?))
-}
-
-/// The external address 192.0.2.1 with a few ports.
-fn external() -> External
-    ensures { IsExternal result }
-{
-    External {
-        address: Address::v4(192, 0, 2, 1),
-        low: 1024,
-        high: 1055,
-    }
 }
 
 /// Opens a book at `now`, and leases to the hosts.

@@ -1,5 +1,5 @@
 use Rattle.std.proofs.Common.{◌≡◌, None}
-use Rattle.book_rows.proofs.failed_syncs.lease_all.Given as goal
+use Rattle.sync_rows.proofs.failed_syncs.lease_all.Given as goal
 
 -- no batch has been refused
 abbrev pub invariant-loop-host : goal.invariant-loop-host
