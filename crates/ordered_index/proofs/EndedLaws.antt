@@ -1,18 +1,16 @@
--- The expiries up to a moment are a range, and its least number.
-use Rattle.std.proofs.Common.{◌≡◌, ℕ, ◌+◌, ◌<◌, ◌≤◌, ◌&&◌, ◌==◌, nat_lt, Bool, true, false, not, cond, List, [], ◌∷◌, length, filter, count_by, Option, Some, None, IfSome, IfNone, refl, sym, ap, ◌∙◌, arith}
+-- The expiries up to a moment are a range.
+use Rattle.std.proofs.Common.{◌≡◌, ℕ, ◌+◌, ◌<◌, ◌≤◌, nat_lt, Bool, true, false, not, cond, List, [], ◌∷◌, length, filter, count_by, refl, sym, ap, ◌∙◌, arith}
 use Rattle.std.specs.Prelude.{⊤}
-use Rattle.std.specs.List.{AllByRecursion, list_any}
 use Rattle.std.specs.Ordering.{nat_cmp, ordering_then, is_le, is_gt, MatchOrdering}
 use Rattle.std.specs.declared.cmp.Ordering.{Ordering}
 use Rattle.std.specs.declared.cmp.Ordering.TheVariants.{Less, Equal, Greater}
 use Rattle.std.specs.declared.ops.Bound.TheVariants.{Excluded, Unbounded}
 use Rattle.std.specs.BTreeMap.Range.{range_contains, entries_between}
-use Rattle.std.proofs.lemmas.Bool.{and_from, ltb-true, lt-ltb}
+use Rattle.std.proofs.lemmas.Bool.{ltb-true, lt-ltb}
 use Rattle.std.proofs.lemmas.Cmp.{ranked}
 use Rattle.std.proofs.lemmas.List.Sums.{length-filter}
-use Rattle.pcp_base.proofs.Members.{All-IsIn, All-from_IsIn, IsIn-filter, filter-IsIn, any-some, some-any}
 use Rattle.ordered_index.proofs.Entries.{false_by}
-use Rattle.ordered_index.specs.Ended.{has_ended, IsFirstEnded}
+use Rattle.ordered_index.specs.Ended.{has_ended}
 use Rattle.ordered_index.specs.Steps.{expiry_cmp}
 
 least_cases : (n : ℕ) (o : Ordering) → MatchOrdering o (0 < n) (0 ≡ n) (n < 0) → is_le o ≡ true
@@ -32,22 +30,6 @@ past_cases m q Greater h =
 
 pub ended-range : (m : ℕ) (q : ℕ × ℕ) → range_contains expiry_cmp Unbounded (Excluded (m + 1, 0)) q ≡ not (nat_lt m q.0)
 ended-range m q = ap not (past_cases m q (nat_cmp (m + 1) q.0) (ranked (m + 1) q.0 (nat_cmp (m + 1) q.0) refl))
-
-pub first-ended : (m : ℕ) (es : List ((ℕ × ℕ) × ⊤)) (r : Option ℕ) → IfSome r (λ n. list_any (λ e. e.0.1 == n) (filter (has_ended m) es) ≡ true) →
-    IfSome r (λ n. AllByRecursion (λ e. n ≤ e.0.1) (filter (has_ended m) es)) → IfNone r (filter (has_ended m) es ≡ []) → IsFirstEnded m es r
-first-ended m es None found least none = record {
-  ended = tt;
-  least = tt;
-  none = sym (length-filter (has_ended m) es) ∙ ap length none;
-}
-first-ended m es (Some n) found least none = record {
-  ended = (let a = any-some (λ e. e.0.1 == n) (filter (has_ended m) es) found in
-      let b = IsIn-filter (has_ended m) es a.0 a.1 in
-      some-any (λ e. has_ended m e && e.0.1 == n) es a.0 b.0 (and_from _ _ b.1 a.2));
-  least = All-from_IsIn (λ e. has_ended m e ≡ true → n ≤ e.0.1) es (λ e i t.
-      All-IsIn (λ x. n ≤ x.0.1) (filter (has_ended m) es) e least (filter-IsIn (has_ended m) es e i t));
-  none = tt;
-}
 
 -- a key that isn't behind another has no later expiry
 pub expiry-lower : (a b : ℕ × ℕ) → is_gt (expiry_cmp a b) ≡ false → a.0 ≤ b.0

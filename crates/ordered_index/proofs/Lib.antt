@@ -8,3 +8,5 @@ pub mod Keeping
 pub mod Endings
 pub mod FirstAndRest
 pub mod PlaceCounts
+pub mod Lives
+pub mod Passing

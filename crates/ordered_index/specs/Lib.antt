@@ -5,3 +5,4 @@ pub mod Lesser
 pub mod Kept
 pub mod Orders
 pub mod Sieves
+pub mod Live

@@ -50,13 +50,13 @@ module _ {K : Type 0} (cmp : K → K → Ordering) where
   IsLast m k (Some n) = (last : K) × IsLastKey m k n last
 
   -- this is the first key from another on
-  pub record IsFirstKey (m : BTreeMap K ℕ) (k first : K) : Type 0 where
+  pub record IsFirstKey {V : Type 0} (m : BTreeMap K V) (k first : K) : Type 0 where
     pub found : IsSome (get cmp m first)
     pub from : is_gt (cmp k first) ≡ false
     pub least : (q : K) → is_gt (cmp k q) ≡ false → IsSome (get cmp m q)
         → is_gt (cmp first q) ≡ false
 
   -- the first key from this one on, None where there is none
-  abbrev pub IsFirst : BTreeMap K ℕ → K → Option K → Type 0
+  abbrev pub IsFirst : {V : Type 0} → BTreeMap K V → K → Option K → Type 0
   IsFirst m k None = (q : K) → is_gt (cmp k q) ≡ false → get cmp m q ≡ None
   IsFirst m k (Some first) = IsFirstKey m k first

@@ -2,10 +2,10 @@
 ghost use Rattle.std.specs.Prelude.{◌≡◌, None, OnOk, OnErr, IsSome, count_by};
 ghost use Rattle.std.specs.Ordering.{nat_cmp};
 ghost use Rattle.std.specs.BTreeMap.{get};
-ghost use Rattle.ordered_index.specs.Ended.{has_ended, IsFirstEnded, IsOneEnded};
+ghost use Rattle.ordered_index.specs.Ended.{has_ended, IsOneEnded};
 ghost use Rattle.ordered_index.specs.Steps.{IsBlank, Appends, Replaces, Forgets, Stays};
 
-use crate::expiries::{count_ended, first_ended, one_ended};
+use crate::expiries::{count_ended, one_ended};
 use crate::maps::{insert_both, overwrite, remove_from, remove_other};
 use crate::numbered::Numbered;
 use pcp_base::{Memory, Moment};
@@ -112,13 +112,6 @@ impl<L: Copy, K: Ord + Copy, P: Ord + Copy> Numbered<L, K, P> {
         ensures { result ≡ count_by (has_ended m) self.now.expiries.entries }
     {
         count_ended(&self.expiries, m)
-    }
-
-    /// The least number of a lease whose expiry is at most `m`. It looks at these alone.
-    pub fn first_ended(&self, m: Moment) -> Option<u64>
-        ensures { IsFirstEnded m self.now.expiries.entries result }
-    {
-        first_ended(&self.expiries, m)
     }
 
     /// The number of one of the leases that expire first, where their expiry is at most `m`. It

@@ -1,7 +1,6 @@
 //! Which leases have ended.
-ghost use Rattle.std.specs.Prelude.{◌≡◌, count_by, Some};
-ghost use Rattle.ordered_index.specs.Ended.{has_ended, IsFirstEnded, IsOneEnded};
-ghost use Rattle.ordered_index.specs.Lesser.{lesser};
+ghost use Rattle.std.specs.Prelude.{◌≡◌, count_by};
+ghost use Rattle.ordered_index.specs.Ended.{has_ended, IsOneEnded};
 
 use pcp_base::Moment;
 use std::collections::BTreeMap;
@@ -11,27 +10,6 @@ pub(crate) fn count_ended(expiries: &BTreeMap<(u64, u64), ()>, m: Moment) -> usi
     ensures { result ≡ count_by (has_ended m) expiries.now.entries }
 {
     expiries.range(..(m.get() + 1, 0)).count()
-}
-
-/// The lesser of two numbers, of which the first may be missing.
-fn lesser_of(first: Option<u64>, second: u64) -> Option<u64>
-    ensures { result ≡ lesser first (Some second) }
-{
-    match first {
-        Some(number) if number <= second => first,
-        _ => Some(second),
-    }
-}
-
-/// The least number whose expiry is at most `m`.
-pub(crate) fn first_ended(expiries: &BTreeMap<(u64, u64), ()>, m: Moment) -> Option<u64>
-    ensures { IsFirstEnded m expiries.now.entries result }
-{
-    let mut first = None;
-    for (expiry, _) in expiries.range(..(m.get() + 1, 0)) {
-        first = lesser_of(first, expiry.1);
-    }
-    first
 }
 
 /// The number of the earliest expiry, where that is at most `m`.

@@ -25,7 +25,7 @@ pub fn last_up_to<K: Ord + Copy>(map: &BTreeMap<K, u64>, key: K) -> Option<u64>
 }
 
 /// The first key from this one on.
-pub fn first_from<K: Ord + Copy>(map: &BTreeMap<K, u64>, key: K) -> Option<K>
+pub fn first_from<K: Ord + Copy, V>(map: &BTreeMap<K, V>, key: K) -> Option<K>
     ensures { IsFirst K.cmp map.now key result }
 {
     let Some((first, _)) = map.range(key..).next() else {
