@@ -1,24 +1,26 @@
 -- The least covered port above an endpoint's, by the first endpoints of leases.
-use Rattle.std.proofs.Common.{◌≡◌, ℕ, ◌+◌, ◌<◌, ◌≤◌, ◌⊎◌, ltb, Bool, true, false, List, Option, Some, None, IsSome, refl, sym, ap, ◌∙◌, subst, inl, inr, arith}
-use Rattle.std.specs.Ordering.{nat_cmp, is_gt}
-use Rattle.std.specs.BTreeMap.{get, values}
+use Rattle.std.proofs.Common.{◌≡◌, ℕ, ◌+◌, ◌<◌, ◌≤◌, ◌⊎◌, ltb, Bool, true, false, List, Contains, filter, Option, Some, None, IsSome, refl, sym, ap, ◌∙◌, subst, inl, inr, arith}
+use Rattle.std.specs.Ordering.{is_gt}
+use Rattle.std.specs.BTreeMap.{BTreeMap, get, values}
+use Rattle.std.specs.Prelude.{is_some}
 use Rattle.std.proofs.lemmas.Cmp.{tied_itself}
 use Rattle.std.proofs.lemmas.Grind.{common_steps}
 use Rattle.pcp_base.specs.declared.leases.Endpoint.{Endpoint}
 use Rattle.pcp_base.specs.declared.leases.MapLease.{MapLease}
 use Rattle.pcp_base.specs.Protocols.{protocol_number}
-use Rattle.pcp_base.specs.Tables.{covers, first_endpoint}
-use Rattle.pcp_base.proofs.TableLemmas.{IsCovered, IsCovered-from_covers, covers-from_IsCovered, covers-first}
-use Rattle.mapping_table.specs.MapLists.{map_covering, is_covered, IsNextCovered}
-use Rattle.ordered_index.specs.Orders.{Place, place_of, place_cmp, IsFirstKey, IsFirst}
-use Rattle.mapping_table.specs.Kept.{place_of_lease, map_keying, AreKeptMaps}
-use Rattle.ordered_index.proofs.Entries.{false_by, any_in, any_at, find_in, find_none_at, entry_at, some_of}
-use Rattle.ordered_index.proofs.OrderLaws.{place_total, place_of-one, places_between, places_up_to}
+use Rattle.pcp_base.specs.Tables.{IsMapLease, covers}
+use Rattle.pcp_base.proofs.Members.{IsIn, IsIn-from_Contains, Contains-from_IsIn, All-IsIn, IsIn-filter, any-some, some-any}
+use Rattle.pcp_base.proofs.TableLemmas.{IsCovered, IsCovered-from_covers, covers-from_IsCovered}
+use Rattle.mapping_table.specs.MapLists.{is_live_map, is_covered, IsNextCovered, SkipsUncovered, AreSoundMaps, map_covering}
+use Rattle.ordered_index.specs.Orders.{Place, place_of, place_cmp, IsFirst}
+use Rattle.mapping_table.specs.Kept.{place_of_lease, map_keying, AreKeptMaps, IsFirstLive, some_live_map}
 use Rattle.ordered_index.specs.declared.numbered.Numbered.{Numbered}
-use Rattle.ordered_index.proofs.EntryLaws.{none_some}
-use Rattle.ordered_index.proofs.Keeping.{key-to, key-from}
+use Rattle.ordered_index.proofs.Entries.{entry_at, false_by}
+use Rattle.ordered_index.proofs.Keeping.{key-to}
+use Rattle.ordered_index.proofs.Lives.{value-entry}
+use Rattle.ordered_index.proofs.OrderLaws.{place_total, places_between, places_up_to}
+use Rattle.mapping_table.proofs.Lookups.{covering_is}
 use Rattle.mapping_table.proofs.MapKeeping.{map_laws}
-use Rattle.mapping_table.proofs.Separates.{lease_is}
 
 below_or_not : (a b : ℕ) → (a < b) ⊎ (b ≤ a)
 below_or_not a b = let at : (v : Bool) → ltb a b ≡ v → (a < b) ⊎ (b ≤ a) = λ v. elim v as (λ v. ltb a b ≡ v → (a < b) ⊎ (b ≤ a)) [ true ↦ λ e. inl (grind (arith, common_steps)) | false ↦ λ e. inr (grind (arith, common_steps)) ] in at (ltb a b) refl
@@ -27,101 +29,153 @@ below_or_not a b = let at : (v : Bool) → ltb a b ≡ v → (a < b) ⊎ (b ≤ 
 abbrev pub with_port : Endpoint → ℕ → Endpoint
 with_port e port = record { address = e.address; protocol = e.protocol; port = port }
 
-module _ (it : Numbered MapLease Place (ℕ × ℕ)) (h : AreKeptMaps it) (e : Endpoint) where
-  -- a lease that covers a port
-  pub record Covering (q : ℕ) : Type 0 where
-    pub number : ℕ
-    pub lease : MapLease
-    pub stands : get nat_cmp it.leases number ≡ Some lease
-    pub covered : IsCovered lease (with_port e q)
+not_false : (b : Bool) → b ≡ false → (b ≡ true → ⊥)
+not_false b h t = let no : true ≡ false = sym t ∙ h in cc
 
-  covering : (q : ℕ) → is_covered e (values it.leases) q ≡ true → Covering q
-  covering q c =
-      let r = any_in (λ l. covers l (with_port e q)) it.leases.entries c in
-      record { number = r.0; lease = r.1; stands = entry_at it.leases h.kept.ordered r.0 r.1 r.2; covered = IsCovered-from_covers r.1 (with_port e q) r.3 }
+among_all : (e : Endpoint) (p : MapLease → Bool) (ls : List MapLease) (q : ℕ) → is_covered e (filter p ls) q ≡ true → is_covered e ls q ≡ true
+among_all e p ls q t =
+    let r = any-some (λ l. covers l (with_port e q)) (filter p ls) t in
+    some-any (λ l. covers l (with_port e q)) ls r.0 (IsIn-filter p ls r.0 r.1).0 r.2
 
-  -- above the last port nothing is covered
-  pub next_at_end : e.port ≡ 65535 → IsNextCovered e (values it.leases) None
-  next_at_end last = record {
-    above = tt;
-    covered = tt;
-    least = tt;
-    none = λ q above. false_by (is_covered e (values it.leases) q) (λ c.
-        let r = covering q c in
-        let ends = (lease_is it.leases h.sound r.number r.lease r.stands).ports.internal_end in
-        omega (arith, last, above, r.covered.below, ends));
-  }
+-- up to the least covered port none is covered, by some of the leases
+pub skips-next : (e : Endpoint) (p : MapLease → Bool) (ls : List MapLease) (r : Option ℕ) → IsNextCovered e ls r → SkipsUncovered e (filter p ls) r
+skips-next e p ls None h = record {
+  above = tt;
+  between = tt;
+  none = λ q above. false_by (is_covered e (filter p ls) q) (λ t. not_false (is_covered e ls q) (h.none q above) (among_all e p ls q t));
+}
+skips-next e p ls (Some port) h = record {
+  above = h.above;
+  between = λ q above below. false_by (is_covered e (filter p ls) q) (λ t. let low = h.least q above (among_all e p ls q t) in omega (arith, below, low));
+  none = tt;
+}
 
-  -- the next port is covered
-  pub next_at_once : (l : MapLease) → Some l ≡ map_covering (with_port e (e.port + 1)) (values it.leases) → IsNextCovered e (values it.leases) (Some (e.port + 1))
-  next_at_once l found = record {
-    above = omega arith;
-    covered = (let r = find_in (λ x. covers x (with_port e (e.port + 1))) it.leases.entries l (sym found) in
-        any_at (λ x. covers x (with_port e (e.port + 1))) it.leases.entries r.0 l (entry_at it.leases h.kept.ordered r.0 l r.1) r.2);
-    least = λ q above c. omega (arith, above);
+module _ (m : ℕ) (ls : List MapLease) (k : Place) {V : Type 0} (keys : BTreeMap Place V)
+    (has : (l : MapLease) → IsIn l ls → is_live_map m l ≡ true → IsSome (get place_cmp keys (place_of_lease l))) where
+  above_none : IsFirst place_cmp keys k None → (l : MapLease) → Contains ls l → is_live_map m l ≡ true → (b : Bool) → is_gt (place_cmp k (place_of_lease l)) ≡ b → b ≡ true
+  above_none first l i alive true t = refl
+  above_none first l i alive false t =
+      let none = first (place_of_lease l) t in
+      let some = has l (IsIn-from_Contains ls l i) alive in
+      absurd (let no : false ≡ true = sym (ap is_some none) ∙ some in cc)
+
+  -- the first key, where each live lease has one
+  pub first-live : (r : Option Place) → IsFirst place_cmp keys k r → IsFirstLive m ls k r
+  first-live None first = record { from = tt; least = tt; none = λ l i alive. above_none first l i alive (is_gt (place_cmp k (place_of_lease l))) refl }
+  first-live (Some f) first = record {
+    from = first.from;
+    least = λ l i alive from. first.least (place_of_lease l) from (has l (IsIn-from_Contains ls l i) alive);
     none = tt;
   }
 
-  module _ (none : None ≡ map_covering (with_port e (e.port + 1)) (values it.leases)) where
+module _ (it : Numbered MapLease Place (ℕ × ℕ)) (h : AreKeptMaps it) where
+  pub kept-has : (m : ℕ) (l : MapLease) → IsIn l (values it.leases) → is_live_map m l ≡ true → IsSome (get place_cmp it.keys (place_of_lease l))
+  kept-has m l i alive =
+      let e = value-entry it.leases.entries l i in
+      subst IsSome (sym (key-to map_keying map_laws it h.kept e.0 l (entry_at it.leases h.kept.ordered e.0 l e.1))) refl
+
+  -- the lease that covers an endpoint is found
+  pub covering-found : (e : Endpoint) (l : MapLease) → Contains (values it.leases) l → covers l e ≡ true → Some l ≡ map_covering e (values it.leases)
+  covering-found e l i c =
+      let n = value-entry it.leases.entries l (IsIn-from_Contains (values it.leases) l i) in
+      covering_is it h e n.0 l (entry_at it.leases h.kept.ordered n.0 l n.1) c
+
+  -- none that is live covers it, where none that is found is live
+  pub free-by : (m : ℕ) (e : Endpoint) (o : Option MapLease) → o ≡ map_covering e (values it.leases) → some_live_map m o ≡ false →
+      (l : MapLease) → Contains (values it.leases) l → is_live_map m l ≡ true → covers l e ≡ false
+  free-by m e o found dead l i alive = false_by (covers l e) (λ c.
+      let is : o ≡ Some l = found ∙ sym (covering-found e l i c) in
+      let no : true ≡ false = sym alive ∙ ap (some_live_map m) (sym is) ∙ dead in cc)
+
+module _ (m : ℕ) (ls : List MapLease) (sound : AreSoundMaps ls) (e : Endpoint) where
+  -- a live lease that covers a port
+  record Covering (q : ℕ) : Type 0 where
+    lease : MapLease
+    stands : IsIn lease ls
+    alive : is_live_map m lease ≡ true
+    covered : IsCovered lease (with_port e q)
+
+  covering : (q : ℕ) → is_covered e (filter (is_live_map m) ls) q ≡ true → Covering q
+  covering q c =
+      let r = any-some (λ l. covers l (with_port e q)) (filter (is_live_map m) ls) c in
+      let f = IsIn-filter (is_live_map m) ls r.0 r.1 in
+      record { lease = r.0; stands = f.0; alive = f.1; covered = IsCovered-from_covers r.0 (with_port e q) r.2 }
+
+  abbrev live : List MapLease
+  live = filter (is_live_map m) ls
+
+  -- above the last port nothing is covered
+  pub skips_at_end : e.port ≡ 65535 → SkipsUncovered e live None
+  skips_at_end last = record {
+    above = tt;
+    between = tt;
+    none = λ q above. false_by (is_covered e live q) (λ c.
+        let r = covering q c in
+        let ends = (All-IsIn IsMapLease ls r.lease sound.leases r.stands).ports.internal_end in
+        omega (arith, last, above, r.covered.below, ends));
+  }
+
+  -- the next port
+  pub skips_none : SkipsUncovered e live (Some (e.port + 1))
+  skips_none = record {
+    above = omega arith;
+    between = λ q above below. absurd (omega (arith, above, below));
+    none = tt;
+  }
+
+  module _ (free : (l : MapLease) → Contains ls l → is_live_map m l ≡ true → covers l (with_port e (e.port + 1)) ≡ false) where
     -- what covers a later port begins later
     begins : (q : ℕ) → e.port < q → (r : Covering q) → e.port + 1 < r.lease.internal
     begins q above r = elim (below_or_not (e.port + 1) r.lease.internal) [
       | inl later ↦ later
-      | inr sooner ↦ (let no = find_none_at (λ x. covers x (with_port e (e.port + 1))) it.leases.entries r.number r.lease r.stands (sym none) in
+      | inr sooner ↦ (let no = free r.lease (Contains-from_IsIn ls r.lease r.stands) r.alive in
           let yes : covers r.lease (with_port e (e.port + 1)) ≡ true = covers-from_IsCovered r.lease (with_port e (e.port + 1))
           (record { address = r.covered.address; protocol = r.covered.protocol; from = sooner; below = omega (arith, above, r.covered.below) }) in
-          let both : true ≡ false = sym yes ∙ no in absurd (cc))
+          absurd (not_false _ no yes))
     ]
 
-    from_above : (q : ℕ) → e.port < q → (r : Covering q) → is_gt (place_cmp (place_of (with_port e (e.port + 1))) (place_of_lease r.lease)) ≡ false
-    from_above q above r = let later = begins q above r in
-        places_up_to (place_of (with_port e (e.port + 1))) (place_of_lease r.lease) (ap (λ a. a.0) (sym r.covered.address)) (ap protocol_number (sym r.covered.protocol)) (omega (arith, later))
+    abbrev start : Place
+    start = place_of (with_port e (e.port + 1))
 
-    pub next_is_none : IsFirst place_cmp it.keys (place_of (with_port e (e.port + 1))) None → IsNextCovered e (values it.leases) None
-    next_is_none first = record {
+    from_above : (q : ℕ) → e.port < q → (r : Covering q) → is_gt (place_cmp start (place_of_lease r.lease)) ≡ false
+    from_above q above r = let later = begins q above r in
+        places_up_to start (place_of_lease r.lease) (ap (λ a. a.0) (sym r.covered.address)) (ap protocol_number (sym r.covered.protocol)) (omega (arith, later))
+
+    pub skips_all : IsFirstLive m ls start None → SkipsUncovered e live None
+    skips_all first = record {
       above = tt;
-      covered = tt;
-      least = tt;
-      none = λ q above. false_by (is_covered e (values it.leases) q) (λ c.
+      between = tt;
+      none = λ q above. false_by (is_covered e live q) (λ c.
           let r = covering q c in
-          none_some (get place_cmp it.keys (place_of_lease r.lease)) r.number (first (place_of_lease r.lease) (from_above q above r)) (key-to map_keying map_laws it h.kept r.number r.lease r.stands));
+          not_false _ (from_above q above r) (first.none r.lease (Contains-from_IsIn ls r.lease r.stands) r.alive));
     }
 
-    module _ (f : Place) (first : IsFirstKey place_cmp it.keys (place_of (with_port e (e.port + 1))) f) where
+    module _ (f : Place) (first : IsFirstLive m ls start (Some f)) where
       first_before : (q : ℕ) → e.port < q → (r : Covering q) → is_gt (place_cmp f (place_of_lease r.lease)) ≡ false
-      first_before q above r = first.least (place_of_lease r.lease) (from_above q above r) (subst IsSome (sym (key-to map_keying map_laws it h.kept r.number r.lease r.stands)) refl)
+      first_before q above r = first.least r.lease (Contains-from_IsIn ls r.lease r.stands) r.alive (from_above q above r)
 
-      pub next_is_elsewhere : ((f.0 ≡ e.address.0) × (f.1.0 ≡ protocol_number e.protocol) → ⊥) → IsNextCovered e (values it.leases) None
-      next_is_elsewhere other = record {
+      pub skips_elsewhere : ((f.0 ≡ e.address.0) × (f.1.0 ≡ protocol_number e.protocol) → ⊥) → SkipsUncovered e live None
+      skips_elsewhere other = record {
         above = tt;
-        covered = tt;
-        least = tt;
-        none = λ q above. false_by (is_covered e (values it.leases) q) (λ c.
+        between = tt;
+        none = λ q above. false_by (is_covered e live q) (λ c.
             let r = covering q c in
-            let between = places_between (place_of (with_port e (e.port + 1))) f (place_of_lease r.lease) (ap (λ a. a.0) (sym r.covered.address)) (ap protocol_number (sym r.covered.protocol)) first.from (first_before q above r) in
+            let between = places_between start f (place_of_lease r.lease) (ap (λ a. a.0) (sym r.covered.address)) (ap protocol_number (sym r.covered.protocol)) first.from (first_before q above r) in
             other (between.0 ∙ ap (λ a. a.0) r.covered.address, between.1 ∙ ap protocol_number r.covered.protocol));
       }
 
-      pub next_is_first : (f.0 ≡ e.address.0) × (f.1.0 ≡ protocol_number e.protocol) → IsNextCovered e (values it.leases) (Some f.1.1)
-      next_is_first same =
-          let number = some_of (get place_cmp it.keys f) first.found in
-          let from = key-from map_keying map_laws it h.kept f number.0 number.1 in
-          let at_f : place_of (first_endpoint from.0) ≡ place_of (with_port e f.1.1) =
-          from.2 ∙ ap (λ (z : List ℕ). (z, f.1)) same.0 ∙ ap (λ (z : ℕ). (e.address.0, (z, f.1.1))) same.1 in
-          let is = place_of-one (first_endpoint from.0) (with_port e f.1.1) at_f in
-          let some = (lease_is it.leases h.sound number.0 from.0 from.1).ports.some in
-          let covers_f : covers from.0 (with_port e f.1.1) ≡ true = subst (λ (z : Endpoint). covers from.0 z ≡ true) is (covers-first from.0 some) in
+      pub skips_first : (f.0 ≡ e.address.0) × (f.1.0 ≡ protocol_number e.protocol) → SkipsUncovered e live (Some f.1.1)
+      skips_first same =
           let self : is_gt (place_cmp f f) ≡ false = ap is_gt (tied_itself place_total f) in
-          let up = places_between (place_of (with_port e (e.port + 1))) f f (sym same.0) (sym same.1) first.from self in
+          let up = places_between start f f (sym same.0) (sym same.1) first.from self in
           record {
             above = (let u = up.2 in omega (arith, u));
-            covered = any_at (λ l. covers l (with_port e f.1.1)) it.leases.entries number.0 from.0 from.1 covers_f;
-            least = λ q above c.
+            between = λ q above below. false_by (is_covered e live q) (λ c.
                 let r = covering q c in
                 let p = place_of_lease r.lease in
                 let stays : is_gt (place_cmp p p) ≡ false = ap is_gt (tied_itself place_total p) in
                 let between = places_between f p p (same.0 ∙ ap (λ a. a.0) (sym r.covered.address)) (same.1 ∙ ap protocol_number (sym r.covered.protocol)) (first_before q above r) stays in
                 let low = between.2 in
-                omega (arith, low, r.covered.from);
+                omega (arith, low, r.covered.from, below));
             none = tt;
           }

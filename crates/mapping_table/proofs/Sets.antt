@@ -1,5 +1,5 @@
 -- How many leases are sets of ports, after a call.
-use Rattle.std.proofs.Common.{◌≡◌, ℕ, ◌+◌, ◌-◌, ◌≤◌, Bool, true, false, cond, List, [], ◌∷◌, find, count_by, Option, Some, None, sym, ap, ◌∙◌, arith}
+use Rattle.std.proofs.Common.{◌≡◌, ℕ, ◌+◌, ◌-◌, ◌≤◌, find, count_by, Option, Some, None, sym, ap, ◌∙◌, arith}
 use Rattle.std.specs.Ordering.{nat_cmp}
 use Rattle.std.specs.Cmp.{nat_cmp_total}
 use Rattle.std.specs.Map.{remove_entry}
@@ -7,37 +7,20 @@ use Rattle.std.specs.BTreeMap.{get, is_at, values}
 use Rattle.std.proofs.lemmas.Bool.{ltb-false}
 use Rattle.std.proofs.lemmas.Map.Lookups.{exact_unsigned}
 use Rattle.pcp_base.specs.declared.leases.MapLease.{MapLease}
-use Rattle.pcp_base.specs.Tables.{first_endpoint, is_map_of, put}
+use Rattle.pcp_base.specs.Tables.{first_endpoint, is_map_of}
 use Rattle.ordered_index.specs.declared.numbered.Numbered.{Numbered}
 use Rattle.ordered_index.specs.MapSteps.{Removes}
 use Rattle.ordered_index.specs.Steps.{Stays}
 use Rattle.ordered_index.specs.Orders.{Place, place_cmp}
-use Rattle.ordered_index.proofs.EntryLaws.{tally, count-cons, count-some, count-removed}
+use Rattle.ordered_index.proofs.EntryLaws.{count-some, count-removed}
 use Rattle.ordered_index.proofs.Endings.{count-values}
 use Rattle.ordered_index.proofs.Entries.{false_by}
 use Rattle.ordered_index.proofs.Keeping.{none-found, key-found, same-values}
+use Rattle.ordered_index.proofs.Lives.{tally_found, count-put}
 use Rattle.ordered_index.proofs.Mirrorings.{at-entry}
 use Rattle.mapping_table.specs.Kept.{place_of_lease, map_keying, is_set, sets_of, AreKeptMaps, AreCountedMaps}
 use Rattle.mapping_table.specs.MapLists.{with_map}
 use Rattle.mapping_table.proofs.MapKeeping.{map_laws, map_tells, map_stays}
-
--- 1 for what was found and passes
-abbrev pub tally_found : {X : Type 0} → (X → Bool) → Option X → ℕ
-tally_found p None = 0
-tally_found p (Some x) = tally (p x)
-
-put_step : {X : Type 0} (p has : X → Bool) (y x : X) (xs : List X) (b : Bool) →
-    count_by p (put has y xs) + tally_found p (find has xs) ≡ count_by p xs + tally (p y) →
-    count_by p (cond b (y ∷ xs) (x ∷ put has y xs)) + tally_found p (cond b (Some x) (find has xs)) ≡ count_by p (x ∷ xs) + tally (p y)
-put_step p has y x xs true rest =
-    let new = count-cons p y xs in let old = count-cons p x xs in omega (arith, new, old)
-put_step p has y x xs false rest =
-    let new = count-cons p x (put has y xs) in let old = count-cons p x xs in omega (arith, new, old, rest)
-
--- what is put comes in place of what was found
-pub count-put : {X : Type 0} (p has : X → Bool) (y : X) (xs : List X) → count_by p (put has y xs) + tally_found p (find has xs) ≡ count_by p xs + tally (p y)
-count-put p has y [] = let new = count-cons p y [] in omega (arith, new)
-count-put p has y (x ∷ xs) = put_step p has y x xs (has x) (count-put p has y xs)
 
 module _ (it : Numbered MapLease Place (ℕ × ℕ)) (sets : ℕ) (h : AreCountedMaps it sets) where
   -- what has one port alone, where there is no set

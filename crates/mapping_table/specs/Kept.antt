@@ -1,13 +1,16 @@
 -- How a table keeps its leases (our own; for proofs alone).
-use Rattle.std.specs.Prelude.{◌≡◌, ℕ, ◌<◌, ◌==◌, nat_lt, Bool, List, length, count_by, slice_index, if◌then◌else◌}
+use Rattle.std.specs.Prelude.{◌≡◌, ℕ, ◌<◌, ◌==◌, nat_lt, Bool, true, false, List, length, Contains, count_by, slice_index, Option, Some, None, IfSome, IfNone, if◌then◌else◌}
+use Rattle.std.specs.Ordering.{is_gt}
 use Rattle.std.specs.BTreeMap.{values}
 use Rattle.pcp_base.specs.declared.leases.MapLease.{MapLease}
 use Rattle.pcp_base.specs.Tables.{first_endpoint}
+use Rattle.ordered_index.specs.declared.live.LiveKeys.{LiveKeys}
 use Rattle.ordered_index.specs.declared.numbered.Numbered.{Numbered}
+use Rattle.ordered_index.specs.Live.{AreLive}
 use Rattle.ordered_index.specs.Kept.{Keying, IsKept}
 use Rattle.ordered_index.specs.Orders.{Place, port_at, place_of, port_cmp, place_cmp}
 use Rattle.ordered_index.specs.Sieves.{slot_of, no_places}
-use Rattle.mapping_table.specs.MapLists.{AreSoundMaps}
+use Rattle.mapping_table.specs.MapLists.{AreSoundMaps, is_live_map}
 
 abbrev pub place_of_lease : MapLease → Place
 place_of_lease l = place_of (first_endpoint l)
@@ -58,3 +61,24 @@ pub record AreSievedMaps (it : Numbered MapLease Place (ℕ × ℕ)) (sets : ℕ
     : Type 0 where
   pub counted : AreCountedMaps it sets
   pub sieved : SievesMaps sieve (values it.leases)
+
+-- all that, and the keys of the leases that are live
+pub record AreReachedMaps (it : Numbered MapLease Place (ℕ × ℕ)) (sets : ℕ) (sieve : List ℕ)
+    (keys : LiveKeys Place) : Type 0 where
+  pub sieved : AreSievedMaps it sets sieve
+  pub live : AreLive map_keying (values it.leases) keys
+
+-- whether there is a lease that is live at m
+abbrev pub some_live_map : ℕ → Option MapLease → Bool
+some_live_map m None = false
+some_live_map m (Some l) = is_live_map m l
+
+-- a place from which on the leases that are live at m are, if there is one at all
+pub record IsFirstLive (m : ℕ) (ls : List MapLease) (k : Place) (result : Option Place)
+    : Type 0 where
+  pub from : IfSome result (λ first. is_gt (place_cmp k first) ≡ false)
+  pub least : IfSome result (λ first. (l : MapLease) → Contains ls l → is_live_map m l ≡ true
+      → is_gt (place_cmp k (place_of_lease l)) ≡ false
+      → is_gt (place_cmp first (place_of_lease l)) ≡ false)
+  pub none : IfNone result ((l : MapLease) → Contains ls l → is_live_map m l ≡ true
+      → is_gt (place_cmp k (place_of_lease l)) ≡ true)

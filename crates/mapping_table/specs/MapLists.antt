@@ -1,6 +1,6 @@
 -- What is asked of a list of MAP leases, in the order granted, and what it must keep to (our own; a
 -- MAP lease is a mapping of RFC 6887, section 11).
-use Rattle.std.specs.Prelude.{◌≡◌, ℕ, ◌+◌, ◌<◌, ◌≤◌, ◌&&◌, nat_le, nat_lt, not, Bool, false, List, ◌++◌, length, filter, find, Contains, IsTrue, Option, None, IfSome, IfNone, Result, OnOk, OnErr}
+use Rattle.std.specs.Prelude.{◌≡◌, ℕ, ◌+◌, ◌<◌, ◌≤◌, ◌&&◌, nat_lt, not, Bool, false, List, ◌++◌, length, filter, find, Contains, IsTrue, Option, None, IfSome, IfNone, Result, OnOk, OnErr}
 use Rattle.std.specs.List.{AllByRecursion, list_any}
 use Rattle.pcp_base.specs.declared.leases.TheConstants.{MOST_LEASES}
 use Rattle.pcp_base.specs.declared.leases.Protocol.{Protocol}
@@ -46,6 +46,14 @@ pub record IsNextCovered (e : Endpoint) (ls : List MapLease) (result : Option �
   pub covered : IfSome result (λ port. IsTrue (is_covered e ls port))
   pub least : IfSome result (λ port.
       (other : ℕ) → e.port < other → IsTrue (is_covered e ls other) → port ≤ other)
+  pub none : IfNone result ((other : ℕ) → e.port < other → is_covered e ls other ≡ false)
+
+-- a port above the endpoint's, up to which no port above the endpoint's is covered, if there is one
+-- at all; None only where no port above the endpoint's is covered
+pub record SkipsUncovered (e : Endpoint) (ls : List MapLease) (result : Option ℕ) : Type 0 where
+  pub above : IfSome result (λ port. e.port < port)
+  pub between : IfSome result (λ port.
+      (other : ℕ) → e.port < other → other < port → is_covered e ls other ≡ false)
   pub none : IfNone result ((other : ℕ) → e.port < other → is_covered e ls other ≡ false)
 
 -- whether the n ports from a on and the k ports from b on have one in common

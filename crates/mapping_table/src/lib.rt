@@ -4,6 +4,7 @@
 mod changes;
 pub mod laws;
 mod owning;
+mod passing;
 pub mod plain;
 mod table;
 

@@ -4,7 +4,7 @@ ghost use Rattle.std.specs.Prelude.{◌≡◌, [], ◌∷◌, filter, find, coun
 ghost use Rattle.std.specs.Option.{option_copied};
 ghost use Rattle.std.specs.List.{AllByRecursion};
 ghost use Rattle.pcp_base.specs.Tables.{is_map_of, IsMapLease};
-ghost use Rattle.mapping_table.specs.MapLists.{is_live_map, map_covering, map_owning, map_with_key, first_dead_map, IsNextCovered, AreSoundMaps, with_map, PutsMap, RemovesMap, CopiesLiveMaps};
+ghost use Rattle.mapping_table.specs.MapLists.{is_live_map, map_covering, map_owning, map_with_key, IsNextCovered, SkipsUncovered, AreSoundMaps, with_map, PutsMap, RemovesMap, CopiesLiveMaps};
 
 use crate::owning::owns;
 use ordered_index::lesser;
@@ -141,13 +141,19 @@ impl PlainMapTable {
         self.leases.iter().find(|lease| owns(lease, protocol, port))
     }
 
-    /// The least internal port above the endpoint's that a lease of its address and protocol
+    /// The least internal port above the endpoint's that any lease of its address and protocol
     /// covers.
-    pub fn next_internal(&self, endpoint: &Endpoint) -> Option<u16>
-        ensures { IsNextCovered endpoint.now self.now result }
+    pub fn next_internal(&self, endpoint: &Endpoint, _m: Moment) -> Option<u16>
+        ensures next { IsNextCovered endpoint.now self.now result }
+        ensures skips { SkipsUncovered endpoint.now (filter (is_live_map _m) self.now) result }
     {
         next_in(&self.leases, endpoint)
     }
+
+    /// Lets a moment pass, which changes nothing.
+    pub fn reach(&mut self, _m: Moment)
+        ensures { self.new ≡ self.old }
+    {}
 
     /// Puts a lease in the place of the one with its key, or at the end. The one error is want of
     /// memory, which changes nothing.
@@ -173,13 +179,6 @@ impl PlainMapTable {
         ensures { result ≡ count_by (is_live_map m) self.now }
     {
         self.leases.iter().filter(|lease| lease.is_live(m)).count() as u32
-    }
-
-    /// The first lease that isn't live at `m`, in the order granted.
-    pub fn ended(&self, m: Moment) -> Option<&MapLease>
-        ensures { option_copied result ≡ first_dead_map m self.now }
-    {
-        self.leases.iter().find(|lease| !lease.is_live(m))
     }
 
     /// Appends the leases that are live at `m`, in the order granted. The one error is want of

@@ -4,14 +4,15 @@ ghost use Rattle.std.specs.Prelude.{◌≡◌, ◌+◌, [], find, filter, count_
 ghost use Rattle.std.specs.Option.{option_copied};
 ghost use Rattle.std.specs.BTreeMap.{get, values};
 ghost use Rattle.pcp_base.specs.declared.leases.MapLease.{MapLease};
-ghost use Rattle.mapping_table.specs.MapLists.{is_live_map, map_covering, map_owning, first_dead_map, IsDeadMap, IsNextCovered, AreSoundMaps, with_map, PutsMap, RemovesMap, CopiesLiveMaps};
+ghost use Rattle.mapping_table.specs.MapLists.{is_live_map, map_covering, map_owning, IsDeadMap, SkipsUncovered, AreSoundMaps, with_map, PutsMap, RemovesMap, CopiesLiveMaps};
 ghost use Rattle.ordered_index.specs.Orders.{Place, port_cmp, place_cmp};
-ghost use Rattle.mapping_table.specs.Kept.{place_of_lease, port_of_lease, AreKeptMaps, SievesMaps, AreSievedMaps};
+ghost use Rattle.mapping_table.specs.Kept.{place_of_lease, port_of_lease, AreKeptMaps, SievesMaps, AreSievedMaps, some_live_map};
 
 use crate::changes::{append, place_of_first, port_of, replace, sets_of};
 use crate::owning::owns;
+use crate::passing::{first_live, pass};
 use ordered_index::{
-    Numbered, Place, Port, Sieve, first_from, is_beside, last_up_to, place_of, port_at, port_in,
+    LiveKeys, Numbered, Place, Port, Sieve, is_beside, last_up_to, place_of, port_at, port_in,
 };
 use pcp_base::{Endpoint, MapLease, Memory, Moment, Protocol};
 use std::alloc::{AllocError, Global};
@@ -27,19 +28,21 @@ pub struct MapTable {
     sets: u32,
     /// How many of their first endpoints fall on each number. Most look-ups that miss end here.
     sieve: Sieve,
+    /// The first endpoints of those that haven't ended by the moment that was reached last.
+    live: LiveKeys<Place>,
 }
 
 impl Model for MapTable {
     ghost use Rattle.std.specs.Prelude.{List};
     ghost use Rattle.std.specs.BTreeMap.{values};
     ghost use Rattle.pcp_base.specs.declared.leases.MapLease.{MapLease};
-    ghost use Rattle.mapping_table.specs.Kept.{AreSievedMaps};
+    ghost use Rattle.mapping_table.specs.Kept.{AreReachedMaps};
 
     ghost Value = { List MapLease };
 
     ghost view = { λ t. values t.kept.leases };
 
-    ghost invariant = { λ t. AreSievedMaps t.kept t.sets t.sieve };
+    ghost invariant = { λ t. AreReachedMaps t.kept t.sets t.sieve t.live };
 }
 
 /// The leases that are live at `m`, in the order of their numbers.
@@ -70,6 +73,34 @@ fn number_at(sieve: &Sieve, kept: &Numbered<MapLease, Place, Port>, place: &Plac
     kept.keys.get(place).copied()
 }
 
+/// Whether there is a lease that is live at `m`.
+fn is_live_at(found: Option<&MapLease>, m: Moment) -> bool
+    ensures { result ≡ some_live_map m (option_copied found.entry) }
+{
+    match found {
+        Some(lease) => lease.is_live(m),
+        None => false,
+    }
+}
+
+/// Puts a lease in the place of the one with its key, or at the end.
+fn put_kept(
+    kept: &mut Numbered<MapLease, Place, Port>,
+    sieve: &mut Sieve,
+    sets: &mut u32,
+    lease: MapLease,
+) -> Result<(), Memory>
+    requires sieved { AreSievedMaps kept.old sets.old sieve.old }
+    requires sound { AreSoundMaps (with_map lease (values kept.old.leases)) }
+    ensures sieved { AreSievedMaps kept.new sets.new sieve.new }
+    ensures put { PutsMap (values kept.old.leases) lease result (values kept.new.leases) }
+{
+    match number_at(sieve, kept, &place_of_first(&lease)) {
+        Some(number) => replace(kept, sets, number, lease),
+        None => append(kept, sieve, sets, lease),
+    }
+}
+
 impl MapTable {
     /// A table without a lease. The one error is want of memory.
     pub fn new(alloc: Global) -> Result<MapTable, Memory>
@@ -79,6 +110,7 @@ impl MapTable {
             kept: Numbered::new(alloc),
             sets: 0,
             sieve: Sieve::new(alloc)?,
+            live: LiveKeys::new(alloc),
         })
     }
 
@@ -89,6 +121,7 @@ impl MapTable {
         self.kept.clear();
         self.sets = 0;
         self.sieve.clear();
+        self.live.clear();
     }
 
     /// The lease that covers the endpoint.
@@ -151,30 +184,24 @@ impl MapTable {
         }
     }
 
-    /// How many leases are live at `m`. It looks at those that have ended alone.
+    /// How many leases are live at `m`. At the moment that was reached last it looks at none, and
+    /// else at those that have ended alone.
     pub fn live(&self, m: Moment) -> u32
         ensures { result ≡ count_by (is_live_map m) self.now }
     {
+        if self.live.from == m.get() + 1 {
+            return self.live.keys.len() as u32;
+        }
         (self.kept.leases.len() - self.kept.ended(m)) as u32
     }
 
-    /// The first lease that isn't live at `m`, in the order granted. It looks at those that have
-    /// ended alone.
-    pub fn ended(&self, m: Moment) -> Option<&MapLease>
-        ensures { option_copied result ≡ first_dead_map m self.now }
+    /// An internal port above the endpoint's, up to which none above the endpoint's is covered by a
+    /// lease of its address and protocol that is live at `m`. At the moment that was reached last
+    /// that is the least one that is covered so.
+    pub fn next_internal(&self, endpoint: &Endpoint, m: Moment) -> Option<u16>
+        ensures { SkipsUncovered endpoint.now (filter (is_live_map m) self.now) result }
     {
-        let Some(number) = self.kept.first_ended(m) else {
-            return None;
-        };
-        self.kept.leases.get(&number)
-    }
-
-    /// The least internal port above the endpoint's that a lease of its address and protocol
-    /// covers.
-    pub fn next_internal(&self, endpoint: &Endpoint) -> Option<u16>
-        ensures { IsNextCovered endpoint.now self.now result }
-    {
-        let keys = &self.kept.keys;
+        let kept = &self.kept;
         if endpoint.port == u16::MAX {
             return None;
         }
@@ -182,10 +209,10 @@ impl MapTable {
             port: endpoint.port + 1,
             ..*endpoint
         };
-        if let Some(_) = self.find(&above) {
+        if is_live_at(self.find(&above), m) {
             return Some(above.port);
         }
-        let Some(first) = first_from(keys, place_of(&above)) else {
+        let Some(first) = first_live(kept, &self.live, place_of(&above), m) else {
             return None;
         };
         if is_beside(first, endpoint) {
@@ -201,10 +228,14 @@ impl MapTable {
         requires { AreSoundMaps (with_map lease self.old) }
         ensures { PutsMap self.old lease result self.new }
     {
-        match number_at(&self.sieve, &self.kept, &place_of_first(&lease)) {
-            Some(number) => replace(&mut self.kept, &mut self.sets, number, lease),
-            None => append(&mut self.kept, &mut self.sieve, &mut self.sets, lease),
-        }
+        let place = place_of_first(&lease);
+        let anew = self.live.enter(place, lease.expiry)?;
+        let Err(refused) = put_kept(&mut self.kept, &mut self.sieve, &mut self.sets, lease) else {
+            self.live.settle(place, lease.expiry);
+            return Ok(());
+        };
+        self.live.undo(place, anew);
+        Err(refused)
     }
 
     /// Takes out the lease with this first endpoint.
@@ -222,7 +253,16 @@ impl MapTable {
             .forget(number, place, port_of(&lease), lease.expiry);
         self.sets -= sets_of(&lease);
         self.sieve.take(&place);
+        self.live.leave(place);
         Some(lease)
+    }
+
+    /// Lets the leases that have ended by `m` leave the keys of those that are live, each once. All
+    /// leases stay. It takes no memory.
+    pub fn reach(&mut self, m: Moment)
+        ensures { self.new ≡ self.old }
+    {
+        pass(&self.kept, &mut self.live, m);
     }
 
     /// One of the leases that aren't live at `m` and expired first. It looks at that one alone.

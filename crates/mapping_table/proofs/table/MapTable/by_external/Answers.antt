@@ -7,11 +7,11 @@ pub returns-in-Some : goal.returns-in-Some
 returns-in-Some c =
     let t = c.self.inside.kept in
     c.get-in-Some.ensures.value
-    ∙ first_owned t c.self.invariant.counted.kept c.args.protocol c.args.port c.port_at.result c.in-Some.number c.port_at.ensures (sym (c.in-Some.ensures ∙ c.get.ensures.value))
+    ∙ first_owned t c.self.invariant.sieved.counted.kept c.args.protocol c.args.port c.port_at.result c.in-Some.number c.port_at.ensures (sym (c.in-Some.ensures ∙ c.get.ensures.value))
     ∙ ap (map_owning c.args.protocol c.args.port) c.self.view_is
 
 pub returns-then-self-eq0 : goal.returns-then-self-eq0
 returns-then-self-eq0 c =
     let t = c.self.inside.kept in
-    no_first_port t c.self.inside.sets c.self.invariant.counted c.if-self-eq0.true c.args.protocol c.args.port c.port_at.result c.port_at.ensures (sym (c.in_default.ensures ∙ c.get.ensures.value))
+    no_first_port t c.self.inside.sets c.self.invariant.sieved.counted c.if-self-eq0.true c.args.protocol c.args.port c.port_at.result c.port_at.ensures (sym (c.in_default.ensures ∙ c.get.ensures.value))
     ∙ ap (map_owning c.args.protocol c.args.port) c.self.view_is

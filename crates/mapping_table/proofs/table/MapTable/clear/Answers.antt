@@ -1,6 +1,8 @@
 use Rattle.std.proofs.Common.{rules, ◌≡◌, []}
 use Rattle.std.specs.BTreeMap.{values}
-use Rattle.mapping_table.specs.Kept.{AreCountedMaps}
+use Rattle.ordered_index.proofs.Lives.{blank-live}
+use Rattle.mapping_table.specs.Kept.{map_keying, AreCountedMaps}
+use Rattle.mapping_table.proofs.MapKeeping.{map_laws}
 use Rattle.mapping_table.proofs.Sieving.{sieved_blank}
 use Rattle.mapping_table.proofs.table.MapTable.clear.Goals as goal
 
@@ -8,4 +10,4 @@ pub invariant_of-self : goal.invariant_of-self
 invariant_of-self c =
     let counted : AreCountedMaps c.clear.new.self 0 = search rules in
     let blank : values c.clear.new.self.leases ≡ [] = search rules in
-    record { counted = counted; sieved = sieved_blank c.clear-2.new.self (values c.clear.new.self.leases) c.clear-2.ensures blank }
+    record { sieved = record { counted = counted; sieved = sieved_blank c.clear-2.new.self (values c.clear.new.self.leases) c.clear-2.ensures blank }; live = blank-live map_keying map_laws c.clear-3.new.self _ c.clear-3.ensures blank }

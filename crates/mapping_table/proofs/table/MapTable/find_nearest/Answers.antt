@@ -7,23 +7,23 @@ use Rattle.mapping_table.proofs.table.MapTable.find_nearest.Goals as goal
 pub returns-in_default : goal.returns-in_default
 returns-in_default c =
     let t = c.self.inside.kept in
-    none_below t c.self.invariant.counted.kept c.args.endpoint.now (subst (λ (p : Place). IsLast place_cmp t.keys p None) c.place_of.ensures c.in_default.ensures)
+    none_below t c.self.invariant.sieved.counted.kept c.args.endpoint.now (subst (λ (p : Place). IsLast place_cmp t.keys p None) c.place_of.ensures c.in_default.ensures)
     ∙ ap (map_covering c.args.endpoint.now) c.self.view_is
 
 pub returns-then-covers : goal.returns-then-covers
 returns-then-covers c =
     let t = c.self.inside.kept in
-    covering_is t c.self.invariant.counted.kept c.args.endpoint.now c.in-Some.number c.in-Some-get.lease.now (sym c.in-Some-get.ensures.value) (sym c.covers.ensures ∙ c.if-covers.true)
+    covering_is t c.self.invariant.sieved.counted.kept c.args.endpoint.now c.in-Some.number c.in-Some-get.lease.now (sym c.in-Some-get.ensures.value) (sym c.covers.ensures ∙ c.if-covers.true)
     ∙ ap (map_covering c.args.endpoint.now) c.self.view_is
 
 pub returns-else-covers : goal.returns-else-covers
 returns-else-covers c =
     let t = c.self.inside.kept in
-    last_fails t c.self.invariant.counted.kept c.args.endpoint.now c.in-Some.number c.in-Some-get.lease.now
+    last_fails t c.self.invariant.sieved.counted.kept c.args.endpoint.now c.in-Some.number c.in-Some-get.lease.now
     (subst (λ (p : Place). IsLast place_cmp t.keys p (Some c.in-Some.number)) c.place_of.ensures c.in-Some.ensures)
     (sym c.in-Some-get.ensures.value) (sym c.covers.ensures ∙ c.if-covers.false)
     ∙ ap (map_covering c.args.endpoint.now) c.self.view_is
 
 pub returns-in_default-get : goal.returns-in_default-get
 returns-in_default-get c =
-    absurd (last_has c.self.inside.kept c.self.invariant.counted.kept c.place_of.result c.in-Some.number c.in-Some.ensures c.in_default-get.ensures.value)
+    absurd (last_has c.self.inside.kept c.self.invariant.sieved.counted.kept c.place_of.result c.in-Some.number c.in-Some.ensures c.in_default-get.ensures.value)

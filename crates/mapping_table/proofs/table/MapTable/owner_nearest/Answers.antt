@@ -7,23 +7,23 @@ use Rattle.mapping_table.proofs.table.MapTable.owner_nearest.Goals as goal
 pub returns-in_default : goal.returns-in_default
 returns-in_default c =
     let t = c.self.inside.kept in
-    no_port_below t c.self.invariant.counted.kept c.args.protocol c.args.port (subst (λ (p : ℕ × ℕ). IsLast port_cmp t.ports p None) c.port_at.ensures c.in_default.ensures)
+    no_port_below t c.self.invariant.sieved.counted.kept c.args.protocol c.args.port (subst (λ (p : ℕ × ℕ). IsLast port_cmp t.ports p None) c.port_at.ensures c.in_default.ensures)
     ∙ ap (map_owning c.args.protocol c.args.port) c.self.view_is
 
 pub returns-then-owns : goal.returns-then-owns
 returns-then-owns c =
     let t = c.self.inside.kept in
-    owning_is t c.self.invariant.counted.kept c.args.protocol c.args.port c.in-Some.number c.in-Some-get.lease.now (sym c.in-Some-get.ensures.value) (sym c.owns.ensures ∙ c.if-owns.true)
+    owning_is t c.self.invariant.sieved.counted.kept c.args.protocol c.args.port c.in-Some.number c.in-Some-get.lease.now (sym c.in-Some-get.ensures.value) (sym c.owns.ensures ∙ c.if-owns.true)
     ∙ ap (map_owning c.args.protocol c.args.port) c.self.view_is
 
 pub returns-else-owns : goal.returns-else-owns
 returns-else-owns c =
     let t = c.self.inside.kept in
-    last_port_fails t c.self.invariant.counted.kept c.args.protocol c.args.port c.in-Some.number c.in-Some-get.lease.now
+    last_port_fails t c.self.invariant.sieved.counted.kept c.args.protocol c.args.port c.in-Some.number c.in-Some-get.lease.now
     (subst (λ (p : ℕ × ℕ). IsLast port_cmp t.ports p (Some c.in-Some.number)) c.port_at.ensures c.in-Some.ensures)
     (sym c.in-Some-get.ensures.value) (sym c.owns.ensures ∙ c.if-owns.false)
     ∙ ap (map_owning c.args.protocol c.args.port) c.self.view_is
 
 pub returns-in_default-get : goal.returns-in_default-get
 returns-in_default-get c =
-    absurd (last_port_has c.self.inside.kept c.self.invariant.counted.kept c.port_at.result c.in-Some.number c.in-Some.ensures c.in_default-get.ensures.value)
+    absurd (last_port_has c.self.inside.kept c.self.invariant.sieved.counted.kept c.port_at.result c.in-Some.number c.in-Some.ensures c.in_default-get.ensures.value)

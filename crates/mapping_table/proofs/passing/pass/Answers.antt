@@ -1,0 +1,18 @@
+use Rattle.std.proofs.Common.{◌+◌, ap, arith}
+use Rattle.ordered_index.specs.declared.live.LiveKeys.{LiveKeys}
+use Rattle.ordered_index.specs.Orders.{Place}
+use Rattle.ordered_index.proofs.Passing.{from-start, to-end}
+use Rattle.mapping_table.specs.Kept.{map_keying}
+use Rattle.mapping_table.proofs.MapKeeping.{map_laws}
+use Rattle.mapping_table.proofs.passing.pass.Goals as goal
+
+pub loop-next-init : goal.loop-next-init
+loop-next-init c =
+    let late = c.if-get-live.false in let value = c.get.ensures.value in
+    (from-start map_keying map_laws c.args.kept.now c.requires.kept.kept c.args.live.now c.requires.live, omega (arith, late, value))
+
+pub returns : goal.returns
+returns c =
+    to-end map_keying map_laws c.args.kept.now c.requires.kept.kept c.loop-next.at c.args.m c.loop-next.live
+    (record { from = c.get-2.result + 1; keys = c.pass_one.new.live.keys }) c.loop-next.invariant.1 c.loop-next.invariant.0 c.in_default.ensures.over
+    (ap (λ n. n + 1) c.get-2.ensures.value) (ap (λ (z : LiveKeys Place). z.keys) c.in_default.ensures.stays)
