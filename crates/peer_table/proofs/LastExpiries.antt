@@ -1,6 +1,5 @@
 -- The latest expiry of the leases of an external port.
-use Rattle.std.proofs.Common.{◌≡◌, ℕ, ◌≤◌, ◌<◌, ◌⊎◌, ◌&&◌, ◌==◌, nat_lt, Bool, true, false, not, cond, List, [], ◌∷◌, filter, Option, Some, None, IsSome, IfSome, IfNone, refl, sym, ap, ◌∙◌, subst, inl, inr, arith}
-use Rattle.std.specs.List.{AllByRecursion, list_any}
+use Rattle.std.proofs.Common.{◌≡◌, ℕ, ◌≤◌, ◌⊎◌, ◌&&◌, ◌==◌, nat_lt, Bool, true, false, not, cond, List, [], ◌∷◌, Option, Some, None, refl, sym, ap, ◌∙◌, inl, inr, arith}
 use Rattle.std.specs.Ordering.{nat_cmp, ordering_then, is_eq, is_gt, is_le}
 use Rattle.std.specs.Cmp.Lexicographic.{slice_cmp}
 use Rattle.std.specs.declared.ops.Bound.TheVariants.{Included, Excluded}
@@ -10,7 +9,6 @@ use Rattle.std.proofs.lemmas.Bool.{and_parts, and_from, eqb-true, eq-eqb, ltb-tr
 use Rattle.std.proofs.lemmas.Cmp.{tied_itself}
 use Rattle.pcp_base.specs.declared.leases.Protocol.{Protocol}
 use Rattle.pcp_base.specs.declared.leases.PeerLease.{PeerLease}
-use Rattle.pcp_base.specs.Protocols.{protocol_number}
 use Rattle.pcp_base.specs.Owners.{is_port, peer_owner}
 use Rattle.pcp_base.proofs.Members.{IsIn, IsIn-map, IsIn-filter, filter-IsIn, map-IsIn, All-from_IsIn, none-any, some-any}
 use Rattle.pcp_base.proofs.Same.{same_protocol-Decides}

@@ -1,23 +1,25 @@
 -- The least named port above an endpoint's, by the keys.
-use Rattle.std.proofs.Common.{◌≡◌, ℕ, ◌<◌, true, false, List, Option, Some, None, IsSome, IfSome, IfNone, refl, sym, ap, ◌∙◌, subst, arith}
-use Rattle.std.specs.Ordering.{nat_cmp, is_gt}
+use Rattle.std.proofs.Common.{◌≡◌, ℕ, ◌<◌, Bool, true, false, List, Contains, filter, Option, Some, None, IsSome, IfSome, IfNone, refl, sym, ap, ◌∙◌, subst, arith}
+use Rattle.std.specs.Prelude.{is_some}
+use Rattle.std.specs.Ordering.{is_gt}
 use Rattle.std.specs.declared.cmp.Ordering.TheVariants.{Less}
-use Rattle.std.specs.BTreeMap.{get, values}
+use Rattle.std.specs.BTreeMap.{BTreeMap, get, values}
 use Rattle.std.proofs.lemmas.Cmp.{tied_itself}
 use Rattle.pcp_base.specs.declared.leases.Endpoint.{Endpoint}
 use Rattle.pcp_base.specs.declared.leases.PeerLease.{PeerLease}
 use Rattle.pcp_base.specs.Protocols.{protocol_number}
 use Rattle.pcp_base.specs.Tables.{names}
+use Rattle.pcp_base.proofs.Members.{IsIn, IsIn-from_Contains, Contains-from_IsIn, IsIn-filter, any-some, some-any}
 use Rattle.pcp_base.proofs.Same.{same_endpoint-Decides}
 use Rattle.ordered_index.specs.declared.numbered.Numbered.{Numbered}
-use Rattle.ordered_index.specs.Orders.{Place, place_of, place_cmp, IsFirstKey, IsFirst}
-use Rattle.ordered_index.proofs.Entries.{any_in, any_at, entry_at, some_of}
-use Rattle.ordered_index.proofs.Entries.{false_by}
-use Rattle.ordered_index.proofs.EntryLaws.{none_some}
+use Rattle.ordered_index.specs.Orders.{Place, place_of, place_cmp, IsFirst}
+use Rattle.ordered_index.proofs.Endings.{one-among}
+use Rattle.ordered_index.proofs.Entries.{entry_at, false_by, some_of}
 use Rattle.ordered_index.proofs.Keeping.{key-to, key-from}
-use Rattle.ordered_index.proofs.OrderLaws.{place_total, place_of-one, places_between, places_less, less_places}
-use Rattle.peer_table.specs.PeerLists.{is_named, IsNextNamed}
-use Rattle.peer_table.specs.Kept.{PeerKey, Opening, place_in, key_cmp, key_of_lease, peer_keying, AreKeptPeers, IsBound}
+use Rattle.ordered_index.proofs.Lives.{value-entry}
+use Rattle.ordered_index.proofs.OrderLaws.{place_total, places_between, places_less, less_places}
+use Rattle.peer_table.specs.PeerLists.{is_live_peer, is_named, IsNextNamed, SkipsUnnamed}
+use Rattle.peer_table.specs.Kept.{PeerKey, Opening, place_in, key_cmp, key_of_lease, peer_keying, AreKeptPeers, IsBound, IsFirstLive}
 use Rattle.peer_table.proofs.PeerKeeping.{peer_laws}
 use Rattle.peer_table.proofs.PeerKeys.{places_up, up_places, past_bound}
 
@@ -25,70 +27,118 @@ use Rattle.peer_table.proofs.PeerKeys.{places_up, up_places, past_bound}
 abbrev with_port : Endpoint → ℕ → Endpoint
 with_port e port = record { address = e.address; protocol = e.protocol; port = port }
 
-module _ (it : Numbered PeerLease PeerKey Opening) (h : AreKeptPeers it) (e : Endpoint) (start : PeerKey) (bound : IsBound e 2 start) where
-  -- a lease that names a port
+not_false : (b : Bool) → b ≡ false → (b ≡ true → ⊥)
+not_false b h t = let no : true ≡ false = sym t ∙ h in cc
+
+among_all : (e : Endpoint) (p : PeerLease → Bool) (ls : List PeerLease) (q : ℕ) → is_named e (filter p ls) q ≡ true → is_named e ls q ≡ true
+among_all e p ls q t =
+    let r = any-some (λ l. names l (with_port e q)) (filter p ls) t in
+    some-any (λ l. names l (with_port e q)) ls r.0 (IsIn-filter p ls r.0 r.1).0 r.2
+
+-- up to the least named port none is named, by some of the leases
+pub skips-next : (e : Endpoint) (p : PeerLease → Bool) (ls : List PeerLease) (r : Option ℕ) → IsNextNamed e ls r → SkipsUnnamed e (filter p ls) r
+skips-next e p ls None h = record {
+  above = tt;
+  between = tt;
+  none = λ q above. false_by (is_named e (filter p ls) q) (λ t. not_false (is_named e ls q) (h.none q above) (among_all e p ls q t));
+}
+skips-next e p ls (Some port) h = record {
+  above = h.above;
+  between = λ q above below. false_by (is_named e (filter p ls) q) (λ t. let low = h.least q above (among_all e p ls q t) in omega (arith, below, low));
+  none = tt;
+}
+
+module _ (m : ℕ) (ls : List PeerLease) (k : PeerKey) {V : Type 0} (keys : BTreeMap PeerKey V)
+    (has : (l : PeerLease) → IsIn l ls → is_live_peer m l ≡ true → IsSome (get key_cmp keys (key_of_lease l)))
+    (of : (f : PeerKey) → IsSome (get key_cmp keys f) → (l : PeerLease) × IsIn l ls × (key_of_lease l ≡ f)) where
+  above_none : IsFirst key_cmp keys k None → (l : PeerLease) → Contains ls l → is_live_peer m l ≡ true → (b : Bool) → is_gt (key_cmp k (key_of_lease l)) ≡ b → b ≡ true
+  above_none first l i alive true t = refl
+  above_none first l i alive false t =
+      let none = first (key_of_lease l) t in
+      let some = has l (IsIn-from_Contains ls l i) alive in
+      absurd (let no : false ≡ true = sym (ap is_some none) ∙ some in cc)
+
+  -- the first key, where each live lease has one, and each key a lease
+  pub first-live : (r : Option PeerKey) → IsFirst key_cmp keys k r → IsFirstLive m ls k r
+  first-live None first = record { from = tt; side = tt; least = tt; none = λ l i alive. above_none first l i alive (is_gt (key_cmp k (key_of_lease l))) refl }
+  first-live (Some f) first = record {
+    from = first.from;
+    side = ap (λ (q : PeerKey). q.3) (sym (of f first.found).2);
+    least = λ l i alive from. first.least (key_of_lease l) from (has l (IsIn-from_Contains ls l i) alive);
+    none = tt;
+  }
+
+module _ (it : Numbered PeerLease PeerKey Opening) (h : AreKeptPeers it) where
+  pub kept-has : (m : ℕ) (l : PeerLease) → IsIn l (values it.leases) → is_live_peer m l ≡ true → IsSome (get key_cmp it.keys (key_of_lease l))
+  kept-has m l i alive =
+      let e = value-entry it.leases.entries l i in
+      subst IsSome (sym (key-to peer_keying peer_laws it h.kept e.0 l (entry_at it.leases h.kept.ordered e.0 l e.1))) refl
+
+  pub kept-from : (f : PeerKey) → IsSome (get key_cmp it.keys f) → (l : PeerLease) × IsIn l (values it.leases) × (key_of_lease l ≡ f)
+  kept-from f some =
+      let number = some_of (get key_cmp it.keys f) some in
+      let y = key-from peer_keying peer_laws it h.kept f number.0 number.1 in
+      (y.0, IsIn-from_Contains (values it.leases) y.0 (one-among peer_keying peer_laws it h.kept 0 number.0 y.0 y.1), y.2)
+
+module _ (m : ℕ) (ls : List PeerLease) (e : Endpoint) (start : PeerKey) (bound : IsBound e 2 start) where
+  -- a live lease that names a port
   record Naming (q : ℕ) : Type 0 where
-    number : ℕ
     lease : PeerLease
-    stands : get nat_cmp it.leases number ≡ Some lease
+    stands : Contains ls lease
+    alive : is_live_peer m lease ≡ true
     is : lease.endpoint ≡ with_port e q
 
-  naming : (q : ℕ) → is_named e (values it.leases) q ≡ true → Naming q
+  abbrev live : List PeerLease
+  live = filter (is_live_peer m) ls
+
+  naming : (q : ℕ) → is_named e live q ≡ true → Naming q
   naming q t =
-      let r = any_in (λ l. names l (with_port e q)) it.leases.entries t in
-      record { number = r.0; lease = r.1; stands = entry_at it.leases h.kept.ordered r.0 r.1 r.2; is = (same_endpoint-Decides r.1.endpoint (with_port e q)).0 r.3 }
+      let r = any-some (λ l. names l (with_port e q)) live t in
+      let f = IsIn-filter (is_live_peer m) ls r.0 r.1 in
+      record { lease = r.0; stands = Contains-from_IsIn ls r.0 f.0; alive = f.1; is = (same_endpoint-Decides r.0.endpoint (with_port e q)).0 r.2 }
 
   from_above : (q : ℕ) → e.port < q → (r : Naming q) → is_gt (key_cmp start (key_of_lease r.lease)) ≡ false
   from_above q above r =
       let less : place_cmp (place_of e) (place_of (with_port e q)) ≡ Less = places_less (place_of e) (place_of (with_port e q)) refl refl above in
       up_places start (key_of_lease r.lease) (ap (λ (p : Place). place_cmp p (place_of r.lease.endpoint)) bound.place ∙ ap (λ (x : Endpoint). place_cmp (place_of e) (place_of x)) r.is ∙ less)
 
-  pub named_none : IsFirst key_cmp it.keys start None → IsNextNamed e (values it.leases) None
-  named_none first = record {
+  pub skips_all : IsFirstLive m ls start None → SkipsUnnamed e live None
+  skips_all first = record {
     above = tt;
-    named = tt;
-    least = tt;
-    none = λ q above. false_by (is_named e (values it.leases) q) (λ t.
+    between = tt;
+    none = λ q above. false_by (is_named e live q) (λ t.
         let r = naming q t in
-        none_some (get key_cmp it.keys (key_of_lease r.lease)) r.number (first (key_of_lease r.lease) (from_above q above r)) (key-to peer_keying peer_laws it h.kept r.number r.lease r.stands));
+        not_false _ (from_above q above r) (first.none r.lease r.stands r.alive));
   }
 
-  module _ (f : PeerKey) (first : IsFirstKey key_cmp it.keys start f) where
+  module _ (f : PeerKey) (first : IsFirstLive m ls start (Some f)) where
     -- the first key's place isn't behind that of a lease that names a later port
     before : (q : ℕ) → e.port < q → (r : Naming q) → is_gt (place_cmp (place_in f) (place_of (with_port e q))) ≡ false
     before q above r =
-        let up : is_gt (place_cmp (place_in f) (place_of r.lease.endpoint)) ≡ false = places_up f (key_of_lease r.lease)
-        (first.least (key_of_lease r.lease) (from_above q above r) (subst IsSome (sym (key-to peer_keying peer_laws it h.kept r.number r.lease r.stands)) refl)) in
+        let up : is_gt (place_cmp (place_in f) (place_of r.lease.endpoint)) ≡ false = places_up f (key_of_lease r.lease) (first.least r.lease r.stands r.alive (from_above q above r)) in
         ap (λ (x : Endpoint). is_gt (place_cmp (place_in f) (place_of x))) (sym r.is) ∙ up
 
     from_start : is_gt (place_cmp (place_of e) (place_in f)) ≡ false
     from_start = ap (λ (p : Place). is_gt (place_cmp p (place_in f))) (sym bound.place) ∙ places_up start f first.from
 
-    pub named_first : (r : Option ℕ) → IfSome r (λ port. (f.0 ≡ e.address.0) × (f.1 ≡ protocol_number e.protocol) × (port ≡ f.2)) →
-        IfNone r ((f.0 ≡ e.address.0) × (f.1 ≡ protocol_number e.protocol) → ⊥) → IsNextNamed e (values it.leases) r
-    named_first None some none = record {
+    pub skips_first : (r : Option ℕ) → IfSome r (λ port. (f.0 ≡ e.address.0) × (f.1 ≡ protocol_number e.protocol) × (port ≡ f.2)) →
+        IfNone r ((f.0 ≡ e.address.0) × (f.1 ≡ protocol_number e.protocol) → ⊥) → SkipsUnnamed e live r
+    skips_first None some none = record {
       above = tt;
-      named = tt;
-      least = tt;
-      none = λ q above. false_by (is_named e (values it.leases) q) (λ t.
+      between = tt;
+      none = λ q above. false_by (is_named e live q) (λ t.
           let between = places_between (place_of e) (place_in f) (place_of (with_port e q)) refl refl from_start (before q above (naming q t)) in
           none (between.0, between.1));
     }
-    named_first (Some port) some none =
-        let number = some_of (get key_cmp it.keys f) first.found in
-        let y = key-from peer_keying peer_laws it h.kept f number.0 number.1 in
-        let one : f.3 ≡ 1 = ap (λ (k : PeerKey). k.3) (sym y.2) in
-        let later : place_cmp (place_of e) (place_in f) ≡ Less = ap (λ (p : Place). place_cmp p (place_in f)) (sym bound.place) ∙ past_bound start f bound.side_is one first.from in
+    skips_first (Some port) some none =
+        let later : place_cmp (place_of e) (place_in f) ≡ Less = ap (λ (p : Place). place_cmp p (place_in f)) (sym bound.place) ∙ past_bound start f bound.side_is first.side first.from in
         let up : e.port < f.2 = less_places (place_of e) (place_in f) (sym some.0) (sym some.1) later in
-        let place : place_of y.0.endpoint ≡ place_of (with_port e port) =
-        ap place_in y.2 ∙ ap (λ (a : List ℕ). (a, (f.1, f.2))) some.0 ∙ ap (λ (n : ℕ). (e.address.0, (n, f.2))) some.1 ∙ ap (λ (n : ℕ). (e.address.0, (protocol_number e.protocol, n))) (sym some.2) in
         record {
           above = (let same = some.2 in omega (arith, up, same));
-          named = any_at (λ l. names l (with_port e port)) it.leases.entries number.0 y.0 y.1 ((same_endpoint-Decides y.0.endpoint (with_port e port)).1 (place_of-one y.0.endpoint (with_port e port) place));
-          least = λ q above t.
+          between = λ q above below. false_by (is_named e live q) (λ t.
               let p = place_of (with_port e q) in
               let stays : is_gt (place_cmp p p) ≡ false = ap is_gt (tied_itself place_total p) in
               let between = places_between (place_in f) p p some.0 some.1 (before q above (naming q t)) stays in
-              let low = between.2 in let same = some.2 in omega (arith, low, same);
+              let low = between.2 in let same = some.2 in omega (arith, low, same, below));
           none = tt;
         }

@@ -15,7 +15,7 @@ use Rattle.pcp_base.proofs.Members.{IsIn, IsIn-filter, find-some}
 use Rattle.pcp_base.proofs.Same.{same_endpoint-Decides}
 use Rattle.ordered_index.specs.declared.numbered.Numbered.{Numbered}
 use Rattle.ordered_index.specs.Orders.{place_of, place_cmp}
-use Rattle.ordered_index.proofs.Entries.{false_by, same_tests}
+use Rattle.ordered_index.proofs.Entries.{same_tests}
 use Rattle.ordered_index.proofs.Endings.{count-values}
 use Rattle.ordered_index.proofs.Entries.{any_at, entry_at}
 use Rattle.ordered_index.proofs.EntryLaws.{tally, count-cons}

@@ -1,7 +1,7 @@
 -- How a table keeps its leases (our own; for proofs alone).
-use Rattle.std.specs.Prelude.{◌≡◌, ℕ, nat_lt, Bool, false, List, Option, Some, None, if◌then◌else◌}
+use Rattle.std.specs.Prelude.{◌≡◌, ℕ, nat_lt, Bool, true, false, List, Contains, Option, Some, None, IfSome, IfNone, if◌then◌else◌}
 use Rattle.std.specs.List.{fold}
-use Rattle.std.specs.Ordering.{nat_cmp, ordering_then}
+use Rattle.std.specs.Ordering.{nat_cmp, ordering_then, is_gt}
 use Rattle.std.specs.declared.cmp.Ordering.{Ordering}
 use Rattle.std.specs.Cmp.Lexicographic.{slice_cmp}
 use Rattle.std.specs.BTreeMap.{values}
@@ -11,6 +11,8 @@ use Rattle.pcp_base.specs.declared.leases.Endpoint.{Endpoint}
 use Rattle.pcp_base.specs.declared.leases.PeerLease.{PeerLease}
 use Rattle.pcp_base.specs.Protocols.{protocol_number}
 use Rattle.ordered_index.specs.declared.numbered.Numbered.{Numbered}
+use Rattle.ordered_index.specs.declared.live.LiveKeys.{LiveKeys}
+use Rattle.ordered_index.specs.Live.{AreLive}
 use Rattle.ordered_index.specs.Kept.{Keying, IsKept}
 use Rattle.ordered_index.specs.Orders.{Place, place_of, port_at}
 use Rattle.peer_table.specs.PeerLists.{AreSoundPeers, is_live_peer}
@@ -78,6 +80,23 @@ peer_keying = record {
 pub record AreKeptPeers (it : Numbered PeerLease PeerKey Opening) : Type 0 where
   pub sound : AreSoundPeers (values it.leases)
   pub kept : IsKept peer_keying it
+
+-- all that, and the keys of the leases that are live
+pub record AreReachedPeers (it : Numbered PeerLease PeerKey Opening) (keys : LiveKeys PeerKey)
+    : Type 0 where
+  pub kept : AreKeptPeers it
+  pub live : AreLive peer_keying (values it.leases) keys
+
+-- a lease's key from which on the leases that are live at m are, if there is one at all
+pub record IsFirstLive (m : ℕ) (ls : List PeerLease) (k : PeerKey) (result : Option PeerKey)
+    : Type 0 where
+  pub from : IfSome result (λ first. is_gt (key_cmp k first) ≡ false)
+  pub side : IfSome result (λ first. first.3 ≡ 1)
+  pub least : IfSome result (λ first. (l : PeerLease) → Contains ls l → is_live_peer m l ≡ true
+      → is_gt (key_cmp k (key_of_lease l)) ≡ false
+      → is_gt (key_cmp first (key_of_lease l)) ≡ false)
+  pub none : IfNone result ((l : PeerLease) → Contains ls l → is_live_peer m l ≡ true
+      → is_gt (key_cmp k (key_of_lease l)) ≡ true)
 
 -- whether there is a lease that is live at m
 abbrev pub some_live : ℕ → Option PeerLease → Bool

@@ -74,6 +74,14 @@ pub record IsNextNamed (e : Endpoint) (ls : List PeerLease) (result : Option ℕ
       (other : ℕ) → e.port < other → IsTrue (is_named e ls other) → port ≤ other)
   pub none : IfNone result ((other : ℕ) → e.port < other → is_named e ls other ≡ false)
 
+-- a port above the endpoint's, up to which no port above the endpoint's is named, if there is one at
+-- all; None only where no port above the endpoint's is named
+pub record SkipsUnnamed (e : Endpoint) (ls : List PeerLease) (result : Option ℕ) : Type 0 where
+  pub above : IfSome result (λ port. e.port < port)
+  pub between : IfSome result (λ port.
+      (other : ℕ) → e.port < other → other < port → is_named e ls other ≡ false)
+  pub none : IfNone result ((other : ℕ) → e.port < other → is_named e ls other ≡ false)
+
 -- the keys differ, no external port has two endpoints, and no endpoint has two external ports
 pub record AreFellows (a b : PeerLease) : Type 0 where
   pub keys : HaveOtherKeys a b

@@ -4,7 +4,7 @@ ghost use Rattle.std.specs.Prelude.{◌≡◌, ◌≤◌, [], ◌∷◌, length,
 ghost use Rattle.std.specs.Option.{option_copied};
 ghost use Rattle.pcp_base.specs.declared.leases.TheConstants.{MOST_LEASES};
 ghost use Rattle.pcp_base.specs.Tables.{is_peer_of};
-ghost use Rattle.peer_table.specs.PeerLists.{is_live_peer, is_live_of, opens, peer_with_key, peer_opening, first_dead_peer, IsPortUse, IsNextNamed, AreSoundPeers, with_peer, PutsPeer, RemovesPeer, CopiesLivePeers};
+ghost use Rattle.peer_table.specs.PeerLists.{is_live_peer, is_live_of, opens, peer_with_key, peer_opening, IsPortUse, IsNextNamed, SkipsUnnamed, AreSoundPeers, with_peer, PutsPeer, RemovesPeer, CopiesLivePeers};
 
 use crate::uses::PortUse;
 use ordered_index::lesser;
@@ -196,12 +196,18 @@ impl PlainPeerTable {
             .find(|lease| opens(lease, protocol, port, remote, remote_port))
     }
 
-    /// The least port above the endpoint's that a lease of its address and protocol names.
-    pub fn next_internal(&self, endpoint: &Endpoint) -> Option<u16>
-        ensures { IsNextNamed endpoint.now self.now result }
+    /// The least port above the endpoint's that any lease of its address and protocol names.
+    pub fn next_internal(&self, endpoint: &Endpoint, _m: Moment) -> Option<u16>
+        ensures next { IsNextNamed endpoint.now self.now result }
+        ensures skips { SkipsUnnamed endpoint.now (filter (is_live_peer _m) self.now) result }
     {
         next_in(&self.leases, endpoint)
     }
+
+    /// Lets a moment pass, which changes nothing.
+    pub fn reach(&mut self, _m: Moment)
+        ensures { self.new ≡ self.old }
+    {}
 
     /// Puts a lease in the place of the one with its key, or at the end. The one error is want of
     /// memory, which changes nothing.
@@ -227,13 +233,6 @@ impl PlainPeerTable {
         ensures { result ≡ count_by (is_live_peer m) self.now }
     {
         self.leases.iter().filter(|lease| lease.is_live(m)).count() as u32
-    }
-
-    /// The first lease that isn't live at `m`, in the order granted.
-    pub fn ended(&self, m: Moment) -> Option<&PeerLease>
-        ensures { option_copied result ≡ first_dead_peer m self.now }
-    {
-        self.leases.iter().find(|lease| !lease.is_live(m))
     }
 
     /// Appends the leases that are live at `m`, in the order granted. The one error is want of

@@ -5,7 +5,7 @@ ghost use Rattle.std.specs.Option.{option_copied};
 ghost use Rattle.std.specs.BTreeMap.{get, values};
 ghost use Rattle.std.specs.Ordering.{nat_cmp};
 ghost use Rattle.pcp_base.specs.declared.leases.PeerLease.{PeerLease};
-ghost use Rattle.peer_table.specs.PeerLists.{is_live_peer, peer_with_key, peer_opening, first_dead_peer, IsDeadPeer, IsPortUse, IsLastExpiry, IsNextNamed, AreSoundPeers, with_peer, PutsPeer, RemovesPeer, CopiesLivePeers};
+ghost use Rattle.peer_table.specs.PeerLists.{is_live_peer, peer_with_key, peer_opening, IsDeadPeer, IsPortUse, IsLastExpiry, SkipsUnnamed, AreSoundPeers, with_peer, PutsPeer, RemovesPeer, CopiesLivePeers};
 ghost use Rattle.peer_table.specs.Kept.{key_cmp, AreKeptPeers, some_live};
 
 use crate::changes::{append, replace};
@@ -13,9 +13,10 @@ use crate::endpoints::{count_live, first_live};
 use crate::keys::{
     Key, Opening, bound_at, key_at, key_of, opening_at, opening_bound, opening_of, port_beside,
 };
+use crate::passing::{first_live_key, pass};
 use crate::ports::last_expiry;
 use crate::uses::PortUse;
-use ordered_index::{Numbered, first_from};
+use ordered_index::{LiveKeys, Numbered};
 use pcp_base::{Address, Endpoint, Memory, Moment, PeerLease, Protocol};
 use std::alloc::{AllocError, Global};
 use std::collections::BTreeMap;
@@ -26,19 +27,21 @@ use std::marker::Model;
 pub struct PeerTable {
     /// The leases, by their endpoints and remotes, and by their external ports and remotes.
     kept: Numbered<PeerLease, Key, Opening>,
+    /// The endpoints and remotes of those that haven't ended by the moment that was reached last.
+    live: LiveKeys<Key>,
 }
 
 impl Model for PeerTable {
     ghost use Rattle.std.specs.Prelude.{List};
     ghost use Rattle.std.specs.BTreeMap.{values};
     ghost use Rattle.pcp_base.specs.declared.leases.PeerLease.{PeerLease};
-    ghost use Rattle.peer_table.specs.Kept.{AreKeptPeers};
+    ghost use Rattle.peer_table.specs.Kept.{AreReachedPeers};
 
     ghost Value = { List PeerLease };
 
     ghost view = { λ t. values t.kept.leases };
 
-    ghost invariant = { λ t. AreKeptPeers t.kept };
+    ghost invariant = { λ t. AreReachedPeers t.kept t.live };
 }
 
 /// The leases that are live at `m`, in the order of their numbers.
@@ -56,6 +59,19 @@ fn live_of(
         .collect(alloc)
 }
 
+/// Puts a lease in the place of the one with its key, or at the end.
+fn put_kept(kept: &mut Numbered<PeerLease, Key, Opening>, lease: PeerLease) -> Result<(), Memory>
+    requires kept { AreKeptPeers kept.old }
+    requires sound { AreSoundPeers (with_peer lease (values kept.old.leases)) }
+    ensures kept { AreKeptPeers kept.new }
+    ensures put { PutsPeer (values kept.old.leases) lease result (values kept.new.leases) }
+{
+    match kept.keys.get(&key_of(&lease)).copied() {
+        Some(number) => replace(kept, number, lease),
+        None => append(kept, lease),
+    }
+}
+
 impl PeerTable {
     /// A table without a lease. The one error is want of memory.
     pub fn new(alloc: Global) -> Result<PeerTable, Memory>
@@ -63,6 +79,7 @@ impl PeerTable {
     {
         Ok(PeerTable {
             kept: Numbered::new(alloc),
+            live: LiveKeys::new(alloc),
         })
     }
 
@@ -71,6 +88,7 @@ impl PeerTable {
         ensures { self.new ≡ [] }
     {
         self.kept.clear();
+        self.live.clear();
     }
 
     /// The lease with this endpoint, remote address and remote port.
@@ -132,11 +150,13 @@ impl PeerTable {
         )
     }
 
-    /// The least port above the endpoint's that a lease of its address and protocol names.
-    pub fn next_internal(&self, endpoint: &Endpoint) -> Option<u16>
-        ensures { IsNextNamed endpoint.now self.now result }
+    /// A port above the endpoint's, up to which none above the endpoint's is named by a lease of its
+    /// address and protocol that is live at `m`. At the moment that was reached last that is the
+    /// least one that is named so.
+    pub fn next_internal(&self, endpoint: &Endpoint, m: Moment) -> Option<u16>
+        ensures { SkipsUnnamed endpoint.now (filter (is_live_peer m) self.now) result }
     {
-        let Some(first) = first_from(&self.kept.keys, bound_at(endpoint, 2)) else {
+        let Some(first) = first_live_key(&self.kept, &self.live, bound_at(endpoint, 2), m) else {
             return None;
         };
         port_beside(first, endpoint)
@@ -148,10 +168,14 @@ impl PeerTable {
         requires { AreSoundPeers (with_peer lease self.old) }
         ensures { PutsPeer self.old lease result self.new }
     {
-        match self.kept.keys.get(&key_of(&lease)).copied() {
-            Some(number) => replace(&mut self.kept, number, lease),
-            None => append(&mut self.kept, lease),
-        }
+        let key = key_of(&lease);
+        let anew = self.live.enter(key, lease.expiry)?;
+        let Err(refused) = put_kept(&mut self.kept, lease) else {
+            self.live.settle(key, lease.expiry);
+            return Ok(());
+        };
+        self.live.undo(key, anew);
+        Err(refused)
     }
 
     /// Takes out the lease with this endpoint, remote address and remote port.
@@ -167,25 +191,27 @@ impl PeerTable {
         };
         self.kept
             .forget(number, key, opening_of(&lease), lease.expiry);
+        self.live.leave(key);
         Some(lease)
     }
 
-    /// How many leases are live at `m`. It looks at those that have ended alone.
+    /// Lets the leases that have ended by `m` leave the keys of those that are live, each once. All
+    /// leases stay. It takes no memory.
+    pub fn reach(&mut self, m: Moment)
+        ensures { self.new ≡ self.old }
+    {
+        pass(&self.kept, &mut self.live, m);
+    }
+
+    /// How many leases are live at `m`. At the moment that was reached last it looks at none, and
+    /// else at those that have ended alone.
     pub fn live(&self, m: Moment) -> u32
         ensures { result ≡ count_by (is_live_peer m) self.now }
     {
+        if self.live.from == m.get() + 1 {
+            return self.live.keys.len() as u32;
+        }
         (self.kept.leases.len() - self.kept.ended(m)) as u32
-    }
-
-    /// The first lease that isn't live at `m`, in the order granted. It looks at those that have
-    /// ended alone.
-    pub fn ended(&self, m: Moment) -> Option<&PeerLease>
-        ensures { option_copied result ≡ first_dead_peer m self.now }
-    {
-        let Some(number) = self.kept.first_ended(m) else {
-            return None;
-        };
-        self.kept.leases.get(&number)
     }
 
     /// One of the leases that aren't live at `m` and expired first. It looks at that one alone.

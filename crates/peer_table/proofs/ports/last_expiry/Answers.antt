@@ -1,4 +1,4 @@
-use Rattle.std.proofs.Common.{◌≡◌, ℕ, None, refl, sym, ap, ◌∙◌, Option}
+use Rattle.std.proofs.Common.{ℕ, None, refl, sym, ap, ◌∙◌, Option}
 use Rattle.std.specs.Ordering.{nat_cmp}
 use Rattle.std.specs.BTreeMap.{get}
 use Rattle.peer_table.specs.Kept.{Opening, expiry_in, later, last_of}

@@ -10,13 +10,13 @@ use Rattle.peer_table.proofs.table.PeerTable.find.Goals as goal
 pub returns-in_default : goal.returns-in_default
 returns-in_default c =
     let e = c.args.endpoint.now in let remote = c.args.remote.now in let port = c.args.port in
-    none-found peer_keying peer_laws c.self.inside.kept c.self.invariant.kept (is_peer_of e remote port) (key_at e remote port) (peer_tells e remote port)
+    none-found peer_keying peer_laws c.self.inside.kept c.self.invariant.kept.kept (is_peer_of e remote port) (key_at e remote port) (peer_tells e remote port)
     (ap (get key_cmp c.self.inside.kept.keys) (sym c.key_at-key.ensures) ∙ sym (c.in_default.ensures ∙ c.get.ensures.value))
     ∙ ap (peer_with_key e remote port) c.self.view_is
 
 pub returns : goal.returns
 returns c =
     let e = c.args.endpoint.now in let remote = c.args.remote.now in let port = c.args.port in
-    c.get-2.ensures.value ∙ key-found peer_keying peer_laws c.self.inside.kept c.self.invariant.kept (is_peer_of e remote port) (key_at e remote port) c.in-Some.number (peer_tells e remote port)
+    c.get-2.ensures.value ∙ key-found peer_keying peer_laws c.self.inside.kept c.self.invariant.kept.kept (is_peer_of e remote port) (key_at e remote port) c.in-Some.number (peer_tells e remote port)
     (ap (get key_cmp c.self.inside.kept.keys) (sym c.key_at-key.ensures) ∙ sym (c.in-Some.ensures ∙ c.get.ensures.value))
     ∙ ap (peer_with_key e remote port) c.self.view_is

@@ -10,4 +10,4 @@ last_expiry-requires c = openings_forward c.args.protocol c.args.port c.opening_
 pub returns : goal.returns
 returns c =
     subst (λ (v : List PeerLease). IsLastExpiry c.args.protocol c.args.port v c.last_expiry.result) c.self.view_is
-    (last_told c.args.protocol c.args.port c.opening_bound.result c.opening_bound-2.result c.opening_bound.ensures c.opening_bound-2.ensures c.self.inside.kept c.self.invariant c.last_expiry.result c.last_expiry.ensures)
+    (last_told c.args.protocol c.args.port c.opening_bound.result c.opening_bound-2.result c.opening_bound.ensures c.opening_bound-2.ensures c.self.inside.kept c.self.invariant.kept c.last_expiry.result c.last_expiry.ensures)

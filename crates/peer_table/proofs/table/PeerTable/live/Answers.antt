@@ -1,17 +1,37 @@
-use Rattle.std.proofs.Common.{◌∙◌, ◌-◌, ap, count_by, arith}
+use Rattle.std.proofs.Common.{◌≤◌, ◌+◌, ◌-◌, ◌∙◌, length, filter, ap, count_by, arith}
+use Rattle.std.specs.BTreeMap.{values}
+use Rattle.std.proofs.lemmas.List.Sums.{length-filter}
+use Rattle.pcp_base.proofs.TableLemmas.{length-fewer}
 use Rattle.peer_table.specs.PeerLists.{is_live_peer}
 use Rattle.peer_table.specs.Kept.{peer_keying}
 use Rattle.ordered_index.proofs.Endings.{ended-few, live-count}
+use Rattle.ordered_index.proofs.Lives.{live-length}
 use Rattle.peer_table.proofs.PeerKeeping.{peer_laws}
 use Rattle.peer_table.proofs.table.PeerTable.live.Goals as goal
 
+pub overflow_cast-result : goal.overflow_cast-result
+overflow_cast-result c =
+    let ls = values c.self.inside.kept.leases in let m = c.args.m in
+    let all = c.len.ensures.len in
+    let few = c.self.invariant.kept.sound.few in
+    let is = live-length peer_keying ls c.self.inside.live c.self.invariant.live m (c.if-self-get.true ∙ ap (λ n. n + 1) c.get.ensures.value) in
+    let filtered = length-filter (is_live_peer m) ls in
+    let fewer : length (filter (is_live_peer m) ls) ≤ length ls = length-fewer (is_live_peer m) ls in
+    omega (arith, all, few, is, filtered, fewer)
+
+pub returns-then-self-get : goal.returns-then-self-get
+returns-then-self-get c =
+    let ls = values c.self.inside.kept.leases in
+    c.len.ensures.len ∙ live-length peer_keying ls c.self.inside.live c.self.invariant.live c.args.m (c.if-self-get.true ∙ ap (λ n. n + 1) c.get.ensures.value)
+    ∙ ap (count_by (is_live_peer c.args.m)) c.self.view_is
+
 pub overflow_sub-result : goal.overflow_sub-result
 overflow_sub-result c =
-    let few = ended-few peer_keying peer_laws c.self.inside.kept c.self.invariant.kept c.args.m c.ended.result c.ended.ensures in
-    let all = c.len.ensures.len in
+    let few = ended-few peer_keying peer_laws c.self.inside.kept c.self.invariant.kept.kept c.args.m c.ended.result c.ended.ensures in
+    let all = c.len-2.ensures.len in
     omega (arith, few, all)
 
 pub returns : goal.returns
 returns c =
-    ap (λ n. n - c.ended.result) c.len.ensures.len ∙ live-count peer_keying peer_laws c.self.inside.kept c.self.invariant.kept c.args.m c.ended.result c.ended.ensures
+    ap (λ n. n - c.ended.result) c.len-2.ensures.len ∙ live-count peer_keying peer_laws c.self.inside.kept c.self.invariant.kept.kept c.args.m c.ended.result c.ended.ensures
     ∙ ap (count_by (is_live_peer c.args.m)) c.self.view_is

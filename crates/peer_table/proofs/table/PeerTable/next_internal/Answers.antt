@@ -1,15 +1,18 @@
-use Rattle.std.proofs.Common.{List, None, subst}
+use Rattle.std.proofs.Common.{List, None, filter, subst}
+use Rattle.std.specs.BTreeMap.{values}
 use Rattle.pcp_base.specs.declared.leases.PeerLease.{PeerLease}
-use Rattle.peer_table.specs.PeerLists.{IsNextNamed}
-use Rattle.peer_table.proofs.NextNamed.{named_none, named_first}
+use Rattle.peer_table.specs.PeerLists.{is_live_peer, SkipsUnnamed}
+use Rattle.peer_table.proofs.NextNamed.{skips_all, skips_first}
 use Rattle.peer_table.proofs.table.PeerTable.next_internal.Goals as goal
 
 pub returns-in_default : goal.returns-in_default
 returns-in_default c =
-    subst (λ (v : List PeerLease). IsNextNamed c.args.endpoint.now v None) c.self.view_is
-    (named_none c.self.inside.kept c.self.invariant c.args.endpoint.now c.bound_at.result c.bound_at.ensures c.in_default.ensures)
+    let e = c.args.endpoint.now in let m = c.args.m in
+    subst (λ (v : List PeerLease). SkipsUnnamed e (filter (is_live_peer m) v) None) c.self.view_is
+    (skips_all m (values c.self.inside.kept.leases) e c.bound_at.result c.bound_at.ensures c.in_default.ensures)
 
 pub returns : goal.returns
 returns c =
-    subst (λ (v : List PeerLease). IsNextNamed c.args.endpoint.now v c.port_beside.result) c.self.view_is
-    (named_first c.self.inside.kept c.self.invariant c.args.endpoint.now c.bound_at.result c.bound_at.ensures c.in-Some.first c.in-Some.ensures c.port_beside.result c.port_beside.ensures.some c.port_beside.ensures.none)
+    let e = c.args.endpoint.now in let m = c.args.m in
+    subst (λ (v : List PeerLease). SkipsUnnamed e (filter (is_live_peer m) v) c.port_beside.result) c.self.view_is
+    (skips_first m (values c.self.inside.kept.leases) e c.bound_at.result c.bound_at.ensures c.in-Some.first c.in-Some.ensures c.port_beside.result c.port_beside.ensures.some c.port_beside.ensures.none)

@@ -1,0 +1,18 @@
+use Rattle.std.proofs.Common.{◌≡◌, ◌+◌, ap, ◌∙◌}
+use Rattle.std.specs.BTreeMap.{values}
+use Rattle.ordered_index.proofs.Lives.{live-has, live-from}
+use Rattle.peer_table.specs.Kept.{peer_keying}
+use Rattle.peer_table.proofs.PeerKeeping.{peer_laws}
+use Rattle.peer_table.proofs.NextNamed.{first-live, kept-has, kept-from}
+use Rattle.peer_table.proofs.passing.first_live_key.Goals as goal
+
+pub returns-then-live-get : goal.returns-then-live-get
+returns-then-live-get c =
+    let ls = values c.args.kept.now.leases in let live = c.args.live.now in let m = c.args.m in
+    let from : live.from ≡ m + 1 = c.if-live-get.true ∙ ap (λ n. n + 1) c.get.ensures.value in
+    first-live m ls c.args.key live.keys (live-has peer_keying ls live c.requires.live peer_laws m from) (live-from peer_keying ls live c.requires.live peer_laws) c.first_from.result c.first_from.ensures
+
+pub returns : goal.returns
+returns c =
+    let kept = c.args.kept.now in
+    first-live c.args.m (values kept.leases) c.args.key kept.keys (kept-has kept c.requires.kept c.args.m) (kept-from kept c.requires.kept) c.first_from-2.result c.first_from-2.ensures
