@@ -1,0 +1,65 @@
+-- How a table keeps its ties (our own; for proofs alone).
+use Rattle.std.specs.Prelude.{◌≡◌, ℕ, ◌≤◌, List, Option, Some, None}
+use Rattle.std.specs.List.{AllByRecursion}
+use Rattle.std.specs.BTreeMap.{values}
+use Rattle.pcp_base.specs.declared.addresses.Address.{Address}
+use Rattle.pcp_base.specs.declared.leases.Protocol.{Protocol}
+use Rattle.external_pool.specs.declared.uses.Use.{Use}
+use Rattle.external_pool.specs.declared.uses.Use.TheVariants.{Free, Held}
+use Rattle.external_pool.specs.Holdings.{Holdings, IsWhole, use_of, uses_of, ports_held}
+use Rattle.ordered_index.specs.declared.numbered.Numbered.{Numbered}
+use Rattle.ordered_index.specs.Kept.{Keying, IsKept}
+use Rattle.ordered_index.specs.Orders.{Place, place_of, port_at, place_cmp, port_cmp}
+use Rattle.cascade_ties.specs.declared.locals.TheConstants.{TIE_QUOTA}
+use Rattle.cascade_ties.specs.declared.ties.Tied.{Tied}
+use Rattle.cascade_ties.specs.Ties.{Ties, TiesDiffer, ties_held, tie_at}
+
+abbrev pub place_of_tie : Tied → Place
+place_of_tie t = place_of t.tie.client
+
+abbrev pub port_of_tie : Tied → ℕ × ℕ
+port_of_tie t = port_at t.tie.client.protocol t.tie.local
+
+-- a tie is looked up by its client's endpoint, and by its protocol and local port
+abbrev pub tie_keying : Keying Tied Place (ℕ × ℕ)
+tie_keying = record {
+  key = place_of_tie;
+  port = port_of_tie;
+  expiry = λ t. t.tie.until_ms;
+  key_cmp = place_cmp;
+  port_cmp = port_cmp;
+}
+
+pub record HasLocal (t : Tied) : Type 0 where
+  pub from : 1 ≤ t.tie.local
+  pub to : t.tie.local ≤ 65535
+
+-- ties that differ, in the order of their numbers, with their maps
+pub record AreKeptTies (it : Numbered Tied Place (ℕ × ℕ)) : Type 0 where
+  pub differ : TiesDiffer (values it.leases)
+  pub locals : AllByRecursion HasLocal (values it.leases)
+  pub kept : IsKept tie_keying it
+
+-- what a port is used for, by the tie to it
+abbrev pub use_by : Option Tied → Use
+use_by None = Free
+use_by (Some t) = Held t.tie.client.address
+
+-- the pool of these ties: each address holds the local ports of its ties
+pub record IsTiePool (pool : Holdings) (ts : List Tied) : Type 0 where
+  pub quota : pool.quota ≡ TIE_QUOTA
+  pub low : pool.udp.low ≡ pool.tcp.low
+  pub high : pool.udp.high ≡ pool.tcp.high
+  pub some : 1 ≤ pool.tcp.low
+  pub whole : IsWhole pool
+  pub uses : (protocol : Protocol) (port : ℕ) →
+      use_of pool protocol port ≡ use_by (tie_at protocol port ts)
+  pub counts : (who : Address) → ports_held pool who ≡ ties_held who ts
+
+-- what a table is seen as
+abbrev pub ties_of : Holdings → List Tied → Ties
+ties_of pool ts = record { low = pool.tcp.low; high = pool.tcp.high; each = ts }
+
+pub record IsTieTable (it : Numbered Tied Place (ℕ × ℕ)) (holdings : Holdings) : Type 0 where
+  pub ties : AreKeptTies it
+  pub pool : IsTiePool holdings (values it.leases)

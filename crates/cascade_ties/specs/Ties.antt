@@ -1,0 +1,111 @@
+-- Ties of clients' endpoints to local ports, in the order made, each with what waits (our own).
+use Rattle.std.specs.Prelude.{◌≡◌, ℕ, ◌+◌, ◌-◌, ◌==◌, ◌&&◌, nat_le, not, Bool, true, false, List, [], ◌∷◌, ◌++◌, filter, find, count_by, Option, Some, None, Result, Ok, Err, OnOk, OnErr, if◌then◌else◌}
+use Rattle.std.specs.List.{list_any, range_with_len}
+use Rattle.pcp_base.specs.declared.addresses.Address.{Address}
+use Rattle.pcp_base.specs.declared.leases.Endpoint.{Endpoint}
+use Rattle.pcp_base.specs.declared.leases.Protocol.{Protocol}
+use Rattle.pcp_base.specs.Tables.{EachTwo, put, same_address, same_endpoint, same_protocol}
+use Rattle.cascade_ties.specs.declared.locals.TheConstants.{TIE_QUOTA}
+use Rattle.cascade_ties.specs.declared.locals.NoLocal.{NoLocal}
+use Rattle.cascade_ties.specs.declared.locals.NoLocal.TheVariants.{Quota, NoPort}
+use Rattle.cascade_ties.specs.declared.ties.Tied.{Tied}
+
+-- the range of local ports, and the ties
+pub record Ties : Type 0 where
+  pub low : ℕ
+  pub high : ℕ
+  pub each : List Tied
+
+abbrev pub no_ties : ℕ → ℕ → Ties
+no_ties low high = record { low = low; high = high; each = [] }
+
+-- whether the tie is that of the endpoint
+abbrev pub has_client : Endpoint → Tied → Bool
+has_client client t = same_endpoint t.tie.client client
+
+-- whether the tie is to this local port of the protocol
+abbrev pub has_local : Protocol → ℕ → Tied → Bool
+has_local protocol port t = same_protocol t.tie.client.protocol protocol && t.tie.local == port
+
+abbrev pub tie_of : Endpoint → List Tied → Option Tied
+tie_of client ts = find (has_client client) ts
+
+abbrev pub tie_at : Protocol → ℕ → List Tied → Option Tied
+tie_at protocol port ts = find (has_local protocol port) ts
+
+-- two ties are of two endpoints, and to two local ports where their protocol is one
+pub record AreOtherTies (a b : Tied) : Type 0 where
+  pub clients : has_client b.tie.client a ≡ false
+  pub locals : has_local b.tie.client.protocol b.tie.local a ≡ false
+
+abbrev pub TiesDiffer : List Tied → Type 0
+TiesDiffer ts = EachTwo AreOtherTies ts
+
+-- ---- the local port of a new tie
+
+-- how many ties an address has
+abbrev pub ties_held : Address → List Tied → ℕ
+ties_held who ts = count_by (λ t. same_address t.tie.client.address who) ts
+
+-- whether a port is in the range, and no tie of the protocol is to it
+abbrev pub is_vacant : Ties → Protocol → ℕ → Bool
+is_vacant ts protocol port =
+    nat_le ts.low port && nat_le port ts.high && not (list_any (has_local protocol port) ts.each)
+
+-- the least vacant port
+unfoldable pub least_vacant : Ties → Protocol → Option ℕ
+least_vacant ts protocol =
+    find (is_vacant ts protocol) (range_with_len ts.low (ts.high + 1 - ts.low))
+
+-- the client's own port, where it is vacant, else the least vacant one
+abbrev pub vacant_for : Ties → Endpoint → Option ℕ
+vacant_for ts client =
+    if is_vacant ts client.protocol client.port then Some client.port
+    else least_vacant ts client.protocol
+
+abbrev pub or_no_port : Option ℕ → Result ℕ NoLocal
+or_no_port None = Err NoPort
+or_no_port (Some port) = Ok port
+
+-- the local port for an endpoint, unless its address has its quota of ties
+abbrev pub local_for : Ties → Endpoint → Result ℕ NoLocal
+local_for ts client =
+    if nat_le TIE_QUOTA (ties_held client.address ts.each) then Err Quota
+    else or_no_port (vacant_for ts client)
+
+-- ---- what calls make of ties
+
+-- an endpoint without a tie, and a vacant port
+pub record MayTie (ts : Ties) (t : Tied) : Type 0 where
+  pub client : tie_of t.tie.client ts.each ≡ None
+  pub local : is_vacant ts t.tie.client.protocol t.tie.local ≡ true
+
+abbrev pub with_tie : Ties → Tied → Ties
+with_tie ts t = record ts { each = ts.each ++ t ∷ [] }
+
+-- an endpoint with a tie to the same local port
+pub record MayChange (ts : Ties) (t : Tied) : Type 0 where
+  pub old : Tied
+  pub client : tie_of t.tie.client ts.each ≡ Some old
+  pub local : old.tie.local ≡ t.tie.local
+
+-- in the place of the tie of its endpoint
+abbrev pub with_change : Ties → Tied → Ties
+with_change ts t = record ts { each = put (has_client t.tie.client) t ts.each }
+
+abbrev pub without : Ties → Endpoint → Ties
+without ts client = record ts { each = filter (λ t. not (has_client client t)) ts.each }
+
+-- whether a tie's time has come, in milliseconds
+abbrev pub is_over : ℕ → Tied → Bool
+is_over now t = nat_le t.tie.until_ms now
+
+-- the others
+abbrev pub still : ℕ → Ties → Ties
+still now ts = record ts { each = filter (λ t. not (is_over now t)) ts.each }
+
+-- a call that changes the ties so, or fails and changes nothing
+pub record MakesTies {X E : Type 0} (old made : Ties) (result : Result X E) (new : Ties) : Type 0
+  where
+    pub ok : OnOk result (new ≡ made)
+    pub err : OnErr result (new ≡ old)

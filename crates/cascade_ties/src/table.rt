@@ -1,0 +1,136 @@
+//! The table of ties.
+ghost use Rattle.std.specs.Prelude.{◌≡◌, ◌≤◌, ◌-◌, length, map, IfOk};
+ghost use Rattle.std.specs.Option.{option_copied};
+ghost use Rattle.cascade_ties.specs.Ties.{MakesTies, MayChange, MayTie, local_for, no_ties, still, tie_at, tie_of, with_change, with_tie, without};
+
+use crate::changes::no_numbers;
+use crate::locals::{NoLocal, TIE_QUOTA, local_for};
+use crate::lookups::Numbers;
+use crate::steps::{change_tie, drop_over, put_tie, take_tie};
+use crate::ties::{Tie, Tied};
+use external_pool::Pool;
+use ordered_index::{place_of, port_at};
+use pcp_base::{Endpoint, Memory, Protocol};
+use std::alloc::Global;
+use std::marker::Model;
+
+/// Ties, seen as the range of local ports and the list of ties in the order made. Each call but
+/// `list` takes logarithmic time for each tie that it finds, makes, changes or drops.
+#[derive(Drop)]
+pub struct TieTable {
+    /// The ties by clients, by local ports and by their times.
+    kept: Numbers,
+    /// Who holds which local ports.
+    pool: Pool,
+}
+
+impl Model for TieTable {
+    ghost use Rattle.std.specs.BTreeMap.{values};
+    ghost use Rattle.cascade_ties.specs.Ties.{Ties};
+    ghost use Rattle.cascade_ties.specs.Kept.{IsTieTable, ties_of};
+
+    ghost Value = { Ties };
+
+    ghost view = { λ t. ties_of t.pool (values t.kept.leases) };
+
+    ghost invariant = { λ t. IsTieTable t.kept t.pool };
+}
+
+impl TieTable {
+    /// A table without a tie, over the local ports from `low` to `high`, which are of both
+    /// protocols. The one error is want of memory.
+    pub fn new(alloc: Global, low: u16, high: u16) -> Result<TieTable, Memory>
+        requires some { 1 ≤ low }
+        requires ordered { low ≤ high }
+        ensures { IfOk result (λ ties. ties ≡ no_ties low high) }
+    {
+        Ok(TieTable {
+            kept: no_numbers(alloc),
+            pool: Pool::new(alloc, low, high, TIE_QUOTA)?,
+        })
+    }
+
+    /// How many ties there are.
+    pub fn len(&self) -> usize
+        ensures { result ≡ length self.now.each }
+    {
+        self.kept.leases.len()
+    }
+
+    /// The tie of a client's endpoint.
+    pub fn find(&self, client: &Endpoint) -> Option<&Tied>
+        ensures { option_copied result ≡ tie_of client.now self.now.each }
+    {
+        let Some(number) = self.kept.keys.get(&place_of(client)).copied() else {
+            return None;
+        };
+        self.kept.leases.get(&number)
+    }
+
+    /// The tie to a local port.
+    pub fn at_local(&self, protocol: Protocol, port: u16) -> Option<&Tied>
+        ensures { option_copied result ≡ tie_at protocol port self.now.each }
+    {
+        let Some(number) = self.kept.ports.get(&port_at(protocol, port)).copied() else {
+            return None;
+        };
+        self.kept.leases.get(&number)
+    }
+
+    /// The local port for an endpoint: its own where that is vacant, else the least vacant one. The
+    /// refusal is the first of [`NoLocal`] that applies.
+    pub fn local_for(&self, client: &Endpoint) -> Result<u16, NoLocal>
+        ensures { result ≡ local_for self.now client.now }
+    {
+        local_for(&self.pool, client)
+    }
+
+    /// Appends a tie of an endpoint that has none, to a vacant port. The one error is want of
+    /// memory, which changes nothing.
+    pub fn put(&mut self, alloc: Global, tied: Tied) -> Result<(), Memory>
+        requires { MayTie self.old tied }
+        ensures { MakesTies self.old (with_tie self.old tied) result self.new }
+    {
+        put_tie(alloc, &mut self.kept, &mut self.pool, tied)
+    }
+
+    /// Puts a tie in the place of its endpoint's, which is to the same local port. The one error is
+    /// want of memory, which changes nothing.
+    pub fn change(&mut self, tied: Tied) -> Result<(), Memory>
+        requires { MayChange self.old tied }
+        ensures { MakesTies self.old (with_change self.old tied) result self.new }
+    {
+        change_tie(&mut self.kept, &self.pool, tied)
+    }
+
+    /// Takes out the tie of an endpoint, where it has one, and frees its local port.
+    pub fn remove(&mut self, client: &Endpoint)
+        ensures { self.new ≡ without self.old client.now }
+    {
+        take_tie(&mut self.kept, &mut self.pool, client);
+    }
+
+    /// Takes out the ties whose time has come, frees their local ports, and counts them. It looks at
+    /// these alone, and at one more.
+    pub fn drop_over(&mut self, now_ms: u64) -> usize
+        ensures ties { self.new ≡ still now_ms self.old }
+        ensures count { result ≡ length self.old.each - length self.new.each }
+    {
+        let before = self.kept.leases.len();
+        drop_over(&mut self.kept, &mut self.pool, now_ms);
+        before - self.kept.leases.len()
+    }
+
+    /// The ties, in the order made. The one error is want of memory.
+    pub fn list(&self, alloc: Global) -> Result<Vec<Tie>, Memory>
+        ensures { IfOk result (λ list. list.items ≡ map (λ t. t.tie) self.now.each) }
+    {
+        Ok(
+            self.kept
+                .leases
+                .values()
+                .map(|tied| tied.tie)
+                .collect(alloc)?,
+        )
+    }
+}

@@ -1,0 +1,153 @@
+-- What a datagram from upstream makes of a cascade, and what is sent for it (RFC 6887, sections 8.3,
+-- 8.5 and 11.4, and RFC 7648 in role; the rules are our own).
+use Rattle.std.specs.Prelude.{ℕ, ◌+◌, ◌-◌, ◌*◌, ◌/◌, ◌==◌, ◌&&◌, nat_le, min, bytes_eq, Bool, true, false, List, [], Option, Some, None, if◌then◌else◌}
+use Rattle.std.specs.Option.{option_map}
+use Rattle.pcp_base.specs.declared.addresses.Nonce.{Nonce}
+use Rattle.pcp_base.specs.declared.datagrams.Datagram.{Datagram}
+use Rattle.pcp_base.specs.declared.leases.Protocol.{Protocol}
+use Rattle.pcp_base.specs.Pairing.{v4_octets}
+use Rattle.pcp_base.specs.Protocols.{protocol_of}
+use Rattle.pcp_codec.specs.declared.requests.Body.{Body}
+use Rattle.pcp_codec.specs.declared.requests.Body.TheVariants.{Announce, Map, Peer}
+use Rattle.pcp_codec.specs.declared.requests.Common.{Common}
+use Rattle.pcp_options.specs.declared.responses.Response.{Response}
+use Rattle.pcp_options.specs.Replies.{success_text}
+use Rattle.client_core.specs.declared.epochs.HeardEpoch.{HeardEpoch}
+use Rattle.client_core.specs.declared.events.TheConstants.{LONGEST_LEASE}
+use Rattle.client_core.specs.EpochTests.{heard_epoch, is_valid}
+use Rattle.proxy_core.specs.declared.epochs.Heard.{Heard}
+use Rattle.proxy_core.specs.declared.outs.TheConstants.{CLIENTS_PORT}
+use Rattle.proxy_core.specs.declared.waits.TheConstants.{WAIT_MS}
+use Rattle.proxy_core.specs.Down.{is_success, relayed_text}
+use Rattle.proxy_core.specs.Nonces.{upstream_nonce}
+use Rattle.proxy_core.specs.Relays.{response_from}
+use Rattle.cascade_ties.specs.declared.ties.Tie.{Tie}
+use Rattle.cascade_ties.specs.declared.ties.Tied.{Tied}
+use Rattle.cascade_ties.specs.declared.ties.Waiting.{Waiting}
+use Rattle.cascade_ties.specs.Ties.{Ties, tie_at, with_change, without}
+use Rattle.proxy_cascade.specs.Cascades.{Cascade, Step, at, told_epoch}
+use Rattle.proxy_cascade.specs.FromClients.{lease_text}
+
+-- ---- epochs
+
+-- an epoch with the second at which it was heard
+abbrev pub pair_of : Heard → HeardEpoch
+pair_of h = heard_epoch h.epoch (h.at_ms / 1000)
+
+-- whether an epoch that is heard now is valid after what was heard before
+abbrev pub keeps_epoch : Option Heard → ℕ → ℕ → Bool
+keeps_epoch heard epoch now =
+    is_valid (option_map pair_of heard) (pair_of (record { epoch = epoch; at_ms = now }))
+
+-- every response of the server tells an epoch; one that isn't valid begins the epochs anew
+abbrev pub hearing : Cascade → ℕ → Cascade
+hearing c epoch = record c {
+  heard = Some (record { epoch = epoch; at_ms = c.last });
+  base = if keeps_epoch c.heard epoch c.last then c.base else c.last;
+}
+
+-- ---- ANNOUNCE
+
+-- all clients are told that epochs began anew (RFC 6887, section 14.1)
+abbrev pub announcement : Cascade → Datagram
+announcement c = record {
+  peer = record { 0 = v4_octets 224 0 0 1 };
+  port = CLIENTS_PORT;
+  octets = success_text 0 (told_epoch c) Announce [];
+}
+
+-- ---- MAP
+
+-- a request waits no longer than its time
+abbrev pub still_waits : ℕ → Option Waiting → Option Waiting
+still_waits now None = None
+still_waits now (Some w) = if nat_le (now - w.since_ms) WAIT_MS then Some w else None
+
+-- the tie without what waited
+abbrev pub ended : Tie → Tied
+ended tie = record { tie = tie; waiting = None }
+
+-- the lifetime that is told: a day at most
+abbrev pub told_lifetime : ℕ → ℕ
+told_lifetime lifetime = min lifetime LONGEST_LEASE
+
+-- the tie as it is granted
+abbrev pub granted : Tie → Common → ℕ → ℕ → Tie
+granted tie common lifetime now = record tie {
+  granted = true;
+  address = common.address;
+  external = common.external;
+  until_ms = now + 1000 * lifetime;
+}
+
+-- What becomes of the ties. A success grants the tie, or with lifetime 0 takes it away; after an
+-- error a tie that isn't granted goes.
+abbrev pub ties_after : ℕ → Response → Common → Tie → Ties → Ties
+ties_after now r common tie ts =
+    if is_success r.code
+    then (if r.lifetime == 0 then without ts tie.client
+    else with_change ts (ended (granted tie common (told_lifetime r.lifetime) now)))
+    else (if tie.granted then with_change ts (ended tie) else without ts tie.client)
+
+-- What the client is told: the upstream external port and address, or with lifetime 0 its
+-- suggestion; or the upstream error.
+abbrev pub text_after : Cascade → Response → Common → Tie → Waiting → List ℕ
+text_after c r common tie w =
+    if is_success r.code
+    then (if r.lifetime == 0
+    then lease_text tie.client tie.nonce 0 (told_epoch c) w.suggested w.address w.items
+    else lease_text tie.client tie.nonce (told_lifetime r.lifetime) (told_epoch c)
+    common.external common.address w.items)
+    else relayed_text w.request r.code r.lifetime (told_epoch c)
+
+-- a response ends the wait
+abbrev pub for_waiting : Cascade → Response → Common → Tie → Waiting → Step (Option Datagram)
+for_waiting c r common tie w = record {
+  cascade = record c { ties = ties_after c.last r common tie c.ties };
+  out = Some (record {
+    peer = tie.client.address;
+    port = w.port;
+    octets = text_after c r common tie w;
+  });
+}
+
+abbrev pub unmatched : Cascade → Step (Option Datagram)
+unmatched c = record { cascade = c; out = None }
+
+-- whether the nonce is the one by which the tie is asked for
+abbrev pub is_asked_by : List ℕ → Tie → Nonce → Bool
+is_asked_by key tie nonce =
+    bytes_eq (upstream_nonce key tie.client.address tie.nonce).0 nonce.0
+
+abbrev pub for_tie : Cascade → Response → Common → Tie → Option Waiting → Step (Option Datagram)
+for_tie c r common tie None = unmatched c
+for_tie c r common tie (Some w) =
+    if is_asked_by c.key tie common.nonce then for_waiting c r common tie w else unmatched c
+
+abbrev pub for_tied : Cascade → Response → Common → Option Tied → Step (Option Datagram)
+for_tied c r common None = unmatched c
+for_tied c r common (Some t) = for_tie c r common t.tie (still_waits c.last t.waiting)
+
+-- the tie that a response answers is that to its internal port
+abbrev pub for_protocol : Cascade → Response → Common → Option Protocol → Step (Option Datagram)
+for_protocol c r common None = unmatched c
+for_protocol c r common (Some protocol) =
+    for_tied c r common (tie_at protocol common.internal c.ties.each)
+
+-- ---- all responses
+
+-- what a response gives, where its epoch was valid or not
+abbrev pub for_body : Cascade → Response → Bool → Body → Step (Option Datagram)
+for_body c r valid Announce =
+    record { cascade = c; out = if valid then None else Some (announcement c) }
+for_body c r valid (Map common) = for_protocol c r common (protocol_of common.protocol)
+for_body c r valid (Peer common port remote) = unmatched c
+
+abbrev pub heard_from : Cascade → Option Response → Step (Option Datagram)
+heard_from c None = unmatched c
+heard_from c (Some r) =
+    for_body (hearing c r.epoch) r (keeps_epoch c.heard r.epoch c.last) r.body
+
+-- a datagram came from upstream
+abbrev pub on_server : Cascade → Datagram → ℕ → Step (Option Datagram)
+on_server c d now = heard_from (at c now) (response_from c.server d)

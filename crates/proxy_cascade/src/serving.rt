@@ -1,0 +1,251 @@
+//! What is sent for datagrams from upstream.
+ghost use Rattle.std.specs.Prelude.{◌≡◌, ◌≤◌, length, Some, None, if◌then◌else◌, IfOk, OnErr};
+ghost use Rattle.pcp_codec.specs.declared.layout.TheConstants.{HEAD_OCTETS};
+ghost use Rattle.std.specs.Option.{option_copied};
+ghost use Rattle.pcp_base.specs.Protocols.{protocol_of};
+ghost use Rattle.proxy_core.specs.Down.{is_success};
+ghost use Rattle.proxy_core.specs.Relays.{response_from};
+ghost use Rattle.cascade_ties.specs.Ties.{MakesTies, Ties};
+ghost use Rattle.proxy_cascade.specs.FromServers.{announcement, ended, for_body, for_protocol, granted, is_asked_by, still_waits, text_after, ties_after, told_lifetime};
+ghost use Rattle.proxy_cascade.specs.Kept.{AreFew, IsTime, IsTied, cascade_of};
+
+use crate::terms::CascadeTerms;
+use crate::texts::{announce_text, error_text, lease_text};
+use cascade_ties::{Tie, TieTable, Tied, Waiting};
+use client_core::LONGEST_LEASE;
+use pcp_base::{Address, Code, Datagram, Memory, Nonce, Octets, Protocol};
+use pcp_codec::{Body, Common};
+use pcp_options::{Response, ResponseRefused, read_response};
+use proxy_core::{CLIENTS_PORT, WAIT_MS, upstream_nonce};
+use std::alloc::Global;
+
+/// What the server says; none where the datagram isn't the server's, or is no response.
+pub(crate) fn response_in(
+    alloc: Global,
+    server: &Address,
+    datagram: &Datagram,
+) -> Result<Option<Response>, Memory>
+    ensures { IfOk result (λ response. response ≡ response_from server.now datagram.now) }
+{
+    if datagram.peer != *server {
+        return Ok(None);
+    }
+    match read_response(alloc, datagram.octets.items()) {
+        Ok(response) => Ok(Some(response)),
+        Err(ResponseRefused::NotResponse) => Ok(None),
+        Err(ResponseRefused::Memory) => Err(Memory),
+    }
+}
+
+/// What is to be sent for a response of the server, whose epoch was valid or not.
+pub(crate) fn answer_server(
+    alloc: Global,
+    terms: &CascadeTerms,
+    ties: &mut TieTable,
+    response: &Response,
+    valid: bool,
+) -> Result<Option<Datagram>, Memory>
+    requires time { IsTime terms.now.last_ms }
+    requires few { AreFew ties.old.each }
+    ensures ok { IfOk result (λ out.
+        for_body (cascade_of terms.now ties.old) response.now valid response.now.body
+        ≡ record { cascade = cascade_of terms.now ties.new; out = out }) }
+    ensures few { AreFew ties.new.each }
+    ensures err { OnErr result (ties.new ≡ ties.old) }
+{
+    match &response.body {
+        Body::Announce => announce(alloc, terms, valid),
+        Body::Map(common) => answer_map(alloc, terms, ties, response, common),
+        Body::Peer { .. } => Ok(None),
+    }
+}
+
+/// All clients are told where epochs began anew (RFC 6887, section 14.1).
+fn announce(alloc: Global, terms: &CascadeTerms, valid: bool) -> Result<Option<Datagram>, Memory>
+    ensures { IfOk result (λ out. (ties : Ties) →
+        out ≡ (if valid then None else Some (announcement (cascade_of terms.now ties)))) }
+{
+    if valid {
+        return Ok(None);
+    }
+    Ok(Some(Datagram {
+        peer: Address::v4(224, 0, 0, 1),
+        port: CLIENTS_PORT,
+        octets: announce_text(alloc, terms.epoch())?,
+    }))
+}
+
+/// What is to be sent for a MAP response.
+fn answer_map(
+    alloc: Global,
+    terms: &CascadeTerms,
+    ties: &mut TieTable,
+    response: &Response,
+    common: &Common,
+) -> Result<Option<Datagram>, Memory>
+    requires time { IsTime terms.now.last_ms }
+    requires few { AreFew ties.old.each }
+    ensures ok { IfOk result (λ out. for_protocol (cascade_of terms.now ties.old) response.now
+        common.now (protocol_of common.now.protocol)
+        ≡ record { cascade = cascade_of terms.now ties.new; out = out }) }
+    ensures few { AreFew ties.new.each }
+    ensures err { OnErr result (ties.new ≡ ties.old) }
+{
+    let Some(protocol) = Protocol::of(common.protocol) else {
+        return Ok(None);
+    };
+    let Some(tied) = ties.at_local(protocol, common.internal) else {
+        return Ok(None);
+    };
+    let tie = tied.tie;
+    let Some(waiting) = still_waits(&tied.waiting, terms.last_ms) else {
+        return Ok(None);
+    };
+    if !is_asked_by(&terms.key, &tie, &common.nonce) {
+        return Ok(None);
+    }
+    let reply = reply_for(alloc, terms, response, common, &tie, waiting)?;
+    settle(ties, response, common, tie, terms.last_ms)?;
+    Ok(Some(reply))
+}
+
+/// The request that waits, unless it waited for longer than its time.
+fn still_waits(waiting: &Option<Waiting>, now_ms: u64) -> Option<&Waiting>
+    ensures { option_copied result ≡ still_waits now_ms waiting.now }
+{
+    let Some(waiting) = waiting else {
+        return None;
+    };
+    if now_ms.saturating_sub(waiting.since_ms) > WAIT_MS {
+        return None;
+    }
+    Some(waiting)
+}
+
+/// Whether this is the nonce by which a tie is asked for upstream.
+fn is_asked_by(key: &[u8; 32], tie: &Tie, nonce: &Nonce) -> bool
+    ensures { result ≡ is_asked_by key.now tie.now nonce.now }
+{
+    upstream_nonce(key, &tie.client.address, &tie.nonce) == *nonce
+}
+
+fn is_success(code: Code) -> bool
+    ensures { result ≡ is_success code }
+{
+    match code {
+        Code::Success => true,
+        _ => false,
+    }
+}
+
+/// The lifetime that is told, in seconds: a day at most.
+fn told_lifetime(lifetime: u32) -> u32
+    ensures { result ≡ told_lifetime lifetime }
+{
+    lifetime.min(LONGEST_LEASE)
+}
+
+/// The reply for the client whose request waits.
+fn reply_for(
+    alloc: Global,
+    terms: &CascadeTerms,
+    response: &Response,
+    common: &Common,
+    tie: &Tie,
+    waiting: &Waiting,
+) -> Result<Datagram, Memory>
+    requires { HEAD_OCTETS ≤ length waiting.now.request }
+    ensures { IfOk result (λ out. (ties : Ties) → out ≡ record {
+      peer = tie.now.client.address;
+      port = waiting.now.port;
+      octets = text_after (cascade_of terms.now ties) response.now common.now tie.now waiting.now;
+    }) }
+{
+    Ok(Datagram {
+        peer: tie.client.address,
+        port: waiting.port,
+        octets: text_after(alloc, terms, response, common, tie, waiting)?,
+    })
+}
+
+/// The octets of that reply.
+fn text_after(
+    alloc: Global,
+    terms: &CascadeTerms,
+    response: &Response,
+    common: &Common,
+    tie: &Tie,
+    waiting: &Waiting,
+) -> Result<Octets, Memory>
+    requires { HEAD_OCTETS ≤ length waiting.now.request }
+    ensures { IfOk result (λ text. (ties : Ties) → text
+        ≡ text_after (cascade_of terms.now ties) response.now common.now tie.now waiting.now) }
+{
+    let epoch = terms.epoch();
+    if !is_success(response.code) {
+        let request = waiting.request.items();
+        return error_text(alloc, request, response.code, response.lifetime, epoch);
+    }
+    let lifetime = told_lifetime(response.lifetime);
+    let (external, address) = if response.lifetime == 0 {
+        (waiting.suggested, waiting.address)
+    } else {
+        (common.external, common.address)
+    };
+    lease_text(
+        alloc,
+        &tie.client,
+        tie.nonce,
+        lifetime,
+        epoch,
+        external,
+        address,
+        &waiting.items,
+    )
+}
+
+/// The tie without what waited.
+fn ended(tie: Tie) -> Tied
+    ensures { result ≡ ended tie }
+{
+    Tied { tie, waiting: None }
+}
+
+/// The tie as it is granted for a time in seconds, of a day at most.
+fn granted(tie: Tie, common: &Common, lifetime: u32, now_ms: u64) -> Tie
+    requires time { IsTime now_ms }
+    ensures { result ≡ granted tie common.now lifetime now_ms }
+{
+    Tie {
+        granted: true,
+        address: common.address,
+        external: common.external,
+        until_ms: now_ms + 1000 * u64::from(lifetime),
+        ..tie
+    }
+}
+
+/// What becomes of a tie after a response to it. The one error is want of memory, which changes
+/// nothing.
+fn settle(
+    ties: &mut TieTable,
+    response: &Response,
+    common: &Common,
+    tie: Tie,
+    now_ms: u64,
+) -> Result<(), Memory>
+    requires time { IsTime now_ms }
+    requires tied { IsTied ties.old tie.client tie }
+    ensures { MakesTies ties.old (ties_after now_ms response.now common.now tie ties.old) result ties.new }
+{
+    let success = is_success(response.code);
+    if success && response.lifetime != 0 {
+        let lifetime = told_lifetime(response.lifetime);
+        return ties.change(ended(granted(tie, common, lifetime, now_ms)));
+    }
+    if !success && tie.granted {
+        return ties.change(ended(tie));
+    }
+    ties.remove(&tie.client);
+    Ok(())
+}
