@@ -4,12 +4,16 @@ use Rattle.std.specs.List.{AllByRecursion}
 use Rattle.std.specs.BTreeMap.{values}
 use Rattle.pcp_base.specs.declared.addresses.Address.{Address}
 use Rattle.pcp_base.specs.declared.leases.Protocol.{Protocol}
+use Rattle.external_pool.specs.declared.asks.PickRefused.{PickRefused}
+use Rattle.external_pool.specs.declared.asks.PickRefused.TheVariants as Refusals
 use Rattle.external_pool.specs.declared.uses.Use.{Use}
 use Rattle.external_pool.specs.declared.uses.Use.TheVariants.{Free, Held}
-use Rattle.external_pool.specs.Holdings.{Holdings, IsWhole, use_of, uses_of, ports_held}
+use Rattle.external_pool.specs.Holdings.{Holdings, IsWhole, use_of, ports_held}
 use Rattle.ordered_index.specs.declared.numbered.Numbered.{Numbered}
 use Rattle.ordered_index.specs.Kept.{Keying, IsKept}
 use Rattle.ordered_index.specs.Orders.{Place, place_of, port_at, place_cmp, port_cmp}
+use Rattle.cascade_ties.specs.declared.locals.NoLocal.{NoLocal}
+use Rattle.cascade_ties.specs.declared.locals.NoLocal.TheVariants.{Quota, NoPort}
 use Rattle.cascade_ties.specs.declared.locals.TheConstants.{TIE_QUOTA}
 use Rattle.cascade_ties.specs.declared.ties.Tied.{Tied}
 use Rattle.cascade_ties.specs.Ties.{Ties, TiesDiffer, ties_held, tie_at}
@@ -51,10 +55,17 @@ pub record IsTiePool (pool : Holdings) (ts : List Tied) : Type 0 where
   pub low : pool.udp.low ≡ pool.tcp.low
   pub high : pool.udp.high ≡ pool.tcp.high
   pub some : 1 ≤ pool.tcp.low
+  pub top : pool.tcp.high ≤ 65535
   pub whole : IsWhole pool
   pub uses : (protocol : Protocol) (port : ℕ) →
       use_of pool protocol port ≡ use_by (tie_at protocol port ts)
   pub counts : (who : Address) → ports_held pool who ≡ ties_held who ts
+
+-- why there is no local port, by what the pool says
+abbrev pub no_local : PickRefused → NoLocal
+no_local (Refusals.Quota owned) = Quota
+no_local Refusals.CannotProvide = NoPort
+no_local Refusals.NoPort = NoPort
 
 -- what a table is seen as
 abbrev pub ties_of : Holdings → List Tied → Ties

@@ -1,7 +1,7 @@
 //! The local port for a new tie.
 ghost use Rattle.std.specs.Prelude.{◌≡◌, List};
 ghost use Rattle.cascade_ties.specs.declared.ties.Tied.{Tied};
-ghost use Rattle.cascade_ties.specs.Kept.{IsTiePool, ties_of};
+ghost use Rattle.cascade_ties.specs.Kept.{IsTiePool, no_local, ties_of};
 ghost use Rattle.cascade_ties.specs.Ties.{local_for};
 
 use external_pool::{PickAsk, PickRefused, Pool};
@@ -39,7 +39,16 @@ pub(crate) fn local_for(pool: &Pool, client: &Endpoint) -> Result<u16, NoLocal>
     };
     match pool.pick(&client.address, client.protocol, &ask) {
         Ok(picked) => Ok(picked.start),
-        Err(PickRefused::Quota(_owned)) => Err(NoLocal::Quota),
-        Err(_) => Err(NoLocal::NoPort),
+        Err(refused) => Err(no_local(refused)),
+    }
+}
+
+/// Why there is no local port, by what the pool says.
+fn no_local(refused: PickRefused) -> NoLocal
+    ensures { result ≡ no_local refused }
+{
+    match refused {
+        PickRefused::Quota(_owned) => NoLocal::Quota,
+        _ => NoLocal::NoPort,
     }
 }

@@ -1,6 +1,7 @@
 //! The table of ties.
 ghost use Rattle.std.specs.Prelude.{◌≡◌, ◌≤◌, ◌-◌, length, map, IfOk};
 ghost use Rattle.std.specs.Option.{option_copied};
+ghost use Rattle.std.specs.BTreeMap.{values};
 ghost use Rattle.cascade_ties.specs.Ties.{MakesTies, MayChange, MayTie, local_for, no_ties, still, tie_at, tie_of, with_change, with_tie, without};
 
 use crate::changes::no_numbers;
@@ -11,7 +12,8 @@ use crate::ties::{Tie, Tied};
 use external_pool::Pool;
 use ordered_index::{place_of, port_at};
 use pcp_base::{Endpoint, Memory, Protocol};
-use std::alloc::Global;
+use std::alloc::{AllocError, Global};
+use std::collections::BTreeMap;
 use std::marker::Model;
 
 /// Ties, seen as the range of local ports and the list of ties in the order made. Each call but
@@ -118,19 +120,24 @@ impl TieTable {
     {
         let before = self.kept.leases.len();
         drop_over(&mut self.kept, &mut self.pool, now_ms);
-        before - self.kept.leases.len()
+        before.saturating_sub(self.kept.leases.len())
     }
 
     /// The ties, in the order made. The one error is want of memory.
     pub fn list(&self, alloc: Global) -> Result<Vec<Tie>, Memory>
         ensures { IfOk result (λ list. list.items ≡ map (λ t. t.tie) self.now.each) }
     {
-        Ok(
-            self.kept
-                .leases
-                .values()
-                .map(|tied| tied.tie)
-                .collect(alloc)?,
-        )
+        Ok(ties_in(alloc, &self.kept.leases)?)
     }
+}
+
+/// The ties, in the order of their numbers.
+fn ties_in(alloc: Global, ties: &BTreeMap<u64, Tied>) -> Result<Vec<Tie>, AllocError>
+    ensures { IfOk result (λ list. list.items ≡ map (λ t. t.tie) (values ties.now)) }
+{
+    let mut list = Vec::new(alloc);
+    for tied in ties.values() {
+        list.push(tied.tie)?;
+    }
+    Ok(list)
 }

@@ -1,0 +1,4 @@
+pub mod Deeds
+pub mod RunLemmas
+pub mod TieFacts
+pub mod VerdictLemmas

@@ -1,0 +1,250 @@
+-- A table of ties, seen from outside, after a step.
+use Rattle.std.proofs.Common.{◌≡◌, ℕ, ◌<◌, ◌≤◌, ◌&&◌, nat_le, nat_lt, Bool, true, false, not, cond, List, [], ◌∷◌, ◌++◌, length, filter, Some, None, IsSome, Result, Ok, Err, OnOk, OnErr, refl, sym, ap, ◌∙◌, subst, arith}
+use Rattle.std.specs.List.{AllByRecursion, AllZip, list_any}
+use Rattle.std.specs.Ordering.{nat_cmp}
+use Rattle.std.specs.BTreeMap.{get, values}
+use Rattle.std.proofs.lemmas.Bool.{and_parts, leb-true, not-true}
+use Rattle.std.proofs.lemmas.Bool.Decides.{nat_tests}
+use Rattle.pcp_base.specs.declared.leases.Endpoint.{Endpoint}
+use Rattle.pcp_base.specs.declared.leases.Protocol.{Protocol}
+use Rattle.pcp_base.specs.declared.leases.Protocol.TheVariants.{Tcp, Udp}
+use Rattle.pcp_base.proofs.Members.{All-weaker, EachTwo-push, filter-all, find-none}
+use Rattle.external_pool.specs.declared.uses.Use.TheVariants.{Free, Held}
+use Rattle.external_pool.specs.Calls.{MayHold, MayRelease}
+use Rattle.external_pool.specs.Holdings.{Holdings, fresh_pool, use_of, with_use}
+use Rattle.external_pool.proofs.Counted.{count-all_free, fresh-whole}
+use Rattle.external_pool.proofs.Painted.{use_at-all_free}
+use Rattle.ordered_index.specs.declared.numbered.Numbered.{Numbered}
+use Rattle.ordered_index.specs.Ended.{IsOneEnded}
+use Rattle.ordered_index.specs.Orders.{Place, place_of, port_at, place_cmp, port_cmp}
+use Rattle.ordered_index.specs.Steps.{Appends, Replaces, Forgets, Stays, IsBlank}
+use Rattle.ordered_index.proofs.Endings.{one-stands, one-none}
+use Rattle.ordered_index.proofs.Entries.{All-at}
+use Rattle.ordered_index.proofs.EntryLaws.{none_some, some_one}
+use Rattle.ordered_index.proofs.Keeping.{IsTakenOut, blank-kept, blank-values, none-found, none-gone, number-has, one-found, same-values}
+use Rattle.cascade_ties.specs.declared.ties.Tied.{Tied}
+use Rattle.cascade_ties.specs.Kept.{HasLocal, IsTiePool, IsTieTable, place_of_tie, port_of_tie, tie_keying, ties_of}
+use Rattle.cascade_ties.specs.Ties.{AreOtherTies, MakesTies, MayChange, MayTie, Ties, TiesDiffer, has_client, has_local, is_over, still, tie_of, with_change, with_tie, without}
+use Rattle.cascade_ties.proofs.OneLemmas.{filter-out, fewer-out, find-append, none-out}
+use Rattle.cascade_ties.proofs.PoolKeeping.{high_stays, low_stays, may_hold, may_release, put_pool, take_pool, zip_pool}
+use Rattle.cascade_ties.proofs.TieKeeping.{IsSameTie, appended_ties, apart_from, client_free, client_is, is_taken, local_free, once_client, replaced_ties, replaced_zip, taken_ties, tells_client, tie_appended, tie_laws, tie_replaced, tie_stays}
+
+abbrev Numbers : Type 0
+Numbers = Numbered Tied Place (ℕ × ℕ)
+
+-- what is seen of a table, by its parts
+seen : (new old : Holdings) (us ts : List Tied) → new.tcp.low ≡ old.tcp.low → new.tcp.high ≡ old.tcp.high → us ≡ ts → ties_of new us ≡ ties_of old ts
+seen new old us ts l h t = λ i. record { low = l i; high = h i; each = t i }
+
+filter_push : (p : Tied → Bool) (ts : List Tied) (t : Tied) → filter p ts ≡ ts → p t ≡ false → AllByRecursion (λ x. p x ≡ true) ts → filter p (ts ++ t ∷ []) ≡ ts
+filter_push p [] t h out all = ap (λ b. cond b (t ∷ []) []) out
+filter_push p (x ∷ xs) t h out all =
+    ap (λ b. cond b (x ∷ filter p (xs ++ t ∷ [])) (filter p (xs ++ t ∷ []))) all.0
+    ∙ ap (λ zs. x ∷ zs) (filter_push p xs t (filter-all p xs all.1) out all.1)
+
+module _ (it : Numbers) (pool : Holdings) (h : IsTieTable it pool) where
+  abbrev ts : List Tied
+  ts = values it.leases
+
+  -- ---- one goes
+  module _ (e : Endpoint) where
+    pub none_taken : get place_cmp it.keys (place_of e) ≡ None → ties_of pool ts ≡ without (ties_of pool ts) e
+    none_taken free = ap (ties_of pool) (none-gone tie_keying tie_laws it h.ties.kept (has_client e) (place_of e) (tells_client e) free)
+
+    pub number_there : (n : ℕ) → get place_cmp it.keys (place_of e) ≡ Some n → IsSome (get nat_cmp it.leases n)
+    number_there n number = number-has tie_keying tie_laws it h.ties.kept (place_of e) n number
+
+    module _ (n : ℕ) (x : Tied) (number : get place_cmp it.keys (place_of e) ≡ Some n) (at_n : get nat_cmp it.leases n ≡ Some x) where
+      is_of : x.tie.client ≡ e
+      is_of = client_is it h.ties e n x number at_n
+
+      pub found_at : tie_of e ts ≡ Some x
+      found_at = sym (one-found tie_keying tie_laws it h.ties.kept (has_client e) (place_of e) (tells_client e) n x at_n (ap place_of is_of))
+
+      local_at : HasLocal x
+      local_at = All-at HasLocal it.leases.entries n x h.ties.locals at_n
+
+      pub may_free : MayRelease pool e.address e.protocol x.tie.local 1
+      may_free = subst (λ (z : Endpoint). MayRelease pool z.address z.protocol x.tie.local 1) is_of (may_release pool ts h.pool h.ties.differ e x found_at local_at)
+
+      module _ (new : Numbers) (after : Holdings) (forgets : Forgets place_cmp port_cmp it new n (place_of e) (port_at e.protocol x.tie.local) x.tie.until_ms)
+          (freed : after ≡ with_use e.protocol x.tie.local 1 Free pool) where
+        out : IsTakenOut tie_keying (has_client e) x it new
+        out = is_taken it h.ties e n x number at_n new forgets
+
+        pool_taken : IsTiePool (with_use e.protocol x.tie.local 1 Free pool) (filter (λ t. not (has_client e t)) ts)
+        pool_taken = subst (λ (z : Endpoint). IsTiePool (with_use z.protocol x.tie.local 1 Free pool) (filter (λ t. not (has_client e t)) ts)) is_of
+            (take_pool pool ts h.pool h.ties.differ e x found_at local_at)
+
+        pub taken_table : IsTieTable new after
+        taken_table = record {
+          ties = taken_ties it h.ties e n x number at_n new out;
+          pool = subst (λ (p : Holdings). IsTiePool p (values new.leases)) (sym freed) (subst (IsTiePool (with_use e.protocol x.tie.local 1 Free pool)) (sym out.gone) pool_taken);
+        }
+
+        pub taken_seen : ties_of after (values new.leases) ≡ without (ties_of pool ts) e
+        taken_seen = seen after pool (values new.leases) (filter (λ t. not (has_client e t)) ts)
+            (ap (λ (p : Holdings). p.tcp.low) freed ∙ low_stays e.protocol x.tie.local 1 Free pool)
+            (ap (λ (p : Holdings). p.tcp.high) freed ∙ high_stays e.protocol x.tie.local 1 Free pool) out.gone
+
+  -- ---- one comes
+  module _ (t : Tied) (may : MayTie (ties_of pool ts) t) where
+    none_there : tie_of t.tie.client ts ≡ None
+    none_there = may.client
+
+    parts : (nat_le pool.tcp.low t.tie.local && nat_le t.tie.local pool.tcp.high ≡ true) × (not (list_any (has_local t.tie.client.protocol t.tie.local) ts) ≡ true)
+    parts = and_parts _ _ may.local
+
+    vacant : list_any (has_local t.tie.client.protocol t.tie.local) ts ≡ false
+    vacant = not-true _ parts.1
+
+    pub local_there : HasLocal t
+    local_there =
+        let range = and_parts _ _ parts.0 in
+        let low = leb-true pool.tcp.low t.tie.local range.0 in
+        let high = leb-true t.tie.local pool.tcp.high range.1 in
+        let some = h.pool.some in
+        let top = h.pool.top in
+        record { from = omega (arith, low, some); to = omega (arith, high, top) }
+
+    pub may_be_held : MayHold pool t.tie.client.protocol t.tie.local 1
+    may_be_held = may_hold pool ts h.pool t vacant local_there
+
+    pub key_free : get place_cmp it.keys (place_of_tie t) ≡ None
+    key_free = client_free it h.ties t.tie.client none_there
+
+    pub port_free : get port_cmp it.ports (port_of_tie t) ≡ None
+    port_free = local_free it h.ties t.tie.client.protocol t.tie.local vacant
+
+    abbrev held : Holdings
+    held = with_use t.tie.client.protocol t.tie.local 1 (Held t.tie.client.address) pool
+
+    pool_put : IsTiePool held (ts ++ t ∷ [])
+    pool_put = put_pool pool ts h.pool t vacant local_there
+
+    module _ (new : Numbers) (after : Holdings) (holds : after ≡ held) where
+      pub put_table : Appends place_cmp port_cmp it new t (place_of_tie t) (port_of_tie t) t.tie.until_ms → IsTieTable new after
+      put_table appends = record {
+        ties = appended_ties it h.ties t none_there vacant new appends local_there;
+        pool = subst (λ (p : Holdings). IsTiePool p (values new.leases)) (sym holds) (subst (IsTiePool held) (sym (tie_appended it h.ties t none_there vacant new appends)) pool_put);
+      }
+
+      pub put_seen : Appends place_cmp port_cmp it new t (place_of_tie t) (port_of_tie t) t.tie.until_ms → ties_of after (values new.leases) ≡ with_tie (ties_of pool ts) t
+      put_seen appends = seen after pool (values new.leases) (ts ++ t ∷ [])
+          (ap (λ (p : Holdings). p.tcp.low) holds ∙ low_stays t.tie.client.protocol t.tie.local 1 (Held t.tie.client.address) pool)
+          (ap (λ (p : Holdings). p.tcp.high) holds ∙ high_stays t.tie.client.protocol t.tie.local 1 (Held t.tie.client.address) pool)
+          (tie_appended it h.ties t none_there vacant new appends)
+
+      -- or was given back
+      itself : has_client t.tie.client t ≡ true
+      itself = (tells_client t.tie.client).from t refl
+
+      others_stay : filter (λ x. not (has_client t.tie.client x)) (ts ++ t ∷ []) ≡ ts
+      others_stay =
+          let none = find-none (has_client t.tie.client) ts none_there in
+          let all : AllByRecursion (λ x. not (has_client t.tie.client x) ≡ true) ts = All-weaker (λ x. has_client t.tie.client x ≡ false) (λ x. not (has_client t.tie.client x) ≡ true) (λ x e. ap not e) ts none in
+          filter_push (λ x. not (has_client t.tie.client x)) ts t (none-out (has_client t.tie.client) ts none) (ap not itself) all
+
+      differ_push : TiesDiffer (ts ++ t ∷ [])
+      differ_push = EachTwo-push AreOtherTies ts t h.ties.differ (apart_from it h.ties t none_there vacant)
+
+      found_last : tie_of t.tie.client (ts ++ t ∷ []) ≡ Some t
+      found_last = find-append (has_client t.tie.client) ts t none_there ∙ ap (λ b. cond b (Some t) None) itself
+
+      pub back_table : (last : Holdings) → Stays it new → last ≡ with_use t.tie.client.protocol t.tie.local 1 Free after → IsTieTable new last
+      back_table last stays freed = record {
+        ties = tie_stays it h.ties new stays;
+        pool = subst (IsTiePool last) (sym (same-values tie_keying tie_laws it h.ties.kept new stays))
+            (subst (λ (p : Holdings). IsTiePool p ts) (sym (freed ∙ ap (with_use t.tie.client.protocol t.tie.local 1 Free) holds))
+            (subst (IsTiePool (with_use t.tie.client.protocol t.tie.local 1 Free held)) others_stay (take_pool held (ts ++ t ∷ []) pool_put differ_push t.tie.client t found_last local_there)));
+      }
+
+  -- ---- one is changed
+  module _ (t : Tied) (may : MayChange (ties_of pool ts) t) where
+    pub none_clash : get place_cmp it.keys (place_of_tie t) ≡ None → ⊥
+    none_clash free = none_some (tie_of t.tie.client ts) may.old (sym (none-found tie_keying tie_laws it h.ties.kept (has_client t.tie.client) (place_of t.tie.client) (tells_client t.tie.client) free)) may.client
+
+    module _ (n : ℕ) (x : Tied) (number : get place_cmp it.keys (place_of_tie t) ≡ Some n) (at_n : get nat_cmp it.leases n ≡ Some x) where
+      same_tie : IsSameTie x t
+      same_tie =
+          let one : x ≡ may.old = some_one (tie_of t.tie.client ts) x may.old (found_at t.tie.client n x number at_n) may.client in
+          record { client = client_is it h.ties t.tie.client n x number at_n; local = ap (λ (z : Tied). z.tie.local) one ∙ may.local }
+
+      module _ (new : Numbers) (replaces : Replaces port_cmp it new n t (port_of_tie t) (port_of_tie t) x.tie.until_ms t.tie.until_ms) where
+        zip : AllZip IsSameTie ts (values new.leases)
+        zip = replaced_zip it h.ties t.tie.client n x number at_n t same_tie new replaces (found_at t.tie.client n x number at_n)
+
+        changed_table : IsTieTable new pool
+        changed_table = record {
+          ties = replaced_ties it h.ties t.tie.client n x number at_n t same_tie new replaces zip;
+          pool = zip_pool pool ts h.pool (values new.leases) zip;
+        }
+
+        changed_seen : ties_of pool (values new.leases) ≡ with_change (ties_of pool ts) t
+        changed_seen = ap (ties_of pool) (tie_replaced it h.ties t.tie.client n x number at_n t same_tie new replaces)
+
+      pub change_table : {X E : Type 0} (new : Numbers) (r : Result X E) → OnOk r (Replaces port_cmp it new n t (port_of_tie t) (port_of_tie t) x.tie.until_ms t.tie.until_ms) → OnErr r (Stays it new) → IsTieTable new pool
+      change_table new (Ok v) ok err = changed_table new ok
+      change_table new (Err e) ok err = record { ties = tie_stays it h.ties new err; pool = subst (IsTiePool pool) (sym (same-values tie_keying tie_laws it h.ties.kept new err)) h.pool }
+
+      pub change_seen : {X E : Type 0} (new : Numbers) (r : Result X E) → OnOk r (Replaces port_cmp it new n t (port_of_tie t) (port_of_tie t) x.tie.until_ms t.tie.until_ms) → OnErr r (Stays it new) →
+          MakesTies (ties_of pool ts) (with_change (ties_of pool ts) t) r (ties_of pool (values new.leases))
+      change_seen new (Ok v) ok err = record { ok = changed_seen new ok; err = tt }
+      change_seen new (Err e) ok err = record { ok = tt; err = ap (ties_of pool) (same-values tie_keying tie_laws it h.ties.kept new err) }
+
+  -- ---- those whose time has come
+  over_is : (m : ℕ) (t : Tied) → is_over m t ≡ not (nat_lt m t.tie.until_ms)
+  over_is m t = grind (arith, nat_tests)
+
+  module _ (m : ℕ) where
+    pub over_there : (n : ℕ) → IsOneEnded m it.expiries (Some n) → IsSome (get nat_cmp it.leases n)
+    over_there n ended = let y = one-stands tie_keying tie_laws it h.ties.kept m n ended in subst IsSome (sym y.1) refl
+
+    module _ (n : ℕ) (x : Tied) (ended : IsOneEnded m it.expiries (Some n)) (at_n : get nat_cmp it.leases n ≡ Some x) where
+      over_at : is_over m x ≡ true
+      over_at =
+          let y = one-stands tie_keying tie_laws it h.ties.kept m n ended in
+          let one : y.0 ≡ x = some_one (get nat_cmp it.leases n) y.0 x y.1 at_n in
+          over_is m x ∙ ap not (ap (λ (z : Tied). nat_lt m z.tie.until_ms) (sym one) ∙ y.2)
+
+      found_over : tie_of x.tie.client ts ≡ Some x
+      found_over = sym (one-found tie_keying tie_laws it h.ties.kept (has_client x.tie.client) (place_of x.tie.client) (tells_client x.tie.client) n x at_n refl)
+
+      pub still_less : (us : Ties) → us ≡ without (ties_of pool ts) x.tie.client → still m us ≡ still m (ties_of pool ts)
+      still_less us is = ap (still m) is ∙ ap (ties_of pool) (filter-out (has_client x.tie.client) x (λ t. not (is_over m t)) ts (once_client x.tie.client ts h.ties.differ) found_over (ap not over_at))
+
+      pub fewer_left : (us : Ties) → us ≡ without (ties_of pool ts) x.tie.client → length us.each < length ts
+      fewer_left us is =
+          let less = fewer-out (has_client x.tie.client) x ts (once_client x.tie.client ts h.ties.differ) found_over in
+          let same = ap (λ (z : Ties). length z.each) is in omega (arith, less, same)
+
+    pub all_still : IsOneEnded m it.expiries None → still m (ties_of pool ts) ≡ ties_of pool ts
+    all_still ended =
+        let none = find-none (λ (t : Tied). not (nat_lt m t.tie.until_ms)) ts (one-none tie_keying tie_laws it h.ties.kept m ended) in
+        ap (ties_of pool) (filter-all (λ t. not (is_over m t)) ts (All-weaker (λ t. not (nat_lt m t.tie.until_ms) ≡ false) (λ t. not (is_over m t) ≡ true)
+        (λ t e. ap not (over_is m t ∙ e)) ts none))
+
+-- ---- a new table
+open_uses : (low high : ℕ) (protocol : Protocol) (port : ℕ) → use_of (fresh_pool low high 64) protocol port ≡ Free
+open_uses low high Tcp port = use_at-all_free 65536 port
+open_uses low high Udp port = use_at-all_free 65536 port
+
+fresh_is : (low high : ℕ) → 1 ≤ low → high ≤ 65535 → IsTiePool (fresh_pool low high 64) []
+fresh_is low high some top = record {
+  quota = refl;
+  low = refl;
+  high = refl;
+  some = some;
+  top = top;
+  whole = fresh-whole low high 64;
+  uses = open_uses low high;
+  counts = λ who. let none = count-all_free who 65536 in omega (arith, none);
+}
+
+pub fresh_table : (it : Numbers) (low high : ℕ) → IsBlank place_cmp port_cmp it → 1 ≤ low → high ≤ 65535 → IsTieTable it (fresh_pool low high 64)
+fresh_table it low high blank some top =
+    let none = blank-values tie_keying it blank in
+    record {
+      ties = record { differ = subst TiesDiffer (sym none) tt; locals = subst (AllByRecursion HasLocal) (sym none) tt; kept = blank-kept tie_keying it blank };
+      pool = subst (IsTiePool (fresh_pool low high 64)) (sym none) (fresh_is low high some top);
+    }
