@@ -1,5 +1,5 @@
 -- What each call did, by the case that decided.
-use Rattle.std.proofs.Common.{◌≡◌, ℕ, ◌-◌, ◌<◌, ◌==◌, nat_le, Bool, true, false, not, cond, List, [], ◌∷◌, length, Option, Some, None, Result, Ok, Err, unwrap_or, refl, sym, ap, ◌∙◌}
+use Rattle.std.proofs.Common.{◌≡◌, ℕ, ◌-◌, ◌==◌, nat_le, Bool, true, false, not, cond, List, length, Option, Some, None, Result, Ok, Err, unwrap_or, refl}
 use Rattle.std.specs.Str.{bytes_eq}
 use Rattle.std.proofs.lemmas.Bool.{not-false}
 use Rattle.pcp_base.specs.declared.asks.Ask.{Ask}
@@ -26,12 +26,11 @@ use Rattle.proxy_core.specs.declared.waits.TheConstants.{WAIT_MS}
 use Rattle.proxy_core.specs.Relays.{response_from}
 use Rattle.cascade_ties.specs.declared.locals.NoLocal.{NoLocal}
 use Rattle.cascade_ties.specs.declared.locals.NoLocal.TheVariants.{Quota, NoPort}
-use Rattle.cascade_ties.specs.declared.ties.Tie.{Tie}
 use Rattle.cascade_ties.specs.declared.ties.Tied.{Tied}
 use Rattle.cascade_ties.specs.declared.ties.Waiting.{Waiting}
 use Rattle.cascade_ties.specs.Ties.{local_for, tie_at, tie_of}
 use Rattle.proxy_cascade.specs.declared.asking.TheConstants.{MOST_TIES}
-use Rattle.proxy_cascade.specs.Cascades.{Cascade, Step, at, for_itself}
+use Rattle.proxy_cascade.specs.Cascades.{Cascade, Step, at, for_itself, told_epoch}
 use Rattle.proxy_cascade.specs.FromClients.{answered, asked, for_again, for_local, for_map, for_new, gone, judged, of_another, on_client, renewed, tied}
 use Rattle.proxy_cascade.specs.FromServers.{announcement, for_body, for_protocol, for_tie, for_tied, for_waiting, heard_from, hearing, is_asked_by, keeps_epoch, on_server, still_waits, unmatched}
 
@@ -98,14 +97,14 @@ pub data ServerDeed (c : Cascade) (d : Datagram) (step : Step (Option Datagram))
   unread : response_from c.server d ≡ None → step ≡ unmatched c → ServerDeed c d step
   unasked : (r : Response) → response_from c.server d ≡ Some r → step ≡ unmatched (hearing c r.epoch) → ServerDeed c d step
   told : (r : Response) → response_from c.server d ≡ Some r → keeps_epoch c.heard r.epoch c.last ≡ false
-      → step ≡ record { cascade = hearing c r.epoch; out = Some (announcement (hearing c r.epoch)) } → ServerDeed c d step
+      → step ≡ record { cascade = hearing c r.epoch; out = Some (announcement (told_epoch (hearing c r.epoch))) } → ServerDeed c d step
   matched : (r : Response) (common : Common) (protocol : Protocol) (t : Tied) (w : Waiting)
       → response_from c.server d ≡ Some r → r.body ≡ Map common → protocol_of common.protocol ≡ Some protocol
       → tie_at protocol common.internal c.ties.each ≡ Some t → t.waiting ≡ Some w → is_asked_by c.key t.tie common.nonce ≡ true
       → step ≡ for_waiting (hearing c r.epoch) r common t.tie w → ServerDeed c d step
 
 -- what still waits did wait
-waited : (now : ℕ) (o : Option Waiting) (w : Waiting) → still_waits now o ≡ Some w → o ≡ Some w
+pub waited : (now : ℕ) (o : Option Waiting) (w : Waiting) → still_waits now o ≡ Some w → o ≡ Some w
 waited now None w h = absurd cc
 waited now (Some v) w h = step (nat_le (now - v.since_ms) WAIT_MS) h
   where
@@ -137,7 +136,7 @@ module _ (c : Cascade) (d : Datagram) (r : Response) (read : response_from c.ser
   deed-body : (body : Body) → r.body ≡ body → ServerDeed c d (for_body here r (keeps_epoch c.heard r.epoch c.last) body)
   deed-body Announce is = step (keeps_epoch c.heard r.epoch c.last) refl
     where
-      step : (b : Bool) → keeps_epoch c.heard r.epoch c.last ≡ b → ServerDeed c d (record { cascade = here; out = cond b None (Some (announcement here)) })
+      step : (b : Bool) → keeps_epoch c.heard r.epoch c.last ≡ b → ServerDeed c d (record { cascade = here; out = cond b None (Some (announcement (told_epoch here))) })
       step true e = unasked r read refl
       step false e = told r read e refl
   deed-body (Map common) is = deed-protocol common is (protocol_of common.protocol) refl

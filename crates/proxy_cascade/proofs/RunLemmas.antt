@@ -1,5 +1,5 @@
 -- What a cascade keeps, whatever comes to it, and what it sends.
-use Rattle.std.proofs.Common.{◌≡◌, ℕ, ◌+◌, ◌-◌, ◌*◌, ◌/◌, ◌^◌, ◌==◌, ◌<◌, max, min, Bool, true, false, not, cond, List, [], ◌∷◌, ◌++◌, filter, Option, Some, None, refl, sym, ap, ◌∙◌, subst, append_assoc, append-nil, arith}
+use Rattle.std.proofs.Common.{◌≡◌, ℕ, ◌-◌, ◌/◌, ◌^◌, ◌==◌, max, min, Bool, true, false, not, cond, List, [], ◌∷◌, ◌++◌, Option, Some, None, refl, sym, ap, ◌∙◌, subst, append_assoc, append-nil, arith}
 use Rattle.std.specs.Prelude.{⊤}
 use Rattle.std.specs.List.{AllByRecursion}
 use Rattle.std.proofs.lemmas.Bool.{and_parts, eqb-true}
@@ -14,7 +14,6 @@ use Rattle.pcp_base.specs.declared.leases.Endpoint.{Endpoint}
 use Rattle.pcp_base.specs.declared.leases.Protocol.{Protocol}
 use Rattle.pcp_base.specs.Pairing.{v4_octets}
 use Rattle.pcp_base.specs.Protocols.{protocol_of}
-use Rattle.pcp_base.specs.Tables.{put}
 use Rattle.pcp_base.proofs.Members.{All-IsIn, All-filter, All-push, All-weaker, find-some}
 use Rattle.pcp_base.proofs.Puts.{put_All}
 use Rattle.pcp_base.proofs.Same.{same_protocol-Decides}
@@ -39,12 +38,12 @@ use Rattle.cascade_ties.specs.declared.ties.Tied.{Tied}
 use Rattle.cascade_ties.specs.declared.ties.Waiting.{Waiting}
 use Rattle.cascade_ties.specs.Ties.{Ties, TiesDiffer, has_client, has_local, is_over, tie_at, tie_of, with_change, without}
 use Rattle.cascade_ties.proofs.TieKeeping.{IsSameTie}
-use Rattle.proxy_cascade.specs.Cascades.{Cascade, Step, at, for_itself, new_cascade, told_epoch}
-use Rattle.proxy_cascade.specs.FromClients.{answered, asked_again, gone, lease_text, new_tie, on_client, renewed, repeated, tied, tied_with, up_text, waiting_of}
-use Rattle.proxy_cascade.specs.FromServers.{announcement, ended, for_waiting, granted, hearing, is_asked_by, keeps_epoch, on_server, text_after, ties_after, told_lifetime, unmatched}
-use Rattle.proxy_cascade.specs.Laws.{AnswersTie, Beginning, IsAnnouncement, IsOwnReply, IsOwnText, IsSent, IsToldDeletion, IsToldError, IsToldLease, RepliesAreOwn, SentIsTold, TiesAlwaysDiffer, WentUp, begun, to_asker}
-use Rattle.proxy_cascade.specs.Laws.IsOwnText as Own
-use Rattle.proxy_cascade.specs.Laws.IsSent as Sent
+use Rattle.proxy_cascade.specs.Cascades.{Cascade, Step, at, for_itself, told_epoch}
+use Rattle.proxy_cascade.specs.FromClients.{asked_again, lease_text, new_tie, on_client, renewed, repeated, tied, tied_with, up_text, waiting_of}
+use Rattle.proxy_cascade.specs.FromServers.{announcement, ended, for_waiting, granted, hearing, is_asked_by, keeps_epoch, on_server, text_after, ties_after, told_lifetime}
+use Rattle.proxy_cascade.specs.Laws.{AnswersTie, Beginning, IsOwnReply, IsOwnText, IsSent, RepliesAreOwn, SentIsTold, TiesAlwaysDiffer, WentUp, begun, to_asker}
+use Rattle.proxy_cascade.specs.Laws.IsOwnText.{refused as own_refused, announced as own_announced, gone as own_gone}
+use Rattle.proxy_cascade.specs.Laws.IsSent.{lease as sent_lease, deletion as sent_deletion, error as sent_error, announcement as sent_announcement}
 use Rattle.proxy_cascade.specs.Runs.{epoch_after, epoch_by, epoch_in, epochs_heard, last_loss, moment_after, moment_of, next, run}
 use Rattle.proxy_cascade.proofs.Deeds.{ClientDeed, ServerDeed, client-deed, server-deed}
 use Rattle.proxy_cascade.proofs.Deeds.ClientDeed.{silent, refused, announced, deleted, again, new}
@@ -397,7 +396,7 @@ module _ (b : Beginning) (events : List Event) (d : Datagram) (now : ℕ) (sent 
         ∙ ap (λ (e : Endpoint). upstream_nonce b.key e.address t.tie.nonce) s.client
         ∙ ap (upstream_nonce b.key s.ask.endpoint.address) s.nonce
 
-    triple : AnswersTie b events d now
+    abbrev triple : AnswersTie b events d now
     triple = record {
       response = r;
       read = ap (λ (a : Address). response_from a d) (sym (server-run (begun b) events)) ∙ read;
@@ -436,23 +435,27 @@ module _ (b : Beginning) (events : List Event) (d : Datagram) (now : ℕ) (sent 
     suggested_is = ap (λ (v : Waiting). lease_text s.ask.endpoint s.ask.nonce 0 epoch v.suggested v.address (repeated s.items)) s.waits
 
     sent-by : (e : ℕ) → e ≡ epoch → (success none : Bool) → is_success r.code ≡ success → (r.lifetime == 0) ≡ none →
-        sent ≡ record { peer = t.tie.client.address; port = w.port; octets = cond success
-        (cond none (lease_text t.tie.client t.tie.nonce 0 e w.suggested w.address w.items)
-        (lease_text t.tie.client t.tie.nonce (told_lifetime r.lifetime) e common.external common.address w.items))
-        (relayed_text w.request r.code r.lifetime e) } → IsSent b events d now epoch sent
-    sent-by e same true true success none is = Sent.deletion (record {
+        sent ≡ record {
+          peer = t.tie.client.address;
+          port = w.port;
+          octets = cond success
+              (cond none (lease_text t.tie.client t.tie.nonce 0 e w.suggested w.address w.items)
+              (lease_text t.tie.client t.tie.nonce (told_lifetime r.lifetime) e common.external common.address w.items))
+              (relayed_text w.request r.code r.lifetime e);
+        } → IsSent b events d now epoch sent
+    sent-by e same true true success none is = sent_deletion (record {
       triple = triple;
       success = success;
       over = eqb-true r.lifetime 0 none;
       told = is ∙ to_it _ _ (lease_is 0 e w.suggested w.address same ∙ suggested_is);
     })
-    sent-by e same true false success some is = Sent.lease (record {
+    sent-by e same true false success some is = sent_lease (record {
       triple = triple;
       success = success;
       lasts = grind (arith, nat_tests, some);
       told = is ∙ to_it _ _ (lease_is (told_lifetime r.lifetime) e common.external common.address same);
     })
-    sent-by e same false none fails z is = Sent.error (record {
+    sent-by e same false none fails z is = sent_error (record {
       triple = triple;
       fails = fails;
       told = is ∙ to_it _ _ (ap (λ (n : ℕ). relayed_text w.request r.code r.lifetime n) same ∙ ap (λ (v : Waiting). relayed_text v.request r.code r.lifetime epoch) s.waits);
@@ -465,10 +468,10 @@ module _ (b : Beginning) (events : List Event) (d : Datagram) (now : ℕ) (sent 
   sent-step s same (unread read is) out = absurd (let no : None ≡ Some sent = sym (ap (λ (z : Step (Option Datagram)). z.out) is) ∙ out in cc)
   sent-step s same (unasked r read is) out = absurd (let no : None ≡ Some sent = sym (ap (λ (z : Step (Option Datagram)). z.out) is) ∙ out in cc)
   sent-step s same (told r read lost is) out =
-      let told_out : Some (announcement (hearing here r.epoch)) ≡ Some sent = sym (ap (λ (z : Step (Option Datagram)). z.out) is) ∙ out in
-      let sent_is : announcement (hearing here r.epoch) ≡ sent = cc in
+      let told_out : Some (announcement (told_epoch (hearing here r.epoch))) ≡ Some sent = sym (ap (λ (z : Step (Option Datagram)). z.out) is) ∙ out in
+      let sent_is : announcement (told_epoch (hearing here r.epoch)) ≡ sent = cc in
       let now_epoch : told_epoch (hearing here r.epoch) ≡ epoch = epoch-here s r same (ap (λ (z : Step (Option Datagram)). z.cascade.base) is) (ap (λ (z : Step (Option Datagram)). z.cascade.last) is) in
-      Sent.announcement (
+      sent_announcement (
         sym now_epoch ∙ epoch-anew here r.epoch lost,
         sym sent_is ∙ ap (λ (n : ℕ). record {
           peer = record { 0 = v4_octets 224 0 0 1 };
@@ -477,8 +480,8 @@ module _ (b : Beginning) (events : List Event) (d : Datagram) (now : ℕ) (sent 
         }) now_epoch,
       )
   sent-step s same (matched r common protocol t w read body of found waits nonce is) out =
-      let told_out : Some (record { peer = t.tie.client.address; port = w.port; octets = text_after (hearing here r.epoch) r common t.tie w }) ≡ Some sent = sym (ap (λ (z : Step (Option Datagram)). z.out) is) ∙ out in
-      let sent_is : record { peer = t.tie.client.address; port = w.port; octets = text_after (hearing here r.epoch) r common t.tie w } ≡ sent = cc in
+      let told_out : Some (record { peer = t.tie.client.address; port = w.port; octets = text_after (told_epoch (hearing here r.epoch)) r common t.tie w }) ≡ Some sent = sym (ap (λ (z : Step (Option Datagram)). z.out) is) ∙ out in
+      let sent_is : record { peer = t.tie.client.address; port = w.port; octets = text_after (told_epoch (hearing here r.epoch)) r common t.tie w } ≡ sent = cc in
       let now_epoch : told_epoch (hearing here r.epoch) ≡ epoch = epoch-here s r same (ap (λ (z : Step (Option Datagram)). z.cascade.base) is) (ap (λ (z : Step (Option Datagram)). z.cascade.last) is) in
       let stood : StandsBy b events t.tie t.waiting = All-IsIn (Stands b events) here.ties.each t stands-here (find-some (has_local protocol common.internal) here.ties.each t found).0 in
       let asked_it : IsAsked b events t.tie w = subst (StandsBy b events t.tie) waits stood in
@@ -512,9 +515,9 @@ module _ (b : Beginning) (events : List Event) (d : Datagram) (now : ℕ) (sent 
 
   own-step : (s : Step ProxyOut) → on_client (run (begun b) events) d now ≡ s → ClientDeed owner d s → s.out ≡ Reply sent → IsOwnReply d own_epoch sent
   own-step s same (silent is) out = absurd (let no = sym (ap (λ (z : Step ProxyOut). z.out) is) ∙ out in cc)
-  own-step s same (refused refusal is) out = own-reply s (λ n. reply_text d.octets [] (Refused refusal) n) same is out (Own.refused refusal refl)
-  own-step s same (announced is) out = own-reply s (λ n. reply_text d.octets [] Announced n) same is out (Own.announced refl)
-  own-step s same (deleted ask items is) out = own-reply s (λ n. lease_text ask.endpoint ask.nonce 0 n ask.port ask.address (repeated items)) same is out (Own.gone ask (repeated items) refl)
+  own-step s same (refused refusal is) out = own-reply s (λ n. reply_text d.octets [] (Refused refusal) n) same is out (own_refused refusal refl)
+  own-step s same (announced is) out = own-reply s (λ n. reply_text d.octets [] Announced n) same is out (own_announced refl)
+  own-step s same (deleted ask items is) out = own-reply s (λ n. lease_text ask.endpoint ask.nonce 0 n ask.port ask.address (repeated items)) same is out (own_gone ask (repeated items) refl)
   own-step s same (again place ask items t v found nonce is) out = absurd (let no = sym (ap (λ (z : Step ProxyOut). z.out) is) ∙ out in cc)
   own-step s same (new place ask items local v none given is) out = absurd (let no = sym (ap (λ (z : Step ProxyOut). z.out) is) ∙ out in cc)
 

@@ -6,7 +6,7 @@ use Rattle.pcp_base.specs.declared.asks.Ask.TheVariants as Asks
 use Rattle.pcp_base.specs.declared.asks.MapAsk.{MapAsk}
 use Rattle.pcp_base.specs.declared.asks.Refusal.{Refusal}
 use Rattle.pcp_base.specs.declared.codes.Code.{Code}
-use Rattle.pcp_base.specs.declared.leases.Filter as Filters
+use Rattle.pcp_base.specs.declared.codes.Code.TheVariants.{MalformedRequest}
 use Rattle.pcp_base.specs.declared.leases.Protocol.{Protocol}
 use Rattle.pcp_base.specs.Cases.{Case, first_case}
 use Rattle.pcp_base.specs.Pairing.{place_of}
@@ -14,13 +14,11 @@ use Rattle.pcp_base.specs.Protocols.{protocol_of}
 use Rattle.pcp_codec.specs.declared.requests.Body.{Body}
 use Rattle.pcp_codec.specs.declared.requests.Body.TheVariants.{Announce, Map, Peer}
 use Rattle.pcp_codec.specs.declared.requests.Common.{Common}
-use Rattle.pcp_codec.specs.declared.requests.Frame.{Frame}
 use Rattle.pcp_codec.specs.Framing.{frame_steps, is_silent}
 use Rattle.pcp_codec.specs.Requests.{frame_of}
 use Rattle.pcp_options.specs.declared.options.Item.{Item}
-use Rattle.pcp_options.specs.declared.options.Seen.{Seen}
-use Rattle.pcp_options.specs.declared.verdicts.Verdict.TheVariants.{Silent, Refuse, Asked}
-use Rattle.pcp_options.specs.Asking.{ask_by, ask_of, endpoint_by, endpoint_of, map_ask, peer_ask, seen_of, filters_of, subject_of, third_of}
+use Rattle.pcp_options.specs.declared.verdicts.Verdict.TheVariants.{Silent, Asked}
+use Rattle.pcp_options.specs.Asking.{ask_by, ask_of, endpoint_by, map_ask, peer_ask, prefers, seen_of, set_of, filters_of, subject_of, third_of}
 use Rattle.pcp_options.specs.Options.{items_of}
 use Rattle.pcp_options.specs.Steps.{options_steps}
 use Rattle.pcp_options.specs.Verdicts.{asked_by, asked_for, later_steps, options_in, request_steps, third_steps, verdict_by, verdict_of}
@@ -41,12 +39,12 @@ no-third source None h = refl
 no-third source (Some third) h = absurd cc
 
 -- the endpoint that is asked for has the address
-module _ (address : Address) (lifetime : ℕ) (seen : Seen) (filters : List Filters.Filter) (ask : MapAsk) where
-  at-endpoint : (c : Common) (p : Option Protocol) → map_ask lifetime c seen filters (endpoint_by address c.internal p) ≡ Ok (Asks.Map ask) → ask.endpoint.address ≡ address
+module _ (address : Address) (lifetime : ℕ) (its : List Item) (ask : MapAsk) where
+  at-endpoint : (c : Common) (p : Option Protocol) → map_ask lifetime c (seen_of its) (filters_of its) (endpoint_by address c.internal p) ≡ Ok (Asks.Map ask) → ask.endpoint.address ≡ address
   at-endpoint c None h = absurd cc
   at-endpoint c (Some protocol) h = step (c.internal == 0) h
     where
-      step : (b : Bool) → map_ask lifetime c seen filters (cond b None (Some (record { address = address; protocol = protocol; port = c.internal }))) ≡ Ok (Asks.Map ask) → ask.endpoint.address ≡ address
+      step : (b : Bool) → map_ask lifetime c (seen_of its) (filters_of its) (cond b None (Some (record { address = address; protocol = protocol; port = c.internal }))) ≡ Ok (Asks.Map ask) → ask.endpoint.address ≡ address
       step true k = absurd cc
       step false k =
           let same : record {
@@ -55,9 +53,9 @@ module _ (address : Address) (lifetime : ℕ) (seen : Seen) (filters : List Filt
             lifetime = lifetime;
             port = c.external;
             address = c.address;
-            prefer = seen.prefers;
-            set = seen.set;
-            filters = filters;
+            prefer = prefers its;
+            set = set_of its;
+            filters = filters_of its;
           } ≡ ask = cc in
           sym (ap (λ (a : MapAsk). a.endpoint.address) same)
 
@@ -65,7 +63,7 @@ module _ (address : Address) (lifetime : ℕ) (seen : Seen) (filters : List Filt
   peer-fails c port remote None h = absurd cc
   peer-fails c port remote (Some protocol) h = step (c.internal == 0) h
     where
-      here : (b : Bool) → cond {A = Result Ask Code} b (Err Rattle.pcp_base.specs.declared.codes.Code.TheVariants.MalformedRequest) (Ok (Asks.Peer (record {
+      here : (b : Bool) → cond {A = Result Ask Code} b (Err MalformedRequest) (Ok (Asks.Peer (record {
         endpoint = record { address = address; protocol = protocol; port = c.internal };
         nonce = c.nonce;
         lifetime = lifetime;
@@ -81,7 +79,7 @@ module _ (address : Address) (lifetime : ℕ) (seen : Seen) (filters : List Filt
       step true k = absurd cc
       step false k = here (port == 0) k
 
-  of-body : (body : Body) → ask_by address lifetime body seen filters ≡ Ok (Asks.Map ask) → ask.endpoint.address ≡ address
+  of-body : (body : Body) → ask_by address lifetime body (seen_of its) (filters_of its) ≡ Ok (Asks.Map ask) → ask.endpoint.address ≡ address
   of-body Announce h = absurd cc
   of-body (Map c) h = at-endpoint c (protocol_of c.protocol) h
   of-body (Peer c port remote) h = peer-fails c port remote (protocol_of c.protocol) h
@@ -100,7 +98,7 @@ module _ (source : Address) (message : List ℕ) (place : ℕ) (ask : MapAsk) (i
   asks third none h =
       let there : asked_for for_itself (frame_of message) found source ≡ Asked place (Asks.Map ask) items = sym (ap (λ (o : Option Address). asked_for for_itself (frame_of message) found (subject_of source o)) none) ∙ h in
       of-verdict source (ask_of source (frame_of message) found) (place_of for_itself.subscribers source) found items place ask
-      (of-body source (frame_of message).lifetime (seen_of found) (filters_of found) ask (frame_of message).body) there
+      (of-body source (frame_of message).lifetime found ask (frame_of message).body) there
 
   by_refused : (o : Option Refusal) → first_case (request_steps for_itself source message) ≡ o → verdict_by for_itself source (frame_of message) found o ≡ Asked place (Asks.Map ask) items → ask.endpoint.address ≡ source
   by_refused (Some r) is h = absurd cc

@@ -1,6 +1,6 @@
 -- What a datagram from upstream makes of a cascade, and what is sent for it (RFC 6887, sections 8.3,
 -- 8.5 and 11.4, and RFC 7648 in role; the rules are our own).
-use Rattle.std.specs.Prelude.{ℕ, ◌+◌, ◌-◌, ◌*◌, ◌/◌, ◌==◌, ◌&&◌, nat_le, min, bytes_eq, Bool, true, false, List, [], Option, Some, None, if◌then◌else◌}
+use Rattle.std.specs.Prelude.{ℕ, ◌+◌, ◌-◌, ◌*◌, ◌/◌, ◌==◌, nat_le, min, bytes_eq, Bool, true, List, [], Option, Some, None, if◌then◌else◌}
 use Rattle.std.specs.Option.{option_map}
 use Rattle.pcp_base.specs.declared.addresses.Nonce.{Nonce}
 use Rattle.pcp_base.specs.declared.datagrams.Datagram.{Datagram}
@@ -49,11 +49,11 @@ hearing c epoch = record c {
 -- ---- ANNOUNCE
 
 -- all clients are told that epochs began anew (RFC 6887, section 14.1)
-abbrev pub announcement : Cascade → Datagram
-announcement c = record {
+abbrev pub announcement : ℕ → Datagram
+announcement epoch = record {
   peer = record { 0 = v4_octets 224 0 0 1 };
   port = CLIENTS_PORT;
-  octets = success_text 0 (told_epoch c) Announce [];
+  octets = success_text 0 epoch Announce [];
 }
 
 -- ---- MAP
@@ -89,16 +89,19 @@ ties_after now r common tie ts =
     else with_change ts (ended (granted tie common (told_lifetime r.lifetime) now)))
     else (if tie.granted then with_change ts (ended tie) else without ts tie.client)
 
--- What the client is told: the upstream external port and address, or with lifetime 0 its
--- suggestion; or the upstream error.
-abbrev pub text_after : Cascade → Response → Common → Tie → Waiting → List ℕ
-text_after c r common tie w =
-    if is_success r.code
-    then (if r.lifetime == 0
-    then lease_text tie.client tie.nonce 0 (told_epoch c) w.suggested w.address w.items
-    else lease_text tie.client tie.nonce (told_lifetime r.lifetime) (told_epoch c)
-    common.external common.address w.items)
-    else relayed_text w.request r.code r.lifetime (told_epoch c)
+-- a success: the upstream external port and address, or with lifetime 0 the client's suggestion
+abbrev pub lease_after : ℕ → Response → Common → Tie → Waiting → List ℕ
+lease_after epoch r common tie w =
+    if r.lifetime == 0
+    then lease_text tie.client tie.nonce 0 epoch w.suggested w.address w.items
+    else lease_text tie.client tie.nonce (told_lifetime r.lifetime) epoch
+    common.external common.address w.items
+
+-- what the client is told: that success, or the upstream error
+abbrev pub text_after : ℕ → Response → Common → Tie → Waiting → List ℕ
+text_after epoch r common tie w =
+    if is_success r.code then lease_after epoch r common tie w
+    else relayed_text w.request r.code r.lifetime epoch
 
 -- a response ends the wait
 abbrev pub for_waiting : Cascade → Response → Common → Tie → Waiting → Step (Option Datagram)
@@ -107,7 +110,7 @@ for_waiting c r common tie w = record {
   out = Some (record {
     peer = tie.client.address;
     port = w.port;
-    octets = text_after c r common tie w;
+    octets = text_after (told_epoch c) r common tie w;
   });
 }
 
@@ -139,7 +142,7 @@ for_protocol c r common (Some protocol) =
 -- what a response gives, where its epoch was valid or not
 abbrev pub for_body : Cascade → Response → Bool → Body → Step (Option Datagram)
 for_body c r valid Announce =
-    record { cascade = c; out = if valid then None else Some (announcement c) }
+    record { cascade = c; out = if valid then None else Some (announcement (told_epoch c)) }
 for_body c r valid (Map common) = for_protocol c r common (protocol_of common.protocol)
 for_body c r valid (Peer common port remote) = unmatched c
 

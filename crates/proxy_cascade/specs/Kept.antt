@@ -1,12 +1,12 @@
 -- What a cascade keeps (our own; for proofs alone).
-use Rattle.std.specs.Prelude.{◌≡◌, ℕ, ◌<◌, ◌≤◌, ◌*◌, ◌^◌, List, length, Option, Some, None, ⊤}
+use Rattle.std.specs.Prelude.{◌≡◌, ℕ, ◌-◌, ◌<◌, ◌≤◌, ◌*◌, ◌/◌, ◌^◌, min, List, length, Option, Some, None, ⊤}
 use Rattle.std.specs.List.{AllByRecursion}
 use Rattle.pcp_base.specs.declared.leases.Endpoint.{Endpoint}
 use Rattle.pcp_codec.specs.declared.layout.TheConstants.{HEAD_OCTETS}
 use Rattle.cascade_ties.specs.declared.ties.Tie.{Tie}
 use Rattle.cascade_ties.specs.declared.ties.Tied.{Tied}
 use Rattle.cascade_ties.specs.declared.ties.Waiting.{Waiting}
-use Rattle.cascade_ties.specs.Ties.{Ties, tie_of}
+use Rattle.cascade_ties.specs.Ties.{Ties, TiesDiffer, tie_of}
 use Rattle.proxy_cascade.specs.declared.asking.TheConstants.{MOST_TIES}
 use Rattle.proxy_cascade.specs.declared.terms.CascadeTerms.{CascadeTerms}
 use Rattle.proxy_cascade.specs.Cascades.{Cascade}
@@ -16,9 +16,10 @@ abbrev pub HasHead : Option Waiting → Type 0
 HasHead None = ⊤
 HasHead (Some w) = HEAD_OCTETS ≤ length w.request
 
--- few ties, and requests that were read
-pub record AreFew (ties : List Tied) : Type 0 where
+-- few ties that differ, and requests that were read
+pub record AreKept (ties : List Tied) : Type 0 where
   pub few : length ties ≤ MOST_TIES
+  pub differ : TiesDiffer ties
   pub heads : AllByRecursion (λ t. HasHead t.waiting) ties
 
 -- the tie of an endpoint is this one
@@ -33,7 +34,11 @@ IsTime now = now < 1000 * 2 ^ 40
 
 pub record IsKept (last : ℕ) (ties : List Tied) : Type 0 where
   pub time : IsTime last
-  pub few : AreFew ties
+  pub kept : AreKept ties
+
+-- the epoch that these terms tell
+abbrev pub epoch_of : CascadeTerms → ℕ
+epoch_of terms = min ((terms.last_ms - terms.base_ms) / 1000) (2 ^ 32 - 1)
 
 -- the cascade with these terms and ties
 abbrev pub cascade_of : CascadeTerms → Ties → Cascade

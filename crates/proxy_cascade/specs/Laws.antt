@@ -1,7 +1,6 @@
 -- What holds of every cascade, whatever came to it.
-use Rattle.std.specs.Prelude.{◌≡◌, ℕ, ◌<◌, true, false, List, [], ◌∷◌, ◌++◌, Option, Some, ◌⊎◌}
+use Rattle.std.specs.Prelude.{◌≡◌, ℕ, ◌<◌, true, false, List, [], ◌∷◌, ◌++◌, Some}
 use Rattle.pcp_base.specs.declared.addresses.Address.{Address}
-use Rattle.pcp_base.specs.declared.asks.Answer.{Answer}
 use Rattle.pcp_base.specs.declared.asks.Answer.TheVariants.{Refused, Announced}
 use Rattle.pcp_base.specs.declared.asks.Ask.TheVariants as Asks
 use Rattle.pcp_base.specs.declared.asks.MapAsk.{MapAsk}
@@ -22,7 +21,7 @@ use Rattle.proxy_core.specs.Down.{is_success, relayed_text}
 use Rattle.proxy_core.specs.Nonces.{upstream_nonce}
 use Rattle.proxy_core.specs.Relays.{response_from}
 use Rattle.proxy_core.specs.Runs.{Event}
-use Rattle.proxy_core.specs.Runs.Event.{Client, Server, Tick}
+use Rattle.proxy_core.specs.Runs.Event.{Client, Server}
 use Rattle.cascade_ties.specs.declared.ties.Tied.{Tied}
 use Rattle.cascade_ties.specs.Ties.{TiesDiffer, tie_of}
 use Rattle.proxy_cascade.specs.Cascades.{Cascade, at, new_cascade, for_itself}

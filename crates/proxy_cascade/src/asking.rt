@@ -1,13 +1,14 @@
 //! What is sent for datagrams of clients.
-ghost use Rattle.std.specs.Prelude.{◌≡◌, ◌≤◌, ◌<◌, true, length, None, IfOk, OnErr};
+ghost use Rattle.std.specs.Prelude.{◌≡◌, ◌≤◌, ◌<◌, true, [], length, None, IfOk, OnErr};
 ghost use Rattle.pcp_base.specs.declared.asks.Answer.TheVariants.{Announced, Refused};
 ghost use Rattle.pcp_base.specs.Refusals.{parsed};
 ghost use Rattle.pcp_codec.specs.declared.layout.TheConstants.{HEAD_OCTETS};
+ghost use Rattle.pcp_options.specs.Replies.{reply_text};
 ghost use Rattle.pcp_options.specs.Verdicts.{verdict_of};
-ghost use Rattle.cascade_ties.specs.Ties.{Ties, is_vacant, tie_of};
+ghost use Rattle.cascade_ties.specs.Ties.{is_vacant, tie_of};
 ghost use Rattle.proxy_cascade.specs.Cascades.{for_itself};
-ghost use Rattle.proxy_cascade.specs.FromClients.{answered, asked, asked_again, for_again, for_map, for_new, gone, judged, new_tie, of_another, seconds_left, tied, to_client, waiting_of};
-ghost use Rattle.proxy_cascade.specs.Kept.{AreFew, IsTime, IsTied, cascade_of};
+ghost use Rattle.proxy_cascade.specs.FromClients.{asked, asked_again, for_again, for_map, for_new, judged, lease_text, new_tie, of_another, repeated, seconds_left, tied, to_client, waiting_of};
+ghost use Rattle.proxy_cascade.specs.Kept.{AreKept, IsTime, IsTied, cascade_of, epoch_of};
 
 use crate::terms::CascadeTerms;
 use crate::texts::{announce_text, lease_text, refusal_text, repeated, up_text};
@@ -30,10 +31,10 @@ pub(crate) fn answer_client(
 ) -> Result<ProxyOut, Memory>
     requires judged { verdict ≡ verdict_of for_itself datagram.now.peer datagram.now.octets }
     requires time { IsTime terms.now.last_ms }
-    requires few { AreFew ties.old.each }
+    requires kept { AreKept ties.old.each }
     ensures ok { IfOk result (λ out. judged (cascade_of terms.now ties.old) datagram.now verdict
         ≡ record { cascade = cascade_of terms.now ties.new; out = out }) }
-    ensures few { AreFew ties.new.each }
+    ensures kept { AreKept ties.new.each }
     ensures err { OnErr result (ties.new ≡ ties.old) }
 {
     match verdict {
@@ -54,11 +55,11 @@ fn answer_ask(
 ) -> Result<ProxyOut, Memory>
     requires head { HEAD_OCTETS ≤ length datagram.now.octets }
     requires time { IsTime terms.now.last_ms }
-    requires few { AreFew ties.old.each }
+    requires kept { AreKept ties.old.each }
     ensures ok { IfOk result (λ out.
         asked (cascade_of terms.now ties.old) datagram.now items.now ask
         ≡ record { cascade = cascade_of terms.now ties.new; out = out }) }
-    ensures few { AreFew ties.new.each }
+    ensures kept { AreKept ties.new.each }
     ensures err { OnErr result (ties.new ≡ ties.old) }
 {
     match ask {
@@ -98,18 +99,16 @@ fn refuse(
     refusal: Refusal,
 ) -> Result<ProxyOut, Memory>
     requires { 2 ≤ length datagram.now.octets }
-    ensures { IfOk result (λ out. (ties : Ties) →
-        answered (cascade_of terms.now ties) datagram.now (Refused refusal)
-        ≡ record { cascade = cascade_of terms.now ties; out = out }) }
+    ensures { IfOk result (λ out. out ≡ to_client datagram.now
+        (reply_text datagram.now.octets [] (Refused refusal) (epoch_of terms.now))) }
 {
     let text = refusal_text(alloc, datagram.octets.items(), refusal, terms.epoch())?;
     Ok(to_client(datagram, text))
 }
 
 fn announce(alloc: Global, terms: &CascadeTerms, datagram: &Datagram) -> Result<ProxyOut, Memory>
-    ensures { IfOk result (λ out. (ties : Ties) →
-        answered (cascade_of terms.now ties) datagram.now Announced
-        ≡ record { cascade = cascade_of terms.now ties; out = out }) }
+    ensures { IfOk result (λ out. out ≡ to_client datagram.now
+        (reply_text datagram.now.octets [] Announced (epoch_of terms.now))) }
 {
     Ok(to_client(datagram, announce_text(alloc, terms.epoch())?))
 }
@@ -125,11 +124,11 @@ fn answer_map(
 ) -> Result<ProxyOut, Memory>
     requires head { HEAD_OCTETS ≤ length datagram.now.octets }
     requires time { IsTime terms.now.last_ms }
-    requires few { AreFew ties.old.each }
+    requires kept { AreKept ties.old.each }
     ensures ok { IfOk result (λ out. for_map (cascade_of terms.now ties.old) datagram.now
         items.now ask.now (tie_of ask.now.endpoint ties.old.each)
         ≡ record { cascade = cascade_of terms.now ties.new; out = out }) }
-    ensures few { AreFew ties.new.each }
+    ensures kept { AreKept ties.new.each }
     ensures err { OnErr result (ties.new ≡ ties.old) }
 {
     let Some(tied) = ties.find(&ask.endpoint) else {
@@ -151,12 +150,12 @@ fn answer_again(
 ) -> Result<ProxyOut, Memory>
     requires head { HEAD_OCTETS ≤ length datagram.now.octets }
     requires time { IsTime terms.now.last_ms }
-    requires few { AreFew ties.old.each }
+    requires kept { AreKept ties.old.each }
     requires tied { IsTied ties.old ask.now.endpoint tie }
     ensures ok { IfOk result (λ out.
         for_again (cascade_of terms.now ties.old) datagram.now items.now ask.now tie
         ≡ record { cascade = cascade_of terms.now ties.new; out = out }) }
-    ensures few { AreFew ties.new.each }
+    ensures kept { AreKept ties.new.each }
     ensures err { OnErr result (ties.new ≡ ties.old) }
 {
     if tie.nonce != ask.nonce {
@@ -164,9 +163,9 @@ fn answer_again(
     }
     let text = up_text(alloc, &terms.key, &terms.own, ask, items, tie.local)?;
     let waiting = waiting_of(alloc, datagram, items, ask, terms.last_ms)?;
-    let tie = asked_again(tie, terms.last_ms);
+    let again = asked_again(tie, terms.last_ms);
     ties.change(Tied {
-        tie,
+        tie: again,
         waiting: Some(waiting),
     })?;
     Ok(ProxyOut::Up(text))
@@ -183,12 +182,12 @@ fn answer_new(
 ) -> Result<ProxyOut, Memory>
     requires head { HEAD_OCTETS ≤ length datagram.now.octets }
     requires time { IsTime terms.now.last_ms }
-    requires few { AreFew ties.old.each }
+    requires kept { AreKept ties.old.each }
     requires none { tie_of ask.now.endpoint ties.old.each ≡ None }
     ensures ok { IfOk result (λ out.
         for_new (cascade_of terms.now ties.old) datagram.now items.now ask.now
         ≡ record { cascade = cascade_of terms.now ties.new; out = out }) }
-    ensures few { AreFew ties.new.each }
+    ensures kept { AreKept ties.new.each }
     ensures err { OnErr result (ties.new ≡ ties.old) }
 {
     if ask.lifetime == 0 {
@@ -212,9 +211,9 @@ fn tell_gone(
     items: &Items,
     ask: &MapAsk,
 ) -> Result<ProxyOut, Memory>
-    ensures { IfOk result (λ out. (ties : Ties) →
-        gone (cascade_of terms.now ties) datagram.now items.now ask.now
-        ≡ record { cascade = cascade_of terms.now ties; out = out }) }
+    ensures { IfOk result (λ out. out ≡ to_client datagram.now
+        (lease_text ask.now.endpoint ask.now.nonce 0 (epoch_of terms.now) ask.now.port
+        ask.now.address (repeated items.now))) }
 {
     let items = repeated(alloc, items)?;
     let text = lease_text(
@@ -242,14 +241,14 @@ fn make_tie(
 ) -> Result<ProxyOut, Memory>
     requires head { HEAD_OCTETS ≤ length datagram.now.octets }
     requires time { IsTime terms.now.last_ms }
-    requires few { AreFew ties.old.each }
+    requires kept { AreKept ties.old.each }
     requires fewer { length ties.old.each < MOST_TIES }
     requires none { tie_of ask.now.endpoint ties.old.each ≡ None }
     requires vacant { is_vacant ties.old ask.now.endpoint.protocol local ≡ true }
     ensures ok { IfOk result (λ out.
         tied (cascade_of terms.now ties.old) datagram.now items.now ask.now local
         ≡ record { cascade = cascade_of terms.now ties.new; out = out }) }
-    ensures few { AreFew ties.new.each }
+    ensures kept { AreKept ties.new.each }
     ensures err { OnErr result (ties.new ≡ ties.old) }
 {
     let text = up_text(alloc, &terms.key, &terms.own, ask, items, local)?;

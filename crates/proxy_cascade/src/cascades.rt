@@ -129,8 +129,10 @@ impl Cascade {
         requires { now_ms < 1000 * 2 ^ 40 }
         ensures { on_tick self.old now_ms ≡ record { cascade = self.new; out = result } }
     {
-        self.terms = self.terms.at(now_ms);
-        self.ties.drop_over(self.terms.last_ms) as u32
+        let terms = self.terms.at(now_ms);
+        let dropped = self.ties.drop_over(terms.last_ms);
+        self.terms = terms;
+        dropped as u32
     }
 
     /// The ties, in the order made, as they were after the last call with a time.

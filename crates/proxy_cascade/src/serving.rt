@@ -5,9 +5,9 @@ ghost use Rattle.std.specs.Option.{option_copied};
 ghost use Rattle.pcp_base.specs.Protocols.{protocol_of};
 ghost use Rattle.proxy_core.specs.Down.{is_success};
 ghost use Rattle.proxy_core.specs.Relays.{response_from};
-ghost use Rattle.cascade_ties.specs.Ties.{MakesTies, Ties};
-ghost use Rattle.proxy_cascade.specs.FromServers.{announcement, ended, for_body, for_protocol, granted, is_asked_by, still_waits, text_after, ties_after, told_lifetime};
-ghost use Rattle.proxy_cascade.specs.Kept.{AreFew, IsTime, IsTied, cascade_of};
+ghost use Rattle.cascade_ties.specs.Ties.{MakesTies};
+ghost use Rattle.proxy_cascade.specs.FromServers.{announcement, ended, for_body, for_protocol, granted, is_asked_by, lease_after, still_waits, text_after, ties_after, told_lifetime};
+ghost use Rattle.proxy_cascade.specs.Kept.{AreKept, IsTime, IsTied, cascade_of, epoch_of};
 
 use crate::terms::CascadeTerms;
 use crate::texts::{announce_text, error_text, lease_text};
@@ -46,11 +46,11 @@ pub(crate) fn answer_server(
     valid: bool,
 ) -> Result<Option<Datagram>, Memory>
     requires time { IsTime terms.now.last_ms }
-    requires few { AreFew ties.old.each }
+    requires kept { AreKept ties.old.each }
     ensures ok { IfOk result (λ out.
         for_body (cascade_of terms.now ties.old) response.now valid response.now.body
         ≡ record { cascade = cascade_of terms.now ties.new; out = out }) }
-    ensures few { AreFew ties.new.each }
+    ensures kept { AreKept ties.new.each }
     ensures err { OnErr result (ties.new ≡ ties.old) }
 {
     match &response.body {
@@ -62,8 +62,8 @@ pub(crate) fn answer_server(
 
 /// All clients are told where epochs began anew (RFC 6887, section 14.1).
 fn announce(alloc: Global, terms: &CascadeTerms, valid: bool) -> Result<Option<Datagram>, Memory>
-    ensures { IfOk result (λ out. (ties : Ties) →
-        out ≡ (if valid then None else Some (announcement (cascade_of terms.now ties)))) }
+    ensures { IfOk result (λ out.
+        out ≡ (if valid then None else Some (announcement (epoch_of terms.now)))) }
 {
     if valid {
         return Ok(None);
@@ -84,11 +84,11 @@ fn answer_map(
     common: &Common,
 ) -> Result<Option<Datagram>, Memory>
     requires time { IsTime terms.now.last_ms }
-    requires few { AreFew ties.old.each }
+    requires kept { AreKept ties.old.each }
     ensures ok { IfOk result (λ out. for_protocol (cascade_of terms.now ties.old) response.now
         common.now (protocol_of common.now.protocol)
         ≡ record { cascade = cascade_of terms.now ties.new; out = out }) }
-    ensures few { AreFew ties.new.each }
+    ensures kept { AreKept ties.new.each }
     ensures err { OnErr result (ties.new ≡ ties.old) }
 {
     let Some(protocol) = Protocol::of(common.protocol) else {
@@ -155,10 +155,10 @@ fn reply_for(
     waiting: &Waiting,
 ) -> Result<Datagram, Memory>
     requires { HEAD_OCTETS ≤ length waiting.now.request }
-    ensures { IfOk result (λ out. (ties : Ties) → out ≡ record {
+    ensures { IfOk result (λ out. out ≡ record {
       peer = tie.now.client.address;
       port = waiting.now.port;
-      octets = text_after (cascade_of terms.now ties) response.now common.now tie.now waiting.now;
+      octets = text_after (epoch_of terms.now) response.now common.now tie.now waiting.now;
     }) }
 {
     Ok(Datagram {
@@ -178,14 +178,30 @@ fn text_after(
     waiting: &Waiting,
 ) -> Result<Octets, Memory>
     requires { HEAD_OCTETS ≤ length waiting.now.request }
-    ensures { IfOk result (λ text. (ties : Ties) → text
-        ≡ text_after (cascade_of terms.now ties) response.now common.now tie.now waiting.now) }
+    ensures { IfOk result (λ text. text
+        ≡ text_after (epoch_of terms.now) response.now common.now tie.now waiting.now) }
 {
     let epoch = terms.epoch();
     if !is_success(response.code) {
         let request = waiting.request.items();
         return error_text(alloc, request, response.code, response.lifetime, epoch);
     }
+    lease_after(alloc, epoch, response, common, tie, waiting)
+}
+
+/// The octets of a success: the upstream external port and address, or with lifetime 0 the client's
+/// own suggestion.
+fn lease_after(
+    alloc: Global,
+    epoch: u32,
+    response: &Response,
+    common: &Common,
+    tie: &Tie,
+    waiting: &Waiting,
+) -> Result<Octets, Memory>
+    ensures { IfOk result (λ text. text
+        ≡ lease_after epoch response.now common.now tie.now waiting.now) }
+{
     let lifetime = told_lifetime(response.lifetime);
     let (external, address) = if response.lifetime == 0 {
         (waiting.suggested, waiting.address)

@@ -1,9 +1,8 @@
 //! A cascade but for its ties.
 ghost use Rattle.std.specs.Prelude.{◌≡◌, max};
 ghost use Rattle.cascade_ties.specs.Ties.{Ties};
-ghost use Rattle.proxy_cascade.specs.Cascades.{told_epoch};
 ghost use Rattle.proxy_cascade.specs.FromServers.{hearing, keeps_epoch};
-ghost use Rattle.proxy_cascade.specs.Kept.{cascade_of};
+ghost use Rattle.proxy_cascade.specs.Kept.{cascade_of, epoch_of};
 
 use pcp_base::Address;
 use proxy_core::Heard;
@@ -38,7 +37,7 @@ impl CascadeTerms {
 
     /// The epoch that is told, in seconds (RFC 6887, section 8.5).
     pub(crate) fn epoch(&self) -> u32
-        ensures { (ties : Ties) → result ≡ told_epoch (cascade_of self.now ties) }
+        ensures { result ≡ epoch_of self.now }
     {
         let since = self.last_ms.saturating_sub(self.base_ms) / 1000;
         since.min(u64::from(u32::MAX)) as u32

@@ -1,0 +1,5 @@
+//! Tests of a relay beside a translator of its own, over time.
+#![tactic(auto)]
+
+#[cfg(test)]
+mod cascades;
