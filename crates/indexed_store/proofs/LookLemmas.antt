@@ -1,5 +1,5 @@
 -- What the tables tell of leases that are live at a moment.
-use Rattle.std.proofs.Common.{◌≡◌, ℕ, ◌<◌, ◌≤◌, ◌+◌, ◌-◌, ◌&&◌, ◌||◌, ◌==◌, nat_lt, Bool, true, false, cond, List, [], ◌∷◌, ◌++◌, map, flat_map, filter, find, count_by, Option, Some, None, IfSome, IfNone, refl, sym, ap, ◌∙◌, subst, arith}
+use Rattle.std.proofs.Common.{◌≡◌, ℕ, ◌<◌, ◌≤◌, ◌+◌, ◌-◌, ◌&&◌, ◌||◌, ◌==◌, nat_lt, Bool, true, false, cond, List, [], ◌∷◌, ◌++◌, map, flat_map, filter, find, count_by, Option, Some, None, IfSome, IfNone, refl, sym, ap, ◌∙◌, arith}
 use Rattle.std.specs.List.{AllByRecursion, list_any, range_with_len}
 use Rattle.std.specs.Option.{option_map, option_or}
 use Rattle.std.proofs.lemmas.Bool.{and_parts, and_from, or_from, eqb-true, eq-eqb, lt-ltb, ltb-true, ltb-false, cond-true, cond-false, false_from_ne_true}
@@ -7,17 +7,17 @@ use Rattle.pcp_base.specs.declared.leases.Protocol.{Protocol}
 use Rattle.pcp_base.specs.declared.leases.Endpoint.{Endpoint}
 use Rattle.pcp_base.specs.declared.leases.MapLease.{MapLease}
 use Rattle.pcp_base.specs.declared.leases.PeerLease.{PeerLease}
-use Rattle.pcp_base.specs.Tables.{Table, covers, names}
+use Rattle.pcp_base.specs.Tables.{Table, names}
 use Rattle.pcp_base.specs.declared.leases.Owner.{Owner}
 use Rattle.pcp_base.specs.Owners.{map_owners, peer_owner, owners, is_port, endpoint_behind}
 use Rattle.pcp_base.proofs.OwnerLooks.{found_in}
 use Rattle.pcp_base.specs.Sound.{Sound}
-use Rattle.pcp_base.proofs.Members.{IsIn, IsIn-filter, filter-IsIn, IsIn-right, map-IsIn, Contains-from_IsIn, find-some, find-IsIn, All-IsIn, All-from_IsIn, any-some, some-any, none-any, any-none}
+use Rattle.pcp_base.proofs.Members.{IsIn, IsIn-filter, filter-IsIn, IsIn-right, map-IsIn, Contains-from_IsIn, find-some, find-IsIn, All-from_IsIn, any-some, some-any, none-any}
 use Rattle.pcp_base.proofs.Same.{same_endpoint-Decides}
 use Rattle.ordered_index.specs.Lesser.{lesser}
 use Rattle.ordered_index.proofs.EntryLaws.{tally, count-cons, count-some}
-use Rattle.mapping_table.specs.MapLists.{is_covered, IsNextCovered}
-use Rattle.peer_table.specs.PeerLists.{is_live_peer, is_live_of, is_named, IsPortUse, IsNextNamed}
+use Rattle.mapping_table.specs.MapLists.{is_covered, SkipsUncovered}
+use Rattle.peer_table.specs.PeerLists.{is_live_peer, is_live_of, is_named, IsPortUse, SkipsUnnamed}
 use Rattle.peer_table.specs.declared.uses.PortUse.{PortUse}
 use Rattle.lease_store.specs.Lookups.{with_port, is_taken_inside, named_port, peer_count, next_inside}
 use Rattle.indexed_store.proofs.Uniques.{all-none}
@@ -109,27 +109,27 @@ find_any p (x ∷ xs) = step (p x) (find_any p xs)
 pub some_any : {X : Type 0} (p : X → Bool) (xs : List X) → Rattle.std.specs.Prelude.is_some (find p xs) ≡ list_any p xs
 some_any p xs = find_any p xs
 
-fewer_any : {X : Type 0} (p q : X → Bool) (xs : List X) → list_any p xs ≡ false → list_any p (filter q xs) ≡ false
-fewer_any p q xs h = none-any p (filter q xs) (All-from_IsIn (λ x. p x ≡ false) (filter q xs) (λ x i. All-IsIn (λ x. p x ≡ false) xs x (any-none p xs h) (IsIn-filter q xs x i).0))
+module _ (t : Table) (m : ℕ) (e : Endpoint) where
+  abbrev maps_live : List MapLease
+  maps_live = filter (λ (l : MapLease). nat_lt m l.expiry) t.maps
 
-module _ (t : Table) (e : Endpoint) where
-  not_taken : (m other : ℕ) → is_covered e t.maps other ≡ false → is_named e t.peers other ≡ false → is_taken_inside t m e other ≡ false
-  not_taken m other a b = or_from _ _ (fewer_any (λ l. covers l (with_port e other)) (λ l. nat_lt m l.expiry) t.maps a) (fewer_any (λ l. names l (with_port e other)) (λ l. nat_lt m l.expiry) t.peers b)
+  abbrev peers_live : List PeerLease
+  peers_live = filter (λ (l : PeerLease). nat_lt m l.expiry) t.peers
+
+  not_taken : (other : ℕ) → is_covered e maps_live other ≡ false → is_named e peers_live other ≡ false → is_taken_inside t m e other ≡ false
+  not_taken other a b = or_from _ _ a b
 
   module _ (after : ℕ) where
     abbrev inside : Endpoint
     inside = with_port e after
 
-    above_of : (ls : _) (a : Option ℕ) → IsNextCovered inside ls a → (port : ℕ) → a ≡ Some port → after < port
-    above_of ls a h port is = subst (λ (o : Option ℕ). IfSome o (λ p. after < p)) is h.above
-
-    uncovered : (a : Option ℕ) → IsNextCovered inside t.maps a → (other : ℕ) → after < other → ((port : ℕ) → a ≡ Some port → other < port) → is_covered e t.maps other ≡ false
+    uncovered : (a : Option ℕ) → SkipsUncovered inside maps_live a → (other : ℕ) → after < other → ((port : ℕ) → a ≡ Some port → other < port) → is_covered e maps_live other ≡ false
     uncovered None h other up below = h.none other up
-    uncovered (Some port) h other up below = false_from_ne_true (is_covered e t.maps other) (λ c. let le = h.least other up c in let lt = below port refl in absurd (omega (arith, le, lt)))
+    uncovered (Some port) h other up below = h.between other up (below port refl)
 
-    unnamed : (b : Option ℕ) → IsNextNamed inside t.peers b → (other : ℕ) → after < other → ((port : ℕ) → b ≡ Some port → other < port) → is_named e t.peers other ≡ false
+    unnamed : (b : Option ℕ) → SkipsUnnamed inside peers_live b → (other : ℕ) → after < other → ((port : ℕ) → b ≡ Some port → other < port) → is_named e peers_live other ≡ false
     unnamed None h other up below = h.none other up
-    unnamed (Some port) h other up below = false_from_ne_true (is_named e t.peers other) (λ c. let le = h.least other up c in let lt = below port refl in absurd (omega (arith, le, lt)))
+    unnamed (Some port) h other up below = h.between other up (below port refl)
 
     lesser-above : (a b : Option ℕ) → IfSome a (λ p. after < p) → IfSome b (λ p. after < p) → IfSome (lesser a b) (λ p. after < p)
     lesser-above None b h k = k
@@ -158,16 +158,16 @@ module _ (t : Table) (e : Endpoint) where
         step true le is = (λ z w. let a = one x p is in let b = one x z w in omega (arith, a, b), λ z w. let a = one x p is in let b = one y z w in let c = Rattle.std.proofs.lemmas.Bool.leb-true x y le in omega (arith, a, b, c))
         step false le is = (λ z w. let a = one y p is in let b = one x z w in let c = Rattle.std.proofs.lemmas.Bool.leb-false x y le in omega (arith, a, b, c), λ z w. let a = one y p is in let b = one y z w in omega (arith, a, b))
 
-    pub known_above : (a b : Option ℕ) → IsNextCovered inside t.maps a → IsNextNamed inside t.peers b → IfSome (lesser a b) (λ port. after < port)
+    pub known_above : (a b : Option ℕ) → SkipsUncovered inside maps_live a → SkipsUnnamed inside peers_live b → IfSome (lesser a b) (λ port. after < port)
     known_above a b h k = lesser-above a b h.above k.above
 
-    pub known_between : (a b : Option ℕ) → IsNextCovered inside t.maps a → IsNextNamed inside t.peers b → IfSome (lesser a b) (λ port. (m other : ℕ) → after < other → other < port → is_taken_inside t m e other ≡ false)
+    pub known_between : (a b : Option ℕ) → SkipsUncovered inside maps_live a → SkipsUnnamed inside peers_live b → IfSome (lesser a b) (λ port. (other : ℕ) → after < other → other < port → is_taken_inside t m e other ≡ false)
     known_between a b h k = some (lesser a b) refl
       where
-        some : (r : Option ℕ) → lesser a b ≡ r → IfSome r (λ port. (m other : ℕ) → after < other → other < port → is_taken_inside t m e other ≡ false)
+        some : (r : Option ℕ) → lesser a b ≡ r → IfSome r (λ port. (other : ℕ) → after < other → other < port → is_taken_inside t m e other ≡ false)
         some None is = tt
-        some (Some port) is = λ m other up below. let least = lesser-below a b port is in
-            not_taken m other (uncovered a h other up (λ x w. let le = least.0 x w in omega (arith, le, below))) (unnamed b k other up (λ y w. let le = least.1 y w in omega (arith, le, below)))
+        some (Some port) is = λ other up below. let least = lesser-below a b port is in
+            not_taken other (uncovered a h other up (λ x w. let le = least.0 x w in omega (arith, le, below))) (unnamed b k other up (λ y w. let le = least.1 y w in omega (arith, le, below)))
 
     lesser-none : (a b : Option ℕ) → lesser a b ≡ None → (a ≡ None) × (b ≡ None)
     lesser-none None b h = (refl, h)
@@ -178,13 +178,13 @@ module _ (t : Table) (e : Endpoint) where
         step true h = let never : Some x ≡ None = h in cc
         step false h = let never : Some y ≡ None = h in cc
 
-    pub known_none : (a b : Option ℕ) → IsNextCovered inside t.maps a → IsNextNamed inside t.peers b → IfNone (lesser a b) ((m other : ℕ) → after < other → is_taken_inside t m e other ≡ false)
+    pub known_none : (a b : Option ℕ) → SkipsUncovered inside maps_live a → SkipsUnnamed inside peers_live b → IfNone (lesser a b) ((other : ℕ) → after < other → is_taken_inside t m e other ≡ false)
     known_none a b h k = none (lesser a b) refl
       where
-        none : (r : Option ℕ) → lesser a b ≡ r → IfNone r ((m other : ℕ) → after < other → is_taken_inside t m e other ≡ false)
+        none : (r : Option ℕ) → lesser a b ≡ r → IfNone r ((other : ℕ) → after < other → is_taken_inside t m e other ≡ false)
         none (Some port) is = tt
-        none None is = λ m other up. let both = lesser-none a b is in
-            not_taken m other (uncovered a h other up (λ x w. absurd (let never : None ≡ Some x = sym both.0 ∙ w in cc))) (unnamed b k other up (λ y w. absurd (let never : None ≡ Some y = sym both.1 ∙ w in cc)))
+        none None is = λ other up. let both = lesser-none a b is in
+            not_taken other (uncovered a h other up (λ x w. absurd (let never : None ≡ Some x = sym both.0 ∙ w in cc))) (unnamed b k other up (λ y w. absurd (let never : None ≡ Some y = sym both.1 ∙ w in cc)))
 
 -- ---- by port
 

@@ -1,5 +1,5 @@
 -- Owners that are sorted stably, of which the last of each port is kept, are those that came into their places one by one.
-use Rattle.std.proofs.Common.{◌≡◌, ℕ, suc, ◌+◌, ◌<◌, Bool, true, false, cond, not, ◌&&◌, ◌||◌, List, [], ◌∷◌, ◌++◌, Option, Some, None, length, drop, take, ◌-◌, ◌≤◌, get_or, filter, find, unwrap_or, slice_get, nat_lt, ◌==◌, true≢false, refl, sym, ap, ◌∙◌, subst, arith, append_assoc, append-nil, drop_of_length-le, Ordering, Less, Equal, Greater, is_lt, nat_cmp}
+use Rattle.std.proofs.Common.{◌≡◌, ℕ, suc, ◌+◌, ◌<◌, Bool, true, false, cond, not, ◌&&◌, ◌||◌, List, [], ◌∷◌, ◌++◌, Option, Some, None, length, drop, take, ◌-◌, ◌≤◌, get_or, filter, find, unwrap_or, slice_get, nat_lt, ◌==◌, true≢false, refl, sym, ap, ◌∙◌, subst, arith, append_assoc, append-nil, drop_of_length-le, Less, Equal, Greater, is_lt, nat_cmp}
 use Rattle.std.specs.Prelude.{⊤}
 use Rattle.std.specs.Ordering.{ordering_then}
 use Rattle.std.specs.List.{AllByRecursion}

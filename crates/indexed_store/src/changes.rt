@@ -23,6 +23,14 @@ impl Leases {
         self.peers.clear();
     }
 
+    /// Lets the leases that have ended by `m` leave the keys of those that are live. All stay.
+    pub(crate) fn reach(&mut self, m: Moment)
+        ensures { self.new ≡ self.old }
+    {
+        self.maps.reach(m);
+        self.peers.reach(m);
+    }
+
     /// Puts a MAP lease, and adds its ports.
     fn put_map(
         &mut self,

@@ -93,13 +93,13 @@ impl Leases {
         self.is_covered(m, &inside) || self.is_named(m, &inside)
     }
 
-    /// The next greater port, of the endpoint's address and protocol, that any lease covers or
-    /// names.
-    fn next_known(&self, endpoint: &Endpoint, after: u16) -> Option<u16>
+    /// A greater port, up to which no live lease covers or names one of the endpoint's address and
+    /// protocol. At the moment that was reached last it is the next one that is covered or named.
+    fn next_known(&self, m: Moment, endpoint: &Endpoint, after: u16) -> Option<u16>
         ensures above { IfSome result (λ port. after < port) }
-        ensures between { IfSome result (λ port. (m other : ℕ) → after < other → other < port
+        ensures between { IfSome result (λ port. (other : ℕ) → after < other → other < port
             → is_taken_inside self.now m endpoint.now other ≡ false) }
-        ensures none { IfNone result ((m other : ℕ) → after < other
+        ensures none { IfNone result ((other : ℕ) → after < other
             → is_taken_inside self.now m endpoint.now other ≡ false) }
     {
         let inside = Endpoint {
@@ -107,19 +107,19 @@ impl Leases {
             ..*endpoint
         };
         lesser(
-            self.maps.next_internal(&inside),
-            self.peers.next_internal(&inside),
+            self.maps.next_internal(&inside, m),
+            self.peers.next_internal(&inside, m),
         )
     }
 
     /// The next greater internal port, of the endpoint's address and protocol, that a live lease
-    /// covers or names.
+    /// covers or names. At the moment that was reached last the first port that is tried is it.
     pub(crate) fn next_inside(&self, m: Moment, endpoint: &Endpoint) -> Option<u16>
         requires { Sound self.now }
         ensures { result ≡ next_inside self.now m endpoint.now }
     {
         let mut after = endpoint.port;
-        while let Some(port) = self.next_known(endpoint, after) {
+        while let Some(port) = self.next_known(m, endpoint, after) {
             if self.is_taken_inside(m, endpoint, port) {
                 return Some(port);
             }

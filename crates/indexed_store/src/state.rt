@@ -78,6 +78,13 @@ impl IndexedState {
         self.started = false;
     }
 
+    /// Lets the leases that have ended by `m` leave the keys of those that are live. All stay.
+    pub(crate) fn reach(&mut self, m: Moment)
+        ensures { self.new ≡ self.old }
+    {
+        self.leases.reach(m);
+    }
+
     /// Notes what a record makes of the base, the address and the last moment.
     pub(crate) fn note(&mut self, kept: &Record)
         ensures { self.new ≡ record self.old {

@@ -25,8 +25,10 @@ use std::alloc::Global;
 use std::marker::Model;
 
 /// The state that records made, at a moment that is reached. What is looked up, picked and applied
-/// takes logarithmic time in the number of leases, for each port and key that it touches and each
-/// lease that ended meanwhile; calls that copy lists take more, and so does `admit_first`.
+/// takes logarithmic time in the number of leases, for each port and key that it touches. `reach`
+/// and `apply` take as much for each lease that ended meanwhile, each of them once for it. Calls
+/// that copy lists, or count at another moment than the one reached, take more, and so does
+/// `admit_first`.
 #[derive(Drop)]
 pub struct IndexedStore {
     state: IndexedState,
@@ -78,6 +80,7 @@ fn take(
     ensures anew { OnErr result (ports.new.reached ≡ 0) }
 {
     let Err(refused) = apply(state, ports, alloc, kept) else {
+        state.reach(kept.moment);
         return Ok(());
     };
     vacate(state, ports);
@@ -102,6 +105,7 @@ fn take_first(
     ensures anew { OnErr result (ports.new.reached ≡ 0) }
 {
     let Err(refused) = apply_first(state, ports, alloc, kept) else {
+        state.reach(kept.moment);
         return Ok(());
     };
     vacate(state, ports);
@@ -202,6 +206,7 @@ impl LeaseStore for IndexedStore {
 
     fn reach(&mut self, m: Moment) {
         ports_follow_states();
+        self.state.reach(m);
         self.ports.reach(m);
         self.reached = m;
     }

@@ -12,7 +12,7 @@ returns-then-is_taken_inside c =
     let below : c.in-Some.port < e.port + 1 + (65535 - e.port) = omega (arith, from) in
     first-in_range taken (e.port + 1) (65535 - e.port) c.in-Some.port from below (sym c.is_taken_inside.ensures ∙ c.if-is_taken_inside.true)
     (λ o lo hi. let up : e.port < o = omega (arith, lo) in
-    low_or_high o c.loop-port.after (taken o ≡ false) (λ low. c.loop-port.invariant.1 o up low) (λ high. c.in-Some.ensures.between c.args.m o high hi))
+    low_or_high o c.loop-port.after (taken o ≡ false) (λ low. c.loop-port.invariant.1 o up low) (λ high. c.in-Some.ensures.between o high hi))
     ∙ sym (next_inside-is c.args.self.now c.args.m e)
 
 pub returns : goal.returns
@@ -20,5 +20,5 @@ returns c =
     let e = c.args.endpoint.now in let taken = is_taken_inside c.args.self.now c.args.m e in
     none-in_range taken (e.port + 1) (65535 - e.port)
     (λ o lo. let up : e.port < o = omega (arith, lo) in
-    low_or_high o c.loop-port.after (taken o ≡ false) (λ low. c.loop-port.invariant.1 o up low) (λ high. c.in_default.ensures.none c.args.m o high))
+    low_or_high o c.loop-port.after (taken o ≡ false) (λ low. c.loop-port.invariant.1 o up low) (λ high. c.in_default.ensures.none o high))
     ∙ sym (next_inside-is c.args.self.now c.args.m e)
