@@ -1,0 +1,22 @@
+-- A relay beside a translator of its own as its run sees it (our own).
+use Rattle.std.specs.Prelude.{ℕ}
+use Rattle.proxy_cascade.specs.Cascades.{Cascade, Step, new_cascade, on_tick}
+use Rattle.proxy_cascade.specs.FromClients.{on_client}
+use Rattle.proxy_cascade.specs.FromServers.{on_server}
+use Rattle.proxy_commands.specs.declared.commands.CascadeCommand.{CascadeCommand}
+use Rattle.relay_runs.specs.Machines.{Machine, Move}
+
+abbrev pub move_of : {X : Type 0} → Step X → Move Cascade X
+move_of step = record { state = step.cascade; out = step.out }
+
+abbrev pub cascading : Machine Cascade
+cascading = record {
+  on_client = λ cascade d now. move_of (on_client cascade d now);
+  on_server = λ cascade d now. move_of (on_server cascade d now);
+  on_tick = λ cascade now. (on_tick cascade now).cascade;
+}
+
+-- the cascade that a command begins at a time in milliseconds
+abbrev pub cascade_of : ℕ → CascadeCommand → Cascade
+cascade_of now command = new_cascade command.relay.own command.relay.server command.relay.key
+    command.low command.high now

@@ -1,0 +1,2 @@
+pub mod CascadeRuns
+pub mod Cascading

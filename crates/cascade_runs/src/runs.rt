@@ -1,0 +1,90 @@
+//! The run of the command.
+ghost use Rattle.std.specs.Prelude.{◌≡◌, ◌⊎◌, ◌<◌, map, string_bytes, IfOk};
+ghost use Rattle.cascade_runs.specs.CascadeRuns.{RunsCascade};
+ghost use Rattle.cascade_runs.specs.Cascading.{cascade_of};
+ghost use Rattle.pcp_io.specs.Faults.{HasRisen};
+ghost use Rattle.proxy_commands.specs.Commands.{IsCascadeCommand};
+ghost use Rattle.proxy_commands.specs.declared.commands.CascadeCommand.{CascadeCommand};
+ghost use Rattle.tool_commands.specs.declared.statuses.ToolStatus.TheVariants.{Done, Memory};
+
+use crate::machines::CascadeMachine;
+use pcp_io::{Clock, Inbox, Outbox};
+use proxy_cascade::Cascade;
+use proxy_commands::cascade_command_of;
+use relay_runs::run_relay;
+use std::alloc::Global;
+use std::sync::Wait;
+use tool_commands::ToolStatus;
+
+/// Relays between clients behind a translator and an upstream server as the words say (RFC 7648 in
+/// role), until the inbox gives a stop. The clock is read once for the cascade's beginning, and then
+/// once for each item of `from`: the cascade ticks, and then hears the item at the same time: a
+/// packet whose peer is the server's address came from upstream, and any other from a client. What
+/// it gives for clients is sent by `down`, and its own requests by `up`, to [`SERVER_PORT`] of the
+/// server; a send that fails is a lost packet. A `Lose` is ignored.
+///
+/// `Done` after a stop; `WordsRefused` where the words are no command, and nothing was called then;
+/// `LinkFault` where the inbox failed; `Memory` where none was found for the cascade, or for a
+/// datagram, for which nothing was sent then.
+///
+/// [`SERVER_PORT`]: crate::SERVER_PORT
+pub fn run_cascade<R: Wait, O: Outbox, I: Inbox, T: Clock>(
+    rt: &R,
+    alloc: Global,
+    words: &[String],
+    down: &mut O,
+    up: &mut O,
+    from: &mut I,
+    clock: &mut T,
+) -> ToolStatus
+    ensures run { RunsCascade (map string_bytes words.now) result
+        (record {
+          outs = record {
+            down = record { sent = O.sent down.old; faults = O.faults down.old };
+            up = record { sent = O.sent up.old; faults = O.faults up.old };
+          };
+          left = I.left from.old;
+          faults = I.faults from.old;
+          times = T.times clock.old;
+        })
+        (record {
+          outs = record {
+            down = record { sent = O.sent down.new; faults = O.faults down.new };
+            up = record { sent = O.sent up.new; faults = O.faults up.new };
+          };
+          left = I.left from.new;
+          faults = I.faults from.new;
+          times = T.times clock.new;
+        }) }
+
+    // Where the words are a command and the inbox counts no fault, it is done, but for memory.
+    ensures complete { (command : CascadeCommand)
+        → IsCascadeCommand (map string_bytes words.now) command
+        → ¬ (HasRisen (I.faults from.old) (I.faults from.new))
+        → (result ≡ Done) ⊎ (result ≡ Memory) }
+{
+    let Ok(found) = cascade_command_of(alloc, words) else {
+        return ToolStatus::Memory;
+    };
+    let Some(command) = found else {
+        return ToolStatus::WordsRefused;
+    };
+    let now_ms = clock.now();
+    let relay = &command.relay;
+    let (low, high) = (command.low, command.high);
+    let Ok(cascade) = Cascade::new(alloc, relay.own, relay.server, relay.key, low, high, now_ms)
+    else {
+        return ToolStatus::Memory;
+    };
+    let mut machine = CascadeMachine::of(cascade);
+    run_relay(
+        rt,
+        alloc,
+        &relay.server,
+        &mut machine,
+        down,
+        up,
+        from,
+        clock,
+    )
+}
