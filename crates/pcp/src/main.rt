@@ -41,7 +41,8 @@ const USAGE: &str = "usage: pcp serve CONFIG JOURNALS PORT LANEPORT
        pcp peer OPTIONS..
        pcp announce OPTIONS..
        pcp proxy OPTIONS..
-       pcp map --help (or peer, announce, proxy)
+       pcp cascade OPTIONS..
+       pcp map --help (or peer, announce, proxy, cascade)
        pcp --help
        pcp --version
 
@@ -86,13 +87,21 @@ proxy Relays what clients ask at port 5351 of its inner address to a server, and
 
           pcp proxy --server 192.0.2.9 --own 192.0.2.2 --inner 10.0.0.2 --key KEY
 
+cascade
+      Relays as proxy does, for clients behind a translator of this host: it asks
+      the server for a port of its own address, from --low to --high, in place of
+      the client's, and tells the client what the server gave for that.
+
+          pcp cascade --server 192.0.2.9 --own 192.0.2.2 --inner 10.0.0.2 \\
+              --low 20000 --high 29999 --key KEY
+
 Exit status, and the line on standard error:
 
     0  nothing
     2  pcp: words refused
     3  pcp: configuration refused: too long (or: not toml, not a configuration)
     4  pcp: script refused at line N
-    5  pcp: read failed (of serve and proxy also: a port is taken)
+    5  pcp: read failed (of serve, proxy and cascade also: a port is taken)
     6  pcp: write failed
     7  pcp: disk of shard N failed (N counts the external addresses from 0)
     8  pcp: out of memory

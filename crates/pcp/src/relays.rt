@@ -1,17 +1,35 @@
-//! The relay over the sockets of this host.
+//! The relays over the sockets of this host.
+use cascade_runs::run_cascade;
 use pcp_base::Memory;
 use pcp_io::{SystemClock, UdpOutbox};
 use program_links::{CLIENT_PORT, RelayInbox, ip_of, same_socket, socket_at, socket_of_all};
-use proxy_commands::command_of;
+use proxy_commands::{ProxyCommand, cascade_command_of, command_of};
 use proxy_runs::{SERVER_PORT, run_proxy};
+use std::alloc::Global;
 use std::sync::Wait;
 use tool_commands::ToolStatus;
 
-/// Whether the words may be the command of the relay.
+/// Whether the words may be the command of a relay.
 pub(crate) fn may_relay(words: &[String]) -> bool {
     match words {
-        [command, ..] => command.as_str() == "proxy",
+        [command, ..] => ["proxy", "cascade"].contains(&command.as_str()),
         [] => false,
+    }
+}
+
+/// Whether the words may be the command of a relay beside a translator of its own.
+fn may_cascade(words: &[String]) -> bool {
+    match words {
+        [command, ..] => command.as_str() == "cascade",
+        [] => false,
+    }
+}
+
+/// What the words tell the relay of either command; none where they are no command.
+fn terms_in(alloc: Global, words: &[String]) -> Result<Option<ProxyCommand>, Memory> {
+    match cascade_command_of(alloc, words)? {
+        Some(command) => Ok(Some(command.relay)),
+        None => command_of(alloc, words),
     }
 }
 
@@ -24,7 +42,7 @@ pub(crate) fn relay_over<R: Wait>(
     words: &[String],
 ) -> Result<ToolStatus, Memory> {
     let alloc = rt.alloc();
-    let Some(command) = command_of(alloc, words)? else {
+    let Some(command) = terms_in(alloc, words)? else {
         return Ok(ToolStatus::WordsRefused);
     };
     let inner = socket_at(rt, ip_of(command.inner), SERVER_PORT);
@@ -34,6 +52,11 @@ pub(crate) fn relay_over<R: Wait>(
     let mut up = UdpOutbox::of(same_socket(&own));
     let mut from = RelayInbox::of(command.server, inner, own, told);
     let mut clock = SystemClock::of(rt);
+    if may_cascade(words) {
+        return Ok(run_cascade(
+            waits, alloc, words, &mut down, &mut up, &mut from, &mut clock,
+        ));
+    }
     Ok(run_proxy(
         waits, alloc, words, &mut down, &mut up, &mut from, &mut clock,
     ))
