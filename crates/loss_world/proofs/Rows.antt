@@ -1,7 +1,8 @@
 -- Worked numbers of the epoch test.
-use Rattle.std.proofs.Common.{◌≡◌, true, false, refl}
+use Rattle.std.proofs.Common.{◌≡◌, true, false, refl, arith}
 use Rattle.client_core.specs.EpochTests.{heard_epoch, is_valid_after}
 use Rattle.proxy_core.specs.Relays.{told_epoch}
+use Rattle.loss_world.specs.Disclosure.{NoBoundIsSmaller}
 
 -- a loss at 2000: 600 heard at 1600, or 2 at 2000, and then 3 at 2003
 pub row-18-high : is_valid_after (heard_epoch 600 1600) (heard_epoch 3 2003) ≡ false
@@ -23,3 +24,9 @@ row-40-relay = refl
 
 pub row-40-client : is_valid_after (heard_epoch 15 5) (heard_epoch 104 105) ≡ false
 row-40-client = refl
+
+-- by these numbers no bound below 2 + d + gap/16 would do: 8 is above 1 + 0 + 6, and 100 is valid behind it
+pub no-smaller : NoBoundIsSmaller
+no-smaller f =
+    let bad : is_valid_after (heard_epoch 8 0) (heard_epoch 100 100) ≡ false = f 8 100 0 0 100 (omega arith) (omega arith) in
+    absurd cc

@@ -1,6 +1,6 @@
 -- What holds in every world, whatever is lost, repeated or reordered (our own): where a lease that a client holds comes
 -- from, and that a client hears of a loss (RFC 6887, section 8.5).
-use Rattle.std.specs.Prelude.{◌≡◌, ◌⊎◌, ◌+◌, ◌-◌, ◌/◌, ◌<◌, ◌≤◌, ℕ, IsSome, List, [], ◌∷◌, Contains, unwrap_or, Option, Some}
+use Rattle.std.specs.Prelude.{◌≡◌, ◌⊎◌, ◌+◌, ◌-◌, ◌/◌, ◌<◌, ◌≤◌, ℕ, false, IsSome, List, [], ◌∷◌, Contains, unwrap_or, Option, Some}
 use Rattle.std.specs.List.{AllByRecursion}
 use Rattle.pcp_base.specs.declared.addresses.Address.{Address}
 use Rattle.pcp_base.specs.declared.addresses.Nonce.{Nonce}
@@ -21,6 +21,7 @@ use Rattle.client_core.specs.declared.meanings.EpochFound.TheVariants.{Invalid}
 use Rattle.client_core.specs.declared.meanings.Meaning.TheVariants.{Says}
 use Rattle.client_core.specs.declared.meanings.Notice.{Notice}
 use Rattle.client_core.specs.Clients.{heard_of, meaning_of}
+use Rattle.client_core.specs.EpochTests.{heard_epoch, is_valid_after}
 use Rattle.client_core.specs.Meanings.{want_at}
 use Rattle.client_core.specs.Wants.{WantView}
 use Rattle.proxy_core.specs.Nonces.{upstream_nonce}
@@ -148,3 +149,9 @@ LossesAreFound =
     (b : Beginning) (events : List Event) (host : ClientHost) (p : Packet) →
     IsBeginning b → HearsAfterLoss (run (begun b) events) host p →
     (heard_of host.client (datagram_of p) (run (begun b) events).clock).epoch ≡ Invalid
+
+-- No smaller bound would do: were it 1 + d + gap/16, there are epochs of which the test finds none invalid.
+abbrev pub NoBoundIsSmaller : Type 0
+NoBoundIsSmaller =
+    ((first second at d gap : ℕ) → second ≤ gap + d → 1 + d + gap / 16 < first
+    → is_valid_after (heard_epoch first at) (heard_epoch second (at + gap)) ≡ false) → ⊥

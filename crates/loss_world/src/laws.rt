@@ -1,5 +1,5 @@
 //! What clients may believe in a world that loses, repeats and reorders packets.
-ghost use Rattle.loss_world.specs.Disclosure.{ClientsHaveOrigins, LeasesAreGranted, LossesAreFound, RepliesHaveOrigins};
+ghost use Rattle.loss_world.specs.Disclosure.{ClientsHaveOrigins, LeasesAreGranted, LossesAreFound, NoBoundIsSmaller, RepliesHaveOrigins};
 
 use client_core::losses_are_heard;
 use decision_laws::{answers_tell_the_address, leases_are_granted};
@@ -17,12 +17,13 @@ use proxy_core::waits_are_kept;
 /// later change gave it. Each response that was sent has its origin in a reply or an update of the
 /// server, and so has each epoch that a client heard. A client that hears two replies, between whose
 /// origins leases were lost, finds the second epoch invalid where the first was high enough (RFC 6887,
-/// section 8.5).
+/// section 8.5); and no smaller bound would do.
 pub fn world_law()
     ensures leases { LeasesAreGranted }
     ensures replies { RepliesHaveOrigins }
     ensures clients { ClientsHaveOrigins }
     ensures losses { LossesAreFound }
+    ensures least { NoBoundIsSmaller }
 {
     decisions_change_leases();
     losses_are_heard();
