@@ -1,12 +1,17 @@
 -- Runs: a client hears an error and its epoch, all leases are lost, and it hears the next epoch; a client is granted a
 -- lease, and hears of its new address.
 use Rattle.std.specs.Prelude.{replicate, slice_get}
-use Rattle.std.proofs.Common.{◌≡◌, ℕ, true, false, List, [], ◌∷◌, Option, Some, None, refl}
+use Rattle.std.specs.List.{AllByRecursion}
+use Rattle.std.proofs.Common.{◌≡◌, ℕ, zero, suc, ◌<◌, true, false, List, [], ◌∷◌, Option, Some, None, refl, arith}
 use Rattle.pcp_base.specs.declared.addresses.Address.{Address}
 use Rattle.pcp_base.specs.declared.asks.Ask.{Ask}
 use Rattle.pcp_base.specs.declared.asks.Ask.TheVariants as Asks
 use Rattle.pcp_base.specs.declared.leases.Protocol.TheVariants as Protocols
+use Rattle.pcp_base.specs.Configs.{IsConfig}
+use Rattle.pcp_base.specs.Reached.{IsReached}
 use Rattle.pcp_base.specs.States.{empty_state}
+use Rattle.pcp_base.proofs.ApplyLaws.{IsReached-empty}
+use Rattle.pcp_options.specs.Responses.{AreOctets}
 use Rattle.client_core.specs.declared.meanings.EpochFound.{EpochFound}
 use Rattle.client_core.specs.declared.meanings.EpochFound.TheVariants as Epochs
 use Rattle.pcp_options.specs.Verdicts.{verdict_of}
@@ -20,7 +25,7 @@ use Rattle.client_core.specs.Clients.{heard_of, held_by}
 use Rattle.loss_world.specs.HouseLosses.{Loses, Renumbers}
 use Rattle.loss_world.specs.Packets.{Packet, datagram_of}
 use Rattle.loss_world.specs.Steps.{run}
-use Rattle.loss_world.specs.Worlds.{Beginning, ClientHost, Event, World, ToServer, ToClient, ClientTicks, Wants, Fails, Passes, begun}
+use Rattle.loss_world.specs.Worlds.{Beginning, ClientHost, Event, IsAddressValue, IsBeginning, IsEventValue, World, ToServer, ToClient, ClientTicks, Wants, Fails, Passes, begun}
 
 abbrev host : ℕ → Address
 host n = record { 0 = 0 ∷ 0 ∷ 0 ∷ 0 ∷ 0 ∷ 0 ∷ 0 ∷ 0 ∷ 0 ∷ 0 ∷ 255 ∷ 255 ∷ 10 ∷ 0 ∷ 0 ∷ n ∷ [] }
@@ -101,3 +106,65 @@ moved = Wants 0 None (asking 80) ∷ ClientTicks 0 0 ∷ ToServer 0 ∷ ToClient
 pub lease-is-moved : held_of (slice_get (run (begun (beginning_by 1)) moved).clients 0) ≡ Some (record { address = host 8; external = 5000; until_ms = 5200000 })
 unfolding verdict_of_datagram verdict_of decide_map pick next_inside
 lease-is-moved = refl
+
+-- ---- that world begins as the law asks, and its events name values
+
+over : (xs : List ℕ) → AllByRecursion (λ x. x < 256) xs → AreOctets xs
+over [] h i = omega arith
+over (x ∷ xs) h zero = h.0
+over (x ∷ xs) h (suc i) = over xs h.1 i
+
+host-octets : (n : ℕ) → n < 256 → AllByRecursion (λ x. x < 256) (host n).0
+host-octets n h = (
+  omega arith,
+  (omega arith, (omega arith, (omega arith, (omega arith, (omega arith, (omega arith, (omega arith, (omega arith, (omega arith, (omega arith, (omega arith, (omega arith, (omega arith, (omega arith, (h, tt))))))))))))))),
+)
+
+host-value : (n : ℕ) → n < 256 → IsAddressValue (host n)
+host-value n h = (refl, over (host n).0 (host-octets n h))
+
+begun-state : IsReached (record empty_state { base = 1000; address = Some (host 9); last = 1000; started = true })
+begun-state =
+    let sound = IsReached-empty.sound in
+    record {
+      sound = record { table = sound.table; ordered = sound.ordered; unowned = sound.unowned };
+      maps = tt;
+      peers = tt;
+      ends = tt;
+      base = omega arith;
+      last = omega arith;
+    }
+
+config-is : IsConfig (beginning_by 1).config
+config-is = record {
+  quota = (omega arith, omega arith);
+  lifetime_min = omega arith;
+  lifetimes = omega arith;
+  lifetime_max = omega arith;
+  third_party_count = omega arith;
+  third_party = tt;
+  external_count = (omega arith, omega arith);
+  externals = (record { low = omega arith; ordered = omega arith; high = omega arith }, tt);
+  external_addresses = (tt, tt);
+  subscriber_count = omega arith;
+  subscribers = ((omega arith, omega arith), tt);
+}
+
+pub is-beginning : IsBeginning (beginning_by 1)
+is-beginning = record {
+  hosts = record {
+    server = host-value 1 (omega arith);
+    externals = (host-value 9 (omega arith), tt);
+    relays = tt;
+    clients = ((host-value 2 (omega arith), host-value 1 (omega arith)), tt);
+  };
+  openings = record { config_is = config-is; count = refl; reached = (begun-state, tt); started = (refl, tt) };
+  empty = (refl, tt);
+  past = (omega arith, tt);
+}
+
+sevens : AllByRecursion (λ x. x < 256) (replicate {A = ℕ} 12 7)
+sevens = (omega arith, (omega arith, (omega arith, (omega arith, (omega arith, (omega arith, (omega arith, (omega arith, (omega arith, (omega arith, (omega arith, (omega arith, tt))))))))))))
+
+pub are-values : AllByRecursion IsEventValue moved
+are-values = ((tt, (over (replicate {A = ℕ} 12 7) sevens, (host-value 0 (omega arith)).1, tt)), (tt, (tt, (tt, (host-value 8 (omega arith), (tt, tt))))))
