@@ -4,7 +4,7 @@ ghost use Rattle.std.specs.Prelude.{◌≡◌, OnOk};
 
 use crate::making::{all_are_so, at, map_of, moment};
 use crate::sound_maps::are_sound_with;
-use Call::{Copied, Ended, External, Find, Live, Next, Put, Remove};
+use Call::{Copied, External, Find, Live, Next, NextAt, Put, Reach, Remove};
 use mapping_table::MapTable;
 use mapping_table::plain::PlainMapTable;
 use pcp_base::Protocol::{Tcp, Udp};
@@ -18,10 +18,13 @@ enum Call {
     Put(Protocol, u8, u16, u16, u16, u32),
     Find(u8, u16, Option<u16>),
     External(u16, Option<u16>),
+    /// While all leases are live.
     Next(u8, u16, Option<u16>),
+    /// At a moment, of which the plain body doesn't tell it.
+    NextAt(u8, u16, u32, Option<u16>),
     Remove(u8, u16, Option<u16>),
     Live(u32, u32),
-    Ended(u32, Option<u16>),
+    Reach(u32),
     /// The moments at which the one body and the plain one copy leases, and which come.
     Copied(u32, u32, &'static [u16]),
 }
@@ -53,29 +56,47 @@ static FOUND: [Call; 24] = [
     Next(5, 5000, None),
 ];
 
-static RENEWED: [Call; 19] = [
+static RENEWED: [Call; 12] = [
     Put(Udp, 5, 5000, 1, 1024, 1130),
     Put(Udp, 6, 5000, 1, 1025, 1120),
     Put(Udp, 7, 5000, 1, 1026, 4610),
     Live(1119, 3),
-    Ended(1119, None),
     // A lease isn't live at its expiry.
     Live(1120, 2),
-    Ended(1120, Some(1025)),
-    // The first in the order granted, not the first that ended.
-    Ended(1130, Some(1024)),
     Live(1130, 1),
     // Renewed: the same place, another expiry.
     Put(Udp, 5, 5000, 1, 1024, 1140),
-    Ended(1139, Some(1025)),
-    Ended(1140, Some(1024)),
     Put(Udp, 5, 5000, 1, 1030, 1140),
     External(1024, None),
     External(1030, Some(1030)),
-    Ended(1140, Some(1030)),
     Remove(6, 5000, Some(1025)),
-    Ended(1139, None),
     Live(1139, 2),
+];
+
+// A set of 100 ports ends, and a single one stays.
+static REACHED: [Call; 19] = [
+    Put(Udp, 5, 5000, 100, 1024, 1120),
+    Put(Udp, 5, 6000, 1, 1200, 4610),
+    Reach(1119),
+    Live(1119, 2),
+    NextAt(5, 5000, 1119, Some(5001)),
+    Reach(1120),
+    Live(1120, 1),
+    NextAt(5, 4000, 1120, Some(6000)),
+    NextAt(5, 5000, 1120, Some(6000)),
+    // It is in the list still.
+    Live(1119, 2),
+    Find(5, 5050, Some(1024)),
+    // Put anew, it is live.
+    Put(Udp, 5, 5000, 100, 1024, 1300),
+    Live(1120, 2),
+    NextAt(5, 4000, 1120, Some(5000)),
+    // No moment comes again.
+    Reach(1000),
+    Live(1120, 2),
+    Remove(5, 5000, Some(1024)),
+    Live(1120, 1),
+    NextAt(5, 4000, 1120, Some(6000)),
 ];
 
 // In the order granted.
@@ -159,14 +180,13 @@ fn is_told(table: &MapTable, plain: &PlainMapTable, call: &Call) -> bool {
         }
         Next(host, port, wanted) => {
             let endpoint = at(Udp, host, port);
-            let next = table.next_internal(&endpoint);
-            (next, plain.next_internal(&endpoint)) == (wanted, wanted)
+            let next = table.next_internal(&endpoint, moment(0));
+            (next, plain.next_internal(&endpoint, moment(0))) == (wanted, wanted)
+        }
+        NextAt(host, port, m, wanted) => {
+            table.next_internal(&at(Udp, host, port), moment(m)) == wanted
         }
         Live(m, wanted) => (table.live(moment(m)), plain.live(moment(m))) == (wanted, wanted),
-        Ended(m, wanted) => {
-            let ended = told(table.ended(moment(m)));
-            (ended, told(plain.ended(moment(m)))) == (wanted, wanted)
-        }
         _ => false,
     }
 }
@@ -189,6 +209,11 @@ fn is_answered(
         Remove(host, port, wanted) => is_removed(table, plain, &at(Udp, host, port), wanted),
         Copied(first, second, wanted) => {
             are_copied(alloc, table, plain, (first, second), wanted)?
+        }
+        Reach(m) => {
+            table.reach(moment(m));
+            plain.reach(moment(m));
+            true
         }
         _ => is_told(table, plain, call),
     })
@@ -236,6 +261,11 @@ fn leases_are_found_by_all_their_ports(rt: HostRuntime) {
 #[test]
 fn a_renewal_keeps_its_place(rt: HostRuntime) {
     all_are_so(&rt, first_other_of_new(rt.alloc(), &RENEWED));
+}
+
+#[test]
+fn ended_leases_leave_the_live_ones(rt: HostRuntime) {
+    all_are_so(&rt, first_other_of_new(rt.alloc(), &REACHED));
 }
 
 #[test]

@@ -4,7 +4,9 @@ ghost use Rattle.std.specs.Prelude.{◌≡◌, OnOk};
 
 use crate::making::{all_are_so, at, moment, peer_of, remote};
 use crate::sound_peers::are_sound_with;
-use Call::{Copied, Ended, External, Find, Last, Live, Next, OfEndpoint, Put, Remove, Unsound};
+use Call::{
+    Copied, External, Find, Last, Live, Next, NextAt, OfEndpoint, Put, Reach, Remove, Unsound,
+};
 use pcp_base::Protocol::Udp;
 use pcp_base::{Address, Endpoint, Memory, PeerLease};
 use peer_table::plain::PlainPeerTable;
@@ -21,12 +23,15 @@ enum Call {
     Unsound(u8, u16, u16, u8, u16, u32),
     Find(u8, u16, u8, u16, Option<u64>),
     External(u16, u8, u16, Option<u64>),
+    /// While all leases are live.
     Next(u8, u16, Option<u16>),
+    /// At a moment, of which the plain body doesn't tell it.
+    NextAt(u8, u16, u32, Option<u16>),
+    Reach(u32),
     /// A host and its port, a moment, and the external port and count.
     OfEndpoint(u8, u16, u32, Option<(u16, u32)>),
     Remove(u8, u16, u8, u16, Option<u64>),
     Live(u32, u32),
-    Ended(u32, Option<u64>),
     /// An external port, of which the plain body doesn't tell it.
     Last(u16, Option<u64>),
     /// The moments at which the one body and the plain one copy leases, and how many come.
@@ -62,28 +67,39 @@ static OPENED: [Call; 26] = [
     OfEndpoint(5, 5000, 1010, Some((1024, 1))),
 ];
 
-static RENEWED: [Call; 18] = [
+static RENEWED: [Call; 12] = [
     Put(5, 5000, 1024, 7, 53, 1130),
     Put(6, 5000, 1025, 7, 53, 1120),
     Put(7, 5000, 1026, 7, 53, 4610),
     Live(1119, 3),
-    Ended(1119, None),
     // A lease isn't live at its expiry.
     Live(1120, 2),
-    Ended(1120, Some(1120)),
-    // The first in the order granted, not the first that ended.
-    Ended(1130, Some(1130)),
     Live(1130, 1),
     // Renewed: the same place, another expiry.
     Put(5, 5000, 1024, 7, 53, 1140),
-    Ended(1139, Some(1120)),
-    Ended(1140, Some(1140)),
     Put(5, 5000, 1030, 7, 53, 1140),
     External(1024, 7, 53, None),
     External(1030, 7, 53, Some(1140)),
     Remove(6, 5000, 7, 53, Some(1120)),
-    Ended(1139, None),
     Live(1139, 2),
+];
+
+static REACHED: [Call; 13] = [
+    Put(5, 5000, 1024, 7, 53, 1120),
+    Put(5, 6000, 1025, 7, 53, 4610),
+    Reach(1120),
+    Live(1120, 1),
+    NextAt(5, 4000, 1120, Some(6000)),
+    // It is in the list still.
+    Live(1119, 2),
+    Find(5, 5000, 7, 53, Some(1120)),
+    // Put anew, it is live.
+    Put(5, 5000, 1024, 7, 53, 1300),
+    Live(1120, 2),
+    NextAt(5, 4000, 1120, Some(5000)),
+    Remove(5, 5000, 7, 53, Some(1300)),
+    Live(1120, 1),
+    NextAt(5, 4000, 1120, Some(6000)),
 ];
 
 // An endpoint has no more leases than sixteen.
@@ -200,8 +216,11 @@ fn is_told(table: &PeerTable, plain: &PlainPeerTable, call: &Call) -> bool {
         }
         Next(host, port, wanted) => {
             let endpoint = at(Udp, host, port);
-            let next = table.next_internal(&endpoint);
-            (next, plain.next_internal(&endpoint)) == (wanted, wanted)
+            let next = table.next_internal(&endpoint, moment(0));
+            (next, plain.next_internal(&endpoint, moment(0))) == (wanted, wanted)
+        }
+        NextAt(host, port, m, wanted) => {
+            table.next_internal(&at(Udp, host, port), moment(m)) == wanted
         }
         OfEndpoint(host, port, m, wanted) => {
             let endpoint = at(Udp, host, port);
@@ -210,10 +229,6 @@ fn is_told(table: &PeerTable, plain: &PlainPeerTable, call: &Call) -> bool {
             (found, plainly) == (wanted, wanted)
         }
         Live(m, wanted) => (table.live(moment(m)), plain.live(moment(m))) == (wanted, wanted),
-        Ended(m, wanted) => {
-            let ended = told(table.ended(moment(m)));
-            (ended, told(plain.ended(moment(m)))) == (wanted, wanted)
-        }
         Last(port, wanted) => table.last_expiry(Udp, port) == wanted,
         _ => false,
     }
@@ -249,6 +264,11 @@ fn is_answered(
             )
         }
         Copied(first, second, count) => copied(alloc, table, plain, (first, second))? == count,
+        Reach(m) => {
+            table.reach(moment(m));
+            plain.reach(moment(m));
+            true
+        }
         _ => is_told(table, plain, call),
     })
 }
@@ -300,6 +320,11 @@ fn a_renewed_lease_keeps_its_place(rt: HostRuntime) {
 #[test]
 fn an_endpoint_has_sixteen_leases(rt: HostRuntime) {
     all_are_so(&rt, first_other_of_new(rt.alloc(), &SIXTEEN));
+}
+
+#[test]
+fn ended_leases_leave_the_live_ones(rt: HostRuntime) {
+    all_are_so(&rt, first_other_of_new(rt.alloc(), &REACHED));
 }
 
 #[test]
