@@ -408,6 +408,7 @@ module _ (b : Beginning) (events : List Event) (d : Datagram) (now : ℕ) (sent 
       tie = t;
       stands = by_client;
       asked = s.asked;
+      itself = asks-for-itself s.request.peer s.request.octets s.asked.place s.ask s.items s.asked.judged;
       internal = sym has.1;
       protocol = of ∙ ap (λ (p : Protocol). Some p) (sym has.0 ∙ ap (λ (e : Endpoint). e.protocol) s.client);
       nonce = nonce_is;

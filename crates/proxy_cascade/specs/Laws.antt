@@ -77,6 +77,7 @@ pub record AnswersTie (b : Beginning) (events : List Event) (d : Datagram) (now 
   pub tie : Tied
   pub stands : tie_of ask.endpoint (at (run (begun b) events) now).ties.each ≡ Some tie
   pub asked : WentUp b events request ask items tie.tie.local
+  pub itself : ask.endpoint.address ≡ request.peer
   pub internal : common.internal ≡ tie.tie.local
   pub protocol : protocol_of common.protocol ≡ Some ask.endpoint.protocol
   pub nonce : common.nonce ≡ upstream_nonce b.key ask.endpoint.address ask.nonce
