@@ -1,4 +1,6 @@
 //! That a cascade's texts mean these octets, and that its calls succeed with ample memory.
+ghost use Rattle.std.specs.Prelude.{◌≤◌, ◌<◌, ◌*◌, ◌^◌};
+
 use pcp_base::{Address, Datagram, Memory, Octets};
 use proxy_cascade::{Cascade, Tie};
 use proxy_core::ProxyOut;
@@ -83,8 +85,12 @@ fn request(alloc: Global, last: u8) -> Result<Datagram, Memory> {
     datagram(alloc, Address::v4(192, 168, 1, last), &octets)
 }
 
-fn new_cascade(alloc: Global) -> Result<Cascade, Memory> {
-    Cascade::new(alloc, OWN, SERVER, [7; 32], 20_000, 20_001, 0)
+// a cascade with these two local ports, at time 0
+fn new_cascade(alloc: Global, low: u16, high: u16) -> Result<Cascade, Memory>
+    requires some { 1 ≤ low }
+    requires ordered { low ≤ high }
+{
+    Cascade::new(alloc, OWN, SERVER, [7; 32], low, high, 0)
 }
 
 fn is_to(d: &Datagram, peer: Address, port: u16, octets: &[u8]) -> bool {
@@ -106,25 +112,52 @@ fn is_told(out: &ProxyOut, last: u8, octets: &[u8]) -> bool {
     }
 }
 
+// what is given for the request from 192.168.1.last
+fn asked(alloc: Global, cascade: &mut Cascade, last: u8) -> Result<ProxyOut, Memory> {
+    cascade.from_client(alloc, &request(alloc, last)?, 1_000)
+}
+
+fn is_asked_up(alloc: Global, cascade: &mut Cascade, last: u8, up: &[u8]) -> Result<bool, Memory> {
+    Ok(goes_up(&asked(alloc, cascade, last)?, up))
+}
+
+// the error reply to the request, with this head
+fn refused(alloc: Global, head: &[u8; 24]) -> Result<Vec<u8>, Memory> {
+    let mut octets = head.to_vec(alloc)?;
+    octets.extend_from_slice(REQUEST.get(24..).unwrap_or(&[]))?;
+    Ok(octets)
+}
+
+fn is_refused(alloc: Global, cascade: &mut Cascade, last: u8) -> Result<bool, Memory> {
+    let out = asked(alloc, cascade, last)?;
+    Ok(is_told(&out, last, &refused(alloc, &NO_ROOM_HEAD)?))
+}
+
 // Whether two clients with one port get two local ports, and the third gets none.
 fn are_tied(alloc: Global, cascade: &mut Cascade) -> Result<bool, Memory> {
-    let five = cascade.from_client(alloc, &request(alloc, 5)?, 1_000)?;
-    let six = cascade.from_client(alloc, &request(alloc, 6)?, 1_000)?;
-    let seven = cascade.from_client(alloc, &request(alloc, 7)?, 1_000)?;
-    let mut refused = NO_ROOM_HEAD.to_vec(alloc)?;
-    refused.extend_from_slice(REQUEST.get(24..).unwrap_or(&[]))?;
-    Ok(goes_up(&five, &UP_FIVE) && goes_up(&six, &UP_SIX) && is_told(&seven, 7, &refused))
+    let five = is_asked_up(alloc, cascade, 5, &UP_FIVE)?;
+    let six = is_asked_up(alloc, cascade, 6, &UP_SIX)?;
+    let seven = is_refused(alloc, cascade, 7)?;
+    Ok(five && six && seven)
+}
+
+// what is given for the upstream server's answer
+fn answered(alloc: Global, cascade: &mut Cascade) -> Result<Option<Datagram>, Memory> {
+    cascade.from_server(alloc, &datagram(alloc, SERVER, &UPSTREAM)?, 3_000)
+}
+
+fn is_sent(sent: &Option<Datagram>, peer: Address, port: u16, octets: &[u8]) -> bool {
+    match sent {
+        Some(d) => is_to(d, peer, port, octets),
+        None => false,
+    }
 }
 
 // Whether the upstream server's answer is told to the client as this, once.
 fn is_answered(alloc: Global, cascade: &mut Cascade, told: &[u8]) -> Result<bool, Memory> {
-    let reply = datagram(alloc, SERVER, &UPSTREAM)?;
-    let first = cascade.from_server(alloc, &reply, 3_000)?;
-    let again = cascade.from_server(alloc, &reply, 3_000)?;
-    let Some(sent) = first else {
-        return Ok(false);
-    };
-    Ok(is_to(&sent, Address::v4(192, 168, 1, 5), 40_000, told) && again.is_none())
+    let first = answered(alloc, cascade)?;
+    let again = answered(alloc, cascade)?;
+    Ok(is_sent(&first, Address::v4(192, 168, 1, 5), 40_000, told) && again.is_none())
 }
 
 fn is_granted(tie: &Tie) -> bool {
@@ -143,39 +176,47 @@ fn are_listed(ties: &[Tie]) -> bool {
     }
 }
 
+fn tells_the_upstream_port(alloc: Global, cascade: &mut Cascade) -> Result<bool, Memory> {
+    let tied = are_tied(alloc, cascade)?;
+    let answered = is_answered(alloc, cascade, &TOLD)?;
+    let ties = cascade.ties(alloc)?;
+    Ok(tied && answered && are_listed(&ties))
+}
+
 #[test]
 fn the_upstream_port_is_told(rt: HostRuntime) -> Result<(), Fail> {
     let alloc = rt.alloc();
-    let mut cascade = new_cascade(alloc)?;
-    assert!(rt; are_tied(alloc, &mut cascade)?);
-    assert!(rt; is_answered(alloc, &mut cascade, &TOLD)?);
-    assert!(rt; are_listed(&cascade.ties(alloc)?));
+    assert!(rt; tells_the_upstream_port(alloc, &mut new_cascade(alloc, 20_000, 20_001)?)?);
     Ok(())
 }
 
 // Whether an upstream ANNOUNCE with this epoch gives an ANNOUNCE reply with epoch 0 to all clients.
-fn announces(
-    alloc: Global,
-    cascade: &mut Cascade,
-    epoch: u16,
-    now_ms: u64,
-) -> Result<bool, Memory> {
+fn announces(alloc: Global, cascade: &mut Cascade, epoch: u16, now_ms: u64) -> Result<bool, Memory>
+    requires { now_ms < 1000 * 2 ^ 40 }
+{
     let reply = datagram(alloc, SERVER, &announced(epoch))?;
-    match cascade.from_server(alloc, &reply, now_ms)? {
-        Some(d) => Ok(is_to(&d, Address::v4(224, 0, 0, 1), 5_350, &announced(0))),
-        None => Ok(false),
-    }
+    let sent = cascade.from_server(alloc, &reply, now_ms)?;
+    Ok(is_sent(&sent, Address::v4(224, 0, 0, 1), 5_350, &announced(0)))
+}
+
+// whether 192.168.1.5 is told this epoch
+fn tells(alloc: Global, cascade: &mut Cascade, epoch: u16) -> Result<bool, Memory> {
+    let asked = datagram(alloc, Address::v4(192, 168, 1, 5), &ANNOUNCE)?;
+    let out = cascade.from_client(alloc, &asked, 112_000)?;
+    Ok(is_told(&out, 5, &announced(epoch)))
+}
+
+// Whether the server's epoch 5 after 600 is a loss, from which on epochs count.
+fn announces_a_loss(alloc: Global, cascade: &mut Cascade) -> Result<bool, Memory> {
+    let first = announces(alloc, cascade, 600, 100_000)?;
+    let second = announces(alloc, cascade, 5, 110_000)?;
+    let told = tells(alloc, cascade, 2)?;
+    Ok(!first && second && told)
 }
 
 #[test]
 fn a_loss_upstream_is_announced(rt: HostRuntime) -> Result<(), Fail> {
     let alloc = rt.alloc();
-    let mut cascade = new_cascade(alloc)?;
-    let first = announces(alloc, &mut cascade, 600, 100_000)?;
-    let second = announces(alloc, &mut cascade, 5, 110_000)?;
-    assert!(rt; !first && second);
-    let asked = datagram(alloc, Address::v4(192, 168, 1, 5), &ANNOUNCE)?;
-    let out = cascade.from_client(alloc, &asked, 112_000)?;
-    assert!(rt; is_told(&out, 5, &announced(2)));
+    assert!(rt; announces_a_loss(alloc, &mut new_cascade(alloc, 20_000, 20_001)?)?);
     Ok(())
 }
