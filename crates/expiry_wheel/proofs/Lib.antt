@@ -7,3 +7,4 @@ pub mod Trees
 pub mod Root
 pub mod Slots
 pub mod Wheels
+mod PlainLemmas

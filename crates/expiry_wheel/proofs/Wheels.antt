@@ -236,3 +236,18 @@ wheel_soonest slots tree view best is seen present first = subst (λ (m : FinMap
       let place = kept_pair slots tree id e (fin.get slots id) is refl (sym (get-expiries_in slots (kept_at tree) id) ∙ found) in
       subst (IsNoLater best) place.1 (first place.0);
 })
+
+-- a slot of an id keeps a pair
+pub slot_keeps : (slots : FinMap nat_cmp ℕ) (tree : List (Option Pair)) (id slot : ℕ) → IsWheel slots tree → fin.get slots id ≡ Some slot → kept_at tree slot ≡ None → ⊥
+slot_keeps slots tree id slot is there none = cc (is.paired.by_id id slot there, ap id_of none)
+
+-- the pair in the slot of an id tells its expiry
+pub expiry_kept : (slots : FinMap nat_cmp ℕ) (tree : List (Option Pair)) (id slot : ℕ) (p : Pair) → fin.get slots id ≡ Some slot → kept_at tree slot ≡ Some p → fin.get (expiries_in slots (kept_at tree)) id ≡ Some p.expiry
+expiry_kept slots tree id slot p there stands = get-expiries_in slots (kept_at tree) id ∙ ap (option_map (λ s. expiry_of (kept_at tree s))) there ∙ ap (λ k. Some (expiry_of k)) stands
+
+-- an id that is put where it stands
+pub put_again : (m : FinMap nat_cmp ℕ) (k v : ℕ) → fin.get m k ≡ Some v → m ≡ fin.insert m k v
+put_again m k v there = one_inserted m m k v (λ q. elim (same_or_not q k) [
+  | inl e ↦ ap (fin.get m) e ∙ there ∙ sym (cond_same q k (Some v) (fin.get m q) e)
+  | inr ne ↦ sym (cond_other q k (Some v) (fin.get m q) ne)
+])

@@ -1,6 +1,7 @@
 //! The plain body: a list that is searched. It stands beside the fast one to compare with.
 
 ghost use Rattle.std.specs.Prelude.{◌≡◌, ◌≢◌, ℕ, ◌<◌, ◌≤◌, slice_get, Contains, Some, IfSome, IfNone, IfOk, OnOk, OnErr};
+ghost use Rattle.std.specs.Bool.{OnTrue, OnFalse};
 ghost use Rattle.std.specs.FinMap as map;
 ghost use Rattle.expiry_wheel.specs.Due.{IsNextDue};
 ghost use Rattle.expiry_wheel.specs.Order.{IsNoLater};
@@ -97,6 +98,45 @@ impl PlainWheel {
             }
             None => false,
         }
+    }
+
+    /// When an id expires, None where the wheel hasn't got it.
+    pub fn expiry(&self, id: u32) -> Option<u64>
+        ensures { result ≡ map.get self.now id }
+    {
+        let Some(i) = place_of(&self.pairs, id) else {
+            return None;
+        };
+        Some(self.pairs[i].expiry)
+    }
+
+    /// Gives an id that the wheel has another expiry; false where it hasn't got it. It takes no memory.
+    pub fn reschedule(&mut self, id: u32, expiry: u64) -> bool
+        ensures found { result ≡ map.contains_key self.old id }
+        ensures moved { OnTrue result (self.new ≡ map.insert self.old id expiry) }
+        ensures unchanged { OnFalse result (self.new ≡ self.old) }
+    {
+        let Some(i) = place_of(&self.pairs, id) else {
+            return false;
+        };
+        self.pairs[i] = Pair { expiry, id };
+        true
+    }
+
+    /// The id with the least expiry, then the least id, if that expiry is at most `m`, else `None`.
+    /// It stays in the wheel.
+    pub fn next_due(&self, m: u64) -> Option<u32>
+        ensures next { IfSome result (IsNextDue self.now m) }
+        ensures none { IfNone result (
+            (id expiry : ℕ) → map.get self.now id ≡ Some expiry → m < expiry) }
+    {
+        let Some(next) = soonest(&self.pairs) else {
+            return None;
+        };
+        if m < next.expiry {
+            return None;
+        }
+        Some(next.id)
     }
 
     /// Takes out the pair with the least expiry, then the least id, if that expiry is at most `m`.

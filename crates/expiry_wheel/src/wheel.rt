@@ -3,7 +3,7 @@
 //! It is no timing wheel: of two nodes side by side the one above keeps the pair that falls due
 //! first, so that the root keeps the next.
 
-ghost use Rattle.std.specs.Bool.{OnTrue};
+ghost use Rattle.std.specs.Bool.{OnTrue, OnFalse};
 ghost use Rattle.std.specs.Prelude.{◌-◌, ◌≡◌, ℕ, ◌+◌, ◌<◌, ◌≤◌, ◌^◌, length, slice_set, unwrap_or, Some, None, IfSome, IfNone, IfOk, OnOk, OnErr};
 ghost use Rattle.std.specs.FinMap as map;
 ghost use Rattle.expiry_wheel.specs.Slots.{expiries_in, kept_at, IsCostOfFilling, IsCostOfTaking, IsFilled, IsWheel};
@@ -209,6 +209,66 @@ impl Wheel {
         };
         vacate(&mut self.slots, &mut self.tree, id, slot, steps);
         true
+    }
+
+    /// When an id expires, None where the wheel hasn't got it.
+    pub fn expiry(&self, id: u32) -> Option<u64>
+        ensures { result ≡ map.get self.now id }
+    {
+        self.expiry_uncounted::<Brand>(id, Blank::new(1))
+    }
+
+    /// Tells an expiry for a caller that counts no steps.
+    fn expiry_uncounted<L: Ledger>(&self, id: u32, blank: Blank) -> Option<u64>
+        requires name { blank.name ≡ L.name }
+        requires parts { blank.parts ≡ L.parts }
+        requires some { 0 < L.parts }
+        ensures { result ≡ map.get self.now id }
+    {
+        let mut steps = Steps::<L>::begin(blank);
+        let Some(slot) = self.slots.get(id) else {
+            return None;
+        };
+        let Some(pair) = self.tree.slot(slot as usize, &mut steps) else {
+            return None;
+        };
+        Some(pair.expiry)
+    }
+
+    /// Gives an id that the wheel has another expiry; false where it hasn't got it. The pair stays in
+    /// its slot, so it takes no memory.
+    pub fn reschedule(&mut self, id: u32, expiry: u64) -> bool
+        ensures found { result ≡ map.contains_key self.old id }
+        ensures moved { OnTrue result (self.new ≡ map.insert self.old id expiry) }
+        ensures unchanged { OnFalse result (self.new ≡ self.old) }
+    {
+        let Some(slot) = self.slots.get(id) else {
+            return false;
+        };
+        set_uncounted::<Brand>(
+            &mut self.tree,
+            slot as usize,
+            Some(Pair { expiry, id }),
+            Blank::new(1),
+        );
+        true
+    }
+
+    /// The id with the least expiry, then the least id, if that expiry is at most `m`, else `None`.
+    /// It stays in the wheel. A step is one node of the tree that is looked at: the root.
+    pub fn next_due<L: Ledger>(&self, m: u64, steps: &mut Steps<L>) -> Option<u32>
+        ensures next { IfSome result (IsNextDue self.now m) }
+        ensures none { IfNone result (
+            (id expiry : ℕ) → map.get self.now id ≡ Some expiry → m < expiry) }
+        ensures root { steps.new ≡ steps.old + 1 }
+    {
+        let Some(next) = self.tree.soonest(steps) else {
+            return None;
+        };
+        if m < next.expiry {
+            return None;
+        }
+        Some(next.id)
     }
 
     /// Takes out the pair with the least expiry, then the least id, if that expiry is at most `m`.
