@@ -15,10 +15,10 @@ use Rattle.pcp_base.specs.Tables.{same_address, same_protocol}
 use Rattle.port_runs.specs.Ports.{is_in_run}
 use Rattle.external_pool.specs.declared.uses.Use.{Use}
 use Rattle.external_pool.specs.declared.uses.Use.TheVariants.{Free, Held, Resting}
-use Rattle.external_pool.specs.PortUses.{all_free, use_at, is_held, is_held_by, with_run}
-use Rattle.external_pool.specs.Holdings.{Holdings, IsWhole, uses_of, use_of, ports_held, fresh_pool, with_use, NoneHeld, AllHeldBy}
+use Rattle.external_pool.specs.PortUses.{all_free, use_at, use_along, uses_along, is_held, is_held_by, is_resting, with_run}
+use Rattle.external_pool.specs.Holdings.{Holdings, IsWhole, uses_of, use_of, ports_held, fresh_pool, with_use, NoneHeld, AllHeldBy, AllFree, AllRest}
 use Rattle.external_pool.specs.Kept.{count_held, IsCounted}
-use Rattle.external_pool.proofs.Painted.{length-with_run, use_at-with_run}
+use Rattle.external_pool.proofs.Painted.{length-with_run, use_at-with_run, length-uses_along, use_at-uses_along, held_along}
 
 -- uses that a test tells alike
 one_more : (b : Bool) (n : ℕ) → cond b 1 0 + cond b n 0 ≡ cond b (suc n) 0
@@ -47,6 +47,12 @@ pub count-all_free : (who : Address) (count : ℕ) → count_by (is_held_by who)
 unfolding all_free
 count-all_free who count = count_replicate (is_held_by who) count Free
 
+count_along : (who : Address) (n : ℕ) (value : Use) → count_by (is_held_by who) (uses_along n value) ≡ cond (is_held_by who value) n 0
+count_along who n value =
+    count_alike (is_held_by who) (is_held_by who value) (uses_along n value)
+    (λ i few. ap (is_held_by who) (use_at-uses_along n i value (omega (arith, few, length-uses_along n value))) ∙ held_along who i value)
+    ∙ ap (λ (t : ℕ). cond (is_held_by who value) t 0) (length-uses_along n value)
+
 -- the n uses from start on
 abbrev pub part : ℕ → ℕ → List Use → List Use
 part start n each = take n (drop start each)
@@ -63,16 +69,17 @@ module _ (start n : ℕ) (each : List Use) (within : start + n ≤ length each) 
   use_at-part i few = get_or-take n (drop start each) i Free few ∙ get_or-drop start each i Free
 
   -- what is counted of those painted over goes, and what is painted comes
-  pub count_painted : (p : Use → Bool) (value : Use) → count_by p (with_run start n value each) + count_by p (part start n each) ≡ count_by p each + cond (p value) n 0
-  count_painted p value =
+  pub count_painted : (who : Address) (value : Use) → count_by (is_held_by who) (with_run start n value each) + count_by (is_held_by who) (part start n each) ≡ count_by (is_held_by who) each + cond (is_held_by who value) n 0
+  count_painted who value =
+      let p : Use → Bool = is_held_by who in
       let f : Use → ℕ = λ x. cond (p x) 1 0 in
       let before : count_by p each ≡ count_by p (take start each) + (count_by p (part start n each) + count_by p (drop (start + n) each)) =
       sym (ap (count_by p) parts) ∙ sum_by-append f (take start each) (part start n each ++ drop (start + n) each)
       ∙ ap (λ (t : ℕ). count_by p (take start each) + t) (sum_by-append f (part start n each) (drop (start + n) each)) in
       let after : count_by p (with_run start n value each) ≡ count_by p (take start each) + (cond (p value) n 0 + count_by p (drop (start + n) each)) =
-      sum_by-append f (take start each) (replicate n value ++ drop (start + n) each)
-      ∙ ap (λ (t : ℕ). count_by p (take start each) + t) (sum_by-append f (replicate n value) (drop (start + n) each))
-      ∙ ap (λ (t : ℕ). count_by p (take start each) + (t + count_by p (drop (start + n) each))) (count_replicate p n value) in
+      sum_by-append f (take start each) (uses_along n value ++ drop (start + n) each)
+      ∙ ap (λ (t : ℕ). count_by p (take start each) + t) (sum_by-append f (uses_along n value) (drop (start + n) each))
+      ∙ ap (λ (t : ℕ). count_by p (take start each) + (t + count_by p (drop (start + n) each))) (count_along who n value) in
       omega (arith, before, after)
 
 -- an address is the same as itself
@@ -102,7 +109,7 @@ with_use-whole pool Udp start n value whole within = record { tcp = whole.tcp; u
 
 -- what each port is used for after some got a use
 pub use_of-with_use : (pool : Holdings) (protocol : Protocol) (start n : ℕ) (value : Use) → IsWhole pool → start + n ≤ 65536 → (other : Protocol) (port : ℕ)
-    → use_of (with_use protocol start n value pool) other port ≡ cond (same_protocol protocol other && is_in_run start n port) value (use_of pool other port)
+    → use_of (with_use protocol start n value pool) other port ≡ cond (same_protocol protocol other && is_in_run start n port) (use_along (port - start) value) (use_of pool other port)
 use_of-with_use pool Tcp start n value whole within Tcp port = use_at-with_run start n value pool.tcp.each (omega (arith, within, whole.tcp)) port
 use_of-with_use pool Tcp start n value whole within Udp port = refl
 use_of-with_use pool Udp start n value whole within Tcp port = refl
@@ -126,8 +133,8 @@ module _ (pool : Holdings) (counts : BTreeMap (List ℕ) ℕ) (is : IsCounted po
 
   owned_marked : (protocol : Protocol) (start n : ℕ) (value : Use) → start + n ≤ 65536 → (who : Address)
       → ports_held (with_use protocol start n value pool) who + count_by (is_held_by who) (part start n (uses_of pool protocol).each) ≡ ports_held pool who + cond (is_held_by who value) n 0
-  owned_marked Tcp start n value within who = omega (arith, count_painted start n pool.tcp.each (short Tcp start n within) (is_held_by who) value)
-  owned_marked Udp start n value within who = omega (arith, count_painted start n pool.udp.each (short Udp start n within) (is_held_by who) value)
+  owned_marked Tcp start n value within who = omega (arith, count_painted start n pool.tcp.each (short Tcp start n within) who value)
+  owned_marked Udp start n value within who = omega (arith, count_painted start n pool.udp.each (short Udp start n within) who value)
 
   -- ports that nobody held are held by an address
   pub counted_held : (who : Address) (protocol : Protocol) (start n : ℕ) → start + n ≤ 65536 → NoneHeld pool protocol start n → (new : BTreeMap (List ℕ) ℕ)
@@ -175,3 +182,15 @@ pub none_held_at : (pool : Holdings) (protocol : Protocol) (port : ℕ) (value :
 none_held_at pool protocol port value use_is unheld q from to =
     let same : q ≡ port = omega arith in
     ap (λ (p : ℕ). is_held (use_of pool protocol p)) same ∙ ap is_held use_is ∙ unheld
+
+-- ports that are free, and ports that rest, aren't held
+pub none_held_free : (pool : Holdings) (protocol : Protocol) (start n : ℕ) → AllFree pool protocol start n → NoneHeld pool protocol start n
+none_held_free pool protocol start n free port from to = ap is_held (free port from to)
+
+rests_unheld : (value : Use) → is_resting value ≡ true → is_held value ≡ false
+rests_unheld Free h = refl
+rests_unheld (Held who) h = absurd (let no : false ≡ true = h in cc)
+rests_unheld (Resting last internal) h = refl
+
+pub none_held_rest : (pool : Holdings) (protocol : Protocol) (start n : ℕ) → AllRest pool protocol start n → NoneHeld pool protocol start n
+none_held_rest pool protocol start n rests port from to = rests_unheld (use_of pool protocol port) (rests port from to)

@@ -3,11 +3,11 @@ use Rattle.std.proofs.Common.{◌≡◌, ℕ, ◌+◌, ◌-◌, ◌<◌, ◌≤�
 use Rattle.std.proofs.lemmas.Bool.Decides.{nat_tests}
 use Rattle.port_runs.specs.Ports.{Ports, is_taken, is_untaken, is_in_run, IsFittingRun, HasFittingRun, IsLeast, IsGreatest}
 use Rattle.external_pool.specs.declared.uses.Use.{Use}
-use Rattle.external_pool.specs.PortUses.{PortUses, use_at, is_in_range, is_free_use, is_vacant, with_run, all_free}
+use Rattle.external_pool.specs.PortUses.{PortUses, use_at, use_along, is_in_range, is_free_use, is_vacant, with_run, all_free}
 use Rattle.external_pool.specs.declared.uses.Use.TheVariants.{Free}
 use Rattle.external_pool.specs.Choosing.{IsVacantRun, HasVacantRun, IsLongest}
 use Rattle.external_pool.specs.Kept.{IsKept}
-use Rattle.external_pool.proofs.Painted.{use_at-with_run, length-with_run, use_at-all_free}
+use Rattle.external_pool.proofs.Painted.{free_along, use_at-with_run, length-with_run, use_at-all_free}
 
 -- what isn't above a number is at most it
 pub at_most : (n most : ℕ) → (most < n → ⊥) → n ≤ most
@@ -87,10 +87,10 @@ module _ (uses : PortUses) (parity : Option ℕ) (room most count : ℕ) (is : I
       none run.0 (fewer_vacant uses parity count most run.0 (omega (arith, count_is)) run.1)
 
 -- a use painted over the part of a run that lies in the range
-painted_tests : (r s : Bool) (value old : Use) → cond (r && s) (not (is_free_use value)) (r && not (is_free_use old)) ≡ (r && not (is_free_use (cond s value old)))
-painted_tests true true value old = refl
-painted_tests true false value old = refl
-painted_tests false s value old = refl
+painted_tests : (r s : Bool) (value later old : Use) → is_free_use later ≡ is_free_use value → cond (r && s) (not (is_free_use value)) (r && not (is_free_use old)) ≡ (r && not (is_free_use (cond s later old)))
+painted_tests true true value later old same = ap not (sym same)
+painted_tests true false value later old same = refl
+painted_tests false s value later old same = refl
 
 outside_tests : (r s : Bool) (value old : Use) → (r && s) ≡ false → (r && not (is_free_use old)) ≡ (r && not (is_free_use (cond s value old)))
 outside_tests true true value old h = cc
@@ -113,7 +113,7 @@ module _ (low high : ℕ) (runs : Ports) (each : List Use) (kept : IsKept low hi
     taken = λ port. taken port
         ∙ ap (λ (b : Bool). cond b (not (is_free_use value)) (is_taken runs port)) (clipped low high start n from to port from_is to_is some)
         ∙ ap (cond (is_in_range low high port && is_in_run start n port) (not (is_free_use value))) (kept.taken port)
-        ∙ painted_tests (is_in_range low high port) (is_in_run start n port) value (use_at each port)
+        ∙ painted_tests (is_in_range low high port) (is_in_run start n port) value (use_along (port - start) value) (use_at each port) (free_along (port - start) value)
         ∙ ap (λ (u : Use). is_in_range low high port && not (is_free_use u)) (sym (use_at-with_run start n value each within port));
   }
 
@@ -123,7 +123,7 @@ module _ (low high : ℕ) (runs : Ports) (each : List Use) (kept : IsKept low hi
     same_low = kept.same_low;
     same_high = kept.same_high;
     taken = λ port. kept.taken port
-        ∙ outside_tests (is_in_range low high port) (is_in_run start n port) value (use_at each port) (apart low high start n from to port from_is to_is none)
+        ∙ outside_tests (is_in_range low high port) (is_in_run start n port) (use_along (port - start) value) (use_at each port) (apart low high start n from to port from_is to_is none)
         ∙ ap (λ (u : Use). is_in_range low high port && not (is_free_use u)) (sym (use_at-with_run start n value each within port));
   }
 

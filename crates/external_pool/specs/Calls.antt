@@ -43,6 +43,13 @@ pub record RestsPort {X E : Type 0} (old : Holdings) (external : ℕ) (last : En
   pub ok : IsOk result
   pub rests : new ≡ with_use last.protocol external 1 (Resting last.address last.port) old
 
+-- the n ports rest, the first for the endpoint, and each behind it for the port behind; that can't
+-- fail
+pub record RestsPorts {X E : Type 0} (old : Holdings) (external : ℕ) (last : Endpoint) (n : ℕ)
+    (result : Result X E) (new : Holdings) : Type 0 where
+  pub ok : IsOk result
+  pub rests : new ≡ with_use last.protocol external n (Resting last.address last.port) old
+
 -- a port that rests does so no longer; where it doesn't rest, nothing changes
 pub record WakesPort (old : Holdings) (protocol : Protocol) (external : ℕ) (woke : Bool)
     (new : Holdings) : Type 0 where

@@ -1,11 +1,11 @@
 -- What a pool has: who holds which ports, and for whom others rest (our own).
-use Rattle.std.specs.Prelude.{◌≡◌, ℕ, ◌+◌, ◌<◌, ◌≤◌, count_by, length, false}
+use Rattle.std.specs.Prelude.{◌≡◌, ℕ, ◌+◌, ◌<◌, ◌≤◌, count_by, length, true, false}
 use Rattle.pcp_base.specs.declared.addresses.Address.{Address}
 use Rattle.pcp_base.specs.declared.leases.Protocol.{Protocol}
 use Rattle.pcp_base.specs.declared.leases.Protocol.TheVariants.{Tcp, Udp}
-use Rattle.external_pool.specs.PortUses.{PortUses, uses_over, all_free, use_at, is_held, is_held_by, with_uses}
+use Rattle.external_pool.specs.PortUses.{PortUses, uses_over, all_free, use_at, is_held, is_held_by, is_resting, with_uses}
 use Rattle.external_pool.specs.declared.uses.Use.{Use}
-use Rattle.external_pool.specs.declared.uses.Use.TheVariants.{Held}
+use Rattle.external_pool.specs.declared.uses.Use.TheVariants.{Free, Held}
 
 pub record Holdings : Type 0 where
   pub quota : ℕ
@@ -45,7 +45,7 @@ emptied pool = record {
   udp = uses_over pool.udp.low pool.udp.high (all_free 65536);
 }
 
--- the n ports from start on have this use, and nothing else changes
+-- of the n ports from start on the first has this use, and nothing else changes
 abbrev pub with_use : Protocol → ℕ → ℕ → Use → Holdings → Holdings
 with_use Tcp start n value pool = record pool { tcp = with_uses start n value pool.tcp }
 with_use Udp start n value pool = record pool { udp = with_uses start n value pool.udp }
@@ -57,6 +57,14 @@ NoneHeld pool protocol start n =
 abbrev pub AllHeldBy : Holdings → Address → Protocol → ℕ → ℕ → Type 0
 AllHeldBy pool who protocol start n =
     (port : ℕ) → start ≤ port → port < start + n → use_of pool protocol port ≡ Held who
+
+abbrev pub AllFree : Holdings → Protocol → ℕ → ℕ → Type 0
+AllFree pool protocol start n =
+    (port : ℕ) → start ≤ port → port < start + n → use_of pool protocol port ≡ Free
+
+abbrev pub AllRest : Holdings → Protocol → ℕ → ℕ → Type 0
+AllRest pool protocol start n =
+    (port : ℕ) → start ≤ port → port < start + n → is_resting (use_of pool protocol port) ≡ true
 
 abbrev pub pool_of : ℕ → PortUses → PortUses → Holdings
 pool_of quota tcp udp = record { quota = quota; tcp = tcp; udp = udp }

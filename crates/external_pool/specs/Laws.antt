@@ -1,5 +1,5 @@
 -- The laws of picks, and of a pool that is the pool of a state (our own).
-use Rattle.std.specs.Prelude.{◌≡◌, ℕ, ◌+◌, ◌≤◌, ◌↔◌, ◌&&◌, if◌then◌else◌, not, IsTrue, true, false, Option}
+use Rattle.std.specs.Prelude.{◌≡◌, ℕ, ◌+◌, ◌-◌, ◌≤◌, ◌↔◌, ◌&&◌, if◌then◌else◌, not, IsTrue, true, false, Option}
 use Rattle.pcp_base.specs.declared.addresses.Address.{Address}
 use Rattle.pcp_base.specs.declared.leases.Protocol.{Protocol}
 use Rattle.pcp_base.specs.declared.leases.Endpoint.{Endpoint}
@@ -8,7 +8,7 @@ use Rattle.pcp_base.specs.Owners.{owners, is_owned, owned}
 use Rattle.pcp_base.specs.Ends.{rests, rests_for}
 use Rattle.pcp_base.specs.States.{State}
 use Rattle.port_runs.specs.Ports.{is_in_run}
-use Rattle.external_pool.specs.PortUses.{PortUses, is_in_range, is_vacant, is_open}
+use Rattle.external_pool.specs.PortUses.{PortUses, is_in_range, is_vacant, is_open, use_along}
 use Rattle.external_pool.specs.Holdings.{Holdings, IsWhole, uses_of, use_of, with_use, fresh_pool, ports_held}
 use Rattle.external_pool.specs.Choosing.{IsPick}
 use Rattle.external_pool.specs.PoolOf.{IsPoolOf}
@@ -62,5 +62,6 @@ abbrev pub UsesChangeInARun : Type 0
 UsesChangeInARun = (pool : Holdings) (protocol : Protocol) (start n : ℕ) (value : Use) →
     IsWhole pool → start + n ≤ 65536 → (other : Protocol) (port : ℕ) →
     use_of (with_use protocol start n value pool) other port
-    ≡ (if same_protocol protocol other && is_in_run start n port then value
+    ≡ (if same_protocol protocol other && is_in_run start n port
+    then use_along (port - start) value
     else use_of pool other port)

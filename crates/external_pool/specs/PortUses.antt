@@ -1,5 +1,5 @@
 -- What the ports of one protocol are used for (our own).
-use Rattle.std.specs.Prelude.{ℕ, ◌+◌, ◌&&◌, ◌==◌, nat_le, Bool, true, false, List, ◌++◌, take, drop, replicate, slice_index_or}
+use Rattle.std.specs.Prelude.{ℕ, zero, suc, ◌+◌, ◌&&◌, ◌==◌, nat_le, Bool, true, false, List, [], ◌∷◌, ◌++◌, take, drop, replicate, slice_index_or}
 use Rattle.pcp_base.specs.declared.addresses.Address.{Address}
 use Rattle.pcp_base.specs.Tables.{same_address}
 use Rattle.external_pool.specs.declared.uses.Use.{Use}
@@ -57,10 +57,28 @@ abbrev pub is_open : PortUses → Address → ℕ → ℕ → Bool
 is_open uses who internal port =
     is_in_range uses.low uses.high port && is_free_to who internal (use_at uses.each port)
 
--- the n ports from start on have this use, and the others stay
+-- the use of the port i behind one with this use: where ports go to rest in a row, so do the
+-- internal ones
+abbrev pub use_along : ℕ → Use → Use
+use_along i Free = Free
+use_along i (Held who) = Held who
+use_along i (Resting last internal) = Resting last (internal + i)
+
+-- the uses of n ports in a row, of which the first has this use
+abbrev pub uses_along : ℕ → Use → List Use
+uses_along zero value = []
+uses_along (suc n) value = value ∷ uses_along n (use_along 1 value)
+
+-- the internal port that it tells, if it tells one
+abbrev pub internal_of : Use → ℕ
+internal_of Free = 0
+internal_of (Held who) = 0
+internal_of (Resting last internal) = internal
+
+-- of the n ports from start on the first has this use, and the others stay
 abbrev pub with_run : ℕ → ℕ → Use → List Use → List Use
 with_run start n value each =
-    take start each ++ (replicate n value ++ drop (start + n) each)
+    take start each ++ (uses_along n value ++ drop (start + n) each)
 
 abbrev pub with_uses : ℕ → ℕ → Use → PortUses → PortUses
 with_uses start n value uses = record uses { each = with_run start n value uses.each }

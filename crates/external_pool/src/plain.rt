@@ -5,6 +5,7 @@ ghost use Rattle.std.specs.Prelude.{◌≡◌, ◌+◌, ◌≤◌, ◌<◌, ◌�
 ghost use Rattle.port_runs.specs.Ports.{IsLeast};
 ghost use Rattle.external_pool.specs.PortUses.{uses_over, is_held_by, is_vacant, is_open};
 ghost use Rattle.external_pool.specs.Choosing.{IsVacantRun, IsLongest, IsPick};
+ghost use Rattle.external_pool.specs.PortUses.{internal_of};
 ghost use Rattle.external_pool.specs.Holdings.{use_of, fresh_pool, with_use};
 ghost use Rattle.external_pool.specs.Asking.{IsPickAnswer};
 ghost use Rattle.external_pool.specs.Calls.{IsAsk, MayHold, MayRelease, HoldsPorts, RestsPort, WakesPort};
@@ -13,7 +14,7 @@ ghost use Rattle.external_pool.specs.declared.uses.Use.TheVariants.{Free};
 
 use crate::asks::{PickAsk, PickRefused, Picked, judge};
 use crate::side::meets;
-use crate::uses::{PORTS, Use, cleared, is_free_to, is_free_use, paint};
+use crate::uses::{PORTS, Use, cleared, is_free_to, is_free_use, paint, resting};
 use pcp_base::{Address, Endpoint, Memory, Protocol};
 use std::alloc::Global;
 use std::marker::Model;
@@ -153,9 +154,10 @@ fn choose(
     longest(low, high, each, room, ask.parity)
 }
 
-/// Gives ports of one protocol this use.
+/// Gives ports of one protocol the uses of which this is the first.
 fn mark(tcp: &mut [Use], udp: &mut [Use], protocol: Protocol, start: u16, n: u32, value: Use)
     requires end { start + n ≤ 65536 }
+    requires fits { internal_of value + n ≤ 65536 }
     requires tcp { length tcp.old ≡ 65536 }
     requires udp { length udp.old ≡ 65536 }
     ensures { (low high quota : ℕ) → plainly low high quota tcp.new udp.new
@@ -246,7 +248,7 @@ impl PlainPool {
             last.protocol,
             external,
             1,
-            Use::Resting(last.address, last.port),
+            resting(last.address, last.port),
         );
         Ok(())
     }

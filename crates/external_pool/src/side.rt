@@ -116,9 +116,10 @@ impl Side {
         })
     }
 
-    /// Gives the `n` ports from `start` on this use.
+    /// Gives the `n` ports from `start` on the uses of which this is the first.
     pub fn mark(&mut self, start: u16, n: u32, value: Use)
-        requires { start + n ≤ 65536 }
+        requires within { start + n ≤ 65536 }
+        requires fits { the.internal_of value + n ≤ 65536 }
         ensures { self.new ≡ the.with_uses start n value self.old }
     {
         paint(&mut self.each, start as usize, n as usize, value);

@@ -9,13 +9,13 @@ pub lower-requires : goal.lower-requires
 lower-requires c =
     let a = c.self.inside in
     let last = c.args.last.now in
-    let all = rw (← c.self.view_is) at c.requires.held in
-    enough (pool_of a.quota a.tcp a.udp) a.counts c.self.invariant last.address last.protocol c.args.external 1 c.requires.ports.end all
+    let all = rw (← c.self.view_is) at c.requires.held.held in
+    enough (pool_of a.quota a.tcp a.udp) a.counts c.self.invariant last.address last.protocol c.args.external c.args.n c.requires.held.ports.end all
 
 pub invariant_of-self : goal.invariant_of-self
 invariant_of-self c =
     let a = c.self.inside in
     let last = c.args.last.now in
-    let all = rw (← c.self.view_is) at c.requires.held in
+    let all = rw (← c.self.view_is) at c.requires.held.held in
     subst (λ (p : Holdings). IsCounted p c.lower.new.counts) (sym (c.mark.ensures a.quota))
-    (counted_retired (pool_of a.quota a.tcp a.udp) a.counts c.self.invariant last.address last.protocol c.args.external 1 (Resting last.address last.port) c.requires.ports.end all refl c.lower.new.counts c.lower.ensures)
+    (counted_retired (pool_of a.quota a.tcp a.udp) a.counts c.self.invariant last.address last.protocol c.args.external c.args.n (Resting last.address last.port) c.requires.held.ports.end all refl c.lower.new.counts c.lower.ensures)
