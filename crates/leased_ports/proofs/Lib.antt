@@ -2,6 +2,14 @@ pub mod PickLemmas
 pub mod ExpiryLemmas
 pub mod LastEndLemmas
 pub mod PoolLemmas
+pub mod SpotLemmas
 pub mod StepLemmas
+pub mod BlockLemmas
+pub mod UseLemmas
+pub mod PartLemmas
+pub mod FreeLemmas
+pub mod FallLemmas
+pub mod AssignLemmas
+pub mod ViewLemmas
 pub mod MomentLemmas
 pub mod RecordLemmas

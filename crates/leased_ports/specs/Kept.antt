@@ -1,35 +1,76 @@
--- What is kept beside the last ends: a pool, and a wheel that tells when ports go to rest and awake
--- (our own).
-use Rattle.std.specs.Prelude.{◌≡◌, ℕ, ◌+◌, ◌*◌, ◌<◌, ◌≤◌, nat_lt, Bool, true, false, List, length, Option, Some, None, IfSome}
+-- What is kept of the last ends: runs of ports that have theirs together, and beside them a pool,
+-- and a wheel that tells when each run goes to rest or awake (our own).
+use Rattle.std.specs.Prelude.{◌≡◌, ℕ, ◌+◌, ◌-◌, ◌/◌, ◌%◌, ◌<◌, ◌≤◌, ◌^◌, ◌==◌, nat_lt, Bool, true, false, List, map, Option, Some, None, IfSome, if◌then◌else◌}
+use Rattle.std.specs.List.{range_with_len}
 use Rattle.std.specs.Ordering.{nat_cmp}
-use Rattle.std.specs.FinMap.{FinMap, get, contains_key}
-use Rattle.std.specs.Option.{option_map}
+use Rattle.std.specs.FinMap.{FinMap, get}
 use Rattle.pcp_base.specs.declared.leases.TheConstants.{REST_SECONDS}
 use Rattle.pcp_base.specs.declared.leases.Protocol.{Protocol}
+use Rattle.pcp_base.specs.declared.leases.Protocol.TheVariants.{Tcp, Udp}
 use Rattle.pcp_base.specs.declared.leases.End.{End}
 use Rattle.external_pool.specs.declared.uses.Use.{Use}
 use Rattle.external_pool.specs.declared.uses.Use.TheVariants.{Free, Held, Resting}
+use Rattle.external_pool.specs.PortUses.{use_along}
 use Rattle.external_pool.specs.Holdings.{Holdings, IsWhole, use_of}
-use Rattle.leased_ports.specs.Leased.{Leased, place, end_in}
-use Rattle.leased_ports.specs.declared.ends.TheConstants.{PLACES}
+use Rattle.port_spans.specs.declared.runs.Run.{Run}
+use Rattle.port_spans.specs.Runs.{run_at, AreRuns}
+use Rattle.leased_ports.specs.Leased.{end_along}
 
--- the id under which the port at a place waits for its end, and that for the end of its rest
-abbrev pub held_id : ℕ → ℕ
-held_id at = 2 * at
+-- where a port stands among those of both protocols
+abbrev pub spot : Protocol → ℕ → ℕ
+spot Tcp port = port
+spot Udp port = 65536 + port
 
-abbrev pub rest_id : ℕ → ℕ
-rest_id at = 2 * at + 1
+abbrev pub spot_of : End → ℕ
+spot_of e = spot e.endpoint.protocol e.external
 
--- whether the port is held at m
+-- the run that has a port
+abbrev pub run_of : List (Run End) → Protocol → ℕ → Option (Run End)
+run_of runs protocol port = if nat_lt port 65536 then run_at runs (spot protocol port) else None
+
+-- the last end at a spot of a run: its value is that of its first port
+abbrev pub end_told : ℕ → Option (Run End) → Option End
+end_told at None = None
+end_told at (Some r) = Some (end_along (at - r.first) r.value)
+
+-- the last end of a port
+abbrev pub end_by : List (Run End) → Protocol → ℕ → Option End
+end_by runs protocol port = end_told (spot protocol port) (run_of runs protocol port)
+
+-- the last ends at so many places, at which ports of both protocols take turns
+unfoldable pub ends_of : List (Run End) → ℕ → List (Option End)
+ends_of runs count =
+    map (λ at. if at % 2 == 0 then end_by runs Tcp (at / 2) else end_by runs Udp (at / 2))
+    (range_with_len 0 count)
+
+-- whether a port is held at m
 abbrev pub is_held_at : ℕ → Option End → Bool
 is_held_at m None = false
 is_held_at m (Some e) = nat_lt m e.end
+
+abbrev pub held_at : ℕ → Run End → Bool
+held_at m r = nat_lt m r.value.end
 
 -- what a port is used for: first it is held for its last endpoint, and then it rests
 abbrev pub use_by : Bool → Option End → Use
 use_by held None = Free
 use_by true (Some e) = Held e.endpoint.address
 use_by false (Some e) = Resting e.endpoint.address e.endpoint.port
+
+-- what a port at a spot of a run is used for, by what the run is
+abbrev pub use_told : (Run End → Bool) → ℕ → Option (Run End) → Use
+use_told held at None = Free
+use_told held at (Some r) = use_along (at - r.first) (use_by (held r) (Some r.value))
+
+-- when a run falls due next: at its end, and then after its rest
+abbrev pub until : Bool → ℕ → ℕ
+until true end = end
+until false end = end + REST_SECONDS
+
+-- when a run falls due that begins at a spot
+abbrev pub wait_told : (Run End → Bool) → ℕ → Option (Run End) → Option ℕ
+wait_told held at None = None
+wait_told held at (Some r) = if r.first == at then Some (until (held r) r.value.end) else None
 
 -- the pool's range and quota
 pub record IsOn (pool : Holdings) (low high most : ℕ) : Type 0 where
@@ -39,29 +80,37 @@ pub record IsOn (pool : Holdings) (low high most : ℕ) : Type 0 where
   pub udp_low : pool.udp.low ≡ low
   pub udp_high : pool.udp.high ≡ high
 
--- Pool and wheel are those of the ends: a port is held while its first id waits, and rests while
--- only the second does.
-pub record AreInStep (ends : List (Option End)) (pool : Holdings) (waits : FinMap nat_cmp ℕ)
+-- a run of ports from 1 to 65535 of a protocol, whose value is the last end of the first
+pub record IsSet (r : Run End) : Type 0 where
+  pub first : r.first ≡ spot_of r.value
+  pub some : 1 ≤ r.count
+  pub external : 1 ≤ r.value.external
+  pub within : r.value.external + r.count ≤ 65536
+  pub internal : r.value.endpoint.port + r.count ≤ 65536
+  pub near : r.value.end < 2 ^ 41
+
+-- the wheel has each run once, under its first spot, by what the runs are
+pub record AreScheduled (held : Run End → Bool) (runs : List (Run End)) (waits : FinMap nat_cmp ℕ)
     : Type 0 where
-  pub all : length ends ≡ PLACES
+  pub apart : AreRuns runs
+  pub set : (at : ℕ) → IfSome (run_at runs at) IsSet
+  pub waiting : (at : ℕ) → get waits at ≡ wait_told held at (run_at runs at)
+
+-- so does the pool use their ports
+pub record AreInStep (held : Run End → Bool) (runs : List (Run End)) (pool : Holdings)
+    (waits : FinMap nat_cmp ℕ) : Type 0 where
   pub whole : IsWhole pool
-  pub placed : (at : ℕ) → IfSome (end_in ends at)
-      (λ e. (1 ≤ e.external) × (place e.endpoint.protocol e.external ≡ at))
+  pub scheduled : AreScheduled held runs waits
   pub used : (protocol : Protocol) (port : ℕ) → use_of pool protocol port
-      ≡ use_by (contains_key waits (held_id (place protocol port)))
-      (end_in ends (place protocol port))
-  pub held : (at expiry : ℕ) → get waits (held_id at) ≡ Some expiry →
-      option_map (λ e. e.end) (end_in ends at) ≡ Some expiry
-  pub rests : (at : ℕ) →
-      get waits (rest_id at) ≡ option_map (λ e. e.end + REST_SECONDS) (end_in ends at)
+      ≡ use_told held (spot protocol port) (run_of runs protocol port)
 
--- at m the ports are held whose end is later, and no rest is over
-pub record AreSettled (m : ℕ) (ends : List (Option End)) (waits : FinMap nat_cmp ℕ)
-    : Type 0 where
-  pub held : (at : ℕ) → contains_key waits (held_id at) ≡ is_held_at m (end_in ends at)
-  pub recent : (at : ℕ) → IfSome (end_in ends at) (λ e. m < e.end + REST_SECONDS)
+-- no rest is over at m
+abbrev pub AreRecent : ℕ → List (Run End) → Type 0
+AreRecent m runs = (at : ℕ) → IfSome (run_at runs at) (λ r. m < r.value.end + REST_SECONDS)
 
-pub record IsKept (v : Leased) (pool : Holdings) (waits : FinMap nat_cmp ℕ) : Type 0 where
-  pub on : IsOn pool v.low v.high v.quota
-  pub in_step : AreInStep v.ends pool waits
-  pub settled : AreSettled v.reached v.ends waits
+-- a range and a quota, and at the moment reached the runs are held whose end is later
+pub record IsKept (low high quota reached : ℕ) (runs : List (Run End)) (pool : Holdings)
+    (waits : FinMap nat_cmp ℕ) : Type 0 where
+  pub on : IsOn pool low high quota
+  pub in_step : AreInStep (held_at reached) runs pool waits
+  pub recent : AreRecent reached runs

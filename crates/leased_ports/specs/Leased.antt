@@ -1,5 +1,5 @@
 -- What is known of the ports of an external address at a moment (our own).
-use Rattle.std.specs.Prelude.{◌≡◌, ℕ, ◌+◌, ◌*◌, ◌<◌, ◌≤◌, ◌^◌, List, Option, Some, None, map, replicate, slice_index_or, slice_set, if◌then◌else◌}
+use Rattle.std.specs.Prelude.{◌≡◌, ℕ, zero, suc, ◌+◌, ◌*◌, ◌<◌, ◌≤◌, ◌^◌, List, Option, Some, None, map, replicate, slice_index_or, slice_set, if◌then◌else◌}
 use Rattle.pcp_base.specs.declared.leases.TheConstants.{REST_SECONDS}
 use Rattle.pcp_base.specs.declared.leases.Protocol.{Protocol}
 use Rattle.pcp_base.specs.declared.leases.Protocol.TheVariants.{Tcp, Udp}
@@ -67,11 +67,38 @@ with_last_end e v = record v {
   ends = slice_set v.ends (place e.endpoint.protocol e.external) (Some e);
 }
 
+-- the last end of the port i behind that of an end, where ports in a row have theirs together
+abbrev pub end_along : ℕ → End → End
+end_along i e = record {
+  endpoint = record e.endpoint { port = e.endpoint.port + i };
+  external = e.external + i;
+  end = e.end;
+}
+
+-- the last ends of the n ports from the end's port on are this one and those along it
+abbrev pub with_last_ends : End → ℕ → Leased → Leased
+with_last_ends e zero v = v
+with_last_ends e (suc n) v = with_last_end (end_along n e) (with_last_ends e n v)
+
+-- the n ports from a port on aren't held and don't rest
+abbrev pub without_last_ends : Protocol → ℕ → ℕ → Leased → Leased
+without_last_ends protocol port zero v = v
+without_last_ends protocol port (suc n) v = record (without_last_ends protocol port n v) {
+  ends = slice_set (without_last_ends protocol port n v).ends (place protocol (port + n)) None;
+}
+
 -- an end by which a port of 1 to 65535 is held or rests at m
 pub record IsLastEnd (m : ℕ) (e : End) : Type 0 where
   pub external : 1 ≤ e.external
   pub recent : m < e.end + REST_SECONDS
   pub near : e.end < 2 ^ 41
+
+-- ends by which n ports in a row, at least one, are held or rest at m: this one and those along it
+pub record AreLastEnds (m : ℕ) (first : End) (n : ℕ) : Type 0 where
+  pub is_last : IsLastEnd m first
+  pub some : 1 ≤ n
+  pub external : first.external + n ≤ 65536
+  pub internal : first.endpoint.port + n ≤ 65536
 
 -- the value is that of the ports of a state at the moment reached
 pub record IsPortsOf (v : Leased) (s : State) : Type 0 where

@@ -1,25 +1,32 @@
--- What one step does to a pool and to a wheel (our own).
-use Rattle.std.specs.Prelude.{◌≡◌, ℕ, ◌+◌, ◌≤◌, ◌&&◌, ◌==◌, nat_lt, List, slice_set, Option, Some, None, if◌then◌else◌}
+-- What one step does to runs, to a pool and to a wheel (our own; for proofs alone).
+use Rattle.std.specs.Prelude.{◌≡◌, ℕ, ◌+◌, ◌-◌, ◌<◌, ◌≤◌, ◌&&◌, ◌==◌, true, false, List, Option, Some, None, IfSome, if◌then◌else◌}
 use Rattle.std.specs.Ordering.{nat_cmp}
 use Rattle.std.specs.FinMap.{FinMap, get}
-use Rattle.pcp_base.specs.declared.leases.TheConstants.{REST_SECONDS}
 use Rattle.pcp_base.specs.declared.leases.Protocol.{Protocol}
+use Rattle.pcp_base.specs.declared.leases.End.{End}
 use Rattle.pcp_base.specs.Tables.{same_protocol}
-use Rattle.pcp_base.specs.Ends.{is_end_of}
 use Rattle.port_runs.specs.Ports.{is_in_run}
 use Rattle.external_pool.specs.declared.uses.Use.{Use}
+use Rattle.external_pool.specs.PortUses.{use_along}
 use Rattle.external_pool.specs.Holdings.{Holdings, IsWhole, use_of}
-use Rattle.pcp_base.specs.declared.leases.End.{End}
-use Rattle.leased_ports.specs.Leased.{place, end_in}
-use Rattle.leased_ports.specs.Kept.{IsOn, AreInStep, AreSettled, held_id, rest_id}
+use Rattle.port_spans.specs.declared.runs.Run.{Run}
+use Rattle.port_spans.specs.Runs.{run_at}
+use Rattle.leased_ports.specs.Leased.{end_along}
+use Rattle.leased_ports.specs.Kept.{IsOn, AreInStep, AreRecent, end_by, end_told, held_at, spot_of}
 
--- One port is used so, and nothing else changes.
-pub record GivesUse (old : Holdings) (protocol : Protocol) (port : ℕ) (value : Use)
+-- The n ports from one on are used so: that one so, those behind it along it. Nothing else changes.
+pub record GivesUses (old : Holdings) (protocol : Protocol) (port n : ℕ) (value : Use)
     (new : Holdings) : Type 0 where
   pub on : (low high most : ℕ) → IsOn old low high most → IsOn new low high most
   pub whole : IsWhole old → IsWhole new
-  pub uses : IsWhole old → (other : Protocol) (n : ℕ) → use_of new other n
-      ≡ (if same_protocol protocol other && is_in_run port 1 n then value else use_of old other n)
+  pub uses : IsWhole old → (other : Protocol) (q : ℕ) → use_of new other q
+      ≡ (if same_protocol protocol other && is_in_run port n q then use_along (q - port) value
+      else use_of old other q)
+
+-- the ports of a run are used by its value
+abbrev pub AreUsedBy : Holdings → Run End → Use → Type 0
+AreUsedBy pool r value = (q : ℕ) → is_in_run r.value.external r.count q ≡ true →
+    use_of pool r.value.endpoint.protocol q ≡ use_along (q - r.value.external) value
 
 -- One id waits until then, or doesn't wait, and nothing else changes.
 abbrev pub Waits : FinMap nat_cmp ℕ → ℕ → Option ℕ → FinMap nat_cmp ℕ → Type 0
@@ -30,18 +37,51 @@ Waits old id until new =
 abbrev pub NoneFrom : ℕ → FinMap nat_cmp ℕ → Type 0
 NoneFrom n waits = (id : ℕ) → n ≤ id → get waits id ≡ None
 
--- The port at a place falls due by this last end, and nothing else changes.
-abbrev pub IsScheduled : FinMap nat_cmp ℕ → ℕ → ℕ → End → FinMap nat_cmp ℕ → Type 0
-IsScheduled old at reached last new = (id : ℕ) → get new id
-    ≡ (if id == rest_id at then Some (last.end + REST_SECONDS)
-    else if id == held_id at then (if nat_lt reached last.end then Some last.end else None)
-    else get old id)
+-- no run goes on over a spot
+abbrev pub BeginsAt : ℕ → List (Run End) → Type 0
+BeginsAt at runs = IfSome (run_at runs at) (λ r. r.first ≡ at)
 
--- The end stands at the place of its port, and pool and wheel are those of the ends then.
-pub record IsAssigned (old : List (Option End)) (reached : ℕ) (last : End)
-    (new : List (Option End)) (pool : Holdings) (waits : FinMap nat_cmp ℕ) : Type 0 where
-  pub ends : new ≡ slice_set old (place last.endpoint.protocol last.external) (Some last)
-  pub ports : (protocol : Protocol) (port : ℕ) → end_in new (place protocol port)
-      ≡ (if is_end_of protocol port last then Some last else end_in old (place protocol port))
-  pub in_step : AreInStep new pool waits
-  pub settled : AreSettled reached new waits
+-- n spots from one on are of no run any more, and at the others the last ends stay; pool and wheel
+-- are those of the runs then
+pub record AreFreed (m from n : ℕ) (old new : List (Run End)) (pool : Holdings)
+    (waits : FinMap nat_cmp ℕ) : Type 0 where
+  pub in_step : AreInStep (held_at m) new pool waits
+  pub recent : AreRecent m new
+  pub none : (at : ℕ) → is_in_run from n at ≡ true → run_at new at ≡ None
+  pub others : (at : ℕ) → is_in_run from n at ≡ false →
+      end_told at (run_at new at) ≡ end_told at (run_at old at)
+
+-- some runs between two spots are gone
+pub record AreFreeing (m from to : ℕ) (start runs : List (Run End)) (pool : Holdings)
+    (waits : FinMap nat_cmp ℕ) : Type 0 where
+  pub in_step : AreInStep (held_at m) runs pool waits
+  pub from_begins : BeginsAt from runs
+  pub to_begins : BeginsAt to runs
+  pub below : (at : ℕ) → at < from → run_at runs at ≡ run_at start at
+  pub above : (at : ℕ) → to ≤ at → run_at runs at ≡ run_at start at
+  pub recent : AreRecent m start → AreRecent m runs
+
+-- The n ports from one on have these last ends, or none, and no other changes; pool and wheel are
+-- those of the runs then.
+pub record AreAssigned (m : ℕ) (old : List (Run End)) (protocol : Protocol) (start n : ℕ)
+    (last : ℕ → Option End) (new : List (Run End)) (pool : Holdings) (waits : FinMap nat_cmp ℕ)
+    : Type 0 where
+  pub in_step : AreInStep (held_at m) new pool waits
+  pub recent : AreRecent m new
+  pub ends : (other : Protocol) (port : ℕ) → end_by new other port
+      ≡ (if same_protocol protocol other && is_in_run start n port then last port
+      else end_by old other port)
+
+-- the last end of a port, where n ports have this one and those along it
+abbrev pub last_along : End → ℕ → Option End
+last_along first port = Some (end_along (port - first.external) first)
+
+abbrev pub no_last : ℕ → Option End
+no_last port = None
+
+-- the run of exactly these n ports and endpoints
+pub record IsOwnRun (runs : List (Run End)) (first : End) (n : ℕ) (r : Run End) : Type 0 where
+  pub there : run_at runs r.first ≡ Some r
+  pub at_first : r.first ≡ spot_of first
+  pub count : r.count ≡ n
+  pub same : r.value ≡ record first { end = r.value.end }

@@ -1,52 +1,58 @@
-//! The last ends of all ports, in one list.
+//! The last ends of ports, by runs of ports that were given theirs together.
 
-ghost use Rattle.std.specs.Prelude.{◌≡◌, ◌<◌, length, vec_len, slice_set, IfOk};
-ghost use Rattle.leased_ports.specs.Leased as the;
-ghost use Rattle.leased_ports.specs.declared.ends.TheConstants.{PLACES};
+ghost use Rattle.std.specs.Prelude.{◌≡◌, ◌<◌, ◌+◌, ◌^◌};
+ghost use Rattle.leased_ports.specs.Leased as seen;
+ghost use Rattle.leased_ports.specs.Kept as the;
 
-use pcp_base::{End, Protocol};
-use std::alloc::{AllocError, Global};
+use pcp_base::{End, Endpoint, Protocol, REST_SECONDS};
+use port_spans::Spans;
 
 /// How many places there are: one for each port number of both protocols.
 pub const PLACES: usize = 131_072;
 
-/// The last end of the port at each place, where it is held or rests.
-pub type Ends = Vec<Option<End>>;
+/// Runs of ports, each with the last end of its first port. Behind it both ports of an end go along.
+pub type Ends = Spans<End>;
 
-/// Where the end of a port stands.
-pub fn place(protocol: Protocol, port: u16) -> usize
-    ensures value { result ≡ the.place protocol port }
-    ensures bound { result < PLACES }
+/// Where a port stands among those of both protocols.
+pub fn spot(protocol: Protocol, port: u16) -> u32
+    ensures value { result ≡ the.spot protocol port }
+    ensures bound { result < 131072 }
 {
     match protocol {
-        Protocol::Tcp => 2 * usize::from(port),
-        Protocol::Udp => 2 * usize::from(port) + 1,
+        Protocol::Tcp => u32::from(port),
+        Protocol::Udp => 65_536 + u32::from(port),
     }
 }
 
-/// `count` places without an end.
-#[tactic(auto, unfolding(crate::specs::Leased::no_ends))]
-pub fn no_ends(alloc: Global, count: usize) -> Result<Ends, AllocError>
-    ensures all { IfOk result (λ ends. ends.items ≡ the.no_ends count) }
-    ensures len { IfOk result (λ ends. vec_len ends ≡ count) }
+/// The same of an end's port.
+pub fn spot_of(last: &End) -> u32
+    ensures value { result ≡ the.spot_of last.now }
+    ensures bound { result < 131072 }
 {
-    let ends = vec![in alloc; None; count]?;
-    Ok(ends)
+    spot(last.endpoint.protocol, last.external)
 }
 
-/// Writes the end at a place.
-pub fn write(ends: &mut Ends, at: usize, end: Option<End>)
-    requires { at < length ends.old.items }
-    ensures { ends.new.items ≡ slice_set ends.old.items at end }
+/// The last end of the port `i` behind that of an end.
+pub fn end_along(i: u32, last: &End) -> End
+    requires external { last.now.external + i < 65536 }
+    requires internal { last.now.endpoint.port + i < 65536 }
+    ensures { result ≡ seen.end_along i last.now }
 {
-    ends[at] = end;
-}
-
-/// Forgets all ends.
-pub fn forget(ends: &mut Ends)
-    ensures { ends.new.items ≡ the.no_ends (length ends.old.items) }
-{
-    for i in 0..ends.len() {
-        ends[i] = None;
+    End {
+        endpoint: Endpoint {
+            address: last.endpoint.address,
+            protocol: last.endpoint.protocol,
+            port: last.endpoint.port + i as u16,
+        },
+        external: last.external + i as u16,
+        end: last.end,
     }
+}
+
+/// When a run of that end falls due next: at its end, if it is held, and else after its rest.
+pub fn due_after(end: u64, held: bool) -> u64
+    requires { end < 2 ^ 41 }
+    ensures { result ≡ the.until held end }
+{
+    if held { end } else { end + REST_SECONDS }
 }

@@ -1,78 +1,63 @@
 //! What falls due at a moment.
 
-ghost use Rattle.std.specs.Prelude.{◌≡◌, ◌+◌, ◌≤◌, ◌<◌, ℕ, List, Option, map, IfSome, IfNone};
+ghost use Rattle.std.specs.Prelude.{◌≡◌, ◌<◌, ◌≤◌, ℕ, List, Some};
 ghost use Rattle.std.specs.Bool.{OnTrue, OnFalse};
 ghost use Rattle.std.specs.FinMap as fin;
 ghost use Rattle.pcp_base.specs.declared.leases.End.{End};
-ghost use Rattle.expiry_wheel.specs.Due.{IsNextDue};
-ghost use Rattle.external_pool.specs.Holdings.{use_of, with_use};
-ghost use Rattle.external_pool.specs.Calls.{MayRelease};
-ghost use Rattle.external_pool.specs.declared.uses.Use.TheVariants.{Free, Resting};
+ghost use Rattle.port_spans.specs.declared.runs.Run.{Run};
+ghost use Rattle.port_spans.specs.Runs.{run_at};
 ghost use Rattle.leased_ports.specs.Leased.{while_recent};
-ghost use Rattle.leased_ports.specs.Kept.{IsOn, AreInStep, AreSettled};
-ghost use Rattle.leased_ports.specs.Falling.{AreFalling};
+ghost use Rattle.leased_ports.specs.Kept.{IsOn, AreInStep, AreRecent, end_told, held_at};
+ghost use Rattle.leased_ports.specs.Falling.{AreFalling, due_below, held_by};
+ghost use Rattle.leased_ports.specs.declared.ends.TheConstants.{PLACES};
 
-use crate::ends::{Ends, write};
+use crate::ends::Ends;
+use crate::schedule::{next_due, reschedule, waits_until};
+use crate::steps::take_out;
 use expiry_wheel::Wheel;
 use external_pool::Pool;
-use pcp_base::End;
-use std::marker::Brand;
-use std::sync::ledger::{Blank, Ledger};
-use step_count::Steps;
+use pcp_base::REST_SECONDS;
 
-/// Takes out what falls due next, for a caller that counts no steps.
-fn due<L: Ledger>(wheel: &mut Wheel, m: u64, blank: Blank) -> Option<u32>
-    requires name { blank.name ≡ L.name }
-    requires parts { blank.parts ≡ L.parts }
-    requires part { 0 < L.parts }
-    ensures next { IfSome result (IsNextDue wheel.old m) }
-    ensures taken { IfSome result (λ id. wheel.new ≡ fin.remove wheel.old id) }
-    ensures none { IfNone result (
-        (id expiry : ℕ) → fin.get wheel.old id ≡ Some expiry → m < expiry) }
-    ensures unchanged { IfNone result (wheel.new ≡ wheel.old) }
-{
-    let mut steps = Steps::<L>::begin(blank);
-    wheel.due(m, &mut steps)
-}
-
-/// Sees to one id that falls due by `m`: a port whose end came begins to rest, and one whose rest
-/// is over is free. False where none falls due.
+/// Sees to one run that falls due by `m`: one whose end came begins to rest, and the ports of one
+/// whose rest is over are free. False where none falls due.
 fn fall(pool: &mut Pool, wheel: &mut Wheel, ends: &mut Ends, m: u64) -> bool
-    requires { AreInStep ends.old.items pool.old wheel.old }
+    requires { AreInStep (held_by wheel.old) ends.old pool.old wheel.old }
     ensures on { (low high most : ℕ) →
         IsOn pool.old low high most → IsOn pool.new low high most }
-    ensures fewer { OnTrue result (fin.len wheel.new < fin.len wheel.old) }
-    ensures falling { (start : List (Option End)) →
-        AreFalling m start ends.old.items pool.old wheel.old →
-        AreFalling m start ends.new.items pool.new wheel.new }
-    ensures settled { OnFalse result ((start : List (Option End)) →
-        AreFalling m start ends.new.items pool.new wheel.new →
-        AreSettled m ends.new.items wheel.new × (ends.new.items ≡ map (while_recent m) start)) }
+    ensures fewer { OnTrue result (due_below m wheel.new PLACES < due_below m wheel.old PLACES) }
+    ensures falling { (start : List (Run End)) →
+        AreFalling m start ends.old pool.old wheel.old →
+        AreFalling m start ends.new pool.new wheel.new }
+    ensures none { OnFalse result (
+        (id expiry : ℕ) → fin.get wheel.new id ≡ Some expiry → m < expiry) }
 {
-    let Some(id) = due::<Brand>(wheel, m, Blank::new(1)) else {
+    let Some(id) = next_due(wheel, m) else {
         return false;
     };
-    let at = (id / 2) as usize;
-    let Some(last) = ends[at] else {
+    let Some(run) = ends.run_at(id) else {
         return false;
     };
-    if id % 2 == 0 {
-        pool.retire(last.external, &last.endpoint);
+    let over = run.value.end + REST_SECONDS;
+    if over <= m {
+        let held = waits_until(wheel, id, run.value.end);
+        take_out(pool, wheel, ends, &run, held);
         return true;
     }
-    pool.wake(last.endpoint.protocol, last.external);
-    write(ends, at, None);
+    pool.retire(run.value.external, &run.value.endpoint, run.count);
+    reschedule(wheel, id, over);
     true
 }
 
-/// Sees to all that falls due by `m`.
-pub fn settle(pool: &mut Pool, wheel: &mut Wheel, ends: &mut Ends, m: u64)
-    requires { AreFalling m ends.old.items ends.old.items pool.old wheel.old }
+/// Sees to all that falls due by `m`, which isn't before the moment that was reached.
+pub fn settle(pool: &mut Pool, wheel: &mut Wheel, ends: &mut Ends, reached: u64, m: u64)
+    requires in_step { AreInStep (held_at reached) ends.old pool.old wheel.old }
+    requires later { reached ≤ m }
     ensures on { (low high most : ℕ) →
         IsOn pool.old low high most → IsOn pool.new low high most }
-    ensures in_step { AreInStep ends.new.items pool.new wheel.new }
-    ensures settled { AreSettled m ends.new.items wheel.new }
-    ensures ends { ends.new.items ≡ map (while_recent m) ends.old.items }
+    ensures in_step { AreInStep (held_at m) ends.new pool.new wheel.new }
+    ensures recent { AreRecent m ends.new }
+    ensures ends { (at : ℕ) → end_told at (run_at ends.new at)
+        ≡ while_recent m (end_told at (run_at ends.old at)) }
 {
     while fall(pool, wheel, ends, m) {}
 }

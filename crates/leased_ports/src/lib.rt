@@ -7,6 +7,7 @@ mod falls;
 pub mod laws;
 mod ports;
 mod schedule;
+mod steps;
 mod uses;
 
 pub use ports::LeasedPorts;

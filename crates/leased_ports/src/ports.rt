@@ -1,34 +1,38 @@
 //! The ports of an external address at a moment.
 
-ghost use Rattle.std.specs.Prelude.{◌≡◌, ◌≤◌, ℕ, length, Some, IfOk, OnOk, OnErr, if◌then◌else◌};
+ghost use Rattle.std.specs.Prelude.{◌≡◌, ◌≤◌, ◌+◌, ◌-◌, ◌&&◌, ℕ, [], Some, None, IfOk, IfSome, OnOk, OnErr, if◌then◌else◌};
+ghost use Rattle.std.specs.Bool.{OnTrue};
 ghost use Rattle.std.specs.FinMap as map;
 ghost use Rattle.pcp_base.specs.declared.leases.Protocol.{Protocol};
 ghost use Rattle.pcp_base.specs.Ends.{is_end_of};
+ghost use Rattle.pcp_base.specs.Tables.{same_protocol};
+ghost use Rattle.port_runs.specs.Ports.{is_in_run};
+ghost use Rattle.port_spans.specs.Runs.{run_at};
 ghost use Rattle.pcp_base.specs.States.{State};
 ghost use Rattle.pcp_base.specs.Reached.{IsReached};
 ghost use Rattle.external_pool.specs.Holdings.{emptied};
 ghost use Rattle.external_pool.specs.Calls.{IsAsk};
 ghost use Rattle.lease_store.specs.declared.terms.Terms.{Terms};
 ghost use Rattle.lease_store.specs.Picks.{pick_answer};
-ghost use Rattle.leased_ports.specs.Leased.{IsLastEnd, IsPortsOf, IsOnTerms, at_moment, end_in, end_of, fresh_ports, no_ends, vacated, with_last_end};
-ghost use Rattle.leased_ports.specs.declared.ends.TheConstants.{PLACES};
-ghost use Rattle.leased_ports.specs.Kept.{IsOn, AreInStep, AreSettled};
-ghost use Rattle.leased_ports.specs.Steps.{IsAssigned};
+ghost use Rattle.leased_ports.specs.Leased.{AreLastEnds, IsLastEnd, IsPortsOf, IsOnTerms, at_moment, end_along, end_of, fresh_ports, vacated, with_last_end, with_last_ends, without_last_ends};
+ghost use Rattle.leased_ports.specs.Kept.{IsOn, IsSet, AreInStep, AreRecent, end_by, held_at};
+ghost use Rattle.leased_ports.specs.Steps.{AreAssigned, IsOwnRun, last_along, no_last};
 
-use crate::ends::{Ends, PLACES, forget, no_ends, place, write};
+use crate::ends::{Ends, end_along, spot, spot_of};
 use crate::falls::settle;
-use crate::schedule::schedule;
-use crate::uses::change_use;
+use crate::steps::{free, insert, renew};
 use expiry_wheel::Wheel;
 use external_pool::{PickAsk, PickRefused, Picked, Pool};
 use pcp_base::{End, Endpoint, Memory, Moment, Protocol};
+use port_spans::{Run, Spans};
 use std::alloc::Global;
 use std::marker::Model;
 
 /// The ports of an external address at the moment reached.
 ///
 /// It is seen as the range, the quota, the moment, and the last end of each port. A port is held by
-/// its last endpoint until the end, and for 120 seconds more it rests for it.
+/// its last endpoint until the end, and for 120 seconds more it rests for it. Ports that are given
+/// their last ends together are kept as one run, also in memory, until a part of them gets others.
 #[derive(Drop)]
 pub struct LeasedPorts {
     low: u16,
@@ -42,52 +46,134 @@ pub struct LeasedPorts {
 
 impl Model for LeasedPorts {
     ghost use Rattle.leased_ports.specs.Leased.{Leased, leased};
-    ghost use Rattle.leased_ports.specs.Kept.{IsKept};
+    ghost use Rattle.leased_ports.specs.Kept.{IsKept, ends_of};
+    ghost use Rattle.leased_ports.specs.declared.ends.TheConstants.{PLACES};
 
     ghost Value = { Leased };
 
-    ghost view = { λ a. leased a.low a.high a.quota a.reached a.ends.items };
+    ghost view = { λ a. leased a.low a.high a.quota a.reached (ends_of a.ends PLACES) };
 
-    ghost invariant = { λ a.
-        IsKept (leased a.low a.high a.quota a.reached a.ends.items) a.pool a.wheel };
+    ghost invariant = { λ a. IsKept a.low a.high a.quota a.reached a.ends a.pool a.wheel };
 }
 
-/// Holds a port or lets it rest by this last end. Where memory is wanting, nothing is said but the
-/// pool's range.
+/// Whether both last ends are of the same port and endpoint.
+fn same_port(before: &End, last: &End) -> bool
+    ensures { OnTrue result (before.now ≡ record last.now { end = before.now.end }) }
+{
+    before.endpoint == last.endpoint && before.external == last.external
+}
+
+/// The run of exactly these ports and endpoints, if there is one.
+fn own_run(ends: &Ends, first: &End, count: u32) -> Option<Run<End>>
+    ensures { IfSome result (IsOwnRun ends.now first.now count) }
+{
+    let from = spot_of(first);
+    let Some(run) = ends.run_at(from) else {
+        return None;
+    };
+    if run.first != from {
+        return None;
+    }
+    if run.count != count {
+        return None;
+    }
+    if same_port(&run.value, first) {
+        return Some(run);
+    }
+    None
+}
+
+/// Holds ports in a row or lets them rest by these last ends. Where memory is wanting, nothing is said
+/// but the pool's range.
 fn assign(
     pool: &mut Pool,
     wheel: &mut Wheel,
     ends: &mut Ends,
     alloc: Global,
-    last: &End,
+    first: &End,
+    count: u32,
     reached: u64,
 ) -> Result<(), Memory>
-    requires in_step { AreInStep ends.old.items pool.old wheel.old }
-    requires settled { AreSettled reached ends.old.items wheel.old }
-    requires last { IsLastEnd reached last.now }
+    requires in_step { AreInStep (held_at reached) ends.old pool.old wheel.old }
+    requires recent { AreRecent reached ends.old }
+    requires last { AreLastEnds reached first.now count }
     ensures on { (low high most : ℕ) →
         IsOn pool.old low high most → IsOn pool.new low high most }
-    ensures all { length ends.new.items ≡ length ends.old.items }
-    ensures ok { OnOk result
-        (IsAssigned ends.old.items reached last.now ends.new.items pool.new wheel.new) }
+    ensures ok { OnOk result (AreAssigned reached ends.old first.now.endpoint.protocol
+        first.now.external count (last_along first.now) ends.new pool.new wheel.new) }
 {
-    let at = place(last.endpoint.protocol, last.external);
-    change_use(pool, alloc, ends[at], last, reached)?;
-    schedule(wheel, alloc, at as u32, last, reached)?;
-    write(ends, at, Some(*last));
-    Ok(())
+    if let Some(run) = own_run(ends, first, count) {
+        return renew(pool, wheel, ends, alloc, &run, first, reached);
+    }
+    let run = Run {
+        first: spot_of(first),
+        count,
+        value: *first,
+    };
+    free(pool, wheel, ends, alloc, run.first, count, reached)?;
+    insert(pool, wheel, ends, alloc, &run, reached)
+}
+
+/// Frees ports in a row. Where memory is wanting, nothing is said but the pool's range.
+fn release(
+    pool: &mut Pool,
+    wheel: &mut Wheel,
+    ends: &mut Ends,
+    alloc: Global,
+    protocol: Protocol,
+    start: u16,
+    count: u32,
+    reached: u64,
+) -> Result<(), Memory>
+    requires in_step { AreInStep (held_at reached) ends.old pool.old wheel.old }
+    requires recent { AreRecent reached ends.old }
+    requires within { start + count ≤ 65536 }
+    ensures on { (low high most : ℕ) →
+        IsOn pool.old low high most → IsOn pool.new low high most }
+    ensures ok { OnOk result (AreAssigned reached ends.old protocol start count no_last
+        ends.new pool.new wheel.new) }
+{
+    free(
+        pool,
+        wheel,
+        ends,
+        alloc,
+        spot(protocol, start),
+        count,
+        reached,
+    )
+}
+
+/// The last end of a port.
+fn end_at(ends: &Ends, protocol: Protocol, port: u16) -> Option<End>
+    requires { (at : ℕ) → IfSome (run_at ends.now at) IsSet }
+    ensures { result ≡ end_by ends.now protocol port }
+{
+    let at = spot(protocol, port);
+    let Some(run) = ends.run_at(at) else {
+        return None;
+    };
+    Some(end_along(at - run.first, &run.value))
+}
+
+/// How many ports one is, of these external and internal ones.
+fn one_port(_external: u16, _internal: u16) -> u32
+    ensures one { result ≡ 1 }
+    ensures external { _external + result ≤ 65536 }
+    ensures internal { _internal + result ≤ 65536 }
+{
+    1
 }
 
 /// Forgets all ports.
 fn vacate(pool: &mut Pool, wheel: &mut Wheel, ends: &mut Ends)
-    requires { length ends.old.items ≡ PLACES }
     ensures pool { pool.new ≡ emptied pool.old }
     ensures wheel { wheel.new ≡ map.empty }
-    ensures ends { ends.new.items ≡ no_ends PLACES }
+    ensures ends { ends.new ≡ [] }
 {
     pool.clear();
     wheel.clear();
-    forget(ends);
+    ends.clear();
 }
 
 impl LeasedPorts {
@@ -103,7 +189,7 @@ impl LeasedPorts {
             high,
             quota,
             reached: 0,
-            ends: no_ends(alloc, PLACES)?,
+            ends: Spans::new(alloc),
             pool: Pool::new(alloc, low, high, quota)?,
             wheel: Wheel::new(alloc)?,
         })
@@ -123,8 +209,15 @@ impl LeasedPorts {
         requires { self.old.reached ≤ m }
         ensures { self.new ≡ at_moment m self.old }
     {
-        settle(&mut self.pool, &mut self.wheel, &mut self.ends, m.get());
-        self.reached = m.get();
+        let now = m.get();
+        settle(
+            &mut self.pool,
+            &mut self.wheel,
+            &mut self.ends,
+            self.reached,
+            now,
+        );
+        self.reached = now;
     }
 
     /// Gives a port this last end: it is held for the endpoint until then, or rests for it. Where
@@ -138,12 +231,66 @@ impl LeasedPorts {
             else end_of self.old protocol port)) }
         ensures err { OnErr result (self.new ≡ vacated self.old) }
     {
+        self.put_run(alloc, last, one_port(last.external, last.endpoint.port))
+    }
+
+    /// Gives `count` ports in a row their last ends: the first this one, and each behind it the one
+    /// whose ports are as many behind those of the first. So they are held for their endpoints until
+    /// then, or rest for them. Where these ports and endpoints are a run already, only its moment
+    /// changes, however many they are. Where memory is wanting, all ports are forgotten, as by
+    /// `clear`.
+    pub fn put_run(&mut self, alloc: Global, first: &End, count: u32) -> Result<(), Memory>
+        requires { AreLastEnds self.old.reached first.now count }
+        ensures ok { OnOk result (self.new ≡ with_last_ends first.now count self.old) }
+        ensures ports { OnOk result ((protocol : Protocol) (port : ℕ) →
+            end_of self.new protocol port
+            ≡ (if same_protocol first.now.endpoint.protocol protocol
+            && is_in_run first.now.external count port
+            then Some (end_along (port - first.now.external) first.now)
+            else end_of self.old protocol port)) }
+        ensures err { OnErr result (self.new ≡ vacated self.old) }
+    {
         let Err(refused) = assign(
             &mut self.pool,
             &mut self.wheel,
             &mut self.ends,
             alloc,
-            last,
+            first,
+            count,
+            self.reached,
+        ) else {
+            return Ok(());
+        };
+        vacate(&mut self.pool, &mut self.wheel, &mut self.ends);
+        self.reached = 0;
+        Err(refused)
+    }
+
+    /// Takes the last ends from `count` ports in a row: they are free. Where memory is wanting, all
+    /// ports are forgotten, as by `clear`.
+    pub fn free_run(
+        &mut self,
+        alloc: Global,
+        protocol: Protocol,
+        start: u16,
+        count: u32,
+    ) -> Result<(), Memory>
+        requires { start + count ≤ 65536 }
+        ensures ok { OnOk result (self.new ≡ without_last_ends protocol start count self.old) }
+        ensures ports { OnOk result ((other : Protocol) (port : ℕ) →
+            end_of self.new other port
+            ≡ (if same_protocol protocol other && is_in_run start count port then None
+            else end_of self.old other port)) }
+        ensures err { OnErr result (self.new ≡ vacated self.old) }
+    {
+        let Err(refused) = release(
+            &mut self.pool,
+            &mut self.wheel,
+            &mut self.ends,
+            alloc,
+            protocol,
+            start,
+            count,
             self.reached,
         ) else {
             return Ok(());
@@ -157,7 +304,7 @@ impl LeasedPorts {
     pub fn last_end(&self, protocol: Protocol, port: u16) -> Option<End>
         ensures { result ≡ end_of self.now protocol port }
     {
-        self.ends[place(protocol, port)]
+        end_at(&self.ends, protocol, port)
     }
 
     /// The ports that would be given, the first one to this endpoint, by the rules of

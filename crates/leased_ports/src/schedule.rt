@@ -1,57 +1,72 @@
-//! When the ports fall due.
+//! When runs fall due.
 
-ghost use Rattle.std.specs.Prelude.{◌≡◌, ◌+◌, ◌<◌, ◌^◌, ℕ, nat_lt, Some, None, if◌then◌else◌, OnOk};
+ghost use Rattle.std.specs.Prelude.{◌≡◌, ◌<◌, ℕ, true, Some, None, OnOk, IfSome, IfNone};
+ghost use Rattle.std.specs.FinMap as fin;
+ghost use Rattle.expiry_wheel.specs.Due.{IsNextDue};
 ghost use Rattle.expiry_wheel.specs.declared.TheConstants.{MOST_PAIRS};
-ghost use Rattle.leased_ports.specs.declared.ends.TheConstants.{PLACES};
-ghost use Rattle.leased_ports.specs.Kept.{held_id, rest_id};
-ghost use Rattle.leased_ports.specs.Steps.{Waits, IsScheduled, NoneFrom};
+ghost use Rattle.leased_ports.specs.Falling.{is_until};
+ghost use Rattle.leased_ports.specs.Steps.{Waits, NoneFrom};
 
 use expiry_wheel::Wheel;
-use pcp_base::{End, Memory, REST_SECONDS};
+use pcp_base::Memory;
 use std::alloc::Global;
+use std::marker::Brand;
+use std::sync::ledger::{Blank, Ledger};
+use step_count::Steps;
 
 /// Sets when an id falls due.
-fn put(wheel: &mut Wheel, alloc: Global, id: u32, expiry: u64) -> Result<(), Memory>
+pub fn put(wheel: &mut Wheel, alloc: Global, id: u32, expiry: u64) -> Result<(), Memory>
     requires id { id < MOST_PAIRS }
     requires few { NoneFrom MOST_PAIRS wheel.old }
-    ensures waits { OnOk result (Waits wheel.old id (Some expiry) wheel.new) }
-    ensures few { OnOk result (NoneFrom MOST_PAIRS wheel.new) }
+    ensures { OnOk result (Waits wheel.old id (Some expiry) wheel.new) }
 {
     wheel.put(alloc, id, expiry)?;
     Ok(())
 }
 
-/// Sets when the hold of the port at a place ends, if that is to come.
-fn put_end(wheel: &mut Wheel, alloc: Global, at: u32, end: u64, reached: u64) -> Result<(), Memory>
-    requires place { at < PLACES }
-    requires few { NoneFrom MOST_PAIRS wheel.old }
-    ensures waits { OnOk result (Waits wheel.old (held_id at)
-        (if nat_lt reached end then Some end else None) wheel.new) }
-    ensures few { OnOk result (NoneFrom MOST_PAIRS wheel.new) }
+/// Sets when an id that waits falls due.
+pub fn reschedule(wheel: &mut Wheel, id: u32, expiry: u64)
+    requires { fin.contains_key wheel.old id ≡ true }
+    ensures { Waits wheel.old id (Some expiry) wheel.new }
 {
-    if reached < end {
-        put(wheel, alloc, 2 * at, end)?;
-        return Ok(());
-    }
-    wheel.remove(2 * at);
-    Ok(())
+    wheel.reschedule(id, expiry);
 }
 
-/// Sets when the port at a place falls due by this last end: when its hold ends, if that is to
-/// come, and when its rest ends.
-pub fn schedule(
-    wheel: &mut Wheel,
-    alloc: Global,
-    at: u32,
-    last: &End,
-    reached: u64,
-) -> Result<(), Memory>
-    requires place { at < PLACES }
-    requires near { last.now.end < 2 ^ 41 }
-    requires few { NoneFrom MOST_PAIRS wheel.old }
-    ensures { OnOk result (IsScheduled wheel.old at reached last.now wheel.new) }
+/// Takes out an id.
+pub fn remove(wheel: &mut Wheel, id: u32)
+    ensures { Waits wheel.old id None wheel.new }
 {
-    put_end(wheel, alloc, at, last.end, reached)?;
-    put(wheel, alloc, 2 * at + 1, last.end + REST_SECONDS)?;
-    Ok(())
+    wheel.remove(id);
+}
+
+/// Whether an id waits until that moment.
+pub fn waits_until(wheel: &Wheel, id: u32, end: u64) -> bool
+    ensures { result ≡ is_until end (fin.get wheel.now id) }
+{
+    match wheel.expiry(id) {
+        Some(expiry) => expiry == end,
+        None => false,
+    }
+}
+
+/// The id that falls due next, for a caller that counts no steps.
+fn next_counted<L: Ledger>(wheel: &Wheel, m: u64, blank: Blank) -> Option<u32>
+    requires name { blank.name ≡ L.name }
+    requires parts { blank.parts ≡ L.parts }
+    requires part { 0 < L.parts }
+    ensures next { IfSome result (IsNextDue wheel.now m) }
+    ensures none { IfNone result (
+        (id expiry : ℕ) → fin.get wheel.now id ≡ Some expiry → m < expiry) }
+{
+    let mut steps = Steps::<L>::begin(blank);
+    wheel.next_due(m, &mut steps)
+}
+
+/// The id that falls due next.
+pub fn next_due(wheel: &Wheel, m: u64) -> Option<u32>
+    ensures next { IfSome result (IsNextDue wheel.now m) }
+    ensures none { IfNone result (
+        (id expiry : ℕ) → fin.get wheel.now id ≡ Some expiry → m < expiry) }
+{
+    next_counted::<Brand>(wheel, m, Blank::new(1))
 }

@@ -1,108 +1,95 @@
-//! Giving a port of a pool another use.
+//! Giving the ports of a run another use.
 
-ghost use Rattle.std.specs.Prelude.{◌≡◌, ◌≤◌, ◌<◌, ℕ, Some, IfSome, OnOk, false};
+ghost use Rattle.std.specs.Prelude.{◌≡◌, ◌≤◌, ◌<◌, ℕ, nat_lt, Some, OnOk};
 ghost use Rattle.std.specs.Bool.{OnTrue};
-ghost use Rattle.external_pool.specs.Holdings.{IsWhole, use_of};
-ghost use Rattle.external_pool.specs.declared.uses.Use.TheVariants.{Free, Held};
-ghost use Rattle.leased_ports.specs.Kept.{IsOn, is_held_at, use_by};
-ghost use Rattle.leased_ports.specs.Steps.{GivesUse};
+ghost use Rattle.external_pool.specs.declared.uses.Use.TheVariants.{Free};
+ghost use Rattle.leased_ports.specs.Leased.{AreLastEnds};
+ghost use Rattle.leased_ports.specs.Kept.{IsOn, IsSet, held_at, is_held_at, use_by};
+ghost use Rattle.leased_ports.specs.Steps.{GivesUses, AreUsedBy};
 
 use external_pool::Pool;
-use pcp_base::{End, Memory, Protocol};
+use pcp_base::{End, Memory};
+use port_spans::Run;
 use std::alloc::Global;
 
-/// Frees a port that is used by this last end.
-fn free(pool: &mut Pool, protocol: Protocol, port: u16, last: Option<End>, reached: u64)
-    requires some { 1 ≤ port }
-    requires of { IfSome last (λ e. (e.endpoint.protocol ≡ protocol) × (e.external ≡ port)) }
-    requires used { use_of pool.old protocol port ≡ use_by (is_held_at reached last) last }
-    ensures { GivesUse pool.old protocol port Free pool.new }
+/// Frees the ports of a run.
+pub fn free_ports(pool: &mut Pool, run: &Run<End>, held: bool)
+    requires set { IsSet run.now }
+    requires used { AreUsedBy pool.old run.now (use_by held (Some run.now.value)) }
+    ensures { GivesUses pool.old run.now.value.endpoint.protocol run.now.value.external
+        run.now.count Free pool.new }
 {
-    let Some(last) = last else {
-        return;
-    };
-    if reached < last.end {
+    let last = &run.value;
+    if held {
         pool.release(
             &last.endpoint.address,
             last.endpoint.protocol,
             last.external,
-            1,
+            run.count,
         );
         return;
     }
-    pool.wake(last.endpoint.protocol, last.external);
+    pool.wake_run(last.endpoint.protocol, last.external, run.count);
 }
 
-/// Uses a free port by this last end.
-fn occupy(pool: &mut Pool, alloc: Global, last: &End, reached: u64) -> Result<(), Memory>
-    requires some { 1 ≤ last.now.external }
-    requires free { use_of pool.old last.now.endpoint.protocol last.now.external ≡ Free }
+/// Uses the ports of a run, which are free, by their last ends.
+pub fn use_ports(pool: &mut Pool, alloc: Global, run: &Run<End>, reached: u64) -> Result<(), Memory>
+    requires set { IsSet run.now }
+    requires free { AreUsedBy pool.old run.now Free }
     ensures on { (low high most : ℕ) →
         IsOn pool.old low high most → IsOn pool.new low high most }
-    ensures ok { OnOk result (GivesUse pool.old last.now.endpoint.protocol last.now.external
-        (use_by (is_held_at reached (Some last.now)) (Some last.now)) pool.new) }
+    ensures ok { OnOk result (GivesUses pool.old run.now.value.endpoint.protocol
+        run.now.value.external run.now.count
+        (use_by (held_at reached run.now) (Some run.now.value)) pool.new) }
 {
+    let last = &run.value;
     if reached < last.end {
         pool.hold(
             alloc,
             &last.endpoint.address,
             last.endpoint.protocol,
             last.external,
-            1,
+            run.count,
         )?;
         return Ok(());
     }
-    pool.rest(alloc, last.external, &last.endpoint)?;
+    pool.rest_run(alloc, last.external, &last.endpoint, run.count)?;
     Ok(())
 }
 
-/// Whether both last ends of a port use it alike.
-fn use_alike(before: &End, last: &End, reached: u64) -> bool
-    ensures { OnTrue result (use_by (is_held_at reached (Some before.now)) (Some before.now)
-        ≡ use_by (is_held_at reached (Some last.now)) (Some last.now)) }
-{
-    before.endpoint == last.endpoint && (reached < before.end) == (reached < last.end)
-}
-
-/// Whether a port that is held by the first last end begins to rest, for its endpoint, by the second.
-fn begins_rest(before: &End, last: &End, reached: u64) -> bool
-    ensures held { OnTrue result (use_by (is_held_at reached (Some before.now)) (Some before.now)
-        ≡ Held last.now.endpoint.address) }
-    ensures rests { OnTrue result (is_held_at reached (Some last.now) ≡ false) }
-{
-    before.endpoint == last.endpoint && reached < before.end && reached >= last.end
-}
-
-/// Uses a port by this last end, and no longer by the one before. Where both use it alike nothing
-/// is done, and a port that begins to rest for its endpoint isn't free in between.
+/// Uses the ports of a run by other last ends of the same endpoints. Where both use them alike
+/// nothing is done.
 pub fn change_use(
     pool: &mut Pool,
     alloc: Global,
-    before: Option<End>,
-    last: &End,
+    run: &Run<End>,
+    end: u64,
     reached: u64,
 ) -> Result<(), Memory>
-    requires some { 1 ≤ last.now.external }
-    requires of { IfSome before (λ e. (e.endpoint.protocol ≡ last.now.endpoint.protocol)
-        × (e.external ≡ last.now.external)) }
-    requires whole { IsWhole pool.old }
-    requires used { use_of pool.old last.now.endpoint.protocol last.now.external
-        ≡ use_by (is_held_at reached before) before }
+    requires set { IsSet run.now }
+    requires used { AreUsedBy pool.old run.now
+        (use_by (held_at reached run.now) (Some run.now.value)) }
     ensures on { (low high most : ℕ) →
         IsOn pool.old low high most → IsOn pool.new low high most }
-    ensures ok { OnOk result (GivesUse pool.old last.now.endpoint.protocol last.now.external
-        (use_by (is_held_at reached (Some last.now)) (Some last.now)) pool.new) }
+    ensures ok { OnOk result (GivesUses pool.old run.now.value.endpoint.protocol
+        run.now.value.external run.now.count
+        (use_by (nat_lt reached end) (Some run.now.value)) pool.new) }
 {
-    let Some(end) = before else {
-        return occupy(pool, alloc, last, reached);
-    };
-    if use_alike(&end, last, reached) {
+    let last = &run.value;
+    let held = reached < last.end;
+    if held == (reached < end) {
         return Ok(());
     }
-    if begins_rest(&end, last, reached) {
-        pool.retire(last.external, &last.endpoint);
+    if held {
+        pool.retire(last.external, &last.endpoint, run.count);
         return Ok(());
     }
-    free(pool, last.endpoint.protocol, last.external, before, reached);
-    occupy(pool, alloc, last, reached)
+    pool.hold(
+        alloc,
+        &last.endpoint.address,
+        last.endpoint.protocol,
+        last.external,
+        run.count,
+    )?;
+    Ok(())
 }

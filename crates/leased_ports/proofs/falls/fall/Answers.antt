@@ -1,52 +1,91 @@
-use Rattle.std.proofs.Common.{◌<◌, ℕ, length, ◌/◌}
-use Rattle.std.specs.FinMap as fin
-use Rattle.std.proofs.Common.{ap, sym, ◌∙◌, subst, None, Some}
-use Rattle.std.specs.Ordering.{nat_cmp}
-use Rattle.leased_ports.proofs.StepLemmas.{fallen, next-within, no-such-end, may-retire, read-end, fewer-due, falls-even, falls-odd}
+use Rattle.std.proofs.Common.{◌≡◌, ℕ, ◌+◌, ◌<◌, ◌≤◌, Some, None, true, false, is_some, refl, sym, ap, ◌∙◌, subst, arith}
+use Rattle.std.specs.FinMap.{get}
+use Rattle.external_pool.specs.declared.uses.Use.TheVariants.{Resting}
+use Rattle.port_spans.specs.Runs.{run_at}
+use Rattle.leased_ports.specs.Kept.{use_by}
+use Rattle.leased_ports.specs.Steps.{Waits}
+use Rattle.leased_ports.specs.Falling.{held_by, is_until}
+use Rattle.leased_ports.proofs.UseLemmas.{may_release, gives-with_use, used-as}
+use Rattle.leased_ports.proofs.FallLemmas.{no_due_run, due_first, due_set, due_uses, due_held, due_fewer, falls_gone, falls_rest, rest_isnt_due}
 use Rattle.leased_ports.proofs.falls.fall.Goals as goal
 
-pub returns-in_default-clause-settled : goal.returns-in_default-clause-settled
-returns-in_default-clause-settled c start is =
-    fallen c.args.m start c.args.ends.now.items c.args.pool.now c.due.new.wheel
-    (λ id expiry h. c.in_default.ensures.none id expiry (ap (λ (w : fin.FinMap nat_cmp ℕ). fin.get w id) (sym c.in_default.ensures.unchanged) ∙ h)) is
+pub returns-in_default-run_at-clause-none : goal.returns-in_default-run_at-clause-none
+returns-in_default-run_at-clause-none c =
+    absurd (no_due_run c.args.m c.args.ends.now c.args.pool.now c.args.wheel.now c.requires c.in-Some.id c.in-Some.ensures.next (sym c.run_at.ensures.run ∙ c.in_default-run_at.is))
 
-pub index-requires : goal.index-requires
-index-requires c =
-    let within : c.in-Some.id / 2 < length c.args.ends.now.items =
-    next-within c.args.ends.now.items c.args.pool.now c.args.wheel.now c.requires c.args.m c.in-Some.id c.in-Some.ensures.next in
-    subst (λ (n : ℕ). c.in-Some.id / 2 < n) (sym c.args.ends.now.ok.0) within
+pub overflow_add-over : goal.overflow_add-over
+overflow_add-over c =
+    let r = c.in-Some-run_at.run' in
+    let set = due_set c.args.m c.args.ends.now c.args.pool.now c.args.wheel.now c.requires c.in-Some.id c.in-Some.ensures.next r (sym c.run_at.ensures.run ∙ c.in-Some-run_at.is) in
+    omega (arith, set.near)
 
-pub returns-in_default-index-clause-settled : goal.returns-in_default-index-clause-settled
-returns-in_default-index-clause-settled c start is =
-    let within = next-within c.args.ends.now.items c.args.pool.now c.args.wheel.now c.requires c.args.m c.in-Some.id c.in-Some.ensures.next in
-    absurd (no-such-end c.args.ends.now.items c.args.pool.now c.args.wheel.now c.args.m c.in-Some.id c.requires c.in-Some.ensures.next
-    (read-end c.args.ends.now.items (c.in-Some.id / 2) c.index.result.now None within c.index.ensures c.in_default-index.is))
+pub take_out-requires-clause-set : goal.take_out-requires-clause-set
+take_out-requires-clause-set c =
+    due_set c.args.m c.args.ends.now c.args.pool.now c.args.wheel.now c.requires c.in-Some.id c.in-Some.ensures.next c.in-Some-run_at.run' (sym c.run_at.ensures.run ∙ c.in-Some-run_at.is)
 
-pub retire-requires : goal.retire-requires
-retire-requires c =
-    let within = next-within c.args.ends.now.items c.args.pool.now c.args.wheel.now c.requires c.args.m c.in-Some.id c.in-Some.ensures.next in
-    let there = read-end c.args.ends.now.items (c.in-Some.id / 2) c.index.result.now (Some c.in-Some-index.last) within c.index.ensures c.in-Some-index.is in
-    may-retire c.args.ends.now.items c.args.pool.now c.args.wheel.now c.args.m c.in-Some.id c.in-Some-index.last c.requires c.in-Some.ensures.next c.if-id-eq0.true there
+pub take_out-requires-clause-used : goal.take_out-requires-clause-used
+take_out-requires-clause-used c =
+    let r = c.in-Some-run_at.run' in
+    let waits = c.args.wheel.now in
+    let there : run_at c.args.ends.now c.in-Some.id ≡ Some r = sym c.run_at.ensures.run ∙ c.in-Some-run_at.is in
+    let first = due_first c.args.m c.args.ends.now c.args.pool.now waits c.requires c.in-Some.id c.in-Some.ensures.next r there in
+    let told : held_by waits r ≡ c.waits_until-held.result = ap (λ (k : ℕ). is_until r.value.end (get waits k)) first ∙ sym c.waits_until-held.ensures in
+    used-as c.args.pool.now r (use_by (held_by waits r) (Some r.value)) (use_by c.waits_until-held.result (Some r.value)) (ap (λ b. use_by b (Some r.value)) told)
+    (due_uses c.args.m c.args.ends.now c.args.pool.now waits c.requires c.in-Some.id c.in-Some.ensures.next r there)
 
-pub returns-then-id-eq0-clause-fewer : goal.returns-then-id-eq0-clause-fewer
-returns-then-id-eq0-clause-fewer c = fewer-due c.args.wheel.now c.due.new.wheel c.args.m c.in-Some.id c.in-Some.ensures.next c.in-Some.ensures.taken
+pub returns-then-over-m-clause-fewer : goal.returns-then-over-m-clause-fewer
+returns-then-over-m-clause-fewer c =
+    let r = c.in-Some-run_at.run' in
+    let there : run_at c.args.ends.now c.in-Some.id ≡ Some r = sym c.run_at.ensures.run ∙ c.in-Some-run_at.is in
+    due_fewer c.args.m c.args.ends.now c.args.pool.now c.args.wheel.now c.requires c.in-Some.id c.in-Some.ensures.next r there c.take_out.new.pool c.take_out.new.wheel None c.take_out.ensures.waits refl
 
-pub returns-then-id-eq0-clause-falling : goal.returns-then-id-eq0-clause-falling
-returns-then-id-eq0-clause-falling c start is =
-    let within = next-within c.args.ends.now.items c.args.pool.now c.args.wheel.now c.requires c.args.m c.in-Some.id c.in-Some.ensures.next in
-    let there = read-end c.args.ends.now.items (c.in-Some.id / 2) c.index.result.now (Some c.in-Some-index.last) within c.index.ensures c.in-Some-index.is in
-    falls-even c.args.m start c.args.ends.now.items c.args.pool.now c.retire.new.self c.args.wheel.now c.due.new.wheel c.in-Some.id c.in-Some-index.last
-    c.in-Some.ensures.next c.if-id-eq0.true there c.retire.ensures c.in-Some.ensures.taken is
+pub returns-then-over-m-clause-falling : goal.returns-then-over-m-clause-falling
+returns-then-over-m-clause-falling c start f =
+    let r = c.in-Some-run_at.run' in
+    let there : run_at c.args.ends.now c.in-Some.id ≡ Some r = sym c.run_at.ensures.run ∙ c.in-Some-run_at.is in
+    falls_gone c.args.m c.args.ends.now c.args.pool.now c.args.wheel.now c.requires c.in-Some.id c.in-Some.ensures.next r there c.if-over-m.true c.take_out.new.pool c.take_out.new.wheel c.take_out.ensures.waits
+    c.take_out.new.ends c.take_out.ensures.apart c.take_out.ensures.runs c.take_out.ensures.used start f
 
-pub write-requires : goal.write-requires
-write-requires c = next-within c.args.ends.now.items c.args.pool.now c.args.wheel.now c.requires c.args.m c.in-Some.id c.in-Some.ensures.next
+pub retire-requires-clause-held : goal.retire-requires-clause-held
+retire-requires-clause-held c =
+    let r = c.in-Some-run_at.run' in
+    let waits = c.args.wheel.now in
+    let there : run_at c.args.ends.now c.in-Some.id ≡ Some r = sym c.run_at.ensures.run ∙ c.in-Some-run_at.is in
+    let late : c.args.m < r.value.end + 120 = grind (arith, c.if-over-m.false) in
+    let held = due_held c.args.m c.args.ends.now c.args.pool.now waits c.requires c.in-Some.id c.in-Some.ensures.next r there late in
+    may_release c.args.pool.now r (due_set c.args.m c.args.ends.now c.args.pool.now waits c.requires c.in-Some.id c.in-Some.ensures.next r there)
+    (used-as c.args.pool.now r (use_by (held_by waits r) (Some r.value)) (use_by true (Some r.value)) (ap (λ b. use_by b (Some r.value)) held)
+    (due_uses c.args.m c.args.ends.now c.args.pool.now waits c.requires c.in-Some.id c.in-Some.ensures.next r there))
+
+pub retire-requires-clause-internal : goal.retire-requires-clause-internal
+retire-requires-clause-internal c =
+    let r = c.in-Some-run_at.run' in
+    (due_set c.args.m c.args.ends.now c.args.pool.now c.args.wheel.now c.requires c.in-Some.id c.in-Some.ensures.next r (sym c.run_at.ensures.run ∙ c.in-Some-run_at.is)).internal
+
+pub reschedule-requires : goal.reschedule-requires
+reschedule-requires c = ap is_some c.in-Some.ensures.next.expires
 
 pub returns-clause-fewer : goal.returns-clause-fewer
-returns-clause-fewer c = fewer-due c.args.wheel.now c.due.new.wheel c.args.m c.in-Some.id c.in-Some.ensures.next c.in-Some.ensures.taken
+returns-clause-fewer c =
+    let r = c.in-Some-run_at.run' in
+    let waits = c.args.wheel.now in
+    let there : run_at c.args.ends.now c.in-Some.id ≡ Some r = sym c.run_at.ensures.run ∙ c.in-Some-run_at.is in
+    let late : c.args.m < r.value.end + 120 = grind (arith, c.if-over-m.false) in
+    let first = due_first c.args.m c.args.ends.now c.args.pool.now waits c.requires c.in-Some.id c.in-Some.ensures.next r there in
+    let waits_are : Waits waits r.first (Some (r.value.end + 120)) c.reschedule.new.wheel = subst (λ (k : ℕ). Waits waits k (Some (r.value.end + 120)) c.reschedule.new.wheel) (sym first) c.reschedule.ensures in
+    let gives = gives-with_use c.args.pool.now c.retire.new.self r.value.endpoint.protocol r.value.external r.count (Resting r.value.endpoint.address r.value.endpoint.port)
+    (due_set c.args.m c.args.ends.now c.args.pool.now waits c.requires c.in-Some.id c.in-Some.ensures.next r there).within c.retire.ensures in
+    due_fewer c.args.m c.args.ends.now c.args.pool.now waits c.requires c.in-Some.id c.in-Some.ensures.next r there c.retire.new.self c.reschedule.new.wheel (Some (r.value.end + 120)) waits_are
+    (rest_isnt_due c.args.m c.args.ends.now c.args.pool.now waits c.requires c.in-Some.id c.in-Some.ensures.next r there late c.retire.new.self c.reschedule.new.wheel waits_are gives)
 
 pub returns-clause-falling : goal.returns-clause-falling
-returns-clause-falling c start is =
-    let within = next-within c.args.ends.now.items c.args.pool.now c.args.wheel.now c.requires c.args.m c.in-Some.id c.in-Some.ensures.next in
-    let there = read-end c.args.ends.now.items (c.in-Some.id / 2) c.index.result.now (Some c.in-Some-index.last) within c.index.ensures c.in-Some-index.is in
-    falls-odd c.args.m start c.args.ends.now.items c.write.new.ends.items c.args.pool.now c.wake.new.self c.args.wheel.now c.due.new.wheel c.in-Some.id c.in-Some-index.last c.wake.result
-    c.in-Some.ensures.next c.if-id-eq0.false there c.wake.ensures c.write.ensures c.in-Some.ensures.taken is
+returns-clause-falling c start f =
+    let r = c.in-Some-run_at.run' in
+    let waits = c.args.wheel.now in
+    let there : run_at c.args.ends.now c.in-Some.id ≡ Some r = sym c.run_at.ensures.run ∙ c.in-Some-run_at.is in
+    let late : c.args.m < r.value.end + 120 = grind (arith, c.if-over-m.false) in
+    let first = due_first c.args.m c.args.ends.now c.args.pool.now waits c.requires c.in-Some.id c.in-Some.ensures.next r there in
+    let waits_are : Waits waits r.first (Some (r.value.end + 120)) c.reschedule.new.wheel = subst (λ (k : ℕ). Waits waits k (Some (r.value.end + 120)) c.reschedule.new.wheel) (sym first) c.reschedule.ensures in
+    let gives = gives-with_use c.args.pool.now c.retire.new.self r.value.endpoint.protocol r.value.external r.count (Resting r.value.endpoint.address r.value.endpoint.port)
+    (due_set c.args.m c.args.ends.now c.args.pool.now waits c.requires c.in-Some.id c.in-Some.ensures.next r there).within c.retire.ensures in
+    falls_rest c.args.m c.args.ends.now c.args.pool.now waits c.requires c.in-Some.id c.in-Some.ensures.next r there late c.retire.new.self c.reschedule.new.wheel waits_are gives start f

@@ -1,15 +1,14 @@
 use Rattle.std.proofs.Common.{ℕ}
-use Rattle.std.specs.FinMap as fin
 use Rattle.leased_ports.specs.Kept.{IsOn}
-use Rattle.leased_ports.specs.Falling.{AreFalling}
+use Rattle.leased_ports.specs.Falling.{AreFalling, due_below}
 use Rattle.leased_ports.proofs.falls.settle.Given as goal
 
 -- some of what falls due is seen to
 abbrev pub invariant-loop : goal.invariant-loop
 invariant-loop l = record {
   on : (low high most : ℕ) → IsOn l.fn.pool low high most → IsOn l.pool low high most;
-  falling : AreFalling l.m l.fn.ends.items l.ends.items l.pool l.wheel;
+  falling : AreFalling l.m l.fn.ends l.ends l.pool l.wheel;
 }
 
 abbrev pub decreases-loop : goal.decreases-loop
-decreases-loop l = fin.len l.wheel
+decreases-loop l = due_below l.m l.wheel 131072

@@ -1,19 +1,31 @@
-use Rattle.std.proofs.Common.{◌<◌, ℕ, length, slice_set, Some, ap, ◌∙◌, subst, arith}
-use Rattle.leased_ports.specs.Leased.{place}
-use Rattle.leased_ports.specs.Steps.{IsScheduled}
-use Rattle.leased_ports.proofs.StepLemmas.{none_from, assigned}
+use Rattle.std.proofs.Common.{◌≡◌, ℕ, ◌+◌, ◌<◌, ◌≤◌, ◌^◌, subst, arith}
+use Rattle.std.proofs.lemmas.Result.{on_ok_weaker}
+use Rattle.leased_ports.specs.Steps.{AreAssigned, AreFreed, last_along}
+use Rattle.leased_ports.proofs.AssignLemmas.{freed_then}
 use Rattle.leased_ports.proofs.ports.assign.Goals as goal
 
-pub schedule-requires-clause-few : goal.schedule-requires-clause-few
-schedule-requires-clause-few c = none_from c.args.ends.now.items c.args.pool.now c.args.wheel.now c.requires.in_step
+pub returns-in-Some-clause-ok : goal.returns-in-Some-clause-ok
+returns-in-Some-clause-ok c =
+    let first = c.args.first.now in
+    on_ok_weaker c.renew.result (subst (λ (n : ℕ). AreAssigned c.args.reached c.args.ends.now first.endpoint.protocol first.external n (last_along first) c.renew.new.ends c.renew.new.pool c.renew.new.wheel) c.in-Some.ensures.count)
+    c.renew.ensures.ok
+
+pub free-requires-clause-within : goal.free-requires-clause-within
+free-requires-clause-within c = omega (arith, c.spot_of.ensures.bound, c.requires.last.external)
+
+pub insert-requires-clause-set : goal.insert-requires-clause-set
+insert-requires-clause-set c = record {
+  first = c.spot_of.ensures.value;
+  some = c.requires.last.some;
+  external = c.requires.last.is_last.external;
+  within = c.requires.last.external;
+  internal = c.requires.last.internal;
+  near = c.requires.last.is_last.near;
+}
 
 pub returns-clause-ok : goal.returns-clause-ok
 returns-clause-ok c =
-    let old = c.args.ends.now.items in
-    let last = c.args.last.now in
-    let at = c.place-at.ensures.value in
-    let within : place last.endpoint.protocol last.external < length old = subst (λ (n : ℕ). n < length old) at (omega (arith, c.place-at.ensures.bound, c.requires.in_step.all)) in
-    assigned old c.args.pool.now c.change_use.new.pool c.args.wheel.now c.schedule.new.wheel c.args.reached last
-    c.requires.in_step c.requires.settled c.requires.last within c.in_ok-change_use.ensures.ok
-    (subst (λ (n : ℕ). IsScheduled c.args.wheel.now n c.args.reached last c.schedule.new.wheel) at c.in_ok-schedule.ensures)
-    c.write.new.ends.items (c.write.ensures ∙ ap (λ (n : ℕ). slice_set old n (Some last)) at)
+    let first = c.args.first.now in
+    let freed = subst (λ (k : ℕ). AreFreed c.args.reached k c.args.count c.args.ends.now c.free.new.ends c.free.new.pool c.free.new.wheel) c.spot_of.ensures.value c.in_ok-free.ensures.ok in
+    on_ok_weaker c.insert.result (freed_then c.args.reached first.endpoint.protocol first.external c.args.count c.requires.last.external c.args.ends.now c.free.new.ends c.free.new.pool c.free.new.wheel freed
+    (last_along first) c.insert.new.ends c.insert.new.pool c.insert.new.wheel) c.insert.ensures.ok

@@ -1,7 +1,11 @@
-use Rattle.std.proofs.Common.{refl}
-use Rattle.leased_ports.proofs.StepLemmas.{kept-fresh}
+use Rattle.std.proofs.Common.{List, ap, ◌∙◌}
+use Rattle.pcp_base.specs.declared.leases.End.{End}
+use Rattle.port_spans.specs.declared.runs.Run.{Run}
+use Rattle.leased_ports.proofs.ViewLemmas.{kept_fresh, view_vacated}
 use Rattle.leased_ports.proofs.ports.LeasedPorts.new.Goals as goal
 
 pub invariant_of-result : goal.invariant_of-result
-invariant_of-result c =
-    kept-fresh c.args.low c.args.high c.args.quota 0 131072 c.in_ok-no_ends.field-0.items c.in_ok-new.field-0 c.in_ok-new-2.field-0 refl c.in_ok-no_ends.ensures.all c.in_ok-new.ensures c.in_ok-new-2.ensures
+invariant_of-result c = kept_fresh c.args.low c.args.high c.args.quota 0 c.new.result c.in_ok-new.field-0 c.in_ok-new-2.field-0 c.new.ensures c.in_ok-new.ensures c.in_ok-new-2.ensures
+
+pub returns : goal.returns
+returns c = view_vacated c.args.low c.args.high c.args.quota c.new.result c.new.ensures

@@ -1,0 +1,33 @@
+use Rattle.std.proofs.Common.{◌≡◌, ℕ, ◌&&◌, cond, ap, ◌∙◌}
+use Rattle.pcp_base.specs.Tables.{same_protocol}
+use Rattle.port_runs.specs.Ports.{is_in_run}
+use Rattle.leased_ports.specs.Leased.{Leased, end_of, vacated, without_last_ends}
+use Rattle.leased_ports.specs.Steps.{no_last}
+use Rattle.leased_ports.proofs.ViewLemmas.{assigned_ports, kept_assigned, kept_vacated, free_view, view_vacated}
+use Rattle.leased_ports.proofs.ports.LeasedPorts.free_run.Goals as goal
+
+pub invariant_of-self : goal.invariant_of-self
+invariant_of-self c =
+    let a = c.self.inside in
+    kept_assigned a.low a.high a.quota a.reached a.ends c.args.protocol c.args.start c.args.count no_last c.release.new.ends a.pool c.release.new.pool c.release.new.wheel
+    c.release.ensures.on c.self.invariant.on c.in_default.ensures.ok
+
+pub returns-in_default-clause-ok : goal.returns-in_default-clause-ok
+returns-in_default-clause-ok c =
+    let a = c.self.inside in
+    free_view a.reached a.ends c.args.protocol c.args.start c.args.count c.release.new.ends c.release.new.pool c.release.new.wheel a.low a.high a.quota c.in_default.ensures.ok c.requires
+    ∙ ap (without_last_ends c.args.protocol c.args.start c.args.count) c.self.view_is
+
+pub returns-in_default-clause-ports : goal.returns-in_default-clause-ports
+returns-in_default-clause-ports c q port =
+    let a = c.self.inside in
+    assigned_ports a.reached a.ends c.args.protocol c.args.start c.args.count no_last c.release.new.ends c.release.new.pool c.release.new.wheel c.in_default.ensures.ok q port
+    ∙ ap (λ (v : Leased). cond (same_protocol c.args.protocol q && is_in_run c.args.start c.args.count port) (no_last port) (end_of v q port)) c.self.view_is
+
+pub invariant_of-self-2 : goal.invariant_of-self-2
+invariant_of-self-2 c =
+    let a = c.self.inside in
+    kept_vacated a.low a.high a.quota c.vacate.new.ends a.pool c.release.new.pool c.vacate.new.pool c.vacate.new.wheel c.vacate.ensures.ends c.release.ensures.on c.self.invariant.on c.vacate.ensures.pool c.vacate.ensures.wheel
+
+pub returns-clause-err : goal.returns-clause-err
+returns-clause-err c = let a = c.self.inside in view_vacated a.low a.high a.quota c.vacate.new.ends c.vacate.ensures.ends ∙ ap vacated c.self.view_is
