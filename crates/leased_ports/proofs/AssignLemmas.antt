@@ -15,7 +15,7 @@ use Rattle.external_pool.specs.declared.uses.Use.{Use}
 use Rattle.external_pool.specs.Holdings.{Holdings}
 use Rattle.port_spans.specs.declared.runs.Run.{Run}
 use Rattle.port_spans.specs.Runs.{has_place, run_at, AreRuns, with_value}
-use Rattle.leased_ports.specs.Leased.{end_along}
+use Rattle.port_spans.specs.Along.{end_along}
 use Rattle.leased_ports.specs.Kept.{spot, run_of, end_told, end_by, held_at, use_by, until, IsSet, AreInStep, AreRecent}
 use Rattle.leased_ports.specs.Steps.{GivesUses, Waits, AreAssigned, AreFreed, last_along, no_last}
 use Rattle.leased_ports.proofs.SpotLemmas.{some-if, spot_in, run_of_low, run_of_high, place_off}

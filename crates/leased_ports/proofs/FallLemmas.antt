@@ -16,7 +16,8 @@ use Rattle.external_pool.specs.PortUses.{use_along}
 use Rattle.external_pool.specs.Holdings.{Holdings}
 use Rattle.port_spans.specs.declared.runs.Run.{Run}
 use Rattle.port_spans.specs.Runs.{has_place, run_at, AreRuns, but_from}
-use Rattle.leased_ports.specs.Leased.{while_recent, end_along}
+use Rattle.leased_ports.specs.Leased.{while_recent}
+use Rattle.port_spans.specs.Along.{end_along}
 use Rattle.leased_ports.specs.Kept.{spot, run_of, held_at, end_told, use_by, use_told, wait_told, until, IsSet, AreScheduled, AreInStep, AreRecent}
 use Rattle.leased_ports.specs.Steps.{GivesUses, AreUsedBy, Waits}
 use Rattle.leased_ports.specs.Falling.{is_until, held_by, AreFalling, is_due, due_below}

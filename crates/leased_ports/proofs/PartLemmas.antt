@@ -16,7 +16,7 @@ use Rattle.external_pool.specs.Holdings.{Holdings, use_of}
 use Rattle.port_spans.specs.declared.runs.Run.{Run}
 use Rattle.port_spans.specs.Runs.{has_place, run_at, AreRuns, part_at, with_value}
 use Rattle.port_spans.proofs.RunLemmas.{in_from, in_to, in_by}
-use Rattle.leased_ports.specs.Leased.{end_along}
+use Rattle.port_spans.specs.Along.{end_along}
 use Rattle.leased_ports.specs.Kept.{spot, spot_of, run_of, end_told, held_at, is_held_at, use_by, use_told, until, wait_told, IsSet, AreScheduled, AreInStep, AreRecent}
 use Rattle.leased_ports.specs.Steps.{Waits, BeginsAt}
 use Rattle.leased_ports.proofs.SpotLemmas.{if-some, some-if, run_of_low, run_of_high, run_has, run_whole, run_from, run_to, run_first, same_begin, spot_more}

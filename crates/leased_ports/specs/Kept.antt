@@ -14,7 +14,7 @@ use Rattle.external_pool.specs.PortUses.{use_along}
 use Rattle.external_pool.specs.Holdings.{Holdings, IsWhole, use_of}
 use Rattle.port_spans.specs.declared.runs.Run.{Run}
 use Rattle.port_spans.specs.Runs.{run_at, AreRuns}
-use Rattle.leased_ports.specs.Leased.{end_along}
+use Rattle.port_spans.specs.Along.{end_along}
 
 -- where a port stands among those of both protocols
 abbrev pub spot : Protocol → ℕ → ℕ

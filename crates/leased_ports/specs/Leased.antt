@@ -7,6 +7,7 @@ use Rattle.pcp_base.specs.declared.leases.End.{End}
 use Rattle.pcp_base.specs.Ends.{is_recent}
 use Rattle.pcp_base.specs.States.{State}
 use Rattle.lease_store.specs.declared.terms.Terms.{Terms}
+use Rattle.port_spans.specs.Along.{end_along}
 use Rattle.leased_ports.specs.LastEnds.{last_end}
 use Rattle.leased_ports.specs.declared.ends.TheConstants.{PLACES}
 
@@ -65,14 +66,6 @@ at_moment m v = record v { reached = m; ends = map (while_recent m) v.ends }
 abbrev pub with_last_end : End → Leased → Leased
 with_last_end e v = record v {
   ends = slice_set v.ends (place e.endpoint.protocol e.external) (Some e);
-}
-
--- the last end of the port i behind that of an end, where ports in a row have theirs together
-abbrev pub end_along : ℕ → End → End
-end_along i e = record {
-  endpoint = record e.endpoint { port = e.endpoint.port + i };
-  external = e.external + i;
-  end = e.end;
 }
 
 -- the last ends of the n ports from the end's port on are this one and those along it

@@ -11,7 +11,7 @@ use Rattle.external_pool.specs.PortUses.{use_along}
 use Rattle.external_pool.specs.Holdings.{Holdings, IsWhole, use_of}
 use Rattle.port_spans.specs.declared.runs.Run.{Run}
 use Rattle.port_spans.specs.Runs.{run_at}
-use Rattle.leased_ports.specs.Leased.{end_along}
+use Rattle.port_spans.specs.Along.{end_along}
 use Rattle.leased_ports.specs.Kept.{IsOn, AreInStep, AreRecent, end_by, end_told, held_at, spot_of}
 
 -- The n ports from one on are used so: that one so, those behind it along it. Nothing else changes.

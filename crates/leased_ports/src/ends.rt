@@ -1,7 +1,7 @@
 //! The last ends of ports, by runs of ports that were given theirs together.
 
 ghost use Rattle.std.specs.Prelude.{◌≡◌, ◌<◌, ◌+◌, ◌^◌};
-ghost use Rattle.leased_ports.specs.Leased as seen;
+ghost use Rattle.port_spans.specs.Along as along;
 ghost use Rattle.leased_ports.specs.Kept as the;
 
 use pcp_base::{End, Endpoint, Protocol, REST_SECONDS};
@@ -36,7 +36,7 @@ pub fn spot_of(last: &End) -> u32
 pub fn end_along(i: u32, last: &End) -> End
     requires external { last.now.external + i < 65536 }
     requires internal { last.now.endpoint.port + i < 65536 }
-    ensures { result ≡ seen.end_along i last.now }
+    ensures { result ≡ along.end_along i last.now }
 {
     End {
         endpoint: Endpoint {

@@ -14,7 +14,8 @@ ghost use Rattle.external_pool.specs.Holdings.{emptied};
 ghost use Rattle.external_pool.specs.Calls.{IsAsk};
 ghost use Rattle.lease_store.specs.declared.terms.Terms.{Terms};
 ghost use Rattle.lease_store.specs.Picks.{pick_answer};
-ghost use Rattle.leased_ports.specs.Leased.{AreLastEnds, IsLastEnd, IsPortsOf, IsOnTerms, at_moment, end_along, end_of, fresh_ports, vacated, with_last_end, with_last_ends, without_last_ends};
+ghost use Rattle.leased_ports.specs.Leased.{AreLastEnds, IsLastEnd, IsPortsOf, IsOnTerms, at_moment, end_of, fresh_ports, vacated, with_last_end, with_last_ends, without_last_ends};
+ghost use Rattle.port_spans.specs.Along.{end_along};
 ghost use Rattle.leased_ports.specs.Kept.{IsOn, IsSet, AreInStep, AreRecent, end_by, held_at};
 ghost use Rattle.leased_ports.specs.Steps.{AreAssigned, IsOwnRun, last_along, no_last};
 

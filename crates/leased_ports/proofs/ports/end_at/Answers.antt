@@ -3,7 +3,7 @@ use Rattle.pcp_base.specs.declared.leases.End.{End}
 use Rattle.port_spans.specs.declared.runs.Run.{Run}
 use Rattle.port_spans.specs.Runs.{run_at}
 use Rattle.port_spans.proofs.RunLemmas.{in_from, in_to}
-use Rattle.leased_ports.specs.Leased.{end_along}
+use Rattle.port_spans.specs.Along.{end_along}
 use Rattle.leased_ports.specs.Kept.{spot, end_told, IsSet}
 use Rattle.leased_ports.proofs.SpotLemmas.{if-some, run_of_low}
 use Rattle.leased_ports.proofs.ports.end_at.Goals as goal
