@@ -1,2 +1,8 @@
-pub mod EndMaps
-pub mod Moments
+mod SpotLemmas
+mod ListLemmas
+mod DueLemmas
+mod PartLemmas
+mod GoingLemmas
+mod DropLemmas
+mod CopyLemmas
+mod TableLemmas

@@ -1,40 +1,35 @@
-//! By what ends are found: their ports, and their moments.
+//! The moments of runs.
 ghost use Rattle.std.specs.Prelude.{◌≡◌, ◌≤◌, [], IfSome, IfNone, IsSome};
 ghost use Rattle.std.specs.BTreeMap.{get};
-ghost use Rattle.pcp_base.specs.Ends.{is_recent};
-ghost use Rattle.end_table.specs.Kept.{due_cmp, due_of, port_of_end};
+ghost use Rattle.end_table.specs.Kept.{due_cmp, due_of};
 ghost use Rattle.end_table.specs.Kept as the;
 
-use ordered_index::{Port, port_at};
 use pcp_base::{End, Moment, REST_SECONDS};
+use port_spans::Run;
 use std::collections::BTreeMap;
 
-/// When a port ended, in seconds; a protocol number, and the port.
-pub(crate) type Due = (u64, u8, u16);
+/// When the ports of a run ended, in seconds, and the run's first spot.
+pub type Due = (u64, u32);
 
-/// The port of the end.
-pub(crate) fn port_of(last: &End) -> Port
-    ensures { result ≡ port_of_end last.now }
-{
-    port_at(last.endpoint.protocol, last.external)
-}
+/// The moment of each run.
+pub type Dues = BTreeMap<Due, ()>;
 
-/// The moment and the port of the end.
-pub(crate) fn due_of(last: &End) -> Due
-    ensures { result ≡ due_of last.now }
+/// The moment and the first spot of the run.
+pub fn due_of(run: &Run<End>) -> Due
+    ensures { result ≡ due_of run.now }
 {
-    (last.end, last.endpoint.protocol.number(), last.external)
+    (run.value.end, run.first)
 }
 
 /// Whether a port that ended then may rest at `m`.
-pub(crate) fn may_rest(m: Moment, end: u64) -> bool
+pub fn may_rest(m: Moment, end: u64) -> bool
     ensures { result ≡ the.is_late m end }
 {
     m.get().saturating_sub(end) < REST_SECONDS
 }
 
-/// The earliest moment, with its port.
-pub(crate) fn earliest(dues: &BTreeMap<Due, ()>) -> Option<Due>
+/// The earliest moment, with its run's first spot.
+pub fn earliest(dues: &Dues) -> Option<Due>
     ensures there { IfSome result (λ first. IsSome (get due_cmp dues.now first)) }
     ensures least { IfSome result (λ first.
         (other : the.Due) → IsSome (get due_cmp dues.now other) → first.0 ≤ other.0) }

@@ -1,74 +1,96 @@
-//! Ends by their ports, and the moments beside them.
-ghost use Rattle.std.specs.Prelude.{◌≡◌, ◌<◌, filter, not, length, None, OnOk};
+//! What becomes of ends that are kept by runs.
+
+ghost use Rattle.std.specs.Prelude.{◌≡◌, ◌≤◌, ◌<◌, ◌+◌, ◌-◌, ◌^◌, ℕ, [], Some, None, OnOk, if◌then◌else◌};
 ghost use Rattle.std.specs.Bool.{OnTrue, OnFalse};
-ghost use Rattle.std.specs.BTreeMap.{get, values};
+ghost use Rattle.std.specs.BTreeMap.{btree_map_len};
 ghost use Rattle.pcp_base.specs.Ends.{is_recent};
-ghost use Rattle.ordered_index.specs.Orders.{port_cmp};
-ghost use Rattle.end_table.specs.EndLists.{with_last};
-ghost use Rattle.end_table.specs.Kept.{AreKeptEnds, has_port};
+ghost use Rattle.port_runs.specs.Ports.{is_in_run};
+ghost use Rattle.port_spans.specs.Along as along;
+ghost use Rattle.end_table.specs.Kept.{AreKept, end_at, if_passing};
+ghost use Rattle.end_table.specs.Kept as the;
 
-use crate::dues::{Due, due_of, earliest, may_rest, port_of};
-use ordered_index::Port;
-use pcp_base::{End, Memory, Moment};
-use std::collections::BTreeMap;
+use crate::dues::{Dues, earliest, may_rest};
+use crate::ends::{Ends, spot, spot_of};
+use crate::steps::{free, insert, take};
+use pcp_base::{End, Memory, Moment, Protocol};
+use port_spans::Run;
 
-/// Takes out the end of a port.
-pub(crate) fn take(ends: &mut BTreeMap<Port, End>, dues: &mut BTreeMap<Due, ()>, port: Port)
-    requires { AreKeptEnds ends.old dues.old }
-    ensures kept { AreKeptEnds ends.new dues.new }
-    ensures gone { get port_cmp ends.new port ≡ None }
-    ensures ends { values ends.new ≡ filter (λ e. not (has_port port e)) (values ends.old) }
+/// Puts ends of ports in a row in the places of theirs: the first this one, and each behind it
+/// along it. Where memory is wanting, nothing is said.
+pub fn put(ends: &mut Ends, dues: &mut Dues, first: &End, count: u32) -> Result<(), Memory>
+    requires kept { AreKept ends.old dues.old }
+    requires some { 1 ≤ count }
+    requires external { first.now.external + count ≤ 65536 }
+    requires internal { first.now.endpoint.port + count ≤ 65536 }
+    ensures kept { OnOk result (AreKept ends.new dues.new) }
+    ensures ends { OnOk result ((at : ℕ) → end_at ends.new at
+        ≡ (if is_in_run (the.spot_of first.now) count at
+        then Some (along.end_along (at - the.spot_of first.now) first.now)
+        else end_at ends.old at)) }
 {
-    let Some(last) = ends.remove(&port) else {
-        return;
+    let run = Run {
+        first: spot_of(first),
+        count,
+        value: *first,
     };
-    dues.remove(&due_of(&last));
+    free(ends, dues, run.first, count)?;
+    insert(ends, dues, &run)
 }
 
-/// Puts an end in the place of the one of its port. Where memory is wanting, nothing is said.
-pub(crate) fn put(
-    ends: &mut BTreeMap<Port, End>,
-    dues: &mut BTreeMap<Due, ()>,
-    last: &End,
+/// Takes out the ends of ports in a row. Where memory is wanting, nothing is said.
+pub fn remove(
+    ends: &mut Ends,
+    dues: &mut Dues,
+    protocol: Protocol,
+    start: u16,
+    count: u32,
 ) -> Result<(), Memory>
-    requires { AreKeptEnds ends.old dues.old }
-    ensures kept { OnOk result (AreKeptEnds ends.new dues.new) }
-    ensures ends { OnOk result (values ends.new ≡ with_last last.now (values ends.old)) }
+    requires kept { AreKept ends.old dues.old }
+    requires within { start + count ≤ 65536 }
+    ensures kept { OnOk result (AreKept ends.new dues.new) }
+    ensures ends { OnOk result ((at : ℕ) → end_at ends.new at
+        ≡ (if is_in_run (the.spot protocol start) count at then None else end_at ends.old at)) }
 {
-    take(ends, dues, port_of(last));
-    ends.insert(port_of(last), *last)?;
-    dues.insert(due_of(last), ())?;
-    Ok(())
+    free(ends, dues, spot(protocol, start), count)
 }
 
-/// Takes out an end by which no port rests at `m`; false where there is none.
-pub(crate) fn drop_one(
-    ends: &mut BTreeMap<Port, End>,
-    dues: &mut BTreeMap<Due, ()>,
-    m: Moment,
-) -> bool
-    requires { AreKeptEnds ends.old dues.old }
-    ensures kept { AreKeptEnds ends.new dues.new }
-    ensures recent { filter (is_recent m) (values ends.new)
-        ≡ filter (is_recent m) (values ends.old) }
-    ensures fewer { OnTrue result (length (values ends.new) < length (values ends.old)) }
-    ensures all { OnFalse result (filter (is_recent m) (values ends.new) ≡ values ends.new) }
+/// Takes out a run by which no port rests at `m`; false where there is none.
+fn drop_one(ends: &mut Ends, dues: &mut Dues, m: Moment) -> bool
+    requires { AreKept ends.old dues.old }
+    ensures kept { AreKept ends.new dues.new }
+    ensures recent { (at : ℕ) → if_passing (is_recent m) (end_at ends.new at)
+        ≡ if_passing (is_recent m) (end_at ends.old at) }
+    ensures fewer { OnTrue result (btree_map_len dues.new < btree_map_len dues.old) }
+    ensures all { OnFalse result (
+        (at : ℕ) → if_passing (is_recent m) (end_at ends.new at) ≡ end_at ends.new at) }
 {
-    let Some((end, protocol, port)) = earliest(dues) else {
+    let Some((end, first)) = earliest(dues) else {
         return false;
     };
     if may_rest(m, end) {
         return false;
     }
-    take(ends, dues, (protocol, port));
+    let Some(run) = ends.run_at(first) else {
+        return false;
+    };
+    take(ends, dues, &run);
     true
 }
 
-/// Takes out the ends by which no port rests at `m`.
-pub(crate) fn drop_over(ends: &mut BTreeMap<Port, End>, dues: &mut BTreeMap<Due, ()>, m: Moment)
-    requires { AreKeptEnds ends.old dues.old }
-    ensures kept { AreKeptEnds ends.new dues.new }
-    ensures ends { values ends.new ≡ filter (is_recent m) (values ends.old) }
+/// Takes out the runs by which no port rests at `m`.
+pub fn drop_over(ends: &mut Ends, dues: &mut Dues, m: Moment)
+    requires { AreKept ends.old dues.old }
+    ensures kept { AreKept ends.new dues.new }
+    ensures ends { (at : ℕ) → end_at ends.new at ≡ if_passing (is_recent m) (end_at ends.old at) }
 {
     while drop_one(ends, dues, m) {}
+}
+
+/// Takes out all runs.
+pub fn forget(ends: &mut Ends, dues: &mut Dues)
+    ensures kept { AreKept ends.new dues.new }
+    ensures none { ends.new ≡ [] }
+{
+    ends.clear();
+    dues.clear();
 }

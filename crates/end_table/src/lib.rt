@@ -1,8 +1,12 @@
-//! The ends of an external address's ports, in the order of protocol number and port.
+//! The ends of an external address's ports, in the order of protocol number and port. They are kept
+//! by runs of ports that were given theirs together.
 #![tactic(auto)]
 
+mod copies;
 mod dues;
+mod ends;
 mod kept;
+mod steps;
 mod table;
 
 pub use table::EndTable;

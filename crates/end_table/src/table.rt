@@ -1,37 +1,45 @@
 //! The table of ends.
-ghost use Rattle.std.specs.Prelude.{◌≡◌, [], filter, IfOk, OnOk, OnErr};
+ghost use Rattle.std.specs.Prelude.{◌≡◌, ◌≤◌, ◌+◌, ◌-◌, ◌&&◌, ℕ, [], filter, Some, None, IfOk, OnOk, OnErr, if◌then◌else◌};
+ghost use Rattle.pcp_base.specs.declared.leases.Protocol.{Protocol};
+ghost use Rattle.pcp_base.specs.Tables.{same_protocol};
 ghost use Rattle.pcp_base.specs.Ends.{is_recent};
-ghost use Rattle.end_table.specs.EndLists.{without, with_last};
+ghost use Rattle.port_runs.specs.Ports.{is_in_run};
+ghost use Rattle.port_spans.specs.Along.{end_along};
+ghost use Rattle.end_table.specs.EndLists.{AreOrdered, end_among, with_lasts, without_ports};
 
-use crate::dues::Due;
-use crate::kept::{drop_over, put, take};
-use ordered_index::{Port, port_at};
+use crate::copies::copy;
+use crate::dues::Dues;
+use crate::ends::Ends;
+use crate::kept::{drop_over, forget, put, remove};
 use pcp_base::{End, Memory, Moment, Protocol};
+use port_spans::Spans;
 use std::alloc::Global;
 use std::collections::BTreeMap;
 use std::marker::Model;
 
-/// Ends of ports, seen as a list in the order of protocol number and port. Each call but `copy`
-/// takes logarithmic time for each end that comes or goes.
+/// Ends of ports, seen as a list in the order of protocol number and port.
+///
+/// Ends of ports in a row that are put together are kept as one run, also in memory, until a part
+/// of them goes. Each call takes logarithmic time for each run that it parts, puts or takes out,
+/// however many ports it has; `copy` takes as much for each run, and writes each end.
 #[derive(Drop)]
 pub struct EndTable {
-    /// The end of each port.
-    ends: BTreeMap<Port, End>,
-    /// The moment of each end, with its port.
-    dues: BTreeMap<Due, ()>,
+    /// The ends, by runs.
+    ends: Ends,
+    /// The moment of each run.
+    dues: Dues,
 }
 
 impl Model for EndTable {
     ghost use Rattle.std.specs.Prelude.{List};
-    ghost use Rattle.std.specs.BTreeMap.{values};
     ghost use Rattle.pcp_base.specs.declared.leases.End.{End};
-    ghost use Rattle.end_table.specs.Kept.{AreKeptEnds};
+    ghost use Rattle.end_table.specs.Kept.{AreKept, ends_of};
 
     ghost Value = { List End };
 
-    ghost view = { λ t. values t.ends };
+    ghost view = { λ t. ends_of t.ends };
 
-    ghost invariant = { λ t. AreKeptEnds t.ends t.dues };
+    ghost invariant = { λ t. AreKept t.ends t.dues };
 }
 
 impl EndTable {
@@ -40,41 +48,63 @@ impl EndTable {
         ensures { result ≡ [] }
     {
         EndTable {
-            ends: BTreeMap::new(alloc),
+            ends: Spans::new(alloc),
             dues: BTreeMap::new(alloc),
         }
     }
 
-    /// Forgets all ends.
+    /// Forgets all ends. It takes no memory.
     pub fn clear(&mut self)
         ensures { self.new ≡ [] }
     {
-        self.ends.clear();
-        self.dues.clear();
+        forget(&mut self.ends, &mut self.dues);
     }
 
-    /// Puts an end in the place of the one of its port. The one error is want of memory, after
-    /// which all ends are forgotten.
-    pub fn put(&mut self, last: &End) -> Result<(), Memory>
-        ensures ok { OnOk result (self.new ≡ with_last last.now self.old) }
+    /// Puts ends of `count` ports in a row, at least one, in the places of theirs: the first this
+    /// one, and each behind it the one whose ports are as many behind those of the first. The one
+    /// error is want of memory, after which all ends are forgotten.
+    pub fn put_run(&mut self, first: &End, count: u32) -> Result<(), Memory>
+        requires some { 1 ≤ count }
+        requires external { first.now.external + count ≤ 65536 }
+        requires internal { first.now.endpoint.port + count ≤ 65536 }
+        ensures ok { OnOk result (self.new ≡ with_lasts first.now count self.old) }
+        ensures ordered { OnOk result (AreOrdered self.new) }
+        ensures ends { OnOk result ((protocol : Protocol) (port : ℕ) →
+            end_among protocol port self.new
+            ≡ (if same_protocol first.now.endpoint.protocol protocol
+            && is_in_run first.now.external count port
+            then Some (end_along (port - first.now.external) first.now)
+            else end_among protocol port self.old)) }
         ensures err { OnErr result (self.new ≡ []) }
     {
-        let Err(refused) = put(&mut self.ends, &mut self.dues, last) else {
+        let Err(refused) = put(&mut self.ends, &mut self.dues, first, count) else {
             return Ok(());
         };
-        self.ends.clear();
-        self.dues.clear();
+        forget(&mut self.ends, &mut self.dues);
         Err(refused)
     }
 
-    /// Takes out the end of a port.
-    pub fn remove(&mut self, protocol: Protocol, port: u16)
-        ensures { self.new ≡ without protocol port self.old }
+    /// Takes out the ends of `count` ports in a row. The one error is want of memory, since a run
+    /// of which a part stays is parted; after it all ends are forgotten.
+    pub fn remove_run(&mut self, protocol: Protocol, start: u16, count: u32) -> Result<(), Memory>
+        requires { start + count ≤ 65536 }
+        ensures ok { OnOk result (self.new ≡ without_ports protocol start count self.old) }
+        ensures ordered { OnOk result (AreOrdered self.new) }
+        ensures ends { OnOk result ((other : Protocol) (port : ℕ) →
+            end_among other port self.new
+            ≡ (if same_protocol protocol other && is_in_run start count port then None
+            else end_among other port self.old)) }
+        ensures err { OnErr result (self.new ≡ []) }
     {
-        take(&mut self.ends, &mut self.dues, port_at(protocol, port));
+        let Err(refused) = remove(&mut self.ends, &mut self.dues, protocol, start, count) else {
+            return Ok(());
+        };
+        forget(&mut self.ends, &mut self.dues);
+        Err(refused)
     }
 
     /// Takes out the ends by which no port rests at `m`: those of 120 seconds before and earlier.
+    /// It takes no memory.
     pub fn drop_over(&mut self, m: Moment)
         ensures { self.new ≡ filter (is_recent m) self.old }
     {
@@ -85,6 +115,6 @@ impl EndTable {
     pub fn copy(&self, alloc: Global) -> Result<Vec<End>, Memory>
         ensures { IfOk result (λ v. v.items ≡ self.now) }
     {
-        Ok(self.ends.values().copied().collect(alloc)?)
+        copy(&self.ends, alloc)
     }
 }

@@ -1,5 +1,4 @@
-use Rattle.std.proofs.Common.{◌≡◌, ◌≤◌}
-use Rattle.end_table.proofs.Moments.{due_lower}
+use Rattle.end_table.proofs.DueLemmas.{due_lower}
 use Rattle.end_table.proofs.dues.earliest.Goals as goal
 
 pub returns-clause-least : goal.returns-clause-least

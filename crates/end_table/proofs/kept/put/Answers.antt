@@ -1,24 +1,28 @@
-use Rattle.std.proofs.Common.{◌≡◌, sym, ap, ◌∙◌, subst, cond, None, Some, List, ℕ, filter, not, refl}
-use Rattle.std.specs.Map.{values_of}
-use Rattle.std.specs.BTreeMap.{is_at, get, insert_entry, values}
-use Rattle.ordered_index.specs.Orders.{port_cmp}
-use Rattle.pcp_base.specs.declared.leases.End.{End}
-use Rattle.pcp_base.specs.Ends.{with_end}
-use Rattle.end_table.specs.Kept.{Due, due_cmp, port_of_end, has_port}
-use Rattle.end_table.proofs.EndMaps.{are_at, inserted}
-use Rattle.end_table.proofs.Moments.{more_kept}
+use Rattle.std.proofs.Common.{◌≡◌, ℕ, ◌-◌, Some, cond, subst, arith}
+use Rattle.std.proofs.lemmas.Result.{on_ok_weaker}
+use Rattle.port_runs.specs.Ports.{is_in_run}
+use Rattle.port_spans.specs.Along as along
+use Rattle.end_table.specs.Kept.{end_at}
+use Rattle.end_table.proofs.GoingLemmas.{put_ends}
 use Rattle.end_table.proofs.kept.put.Goals as goal
 
-pub returns-clause-kept : goal.returns-clause-kept
-returns-clause-kept c =
-    more_kept c.take.new.ends c.take.new.dues c.take.ensures.kept (port_of_end c.args.last.now) c.args.last.now c.insert.new.self c.insert-2.new.self
-    (ap (get port_cmp c.take.new.ends) (sym c.port_of.ensures) ∙ c.take.ensures.gone) refl c.insert.ensures.ordered c.insert-2.ensures.ordered
-    (λ q. c.in_ok-insert.ensures.updates.0 q ∙ ap (λ (z : ℕ × ℕ). cond (is_at (port_cmp z) q) (Some c.args.last.now) (get port_cmp c.take.new.ends q)) c.port_of-2.ensures)
-    (λ d. c.in_ok-insert-2.ensures.updates.0 d ∙ ap (λ (z : Due). cond (is_at (due_cmp z) d) (Some tt) (get due_cmp c.take.new.dues d)) c.due_of.ensures)
+pub free-requires-clause-within : goal.free-requires-clause-within
+free-requires-clause-within c = omega (arith, c.spot_of.ensures.bound, c.requires.external)
+
+pub insert-requires-clause-set : goal.insert-requires-clause-set
+insert-requires-clause-set c = record {
+  first = c.spot_of.ensures.value;
+  some = c.requires.some;
+  external = c.requires.external;
+  internal = c.requires.internal;
+}
+
+pub insert-requires-clause-free : goal.insert-requires-clause-free
+insert-requires-clause-free c = c.in_ok-free.ensures.none
 
 pub returns-clause-ends : goal.returns-clause-ends
 returns-clause-ends c =
-    ap values_of c.in_ok-insert.ensures.entries
-    ∙ ap (λ (k : ℕ × ℕ). values_of (insert_entry port_cmp c.take.new.ends.entries k c.args.last.now)) c.port_of-2.ensures
-    ∙ inserted c.args.last.now c.take.new.ends.entries (are_at c.take.new.ends c.take.ensures.kept.ordered c.take.ensures.kept.placed) (ap (get port_cmp c.take.new.ends) (sym c.port_of.ensures) ∙ c.take.ensures.gone)
-    ∙ ap (with_end c.args.last.now) (c.take.ensures.ends ∙ ap (λ (k : ℕ × ℕ). filter (λ e. not (has_port k e)) (values c.args.ends.now)) c.port_of.ensures)
+    let first = c.args.first.now in
+    let n = c.args.count in
+    on_ok_weaker c.insert.result (λ h. subst (λ (k : ℕ). (at : ℕ) → end_at c.insert.new.ends at ≡ cond (is_in_run k n at) (Some (along.end_along (at - k) first)) (end_at c.args.ends.now at)) c.spot_of.ensures.value
+    (λ at. put_ends c.spot_of.result n at c.args.ends.now c.free.new.ends c.insert.new.ends c.free.new.dues (Some (along.end_along (at - c.spot_of.result) first)) c.in_ok-free.ensures (h at))) c.insert.ensures.ends
