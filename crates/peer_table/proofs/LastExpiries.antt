@@ -104,7 +104,7 @@ module _ {X : Type 0} (f : X → Option ℕ) where
 -- ---- the openings of a port
 
 -- the port of an opening
-abbrev port_in : Opening → ℕ × ℕ
+abbrev pub port_in : Opening → ℕ × ℕ
 port_in o = (o.0, o.1)
 
 side_is : (p : ℕ × ℕ) (n : ℕ) (a k : Opening) → port_in a ≡ p → a.2 ≡ n → k.2 ≡ 1 →

@@ -6,3 +6,4 @@ pub mod Sounds
 pub mod PortUses
 pub mod SoundTables
 pub mod LastExpiries
+pub mod NextOwned

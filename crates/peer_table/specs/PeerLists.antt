@@ -52,6 +52,10 @@ pub record IsPortUse (e : Endpoint) (m : ℕ) (ls : List PeerLease) (result : Op
   pub count : IfSome result (λ found. found.count ≡ count_by (is_live_of e m) ls)
   pub none : IfNone result (count_by (is_live_of e m) ls ≡ 0)
 
+-- whether one of the leases owns the external port
+abbrev pub is_peer_owned : Protocol → ℕ → List PeerLease → Bool
+is_peer_owned protocol port ls = list_any (λ l. is_port protocol port (peer_owner l)) ls
+
 -- the latest expiry of the leases that own the external port; None exactly where there is none
 pub record IsLastExpiry (protocol : Protocol) (port : ℕ) (ls : List PeerLease) (result : Option ℕ)
     : Type 0 where
@@ -59,7 +63,16 @@ pub record IsLastExpiry (protocol : Protocol) (port : ℕ) (ls : List PeerLease)
       IsTrue (list_any (λ l. is_port protocol port (peer_owner l) && l.expiry == expiry) ls))
   pub latest : IfSome result (λ expiry. AllByRecursion
       (λ l. IsTrue (is_port protocol port (peer_owner l)) → l.expiry ≤ expiry) ls)
-  pub none : IfNone result (list_any (λ l. is_port protocol port (peer_owner l)) ls ≡ false)
+  pub none : IfNone result (is_peer_owned protocol port ls ≡ false)
+
+-- the least external port from this one on that one of the leases owns, None exactly where none does
+pub record IsNextOwned (protocol : Protocol) (port : ℕ) (ls : List PeerLease) (result : Option ℕ)
+    : Type 0 where
+  pub from : IfSome result (λ next. port ≤ next)
+  pub owned : IfSome result (λ next. IsTrue (is_peer_owned protocol next ls))
+  pub least : IfSome result (λ next. (other : ℕ) →
+      port ≤ other → IsTrue (is_peer_owned protocol other ls) → next ≤ other)
+  pub none : IfNone result ((other : ℕ) → port ≤ other → is_peer_owned protocol other ls ≡ false)
 
 -- whether a lease names this port of the endpoint's address and protocol
 abbrev pub is_named : Endpoint → List PeerLease → ℕ → Bool

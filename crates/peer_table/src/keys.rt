@@ -74,6 +74,20 @@ pub(crate) fn opening_bound(protocol: Protocol, port: u16, side: u8) -> Opening
     (protocol.number(), port, side, [0; 16], 0)
 }
 
+/// The external port of the opening, where it is one of the protocol.
+pub(crate) fn port_of(opening: Opening, protocol: Protocol) -> Option<u16>
+    ensures some { IfSome result (λ port.
+        (opening.0 ≡ protocol_number protocol) × (port ≡ opening.1)) }
+    ensures none { IfNone result (opening.0 ≡ protocol_number protocol → ⊥) }
+{
+    let (number, port, _, _, _) = opening;
+    if number == protocol.number() {
+        Some(port)
+    } else {
+        None
+    }
+}
+
 /// The key of the lease.
 pub(crate) fn key_of(lease: &PeerLease) -> Key
     ensures { result ≡ key_of_lease lease.now }

@@ -5,18 +5,19 @@ ghost use Rattle.std.specs.Option.{option_copied};
 ghost use Rattle.std.specs.BTreeMap.{get, values};
 ghost use Rattle.std.specs.Ordering.{nat_cmp};
 ghost use Rattle.pcp_base.specs.declared.leases.PeerLease.{PeerLease};
-ghost use Rattle.peer_table.specs.PeerLists.{is_live_peer, peer_with_key, peer_opening, IsDeadPeer, IsPortUse, IsLastExpiry, SkipsUnnamed, AreSoundPeers, with_peer, PutsPeer, RemovesPeer, CopiesLivePeers};
+ghost use Rattle.peer_table.specs.PeerLists.{is_live_peer, peer_with_key, peer_opening, IsDeadPeer, IsPortUse, IsLastExpiry, IsNextOwned, SkipsUnnamed, AreSoundPeers, with_peer, PutsPeer, RemovesPeer, CopiesLivePeers};
 ghost use Rattle.peer_table.specs.Kept.{key_cmp, AreKeptPeers, some_live};
 
 use crate::changes::{append, replace};
 use crate::endpoints::{count_live, first_live};
 use crate::keys::{
     Key, Opening, bound_at, key_at, key_of, opening_at, opening_bound, opening_of, port_beside,
+    port_of,
 };
 use crate::passing::{first_live_key, pass};
 use crate::ports::last_expiry;
 use crate::uses::PortUse;
-use ordered_index::{LiveKeys, Numbered};
+use ordered_index::{LiveKeys, Numbered, first_from};
 use pcp_base::{Address, Endpoint, Memory, Moment, PeerLease, Protocol};
 use std::alloc::{AllocError, Global};
 use std::collections::BTreeMap;
@@ -148,6 +149,17 @@ impl PeerTable {
             opening_bound(protocol, port, 0),
             opening_bound(protocol, port, 2),
         )
+    }
+
+    /// The least external port from this one on, itself among them, that a lease owns, live or not. It
+    /// looks at one lease alone.
+    pub fn next_owned(&self, protocol: Protocol, port: u16) -> Option<u16>
+        ensures { IsNextOwned protocol port self.now result }
+    {
+        let Some(first) = first_from(&self.kept.ports, opening_bound(protocol, port, 0)) else {
+            return None;
+        };
+        port_of(first, protocol)
     }
 
     /// A port above the endpoint's, up to which none above the endpoint's is named by a lease of its
