@@ -1,8 +1,8 @@
 -- Last ends that ports in a row get, or lose.
-use Rattle.std.proofs.Common.{◌≡◌, ℕ, ◌+◌, ◌-◌, ◌<◌, ◌≤◌, ◌^◌, ◌&&◌, ◌==◌, nat_lt, Bool, true, false, cond, List, Option, Some, None, IfSome, refl, sym, ap, ◌∙◌, subst, inl, inr, arith}
+use Rattle.std.proofs.Common.{◌≡◌, ℕ, ◌+◌, ◌-◌, ◌<◌, ◌≤◌, ◌^◌, ◌&&◌, nat_lt, Bool, true, false, cond, List, Option, Some, None, IfSome, refl, sym, ap, ◌∙◌, subst, inl, inr, arith}
 use Rattle.std.specs.Option.{option_map}
 use Rattle.std.specs.Ordering.{nat_cmp}
-use Rattle.std.specs.FinMap.{FinMap, get}
+use Rattle.std.specs.FinMap.{FinMap}
 use Rattle.std.proofs.lemmas.Bool.{and_parts}
 use Rattle.std.proofs.lemmas.Bool.Decides.{nat_tests}
 use Rattle.pcp_base.specs.declared.leases.Protocol.{Protocol}
@@ -11,12 +11,11 @@ use Rattle.pcp_base.specs.Tables.{same_protocol}
 use Rattle.pcp_base.proofs.Same.{same_protocol-Decides}
 use Rattle.port_runs.specs.Ports.{is_in_run}
 use Rattle.expiry_wheel.proofs.Maps.{below_or_not}
-use Rattle.external_pool.specs.declared.uses.Use.{Use}
 use Rattle.external_pool.specs.Holdings.{Holdings}
 use Rattle.port_spans.specs.declared.runs.Run.{Run}
 use Rattle.port_spans.specs.Runs.{has_place, run_at, AreRuns, with_value}
 use Rattle.port_spans.specs.Along.{end_along}
-use Rattle.leased_ports.specs.Kept.{spot, run_of, end_told, end_by, held_at, use_by, until, IsSet, AreInStep, AreRecent}
+use Rattle.leased_ports.specs.Kept.{spot, end_told, end_by, held_at, use_by, until, IsSet, AreInStep, AreRecent}
 use Rattle.leased_ports.specs.Steps.{GivesUses, Waits, AreAssigned, AreFreed, last_along, no_last}
 use Rattle.leased_ports.proofs.SpotLemmas.{some-if, spot_in, run_of_low, run_of_high, place_off}
 use Rattle.leased_ports.proofs.BlockLemmas.{IsBlock, block_in_step, block_ends, inserted_block, renewed_block}

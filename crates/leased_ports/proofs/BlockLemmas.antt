@@ -1,10 +1,9 @@
 -- Runs of which one block comes, changes or goes, with a pool and a wheel that follow.
-use Rattle.std.specs.Prelude.{◌⊎◌}
-use Rattle.std.proofs.Common.{◌≡◌, ℕ, ◌+◌, ◌-◌, ◌<◌, ◌≤◌, ◌&&◌, ◌==◌, nat_lt, nat_le, Bool, true, false, cond, List, Option, Some, None, IfSome, refl, sym, ap, ◌∙◌, subst, inl, inr, arith}
+use Rattle.std.proofs.Common.{◌≡◌, ℕ, ◌-◌, ◌<◌, ◌≤◌, ◌&&◌, ◌==◌, Bool, true, false, cond, List, Option, Some, None, IfSome, refl, sym, ap, ◌∙◌, subst, inl, inr, arith}
 use Rattle.std.specs.Option.{option_map}
 use Rattle.std.specs.Ordering.{nat_cmp}
 use Rattle.std.specs.FinMap.{FinMap, get}
-use Rattle.std.proofs.lemmas.Bool.{and_parts, and_from, lt-ltb, le-ltb, eq-eqb, eqb-true}
+use Rattle.std.proofs.lemmas.Bool.{and_parts}
 use Rattle.std.proofs.lemmas.Bool.Decides.{nat_tests}
 use Rattle.pcp_base.specs.declared.leases.Protocol.{Protocol}
 use Rattle.pcp_base.specs.declared.leases.End.{End}
@@ -15,13 +14,12 @@ use Rattle.expiry_wheel.proofs.Maps.{same_or_not, below_or_not, cond_same, cond_
 use Rattle.external_pool.specs.declared.uses.Use.{Use}
 use Rattle.external_pool.specs.declared.uses.Use.TheVariants.{Free}
 use Rattle.external_pool.specs.PortUses.{use_along}
-use Rattle.external_pool.specs.Holdings.{Holdings, IsWhole, use_of}
+use Rattle.external_pool.specs.Holdings.{Holdings, use_of}
 use Rattle.port_spans.specs.declared.runs.Run.{Run}
 use Rattle.port_spans.specs.Runs.{has_place, run_at, AreRuns, but_from, with_value}
-use Rattle.port_spans.proofs.RunLemmas.{in_from, in_to, in_by}
-use Rattle.leased_ports.specs.Kept.{spot, run_of, end_told, end_by, use_by, use_told, until, wait_told, IsSet, AreScheduled, AreInStep}
+use Rattle.leased_ports.specs.Kept.{spot, run_of, end_told, end_by, use_by, use_told, until, wait_told, IsSet, AreInStep}
 use Rattle.leased_ports.specs.Steps.{GivesUses, AreUsedBy, Waits}
-use Rattle.leased_ports.proofs.SpotLemmas.{if-some, some-if, run_of_low, run_of_high, run_has, run_whole, run_first, same_begin, in_spots, place_first, place_off, place_of, port_low, spot_from}
+use Rattle.leased_ports.proofs.SpotLemmas.{some-if, run_of_low, run_of_high, run_has, run_whole, same_begin, in_spots, place_first, place_off, place_of, port_low}
 
 -- the use of the first port of what is there
 abbrev pub use_first : (Run End → Bool) → Option (Run End) → Use

@@ -1,6 +1,6 @@
 -- Ends that leases of a table leave when they expire, of live leases and of others.
-use Rattle.std.specs.Prelude.{◌≡◌, refl, ℕ, ◌<◌, ◌≤◌, ◌⊎◌, nat_lt, not, List, map, flat_map}
-use Rattle.std.proofs.Common.{inl, inr, ap, subst, arith}
+use Rattle.std.specs.Prelude.{◌≡◌, refl, ℕ, ◌<◌, ◌≤◌, nat_lt, not, map, flat_map}
+use Rattle.std.proofs.Common.{inl, inr, ap, arith}
 use Rattle.std.proofs.lemmas.Bool.{not_from_false, ltb-true, lt-ltb, le-ltb}
 use Rattle.pcp_base.specs.declared.leases.MapLease.{MapLease}
 use Rattle.pcp_base.specs.declared.leases.PeerLease.{PeerLease}
@@ -9,8 +9,8 @@ use Rattle.pcp_base.specs.declared.leases.End.{End}
 use Rattle.pcp_base.specs.Tables.{Table, live, dead}
 use Rattle.pcp_base.specs.Owners.{map_owners, peer_owner, owners}
 use Rattle.pcp_base.specs.Ends.{end_at, ends_at_expiry}
-use Rattle.pcp_base.proofs.Members.{IsIn, IsIn-filter, filter-IsIn, IsIn-append, IsIn-left, IsIn-right, IsIn-map, map-IsIn, IsIn-flat_map, flat_map-IsIn}
-use Rattle.pcp_base.proofs.StageLaws.{map_ends, peer_end, FromMap, FromPeer, expiry-parts, from_map, from_peer}
+use Rattle.pcp_base.proofs.Members.{IsIn, IsIn-filter, filter-IsIn, IsIn-append, IsIn-map, map-IsIn, IsIn-flat_map}
+use Rattle.pcp_base.proofs.StageLaws.{map_ends, expiry-parts, from_map, from_peer}
 
 pub map_ends-end : (l : MapLease) (e : End) → IsIn e (map_ends l) → l.expiry ≡ e.end
 map_ends-end l e h = let k = IsIn-map (end_at l.expiry) (map_owners l) e h in ap (λ (x : End). x.end) k.2

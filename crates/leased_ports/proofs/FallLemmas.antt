@@ -1,16 +1,14 @@
 -- Runs that fall due.
-use Rattle.std.specs.Prelude.{◌⊎◌, ◌≢◌}
-use Rattle.std.proofs.Common.{◌≡◌, ℕ, zero, suc, ◌+◌, ◌-◌, ◌<◌, ◌≤◌, ◌&&◌, ◌==◌, nat_lt, nat_le, Bool, true, false, cond, List, Option, Some, None, is_some, IfSome, refl, sym, ap, ◌∙◌, subst, inl, inr, arith}
+use Rattle.std.specs.Prelude.{◌≢◌}
+use Rattle.std.proofs.Common.{◌≡◌, ℕ, zero, suc, ◌+◌, ◌-◌, ◌<◌, ◌≤◌, ◌==◌, nat_lt, nat_le, Bool, true, false, cond, List, Option, Some, None, IfSome, refl, sym, ap, ◌∙◌, subst, inl, inr, arith}
 use Rattle.std.specs.Ordering.{nat_cmp}
 use Rattle.std.specs.FinMap.{FinMap, get}
-use Rattle.std.proofs.lemmas.Bool.{lt-ltb, le-ltb, le-leb, leb-true, ltb-true, ltb-false, eq-eqb, eqb-true}
-use Rattle.std.proofs.lemmas.Bool.Decides.{nat_tests}
+use Rattle.std.proofs.lemmas.Bool.{lt-ltb, le-ltb, le-leb, leb-true, ltb-false, eq-eqb, eqb-true}
 use Rattle.pcp_base.specs.declared.leases.End.{End}
 use Rattle.ordered_index.proofs.EntryLaws.{some_one}
 use Rattle.ordered_index.proofs.Entries.{false_by}
 use Rattle.expiry_wheel.specs.Due.{IsNextDue}
-use Rattle.expiry_wheel.proofs.Maps.{same_or_not, below_or_not, cond_same, cond_other}
-use Rattle.external_pool.specs.declared.uses.Use.{Use}
+use Rattle.expiry_wheel.proofs.Maps.{same_or_not, cond_same, cond_other}
 use Rattle.external_pool.specs.declared.uses.Use.TheVariants.{Free}
 use Rattle.external_pool.specs.PortUses.{use_along}
 use Rattle.external_pool.specs.Holdings.{Holdings}
@@ -18,10 +16,10 @@ use Rattle.port_spans.specs.declared.runs.Run.{Run}
 use Rattle.port_spans.specs.Runs.{has_place, run_at, AreRuns, but_from}
 use Rattle.leased_ports.specs.Leased.{while_recent}
 use Rattle.port_spans.specs.Along.{end_along}
-use Rattle.leased_ports.specs.Kept.{spot, run_of, held_at, end_told, use_by, use_told, wait_told, until, IsSet, AreScheduled, AreInStep, AreRecent}
+use Rattle.leased_ports.specs.Kept.{spot, held_at, end_told, use_by, use_told, wait_told, until, IsSet, AreInStep, AreRecent}
 use Rattle.leased_ports.specs.Steps.{GivesUses, AreUsedBy, Waits}
 use Rattle.leased_ports.specs.Falling.{is_until, held_by, AreFalling, is_due, due_below}
-use Rattle.leased_ports.proofs.SpotLemmas.{if-some, some-if, place_low, run_has, run_whole, run_first}
+use Rattle.leased_ports.proofs.SpotLemmas.{if-some, some-if, place_low, run_has, run_whole}
 use Rattle.leased_ports.proofs.BlockLemmas.{IsBlock, run_uses, taken_block, resting_block, block_in_step, other_first}
 use Rattle.leased_ports.proofs.FreeLemmas.{run_waits}
 

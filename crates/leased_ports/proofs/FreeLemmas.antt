@@ -1,16 +1,13 @@
 -- Runs that are taken out one after the other.
-use Rattle.std.specs.Prelude.{◌⊎◌}
-use Rattle.std.proofs.Common.{◌≡◌, ℕ, ◌+◌, ◌-◌, ◌<◌, ◌≤◌, ◌&&◌, ◌==◌, nat_lt, nat_le, Bool, true, false, cond, List, Option, Some, None, is_some, IfSome, refl, sym, ap, ◌∙◌, subst, inl, inr, arith}
+use Rattle.std.proofs.Common.{◌≡◌, ℕ, ◌+◌, ◌-◌, ◌<◌, ◌≤◌, ◌==◌, Bool, true, false, cond, List, Option, Some, None, is_some, IfSome, refl, sym, ap, ◌∙◌, subst, inl, inr, arith}
 use Rattle.std.specs.Ordering.{nat_cmp}
 use Rattle.std.specs.Cmp.{nat_cmp_total}
 use Rattle.std.specs.FinMap.{FinMap, get, contains_key, remove, len, empty_of_len, get-empty, len-remove}
-use Rattle.std.proofs.lemmas.Bool.{and_parts, and_from, lt-ltb, le-ltb}
-use Rattle.std.proofs.lemmas.Bool.Decides.{nat_tests}
 use Rattle.pcp_base.specs.declared.leases.End.{End}
 use Rattle.ordered_index.proofs.EntryLaws.{none_by}
 use Rattle.ordered_index.proofs.Entries.{false_by}
 use Rattle.port_runs.specs.Ports.{is_in_run}
-use Rattle.expiry_wheel.proofs.Maps.{same_or_not, below_or_not, cond_same, cond_other, one_removed}
+use Rattle.expiry_wheel.proofs.Maps.{same_or_not, below_or_not, cond_same, one_removed}
 use Rattle.external_pool.specs.declared.uses.Use.TheVariants.{Free}
 use Rattle.external_pool.specs.Holdings.{Holdings}
 use Rattle.port_spans.specs.declared.runs.Run.{Run}
@@ -18,9 +15,9 @@ use Rattle.port_spans.specs.Runs.{has_place, run_at, AreRuns, but_from, IsNextRu
 use Rattle.port_spans.proofs.RunLemmas.{in_from, in_to, in_by}
 use Rattle.leased_ports.specs.Kept.{held_at, end_told, wait_told, until, IsSet, AreScheduled, AreInStep, AreRecent}
 use Rattle.leased_ports.specs.Steps.{GivesUses, Waits, BeginsAt, AreFreeing, AreFreed}
-use Rattle.leased_ports.proofs.SpotLemmas.{if-some, some-if, run_has, run_whole, run_from, run_to, run_first, place_first}
+use Rattle.leased_ports.proofs.SpotLemmas.{if-some, some-if, run_whole, run_from, run_to, run_first}
 use Rattle.leased_ports.proofs.BlockLemmas.{IsBlock, taken_block, block_in_step}
-use Rattle.leased_ports.proofs.PartLemmas.{in_step_told, recent_told}
+use Rattle.leased_ports.proofs.PartLemmas.{recent_told}
 
 but_keeps : (P : Run End → Type 0) (first : ℕ) (o : Option (Run End)) → IfSome o P → IfSome (but_from first o) P
 but_keeps P first None h = tt

@@ -13,3 +13,4 @@ pub mod AssignLemmas
 pub mod ViewLemmas
 pub mod MomentLemmas
 pub mod RecordLemmas
+pub mod PieceLemmas

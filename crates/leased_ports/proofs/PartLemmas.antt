@@ -1,25 +1,21 @@
 -- A run that is parted, with a wheel that follows.
-use Rattle.std.specs.Prelude.{◌⊎◌}
-use Rattle.std.proofs.Common.{◌≡◌, ℕ, ◌+◌, ◌-◌, ◌<◌, ◌≤◌, ◌^◌, ◌&&◌, ◌==◌, nat_lt, nat_le, Bool, true, false, cond, List, Option, Some, None, IfSome, refl, sym, ap, ◌∙◌, subst, inl, inr, arith}
+use Rattle.std.proofs.Common.{◌≡◌, ℕ, ◌+◌, ◌-◌, ◌<◌, ◌≤◌, ◌&&◌, nat_lt, Bool, true, false, cond, List, Option, Some, None, IfSome, refl, sym, ap, ◌∙◌, subst, inl, inr, arith}
 use Rattle.std.specs.Option.{option_map}
 use Rattle.std.specs.Ordering.{nat_cmp}
 use Rattle.std.specs.FinMap.{FinMap, get}
-use Rattle.std.proofs.lemmas.Bool.{and_parts, and_from, lt-ltb, le-ltb, ltb-true, ltb-false}
-use Rattle.pcp_base.specs.declared.leases.Protocol.{Protocol}
+use Rattle.std.proofs.lemmas.Bool.{and_parts, and_from, lt-ltb, le-ltb, ltb-false}
 use Rattle.pcp_base.specs.declared.leases.End.{End}
 use Rattle.ordered_index.proofs.Entries.{false_by}
-use Rattle.port_runs.specs.Ports.{is_in_run}
 use Rattle.expiry_wheel.proofs.Maps.{same_or_not, below_or_not, cond_same, cond_other}
-use Rattle.external_pool.specs.declared.uses.Use.{Use}
 use Rattle.external_pool.specs.PortUses.{use_along}
-use Rattle.external_pool.specs.Holdings.{Holdings, use_of}
+use Rattle.external_pool.specs.Holdings.{Holdings}
 use Rattle.port_spans.specs.declared.runs.Run.{Run}
 use Rattle.port_spans.specs.Runs.{has_place, run_at, AreRuns, part_at, with_value}
-use Rattle.port_spans.proofs.RunLemmas.{in_from, in_to, in_by}
+use Rattle.port_spans.proofs.RunLemmas.{in_by}
 use Rattle.port_spans.specs.Along.{end_along}
-use Rattle.leased_ports.specs.Kept.{spot, spot_of, run_of, end_told, held_at, is_held_at, use_by, use_told, until, wait_told, IsSet, AreScheduled, AreInStep, AreRecent}
+use Rattle.leased_ports.specs.Kept.{spot, end_told, held_at, is_held_at, use_by, use_told, until, wait_told, IsSet, AreScheduled, AreInStep, AreRecent}
 use Rattle.leased_ports.specs.Steps.{Waits, BeginsAt}
-use Rattle.leased_ports.proofs.SpotLemmas.{if-some, some-if, run_of_low, run_of_high, run_has, run_whole, run_from, run_to, run_first, same_begin, spot_more}
+use Rattle.leased_ports.proofs.SpotLemmas.{if-some, run_of_low, run_of_high, run_has, run_whole, run_from, run_to, spot_more}
 
 pub along_twice : (e : End) (i j k : ℕ) → i + j ≡ k → end_along j (end_along i e) ≡ end_along k e
 along_twice e i j k h =

@@ -1,9 +1,9 @@
 -- What waits, and the value of what is kept.
-use Rattle.std.specs.Prelude.{◌≡◌, ◌≢◌, refl, ℕ, zero, suc, ◌+◌, ◌-◌, ◌<◌, ◌≤◌, ◌==◌, nat_lt, Bool, true, false, List, length, replicate, Option, Some, None, is_some}
+use Rattle.std.specs.Prelude.{◌≡◌, refl, ℕ, zero, suc, ◌-◌, ◌<◌, ◌≤◌, Bool, true, false, List, length, replicate, Option, Some, None}
 use Rattle.std.specs.Ordering.{nat_cmp}
 use Rattle.std.specs.Cmp.{nat_cmp_total}
-use Rattle.std.specs.FinMap.{FinMap, get, contains_key, insert, remove, len, empty, get-empty, empty_of_len, len-empty, len-remove, same_map, nat_cmp-IsAntisymmetric}
-use Rattle.std.proofs.Common.{inl, inr, sym, ap, ◌∙◌, subst, arith, cond}
+use Rattle.std.specs.FinMap.{FinMap, get, contains_key, insert, remove, len, empty, get-empty, len-empty, len-remove, same_map, nat_cmp-IsAntisymmetric}
+use Rattle.std.proofs.Common.{inl, inr, sym, ap, ◌∙◌, arith, cond}
 use Rattle.std.proofs.lemmas.List.{length-replicate}
 use Rattle.pcp_base.specs.declared.leases.End.{End}
 use Rattle.expiry_wheel.proofs.Maps.{same_or_not, cond_same, cond_other, get-inserted, get-removed}

@@ -1,6 +1,6 @@
 -- What a pool may be asked of the ports of a run, and what it makes of them.
-use Rattle.std.proofs.Common.{◌≡◌, ℕ, ◌+◌, ◌-◌, ◌<◌, ◌≤◌, ◌&&◌, Bool, true, false, cond, Some, refl, sym, ap, ◌∙◌, subst, arith}
-use Rattle.std.proofs.lemmas.Bool.{and_parts, and_from}
+use Rattle.std.proofs.Common.{◌≡◌, ℕ, ◌+◌, ◌-◌, ◌≤◌, ◌&&◌, Bool, true, false, cond, Some, refl, sym, ap, ◌∙◌, subst}
+use Rattle.std.proofs.lemmas.Bool.{and_parts}
 use Rattle.pcp_base.specs.declared.leases.Protocol.{Protocol}
 use Rattle.pcp_base.specs.declared.leases.Protocol.TheVariants.{Tcp, Udp}
 use Rattle.pcp_base.specs.declared.leases.End.{End}
@@ -8,9 +8,9 @@ use Rattle.pcp_base.specs.Tables.{same_protocol}
 use Rattle.pcp_base.proofs.Same.{same_protocol-Decides}
 use Rattle.port_runs.specs.Ports.{is_in_run}
 use Rattle.external_pool.specs.declared.uses.Use.{Use}
-use Rattle.external_pool.specs.declared.uses.Use.TheVariants.{Free, Held, Resting}
+use Rattle.external_pool.specs.declared.uses.Use.TheVariants.{Free}
 use Rattle.external_pool.specs.PortUses.{use_along, is_held, is_resting}
-use Rattle.external_pool.specs.Holdings.{Holdings, use_of, with_use, NoneHeld, AllFree, AllRest}
+use Rattle.external_pool.specs.Holdings.{Holdings, use_of, with_use, AllFree, AllRest}
 use Rattle.external_pool.specs.Calls.{ArePorts, MayHold, MayRelease}
 use Rattle.external_pool.proofs.Counted.{with_use-whole, use_of-with_use}
 use Rattle.port_spans.specs.declared.runs.Run.{Run}

@@ -1,12 +1,12 @@
 -- The value that is seen of what is kept.
-use Rattle.std.specs.Prelude.{◌⊎◌, ◌≢◌}
-use Rattle.std.proofs.Common.{◌≡◌, ℕ, zero, suc, ◌+◌, ◌-◌, ◌*◌, ◌/◌, ◌%◌, ◌<◌, ◌≤◌, ◌&&◌, ◌==◌, nat_lt, nat_le, Bool, true, false, cond, List, [], map, length, length-set, slice_set, Option, Some, None, IfSome, refl, sym, ap, ◌∙◌, subst, inl, inr, arith}
+use Rattle.std.specs.Prelude.{◌⊎◌}
+use Rattle.std.proofs.Common.{◌≡◌, ℕ, zero, suc, ◌+◌, ◌-◌, ◌*◌, ◌/◌, ◌%◌, ◌<◌, ◌≤◌, ◌&&◌, ◌==◌, nat_lt, Bool, true, false, cond, List, [], map, length, length-set, slice_set, Option, Some, None, refl, sym, ap, ◌∙◌, subst, inl, inr, arith}
 use Rattle.std.specs.List.{range_with_len}
 use Rattle.std.specs.Ordering.{nat_cmp}
-use Rattle.std.specs.FinMap.{FinMap, get, empty, get-empty}
+use Rattle.std.specs.FinMap.{FinMap, empty, get-empty}
 use Rattle.std.proofs.lemmas.List.{get_or-map, get_or_past, ext_get_or, get_or-set_same, get_or-set_other, length-map}
 use Rattle.std.proofs.lemmas.List.FromFn.{get_or-range_with_len, length-range_with_len, length-map-range_with_len}
-use Rattle.std.proofs.lemmas.Bool.{and_parts, and_from, lt-ltb, le-ltb, eq-eqb, eqb-true}
+use Rattle.std.proofs.lemmas.Bool.{and_from, le-ltb, eq-eqb, eqb-true}
 use Rattle.std.proofs.lemmas.Bool.Decides.{nat_tests}
 use Rattle.pcp_base.specs.declared.leases.Protocol.{Protocol}
 use Rattle.pcp_base.specs.declared.leases.Protocol.TheVariants.{Tcp, Udp}
@@ -17,13 +17,12 @@ use Rattle.pcp_base.specs.Ends.{is_end_of}
 use Rattle.pcp_base.specs.States.{State}
 use Rattle.pcp_base.specs.Reached.{IsReached}
 use Rattle.pcp_base.proofs.Same.{same_protocol-Decides}
-use Rattle.pcp_base.proofs.RestLaws.{protocol_number-same}
 use Rattle.ordered_index.proofs.Entries.{false_by}
 use Rattle.port_runs.specs.Ports.{is_in_run}
-use Rattle.expiry_wheel.proofs.Maps.{same_or_not, below_or_not, cond_same, cond_other}
+use Rattle.expiry_wheel.proofs.Maps.{same_or_not, below_or_not}
 use Rattle.external_pool.specs.declared.uses.Use.{Use}
 use Rattle.external_pool.specs.declared.uses.Use.TheVariants.{Free}
-use Rattle.external_pool.specs.Holdings.{Holdings, IsWhole, uses_of, use_of, fresh_pool, emptied}
+use Rattle.external_pool.specs.Holdings.{Holdings, uses_of, use_of, fresh_pool, emptied}
 use Rattle.external_pool.specs.PortUses.{PortUses, uses_over, use_at, all_free}
 use Rattle.external_pool.specs.PoolOf.{IsPoolOf}
 use Rattle.external_pool.proofs.Counted.{fresh-whole}
@@ -31,10 +30,10 @@ use Rattle.external_pool.proofs.Painted.{use_at-all_free}
 use Rattle.lease_store.specs.declared.terms.Terms.{Terms}
 use Rattle.port_spans.specs.declared.runs.Run.{Run}
 use Rattle.port_spans.specs.Runs.{run_at}
-use Rattle.port_spans.proofs.RunLemmas.{in_from, in_to, in_by}
-use Rattle.leased_ports.specs.Leased.{Leased, leased, place, end_in, end_of, no_ends, while_recent, with_last_end, with_last_ends, without_last_ends, IsPortsOf, IsOnTerms}
+use Rattle.port_spans.proofs.RunLemmas.{in_by}
+use Rattle.leased_ports.specs.Leased.{Leased, leased, place, end_in, no_ends, while_recent, with_last_end, with_last_ends, without_last_ends, IsPortsOf, IsOnTerms}
 use Rattle.port_spans.specs.Along.{end_along}
-use Rattle.leased_ports.specs.Kept.{spot, run_of, end_told, end_by, ends_of, is_held_at, held_at, use_by, use_told, wait_told, IsOn, IsSet, AreScheduled, AreInStep, AreRecent, IsKept}
+use Rattle.leased_ports.specs.Kept.{spot, run_of, end_told, end_by, ends_of, is_held_at, held_at, use_by, use_told, IsOn, IsKept}
 use Rattle.leased_ports.specs.Laws.{IsPoolOnTerms}
 use Rattle.leased_ports.specs.Steps.{AreAssigned, last_along, no_last}
 use Rattle.leased_ports.proofs.PoolLemmas.{pool-state}

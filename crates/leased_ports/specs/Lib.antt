@@ -1,5 +1,6 @@
 pub mod LastEnds
 pub mod Leased
+pub mod Pieces
 pub mod Kept
 pub mod Steps
 pub mod Falling

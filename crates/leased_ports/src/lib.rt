@@ -5,9 +5,11 @@
 mod ends;
 mod falls;
 pub mod laws;
+mod pieces;
 mod ports;
 mod schedule;
 mod steps;
 mod uses;
 
+pub use pieces::Piece;
 pub use ports::LeasedPorts;

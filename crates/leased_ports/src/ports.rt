@@ -16,11 +16,13 @@ ghost use Rattle.lease_store.specs.declared.terms.Terms.{Terms};
 ghost use Rattle.lease_store.specs.Picks.{pick_answer};
 ghost use Rattle.leased_ports.specs.Leased.{AreLastEnds, IsLastEnd, IsPortsOf, IsOnTerms, at_moment, end_of, fresh_ports, vacated, with_last_end, with_last_ends, without_last_ends};
 ghost use Rattle.port_spans.specs.Along.{end_along};
+ghost use Rattle.leased_ports.specs.Pieces.{IsPiece};
 ghost use Rattle.leased_ports.specs.Kept.{IsOn, IsSet, AreInStep, AreRecent, end_by, held_at};
 ghost use Rattle.leased_ports.specs.Steps.{AreAssigned, IsOwnRun, last_along, no_last};
 
 use crate::ends::{Ends, end_along, spot, spot_of};
 use crate::falls::settle;
+use crate::pieces::{Piece, piece_at};
 use crate::steps::{free, insert, renew};
 use expiry_wheel::Wheel;
 use external_pool::{PickAsk, PickRefused, Picked, Pool};
@@ -306,6 +308,16 @@ impl LeasedPorts {
         ensures { result ≡ end_of self.now protocol port }
     {
         end_at(&self.ends, protocol, port)
+    }
+
+    /// The ports from `start` on, at least it and at most `most`, whose last ends are along that of
+    /// `start`, or that have none. It is one or two looks into the runs, however many ports it tells.
+    pub fn piece(&self, protocol: Protocol, start: u16, most: u32) -> Piece
+        requires some { 1 ≤ most }
+        requires within { start + most ≤ 65536 }
+        ensures { IsPiece (end_of self.now protocol) start most result }
+    {
+        piece_at(&self.ends, protocol, start, most)
     }
 
     /// The ports that would be given, the first one to this endpoint, by the rules of

@@ -1,6 +1,4 @@
-use Rattle.std.proofs.Common.{◌≡◌, ℕ, ◌+◌, ◌-◌, ◌<◌, Option, Some, None, sym, ap, ◌∙◌, arith}
-use Rattle.pcp_base.specs.declared.leases.End.{End}
-use Rattle.port_spans.specs.declared.runs.Run.{Run}
+use Rattle.std.proofs.Common.{◌≡◌, ℕ, ◌-◌, ◌<◌, Some, None, sym, ap, ◌∙◌, arith}
 use Rattle.port_spans.specs.Runs.{run_at}
 use Rattle.port_spans.proofs.RunLemmas.{in_from, in_to}
 use Rattle.port_spans.specs.Along.{end_along}

@@ -1,4 +1,4 @@
-use Rattle.std.proofs.Common.{◌+◌, ◌∙◌}
+use Rattle.std.proofs.Common.{◌∙◌}
 use Rattle.leased_ports.proofs.PartLemmas.{in_step_told}
 use Rattle.leased_ports.proofs.FreeLemmas.{freed_last}
 use Rattle.leased_ports.proofs.steps.free.Goals as goal

@@ -1,4 +1,4 @@
-use Rattle.std.proofs.Common.{◌≡◌, ℕ, ◌==◌, Some, cond, ap, ◌∙◌}
+use Rattle.std.proofs.Common.{ℕ, ◌==◌, Some, cond, ap, ◌∙◌}
 use Rattle.std.specs.FinMap.{get}
 use Rattle.leased_ports.specs.Kept.{held_at}
 use Rattle.leased_ports.proofs.SpotLemmas.{run_small, id_low}

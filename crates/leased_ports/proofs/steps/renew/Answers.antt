@@ -1,7 +1,6 @@
-use Rattle.std.proofs.Common.{◌≡◌, ℕ, ◌==◌, Some, cond, is_some, ap, ◌∙◌}
+use Rattle.std.proofs.Common.{ℕ, ◌==◌, Some, cond, is_some, ap, ◌∙◌}
 use Rattle.std.specs.FinMap.{get}
 use Rattle.leased_ports.specs.Kept.{held_at, IsSet}
-use Rattle.leased_ports.specs.Steps.{Waits}
 use Rattle.port_spans.specs.Runs.{run_at}
 use Rattle.leased_ports.proofs.SpotLemmas.{if-some}
 use Rattle.leased_ports.proofs.BlockLemmas.{run_uses}

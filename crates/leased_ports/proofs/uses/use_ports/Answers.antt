@@ -1,4 +1,4 @@
-use Rattle.std.proofs.Common.{Some, true, false, sym, ap}
+use Rattle.std.proofs.Common.{Some, sym, ap}
 use Rattle.std.proofs.lemmas.Bool.{lt-ltb, le-ltb}
 use Rattle.external_pool.specs.declared.uses.Use.TheVariants.{Held, Resting}
 use Rattle.leased_ports.specs.Kept.{held_at, use_by}

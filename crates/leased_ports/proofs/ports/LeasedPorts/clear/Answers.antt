@@ -1,5 +1,5 @@
 use Rattle.std.proofs.Common.{ap, ◌∙◌}
-use Rattle.leased_ports.specs.Leased.{Leased, vacated}
+use Rattle.leased_ports.specs.Leased.{vacated}
 use Rattle.leased_ports.proofs.ViewLemmas.{kept_vacated, view_vacated}
 use Rattle.leased_ports.proofs.ports.LeasedPorts.clear.Goals as goal
 

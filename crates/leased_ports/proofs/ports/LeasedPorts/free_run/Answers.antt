@@ -1,4 +1,4 @@
-use Rattle.std.proofs.Common.{◌≡◌, ℕ, ◌&&◌, cond, ap, ◌∙◌}
+use Rattle.std.proofs.Common.{◌&&◌, cond, ap, ◌∙◌}
 use Rattle.pcp_base.specs.Tables.{same_protocol}
 use Rattle.port_runs.specs.Ports.{is_in_run}
 use Rattle.leased_ports.specs.Leased.{Leased, end_of, vacated, without_last_ends}

@@ -1,6 +1,3 @@
-use Rattle.std.proofs.Common.{List, ap, ◌∙◌}
-use Rattle.pcp_base.specs.declared.leases.End.{End}
-use Rattle.port_spans.specs.declared.runs.Run.{Run}
 use Rattle.leased_ports.proofs.ViewLemmas.{kept_fresh, view_vacated}
 use Rattle.leased_ports.proofs.ports.LeasedPorts.new.Goals as goal
 

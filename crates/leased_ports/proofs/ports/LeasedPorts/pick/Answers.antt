@@ -1,4 +1,4 @@
-use Rattle.std.proofs.Common.{◌≡◌, ℕ, sym, ap, subst}
+use Rattle.std.proofs.Common.{◌≡◌, sym, subst}
 use Rattle.leased_ports.specs.Leased.{Leased, leased, IsPortsOf, IsOnTerms}
 use Rattle.leased_ports.specs.Kept.{ends_of}
 use Rattle.lease_store.specs.Picks.{pick_answer}

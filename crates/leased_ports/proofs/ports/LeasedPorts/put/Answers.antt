@@ -1,9 +1,8 @@
-use Rattle.std.proofs.Common.{◌≡◌, ℕ, ◌+◌, ◌-◌, ◌≤◌, ◌&&◌, Option, Some, cond, ap, ◌∙◌, arith}
+use Rattle.std.proofs.Common.{ℕ, ◌-◌, ◌&&◌, Some, cond, ap, ◌∙◌, arith}
 use Rattle.std.proofs.lemmas.Result.{on_ok_weaker}
-use Rattle.pcp_base.specs.declared.leases.End.{End}
 use Rattle.pcp_base.specs.Tables.{same_protocol}
 use Rattle.port_runs.specs.Ports.{is_in_run}
-use Rattle.leased_ports.specs.Leased.{Leased, end_of, with_last_ends}
+use Rattle.leased_ports.specs.Leased.{end_of, with_last_ends}
 use Rattle.port_spans.specs.Along.{end_along}
 use Rattle.leased_ports.proofs.ViewLemmas.{one_is_put, one_port}
 use Rattle.leased_ports.proofs.ports.LeasedPorts.put.Goals as goal

@@ -1,4 +1,4 @@
-use Rattle.std.proofs.Common.{◌≡◌, ℕ, ◌≤◌, ap, ◌∙◌, arith}
+use Rattle.std.proofs.Common.{◌≡◌, ℕ, ap, ◌∙◌, arith}
 use Rattle.leased_ports.specs.Leased.{Leased, leased, at_moment}
 use Rattle.leased_ports.proofs.ViewLemmas.{reached_view}
 use Rattle.leased_ports.proofs.ports.LeasedPorts.reach.Goals as goal
