@@ -1,1 +1,3 @@
 pub mod OnePort
+pub mod RunUses
+pub mod Moves

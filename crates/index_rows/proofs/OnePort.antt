@@ -1,4 +1,4 @@
--- A port of a new pool.
+-- The ports of a new pool.
 use Rattle.std.proofs.Common.{◌≡◌, ℕ, refl, sym, ap, ◌∙◌, subst}
 use Rattle.pcp_base.specs.declared.leases.Protocol.{Protocol}
 use Rattle.pcp_base.specs.declared.leases.Protocol.TheVariants.{Tcp, Udp}
@@ -16,8 +16,11 @@ module _ (low high quota : ℕ) (pool : Holdings) (new : pool ≡ fresh_pool low
   free_at Tcp port = use_at-all_free 65536 port
   free_at Udp port = use_at-all_free 65536 port
 
+  pub new-free : (protocol : Protocol) (port : ℕ) → use_of pool protocol port ≡ Free
+  new-free protocol port = ap (λ (p : Holdings). use_of p protocol port) new ∙ free_at protocol port
+
   pub new-may_hold : (protocol : Protocol) (port : ℕ) → ArePorts port 1 → MayHold pool protocol port 1
   new-may_hold protocol port ports = record {
     ports = ports;
-    none_held = none_held_at pool protocol port Free (ap (λ (p : Holdings). use_of p protocol port) new ∙ free_at protocol port) refl;
+    none_held = none_held_at pool protocol port Free (new-free protocol port) refl;
   }

@@ -1,10 +1,12 @@
 //! Tests of the indexes and of the pool of an external address by rows of calls, each beside its plain
-//! twin.
+//! twin where it has one.
 #![tactic(auto)]
 
 #[cfg(test)]
 mod pools;
 #[cfg(test)]
 mod runs;
+#[cfg(test)]
+mod spans;
 #[cfg(test)]
 mod wheels;

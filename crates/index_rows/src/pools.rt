@@ -1,8 +1,8 @@
 //! The calls of both bodies of a pool, by the way of a port from its lease to its rest and back. What
 //! is picked where others are held and rest is compared in the tests of the ports that follow a state.
 ghost use Rattle.std.specs.Prelude.{◌≡◌, ◌+◌, ◌≤◌};
-ghost use Rattle.external_pool.specs.Calls.{ArePorts, MayHold};
-ghost use Rattle.external_pool.specs.Holdings.{IsWhole};
+ghost use Rattle.external_pool.specs.Calls.{ArePorts, IsAsk, MayHold};
+ghost use Rattle.external_pool.specs.Holdings.{AllFree, IsWhole};
 
 use external_pool::plain::PlainPool;
 use external_pool::{PickAsk, Pool};
@@ -12,7 +12,9 @@ use std::alloc::Global;
 use std::process::Abort;
 
 /// A UDP port of the host 10.0.0.N.
-fn at(host: u8, port: u16) -> Endpoint {
+fn at(host: u8, port: u16) -> Endpoint
+    ensures { result.port ≡ port }
+{
     Endpoint {
         address: Address::v4(10, 0, 0, host),
         protocol: Udp,
@@ -20,17 +22,24 @@ fn at(host: u8, port: u16) -> Endpoint {
     }
 }
 
-/// Whether each body picks the port for an endpoint that suggests it, and wants no other.
-fn picks(pool: &Pool, plain: &PlainPool, port: u16, whom: &Endpoint) -> (bool, bool) {
-    let ask = PickAsk {
-        internal: whom.port,
+/// An ask for this one port, and no other.
+fn ask_for(port: u16, internal: u16) -> PickAsk
+    ensures { IsAsk result }
+{
+    PickAsk {
+        internal,
         suggested: port,
         asked: 1,
         room: 1,
         parity: None,
         must: true,
         here: true,
-    };
+    }
+}
+
+/// Whether each body picks the port for an endpoint that wants no other.
+fn picks(pool: &Pool, plain: &PlainPool, port: u16, whom: &Endpoint) -> (bool, bool) {
+    let ask = ask_for(port, whom.port);
     let found = pool.pick(&whom.address, whom.protocol, &ask);
     let expected = plain.pick(&whom.address, whom.protocol, &ask);
     (found.is_ok(), expected.is_ok())
@@ -82,4 +91,84 @@ fn hold_and_rest_in_new(
 #[test]
 fn both_pools_hold_and_rest(rt: HostRuntime) -> Result<(), Memory> {
     hold_and_rest_in_new(&rt, rt.alloc(), 1024, 1063, &at(5, 5000))
+}
+
+/// To whom a port is open: to the endpoint that it goes along with, to the one before it, and to
+/// another host.
+type Openness = (bool, bool, bool);
+
+/// To whom the second of some ports is open, the first of which goes along with an endpoint.
+fn openness(pool: &Pool, start: u16, first: &Endpoint) -> Openness {
+    let port = start.wrapping_add(1);
+    let internal = first.port.wrapping_add(1);
+    (
+        is_picked(pool, port, &first.address, internal),
+        is_picked(pool, port, &first.address, first.port),
+        is_picked(pool, port, &Address::v4(10, 0, 0, 9), internal),
+    )
+}
+
+/// Whether the UDP port is picked for an internal port that wants no other.
+fn is_picked(pool: &Pool, port: u16, who: &Address, internal: u16) -> bool {
+    pool.pick(who, Udp, &ask_for(port, internal)).is_ok()
+}
+
+/// Ports in a row that may be held are held, go to rest, awake, and rest and awake without a hold. To
+/// whom the second of them is open after each call.
+fn rest_and_wake(
+    alloc: Global,
+    pool: &mut Pool,
+    start: u16,
+    last: &Endpoint,
+    n: u32,
+) -> Result<[Openness; 5], Memory>
+    requires whole { IsWhole pool.old }
+    requires free { AllFree pool.old last.now.protocol start n }
+    requires ports { ArePorts start n }
+    requires internal { last.now.port + n ≤ 65536 }
+{
+    pool.hold(alloc, &last.address, last.protocol, start, n)?;
+    let held = openness(pool, start, last);
+    pool.retire(start, last, n);
+    let retired = openness(pool, start, last);
+    pool.wake_run(last.protocol, start, n);
+    let awake = openness(pool, start, last);
+    pool.rest_run(alloc, start, last, n)?;
+    let rests = openness(pool, start, last);
+    pool.wake_run(last.protocol, start, n);
+    let again = openness(pool, start, last);
+    Ok([held, retired, awake, rests, again])
+}
+
+/// The same of the first ports of a new pool.
+fn rest_and_wake_in_new(
+    alloc: Global,
+    low: u16,
+    high: u16,
+    last: &Endpoint,
+    n: u32,
+) -> Result<[Openness; 5], Memory>
+    requires some { 1 ≤ low }
+    requires ordered { low ≤ high }
+    requires ports { ArePorts low n }
+    requires internal { last.now.port + n ≤ 65536 }
+{
+    let mut pool = Pool::new(alloc, low, high, 24)?;
+    rest_and_wake(alloc, &mut pool, low, last, n)
+}
+
+#[test]
+fn ports_in_a_row_rest_and_awake(rt: HostRuntime) -> Result<(), Memory> {
+    let told = rest_and_wake_in_new(rt.alloc(), 1024, 1063, &at(5, 5000), 4)?;
+    let for_its_own = (true, false, false);
+    let for_all = (true, true, true);
+    let wanted = [
+        (false, false, false),
+        for_its_own,
+        for_all,
+        for_its_own,
+        for_all,
+    ];
+    assert!(rt; told == wanted, "{told:?}");
+    Ok(())
 }

@@ -1,6 +1,6 @@
 //! Calls of both bodies of a wheel, with answers that are worked out by hand, and a wheel that grows.
 
-ghost use Rattle.std.specs.Prelude.{◌≡◌, ◌+◌, ◌<◌, ◌≤◌};
+ghost use Rattle.std.specs.Prelude.{◌≡◌, ◌+◌, ◌<◌, ◌≤◌, length};
 ghost use Rattle.std.specs.FinMap as map;
 
 use expiry_wheel::plain::PlainWheel;
@@ -19,6 +19,9 @@ enum Call {
     Put(u32, u64),
     Remove(u32, bool),
     Due(u64, Option<u32>),
+    Expiry(u32, Option<u64>),
+    Move(u32, u64, bool),
+    Next(u64, Option<u32>),
 }
 
 static CALLS: [Call; 32] = [
@@ -60,6 +63,34 @@ static CALLS: [Call; 32] = [
     Call::Put(0, 0),
     Call::Due(0, Some(0)),
     Call::Due(u64::MAX, Some(IDS - 1)),
+];
+
+static MOVES: [Call; 22] = [
+    // What isn't there has no expiry, isn't moved and isn't next.
+    Call::Expiry(7, None),
+    Call::Move(7, 50, false),
+    Call::Expiry(7, None),
+    Call::Next(u64::MAX, None),
+    Call::Put(7, 40),
+    Call::Put(3, 60),
+    Call::Expiry(7, Some(40)),
+    Call::Expiry(4, None),
+    Call::Next(39, None),
+    // The next one stays.
+    Call::Next(40, Some(7)),
+    Call::Next(100, Some(7)),
+    // Behind the other one, to the same expiry, and before it.
+    Call::Move(7, 70, true),
+    Call::Expiry(7, Some(70)),
+    Call::Next(100, Some(3)),
+    Call::Next(59, None),
+    Call::Move(7, 60, true),
+    Call::Next(60, Some(3)),
+    Call::Move(7, 10, true),
+    Call::Next(60, Some(7)),
+    Call::Due(60, Some(7)),
+    Call::Move(7, 10, false),
+    Call::Due(60, Some(3)),
 ];
 
 /// Puts a pair into both.
@@ -108,6 +139,38 @@ fn due_both<L: Ledger, R: Abort>(
     found
 }
 
+/// Gives an id another expiry in both, which are to answer alike.
+fn move_both<R: Abort>(
+    rt: &R,
+    wheel: &mut Wheel,
+    plain: &mut PlainWheel,
+    id: u32,
+    expiry: u64,
+) -> bool
+    ensures wheel { map.len wheel.new ≤ map.len wheel.old + 1 }
+    ensures plain { map.len plain.new ≤ map.len plain.old + 1 }
+{
+    let moved = wheel.reschedule(id, expiry);
+    let expected = plain.reschedule(id, expiry);
+    assert!(rt; moved == expected, "move {id}");
+    moved
+}
+
+/// What both tell of an id's expiry.
+fn expiry_of(wheel: &Wheel, plain: &PlainWheel, id: u32) -> (Option<u64>, Option<u64>) {
+    (wheel.expiry(id), plain.expiry(id))
+}
+
+/// What both tell of the id that falls due next.
+fn next_of<L: Ledger>(
+    wheel: &Wheel,
+    plain: &PlainWheel,
+    m: u64,
+    steps: &mut Steps<L>,
+) -> (Option<u32>, Option<u32>) {
+    (wheel.next_due(m, steps), plain.next_due(m))
+}
+
 /// One call on both.
 fn answer<L: Ledger, R: Abort>(
     rt: &R,
@@ -137,18 +200,39 @@ fn answer<L: Ledger, R: Abort>(
             assert!(rt; found == want, "due at {m}");
             Ok(())
         }
+        Call::Expiry(id, want) => {
+            let found = expiry_of(wheel, plain, id);
+            assert!(rt; found == (want, want), "expiry of {id}");
+            Ok(())
+        }
+        Call::Move(id, expiry, want) => {
+            let moved = move_both(rt, wheel, plain, id, expiry);
+            assert!(rt; moved == want, "move {id}");
+            Ok(())
+        }
+        Call::Next(m, want) => {
+            let found = next_of(wheel, plain, m, steps);
+            assert!(rt; found == (want, want), "next at {m}");
+            Ok(())
+        }
     }
 }
 
-fn answer_all<L: Ledger, R: Abort>(rt: &R, alloc: Global, blank: Blank) -> Result<(), Fail>
+fn answer_all<L: Ledger, R: Abort>(
+    rt: &R,
+    alloc: Global,
+    blank: Blank,
+    calls: &[Call],
+) -> Result<(), Fail>
     requires name { blank.name ≡ L.name }
     requires parts { blank.parts ≡ L.parts }
     requires some { 0 < L.parts }
+    requires few { length calls.now ≤ 100 }
 {
     let mut wheel = Wheel::new(alloc)?;
     let mut plain = PlainWheel::new(alloc)?;
     let mut steps = Steps::<L>::begin(blank);
-    for call in &CALLS {
+    for call in calls {
         answer(rt, alloc, &mut wheel, &mut plain, &mut steps, *call)?;
     }
     Ok(())
@@ -156,7 +240,12 @@ fn answer_all<L: Ledger, R: Abort>(rt: &R, alloc: Global, blank: Blank) -> Resul
 
 #[test]
 fn calls_have_these_answers(rt: HostRuntime) -> Result<(), Fail> {
-    answer_all::<Brand, HostRuntime>(&rt, rt.alloc(), Blank::new(1))
+    answer_all::<Brand, HostRuntime>(&rt, rt.alloc(), Blank::new(1), &CALLS)
+}
+
+#[test]
+fn ids_are_moved_and_told(rt: HostRuntime) -> Result<(), Fail> {
+    answer_all::<Brand, HostRuntime>(&rt, rt.alloc(), Blank::new(1), &MOVES)
 }
 
 /// Whether a wheel with no pair refuses one.
