@@ -8,7 +8,7 @@ use Rattle.port_spans.specs.Runs.{has_place, run_at, AreRuns, IsNextRun, IsFirst
 use Rattle.port_spans.specs.Along.{end_along}
 use Rattle.port_spans.proofs.RunLemmas.{in_by}
 use Rattle.leased_ports.specs.Pieces.{IsPiece}
-use Rattle.leased_ports.specs.Kept.{spot, end_told, end_by}
+use Rattle.leased_ports.specs.Kept.{spot, end_told, end_by, IsSet}
 use Rattle.leased_ports.proofs.SpotLemmas.{if-some, run_of_low, run_whole, run_from, run_to, spot_more}
 use Rattle.leased_ports.proofs.PartLemmas.{along_twice}
 
@@ -46,13 +46,14 @@ module _ (runs : List (Run End)) (protocol : Protocol) (start most count : ℕ) 
   piece_gap none = record {
     some = some;
     few = few;
+    internal = tt;
     along = λ i less.
         let place = spot_more protocol start i in
         ap (end_told (spot protocol (start + i)))
         (run_of_low runs protocol (start + i) (port_low i less) ∙ none (spot protocol (start + i)) (omega (arith, place)) (omega (arith, place, less)));
   }
 
-  module _ (apart : AreRuns runs) (r : Run End) (there : run_at runs (spot protocol start) ≡ Some r) (left : count ≤ r.count - (spot protocol start - r.first)) where
+  module _ (apart : AreRuns runs) (r : Run End) (there : run_at runs (spot protocol start) ≡ Some r) (set : IsSet r) (left : count ≤ r.count - (spot protocol start - r.first)) where
     own : (i : ℕ) → i < count → run_at runs (spot protocol (start + i)) ≡ Some r
     own i less =
         let place = spot_more protocol start i in
@@ -64,6 +65,7 @@ module _ (runs : List (Run End)) (protocol : Protocol) (start most count : ℕ) 
     piece_run = record {
       some = some;
       few = few;
+      internal = omega (arith, set.internal, left, run_from runs apart (spot protocol start) r there, run_to runs apart (spot protocol start) r there);
       along = λ i less.
           let place = spot_more protocol start i in
           let from = run_from runs apart (spot protocol start) r there in

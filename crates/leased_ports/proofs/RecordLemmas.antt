@@ -49,7 +49,7 @@ peer_owner-there : (t : Table) (l : PeerLease) → IsIn l t.peers → IsIn (peer
 peer_owner-there t l there = IsIn-right (flat_map map_owners t.maps) (map peer_owner t.peers) (peer_owner l) (map-IsIn peer_owner t.peers l there)
 
 -- a MAP lease stays, or its ports are touched
-map-kept : (change : Change) (t : Table) → IsAllowed t change → empties change ≡ false → (l : MapLease) → IsIn l t.maps
+pub map-kept : (change : Change) (t : Table) → IsAllowed t change → empties change ≡ false → (l : MapLease) → IsIn l t.maps
     → IsIn l (table_changed change t).maps ⊎ ((o : Owner) → IsIn o (map_owners l) → IsIn o (touched change t))
 map-kept Start t allowed keeps l there = absurd cc
 map-kept Lose t allowed keeps l there = absurd cc
@@ -70,7 +70,7 @@ map-kept Mark t allowed keeps l there = inl there
 map-kept (Rest e port end) t allowed keeps l there = inl there
 map-kept (Renumber a) t allowed keeps l there = inl there
 
-peer-kept : (change : Change) (t : Table) → IsAllowed t change → empties change ≡ false → (l : PeerLease) → IsIn l t.peers
+pub peer-kept : (change : Change) (t : Table) → IsAllowed t change → empties change ≡ false → (l : PeerLease) → IsIn l t.peers
     → IsIn l (table_changed change t).peers ⊎ IsIn (peer_owner l) (touched change t)
 peer-kept Start t allowed keeps l there = absurd cc
 peer-kept Lose t allowed keeps l there = absurd cc
@@ -91,7 +91,7 @@ peer-kept (Rest e port end) t allowed keeps l there = inl there
 peer-kept (Renumber a) t allowed keeps l there = inl there
 
 -- a lease was there, or its ports are touched
-map-from : (change : Change) (t : Table) → empties change ≡ false → (l : MapLease) → IsIn l (table_changed change t).maps
+pub map-from : (change : Change) (t : Table) → empties change ≡ false → (l : MapLease) → IsIn l (table_changed change t).maps
     → IsIn l t.maps ⊎ ((o : Owner) → IsIn o (map_owners l) → IsIn o (touched change t))
 map-from Start t keeps l there = absurd cc
 map-from Lose t keeps l there = absurd cc
@@ -107,7 +107,7 @@ map-from Mark t keeps l there = inl there
 map-from (Rest e port end) t keeps l there = inl there
 map-from (Renumber a) t keeps l there = inl there
 
-peer-from : (change : Change) (t : Table) → empties change ≡ false → (l : PeerLease) → IsIn l (table_changed change t).peers → IsIn l t.peers ⊎ IsIn (peer_owner l) (touched change t)
+pub peer-from : (change : Change) (t : Table) → empties change ≡ false → (l : PeerLease) → IsIn l (table_changed change t).peers → IsIn l t.peers ⊎ IsIn (peer_owner l) (touched change t)
 peer-from Start t keeps l there = absurd cc
 peer-from Lose t keeps l there = absurd cc
 peer-from (Map n) t keeps l there = inl there
@@ -123,10 +123,10 @@ peer-from (Rest e port end) t keeps l there = inl there
 peer-from (Renumber a) t keeps l there = inl there
 
 -- no such owner leaves the end
-abbrev Apart : List Owner → End → Type 0
+abbrev pub Apart : List Owner → End → Type 0
 Apart os e = (o : Owner) → IsIn o os → o.external ≡ e.external → o.endpoint ≡ e.endpoint → ⊥
 
-leaves-kept : (t u : Table) (os : List Owner) (e : End) → ((l : MapLease) → IsIn l t.maps → IsIn l u.maps ⊎ ((o : Owner) → IsIn o (map_owners l) → IsIn o os))
+pub leaves-kept : (t u : Table) (os : List Owner) (e : End) → ((l : MapLease) → IsIn l t.maps → IsIn l u.maps ⊎ ((o : Owner) → IsIn o (map_owners l) → IsIn o os))
     → ((l : PeerLease) → IsIn l t.peers → IsIn l u.peers ⊎ IsIn (peer_owner l) os) → Apart os e → IsIn e (ends_at_expiry t) → IsIn e (ends_at_expiry u)
 leaves-kept t u os e maps peers apart h =
     elim (expiry-parts t e h) [
@@ -142,7 +142,7 @@ leaves-kept t u os e maps peers apart h =
     ]
 
 -- a touched owner and its endpoint have one protocol
-touched-protocol : (change : Change) (t : Table) (o : Owner) → IsIn o (touched change t) → o.protocol ≡ o.endpoint.protocol
+pub touched-protocol : (change : Change) (t : Table) (o : Owner) → IsIn o (touched change t) → o.protocol ≡ o.endpoint.protocol
 touched-protocol (Map l) t o h = let k = map_owners-IsIn l o h in subst (λ (x : Owner). x.protocol ≡ x.endpoint.protocol) k.2 refl
 touched-protocol (Peer l) t o (inl e) = subst (λ (x : Owner). x.protocol ≡ x.endpoint.protocol) e refl
 touched-protocol (Peer l) t o (inr h) = absurd h
@@ -198,7 +198,7 @@ latest-least m [] f h = absurd h
 latest-least m (e ∷ es) f (inl same) = let one : e.end ≡ f.end = ap (λ (x : End). x.end) same in omega (arith, one)
 latest-least m (e ∷ es) f (inr h) = let rest = latest-least m es f h in omega (arith, rest)
 
-latest-is : (m : ℕ) (es : List End) → (latest m es ≡ m) ⊎ ((e : End) × IsIn e es × (e.end ≡ latest m es))
+pub latest-is : (m : ℕ) (es : List End) → (latest m es ≡ m) ⊎ ((e : End) × IsIn e es × (e.end ≡ latest m es))
 latest-is m [] = inl refl
 latest-is m (e ∷ es) =
     elim (later_or_not (latest m es) e.end) [

@@ -57,4 +57,4 @@ returns c =
     let short = c.min.ensures in
     subst (λ (e : End). IsPiece (end_by runs c.args.protocol) c.args.start c.args.most (record { last = Some e; count = c.min.result })) (sym told)
     (piece_run runs c.args.protocol c.args.start c.args.most c.min.result c.requires.within (omega (arith, short, from, to, c.requires.some)) (omega (arith, short))
-    c.requires.apart r there (omega (arith, short, at)))
+    c.requires.apart r there (if-some IsSet (run_at runs s) r there (c.requires.set s)) (omega (arith, short, at)))

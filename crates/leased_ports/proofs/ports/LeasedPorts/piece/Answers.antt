@@ -9,6 +9,7 @@ returns c =
     record {
       some = is.some;
       few = is.few;
+      internal = is.internal;
       along = λ i less.
           ap (λ (v : Leased). end_of v c.args.protocol (c.args.start + i)) (sym c.self.view_is)
           ∙ ends_of-place c.self.inside.ends c.args.protocol (c.args.start + i) ∙ is.along i less;
