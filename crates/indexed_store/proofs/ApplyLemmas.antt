@@ -1,9 +1,11 @@
 -- The ends and the ports of a state after a record.
-use Rattle.std.proofs.Common.{◌≡◌, ℕ, ◌+◌, ◌<◌, ◌≤◌, ◌^◌, ◌&&◌, ◌==◌, nat_lt, Bool, true, false, cond, List, filter, find, Contains, Option, Some, None, refl, sym, ap, ◌∙◌, subst, inl, inr, arith}
+use Rattle.std.proofs.Common.{◌≡◌, ℕ, ◌+◌, ◌<◌, ◌≤◌, ◌^◌, ◌&&◌, ◌==◌, nat_lt, Bool, true, false, cond, List, [], ◌++◌, option_to_list, filter, find, Contains, Option, Some, None, IfSome, refl, sym, ap, ◌∙◌, subst, inl, inr, arith}
 use Rattle.std.specs.List.{AllByRecursion}
 use Rattle.std.specs.Option.{option_map, option_or}
 use Rattle.std.proofs.lemmas.Bool.{lt-ltb, le-ltb, ltb-false, cond-true, cond-false}
+use Rattle.std.proofs.lemmas.Bool.Decides.{nat_tests}
 use Rattle.pcp_base.specs.declared.leases.Protocol.{Protocol}
+use Rattle.pcp_base.specs.declared.leases.Protocol.TheVariants.{Tcp, Udp}
 use Rattle.pcp_base.specs.declared.leases.MapLease.{MapLease}
 use Rattle.pcp_base.specs.declared.leases.PeerLease.{PeerLease}
 use Rattle.pcp_base.specs.declared.leases.Owner.{Owner}
@@ -12,19 +14,18 @@ use Rattle.pcp_base.specs.declared.records.Change.{Change}
 use Rattle.pcp_base.specs.declared.records.Change.TheVariants.{Start, Map, Peer, DropMap, DropPeer, Lose, Mark, Rest, Renumber}
 use Rattle.pcp_base.specs.declared.records.Record.{Record}
 use Rattle.pcp_base.specs.Protocols.{protocol_number}
-use Rattle.pcp_base.specs.Tables.{Table, dead}
-use Rattle.pcp_base.specs.Owners.{owners, is_port, is_owned, map_owners}
+use Rattle.pcp_base.specs.Tables.{Table, dead, live, same_protocol}
+use Rattle.pcp_base.specs.Owners.{owners, is_port, is_owned}
 use Rattle.pcp_base.specs.States.{State}
 use Rattle.pcp_base.specs.Ends.{ends_at_expiry, is_recent, is_end_of, end_at}
-use Rattle.pcp_base.specs.Records.{IsTermAt, IsEndAt, IsWellFormedChange}
-use Rattle.pcp_base.specs.Sound.{Sound}
+use Rattle.pcp_base.specs.Records.{IsTermAt, IsEndAt}
 use Rattle.pcp_base.specs.Reached.{IsReached}
 use Rattle.pcp_base.specs.Fits.{Fits}
-use Rattle.pcp_base.specs.Apply.{empties, table_1, table_2, deleted, apply}
-use Rattle.pcp_base.proofs.Members.{IsIn, All-IsIn, All-weaker, All-from_IsIn, IsIn-from_Contains, Contains-from_IsIn, IsIn-filter, filter-IsIn, EachTwo-filter, find-some, any-none, find-none}
+use Rattle.pcp_base.specs.Apply.{empties, table_1, table_2, apply}
+use Rattle.pcp_base.proofs.Members.{IsIn, All-IsIn, All-weaker, All-append, All-push, All-from_IsIn, IsIn-left, IsIn-right, IsIn-flat_map, flat_map-IsIn, IsIn-from_Contains, Contains-from_IsIn, IsIn-filter, filter-IsIn, EachTwo-filter, find-some, any-none, none-any, find-none}
 use Rattle.pcp_base.proofs.EndOrder.{InOrder, InOrder-one}
-use Rattle.pcp_base.proofs.EndLemmas.{left-by_expiry, left-owned, unowned-fewer, owners-deleted, owner-ports, owner-protocol}
-use Rattle.pcp_base.proofs.TableLemmas.{map_owners-IsIn}
+use Rattle.pcp_base.proofs.EndLemmas.{left-by_expiry, left-owned, unowned-fewer}
+use Rattle.pcp_base.proofs.TableLemmas.{Sound-live}
 use Rattle.pcp_base.proofs.RestLaws.{InOrder-same}
 use Rattle.pcp_base.proofs.StageLaws.{unlike, expiry-parts}
 use Rattle.leased_ports.specs.LastEnds.{last_end}
@@ -33,11 +34,16 @@ use Rattle.leased_ports.specs.Recorded.{touched, held_until, end_by_rest}
 use Rattle.leased_ports.proofs.ExpiryLemmas.{map_ends-end, sooner-dead}
 use Rattle.leased_ports.proofs.LastEndLemmas.{last-some, last-from, old-last, old-ended}
 use Rattle.leased_ports.proofs.RecordLemmas.{recorded-last, same-options}
-use Rattle.indexed_store.specs.Holding.{AreNear, IsOwner}
-use Rattle.indexed_store.specs.Settling.{AreOrdered, AreOwn, come_by, end_among, rest_owners}
-use Rattle.indexed_store.proofs.Uniques.{all-none}
-use Rattle.indexed_store.proofs.HoldingLemmas.{same_number}
+use Rattle.port_runs.specs.Ports.{is_in_run}
+use Rattle.end_table.specs.EndLists.{AreOrdered, end_among}
+use Rattle.indexed_store.specs.declared.owning.OwnerRun.{OwnerRun}
+use Rattle.indexed_store.specs.Runs.{IsOwnerRun, has_port, have_port, owner_in, owners_if, owners_among, owners_of, touched_run}
+use Rattle.indexed_store.specs.Leaving.{AreOfDead}
+use Rattle.indexed_store.specs.Holding.{AreNear}
+use Rattle.indexed_store.specs.Settling.{AreMoved, AreOwn, come_by, rest_runs}
+use Rattle.indexed_store.proofs.RunLemmas.{found_owner, owned_runs}
 use Rattle.indexed_store.proofs.SettlingLemmas.{port_is, is_port_of}
+use Rattle.indexed_store.proofs.TouchLemmas.{touched_owners}
 
 -- ---- ends by their ports
 
@@ -150,34 +156,44 @@ module _ (s : State) (reached : IsReached s) where
     peers = All-weaker (λ (l : PeerLease). IsTermAt s.last l.granted l.expiry) (λ (l : PeerLease). l.expiry < 2 ^ 41) (λ l h. h.near) s.table.peers reached.peers;
   }
 
--- ---- the ports that a change touches
+-- ---- the ports that a record moves
 
-from_deleted : (change : Change) (t : Table) → Sound t → AllByRecursion IsOwner (owners (deleted change t))
-from_deleted change t sound = All-from_IsIn IsOwner (owners (deleted change t)) (λ o i.
-    let there = owners-deleted t change o i in
-    record { external = (let some = (owner-ports t o sound there).1 in omega (arith, some)); protocol = owner-protocol t o there })
+moved-formed : (runs : List OwnerRun) (run : Option OwnerRun) → AllByRecursion IsOwnerRun runs → IfSome run IsOwnerRun → AllByRecursion IsOwnerRun (runs ++ option_to_list run)
+moved-formed runs None h k = All-append IsOwnerRun runs [] h tt
+moved-formed runs (Some r) h k = All-push IsOwnerRun runs r h k
 
-pub touched-owners : (m : ℕ) (change : Change) (t : Table) → Sound t → IsWellFormedChange m change → AllByRecursion IsOwner (touched change t)
-touched-owners m (Map l) t sound formed = All-from_IsIn IsOwner (map_owners l) (λ o i. let k = map_owners-IsIn l o i in
-    subst IsOwner k.2 (record { external = (let some = formed.0.ports.external in omega (arith, some)); protocol = refl }))
-touched-owners m (Peer l) t sound formed = (record { external = (let some = formed.0.external in omega (arith, some)); protocol = refl }, tt)
-touched-owners m (DropMap e) t sound formed = from_deleted (DropMap e) t sound
-touched-owners m (DropPeer e remote port) t sound formed = from_deleted (DropPeer e remote port) t sound
-touched-owners m Start t sound formed = from_deleted Start t sound
-touched-owners m Lose t sound formed = from_deleted Lose t sound
-touched-owners m Mark t sound formed = from_deleted Mark t sound
-touched-owners m (Rest e port end) t sound formed = from_deleted (Rest e port end) t sound
-touched-owners m (Renumber a) t sound formed = from_deleted (Renumber a) t sound
+pub all-moved : (m : ℕ) (t : Table) (change : Change) (left more runs : List OwnerRun) (run : Option OwnerRun) → AreOfDead m t left → more ≡ left ++ rest_runs change → runs ≡ more ++ option_to_list run
+    → run ≡ touched_run change (live t m) → AllByRecursion IsOwnerRun more → IfSome run IsOwnerRun → AreMoved m t change runs
+all-moved m t change left more runs run of rests all is formed own = record {
+  formed = subst (AllByRecursion IsOwnerRun) (sym all) (moved-formed more run formed own);
+  dead = λ o h. Contains-from_IsIn (owners_among runs) o
+      (let k = IsIn-flat_map owners_of left o (IsIn-from_Contains (owners_among left) o (of.all o h)) in
+      flat_map-IsIn owners_of runs k.0 o (on k.0 (subst (λ (rs : List OwnerRun). IsIn k.0 rs) (sym rests) (IsIn-left left (rest_runs change) k.0 k.1))) k.2);
+  rest = λ r h. Contains-from_IsIn runs r
+      (on r (subst (λ (rs : List OwnerRun). IsIn r rs) (sym rests) (IsIn-right left (rest_runs change) r (IsIn-from_Contains (rest_runs change) r h))));
+  touched = subst (λ (o : Option OwnerRun). IfSome o (λ r. Contains runs r)) is (last run (IsIn-right more (option_to_list run)));
+}
+  where
+    on : (r : OwnerRun) → IsIn r more → IsIn r runs
+    on r h = subst (λ (rs : List OwnerRun). IsIn r rs) (sym all) (IsIn-left more (option_to_list run) r h)
+
+    last : (o : Option OwnerRun) → ((r : OwnerRun) → IsIn r (option_to_list o) → IsIn r (more ++ option_to_list run)) → IfSome o (λ r. Contains runs r)
+    last None h = tt
+    last (Some r) h = Contains-from_IsIn runs r (subst (λ (rs : List OwnerRun). IsIn r rs) (sym all) (h r (inl refl)))
 
 -- ---- a change that doesn't forget all
 
-none_owned : (os : List Owner) (protocol : Protocol) (port : ℕ) → is_owned protocol port os ≡ false → find (is_port protocol port) os ≡ None
-none_owned os protocol port h = all-none (is_port protocol port) os (any-none (is_port protocol port) os h)
+-- a Rest of another port leaves it
+one_test : (p q : Protocol) (x port : ℕ) → (same_protocol p q && is_in_run x 1 port) ≡ (protocol_number p == protocol_number q && x == port)
+one_test Tcp Tcp x port = grind (arith, nat_tests)
+one_test Udp Udp x port = grind (arith, nat_tests)
+one_test Tcp Udp x port = refl
+one_test Udp Tcp x port = refl
 
-no_rest : (change : Change) (protocol : Protocol) (port : ℕ) (o : Option End) → is_owned protocol port (rest_owners change) ≡ false → end_by_rest change protocol port o ≡ o
+no_rest : (change : Change) (protocol : Protocol) (port : ℕ) (o : Option End) → have_port protocol port (rest_runs change) ≡ false → end_by_rest change protocol port o ≡ o
 no_rest (Rest d q end) protocol port o h =
     cond-false (is_end_of protocol port (record { endpoint = d; external = q; end = end })) (Some (record { endpoint = d; external = q; end = end })) o
-    (ap (λ (b : Bool). b && q == port) (sym (same_number d.protocol protocol)) ∙ (any-none (is_port protocol port) (rest_owners (Rest d q end)) h).0)
+    (sym (one_test d.protocol protocol q port) ∙ (any-none (has_port protocol port) (rest_runs (Rest d q end)) h).0)
 no_rest (Map l) protocol port o h = refl
 no_rest (Peer l) protocol port o h = refl
 no_rest (DropMap e) protocol port o h = refl
@@ -187,46 +203,55 @@ no_rest Lose protocol port o h = refl
 no_rest Mark protocol port o h = refl
 no_rest (Renumber a) protocol port o h = refl
 
+-- what fewer runs have not is none of a part of them
+none_of : (protocol : Protocol) (port : ℕ) (runs fewer : List OwnerRun) → ((r : OwnerRun) → IsIn r fewer → IsIn r runs) → have_port protocol port runs ≡ false → have_port protocol port fewer ≡ false
+none_of protocol port runs fewer among h = none-any (has_port protocol port) fewer (All-from_IsIn (λ r. has_port protocol port r ≡ false) fewer (λ r i.
+    All-IsIn (λ x. has_port protocol port x ≡ false) runs r (any-none (has_port protocol port) runs h) (among r i)))
+
+-- nor is the port one of a run among them
+no_owner : (protocol : Protocol) (port : ℕ) (runs : List OwnerRun) (run : Option OwnerRun) → IfSome run (λ r. Contains runs r) → have_port protocol port runs ≡ false → find (is_port protocol port) (owners_if run) ≡ None
+no_owner protocol port runs None there h = refl
+no_owner protocol port runs (Some r) there h =
+    found_owner protocol port r ∙ cond-false (has_port protocol port r) (Some (owner_in r port)) None
+    (All-IsIn (λ x. has_port protocol port x ≡ false) runs r (any-none (has_port protocol port) runs h) (IsIn-from_Contains runs r there))
+
 module _ (s : State) (r : Record) (reached : IsReached s) (fits : Fits s r) (keeps : empties r.change ≡ false) (after : IsReached (apply s r)) where
   -- the end of each port after the record
   end_then : (protocol : Protocol) (port : ℕ) → end_among protocol port (apply s r).ends ≡ come_by r.moment (last_end (apply s r) r.moment protocol port)
   end_then = ends-come (apply s r) after
 
-  untouched : (protocol : Protocol) (port : ℕ) (left : List Owner) → is_owned protocol port (touched r.change (table_1 s r)) ≡ false → is_owned protocol port left ≡ false →
-      ((o : Owner) → Contains (owners (dead s.table r.moment)) o → Contains left o) → ((o : Owner) → Contains (rest_owners r.change) o → Contains left o) →
+  untouched : (protocol : Protocol) (port : ℕ) (runs : List OwnerRun) → AreMoved r.moment s.table r.change runs → have_port protocol port runs ≡ false →
       while_recent r.moment (end_among protocol port s.ends) ≡ come_by r.moment (last_end (apply s r) r.moment protocol port)
-  untouched protocol port left no_touch no_left dead_left rest_left =
-      let gone = unowned-fewer protocol port left (owners (dead s.table r.moment)) (λ o i. IsIn-from_Contains left o (dead_left o (Contains-from_IsIn (owners (dead s.table r.moment)) o i))) no_left in
-      let rest = unowned-fewer protocol port left (rest_owners r.change) (λ o i. IsIn-from_Contains left o (rest_left o (Contains-from_IsIn (rest_owners r.change) o i))) no_left in
+  untouched protocol port runs moved free =
+      let gone : is_owned protocol port (owners (dead s.table r.moment)) ≡ false = unowned-fewer protocol port (owners_among runs) (owners (dead s.table r.moment))
+      (λ o i. IsIn-from_Contains (owners_among runs) o (moved.dead o (Contains-from_IsIn (owners (dead s.table r.moment)) o i))) (owned_runs protocol port runs ∙ free) in
+      let rest : have_port protocol port (rest_runs r.change) ≡ false = none_of protocol port runs (rest_runs r.change)
+      (λ x i. IsIn-from_Contains runs x (moved.rest x (Contains-from_IsIn (rest_runs r.change) x i))) free in
+      let none : find (is_port protocol port) (touched r.change (table_1 s r)) ≡ None =
+      ap (find (is_port protocol port)) (touched_owners r.change (table_1 s r) (Sound-live s.table r.moment reached.sound.table)) ∙ no_owner protocol port runs (touched_run r.change (table_1 s r)) moved.touched free in
       let f = λ (o : Owner). end_at (held_until r.moment (table_2 s r) protocol port) o in
       let now : last_end (apply s r) r.moment protocol port ≡ last_end s r.moment protocol port =
       recorded-last s r protocol port reached fits keeps
-      ∙ ap (λ (o : Option Owner). option_or (option_map f o) (end_by_rest r.change protocol port (last_end s r.moment protocol port))) (none_owned (touched r.change (table_1 s r)) protocol port no_touch)
+      ∙ ap (λ (o : Option Owner). option_or (option_map f o) (end_by_rest r.change protocol port (last_end s r.moment protocol port))) none
       ∙ no_rest r.change protocol port (last_end s r.moment protocol port) rest in
       sym (ends-later s reached r.moment protocol port fits.later gone) ∙ ap (come_by r.moment) (sym now)
 
   -- ends that follow the ports are those after the record
-  pub ends-follow : (v : Leased) (left os : List Owner) (es : List End) → IsPortsOf v (apply s r) → v.reached ≡ r.moment → os ≡ touched r.change (table_1 s r) →
-      ((o : Owner) → Contains (owners (dead s.table r.moment)) o → Contains left o) → ((o : Owner) → Contains (rest_owners r.change) o → Contains left o) → AreOrdered es →
-      ((protocol : Protocol) (port : ℕ) → end_among protocol port es ≡ while_recent r.moment (cond (is_owned protocol port os) (come_by r.moment (end_of v protocol port))
-      (cond (is_owned protocol port left) (come_by r.moment (end_of v protocol port)) (end_among protocol port s.ends)))) → es ≡ (apply s r).ends
-  ends-follow v left os es ports moment os_are dead_left rest_left ordered is = among-same es (apply s r).ends ordered after.sound.ordered
-      (λ protocol port. is protocol port ∙ step protocol port (is_owned protocol port os) (is_owned protocol port left) refl refl ∙ sym (end_then protocol port))
+  pub ends-follow : (v : Leased) (runs : List OwnerRun) (es : List End) → IsPortsOf v (apply s r) → v.reached ≡ r.moment → AreMoved r.moment s.table r.change runs → AreOrdered es →
+      ((protocol : Protocol) (port : ℕ) → end_among protocol port es
+      ≡ while_recent r.moment (cond (have_port protocol port runs) (come_by r.moment (end_of v protocol port)) (end_among protocol port s.ends))) → es ≡ (apply s r).ends
+  ends-follow v runs es ports moment moved ordered is = among-same es (apply s r).ends ordered after.sound.ordered
+      (λ protocol port. is protocol port ∙ step protocol port (have_port protocol port runs) refl ∙ sym (end_then protocol port))
     where
       told : (protocol : Protocol) (port : ℕ) → end_of v protocol port ≡ last_end (apply s r) r.moment protocol port
       told protocol port = ports.same protocol port ∙ ap (λ (m : ℕ). last_end (apply s r) m protocol port) moment
 
-      stays : (protocol : Protocol) (port : ℕ) → while_recent r.moment (come_by r.moment (end_of v protocol port)) ≡ come_by r.moment (last_end (apply s r) r.moment protocol port)
-      stays protocol port =
+      step : (protocol : Protocol) (port : ℕ) (b : Bool) → have_port protocol port runs ≡ b →
+          while_recent r.moment (cond b (come_by r.moment (end_of v protocol port)) (end_among protocol port s.ends)) ≡ come_by r.moment (last_end (apply s r) r.moment protocol port)
+      step protocol port true h =
           ap (λ (o : Option End). while_recent r.moment (come_by r.moment o)) (told protocol port)
           ∙ recent-come r.moment (last_end (apply s r) r.moment protocol port) (λ e h. (last-some (apply s r) after.sound r.moment protocol port e h).1)
-
-      step : (protocol : Protocol) (port : ℕ) (a b : Bool) → is_owned protocol port os ≡ a → is_owned protocol port left ≡ b →
-          while_recent r.moment (cond a (come_by r.moment (end_of v protocol port)) (cond b (come_by r.moment (end_of v protocol port)) (end_among protocol port s.ends)))
-          ≡ come_by r.moment (last_end (apply s r) r.moment protocol port)
-      step protocol port true b h k = stays protocol port
-      step protocol port false true h k = stays protocol port
-      step protocol port false false h k = untouched protocol port left (ap (λ (x : List Owner). is_owned protocol port x) (sym os_are) ∙ h) k dead_left rest_left
+      step protocol port false h = untouched protocol port runs moved h
 
 -- the last ends of a state's ports are of their ports
 pub ports-own : (s : State) (v : Leased) → IsReached s → IsPortsOf v s → AreOwn v

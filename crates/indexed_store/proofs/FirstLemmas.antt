@@ -1,146 +1,329 @@
--- The last ends of a state without ends.
-use Rattle.std.proofs.Common.{◌≡◌, ℕ, zero, suc, ◌+◌, ◌<◌, ◌⊎◌, nat_lt, Bool, true, false, cond, List, [], ◌∷◌, filter, take, length, get_or, Option, Some, None, refl, sym, ap, ◌∙◌, subst, inl, inr, arith}
+-- The last ends of a state without ends, by its leases.
+use Rattle.std.proofs.Common.{◌≡◌, ℕ, ◌+◌, ◌-◌, ◌<◌, ◌^◌, ◌||◌, nat_lt, not, Bool, true, false, List, [], filter, find, take, length, get_or, Contains, Option, Some, None, IfSome, refl, sym, ap, ◌∙◌, subst, inl, inr, arith}
 use Rattle.std.specs.List.{AllByRecursion}
-use Rattle.std.proofs.lemmas.Bool.{and_parts, lt-ltb, eqb-true, ltb-true, ltb-false}
+use Rattle.std.proofs.lemmas.Bool.{cond-true, cond-false, lt-ltb, le-ltb, false_from_ne_true, and_from, eq-eqb}
 use Rattle.pcp_base.specs.declared.leases.Protocol.{Protocol}
+use Rattle.pcp_base.specs.declared.leases.Endpoint.{Endpoint}
+use Rattle.pcp_base.specs.declared.leases.MapLease.{MapLease}
+use Rattle.pcp_base.specs.declared.leases.PeerLease.{PeerLease}
 use Rattle.pcp_base.specs.declared.leases.Owner.{Owner}
 use Rattle.pcp_base.specs.declared.leases.End.{End}
-use Rattle.pcp_base.specs.Tables.{Table, live}
+use Rattle.pcp_base.specs.declared.records.Change.{Change}
+use Rattle.pcp_base.specs.declared.records.Change.TheVariants.{Start, Map, Peer, DropMap, DropPeer, Lose, Mark, Rest, Renumber}
+use Rattle.pcp_base.specs.declared.records.Record.{Record}
+use Rattle.pcp_base.specs.Protocols.{protocol_number}
+use Rattle.pcp_base.specs.Tables.{Table, live, dead}
 use Rattle.pcp_base.specs.Owners.{owners, is_owned, is_port}
 use Rattle.pcp_base.specs.States.{State}
 use Rattle.pcp_base.specs.Ends.{end_at, ends_at_expiry, is_end_of}
 use Rattle.pcp_base.specs.Sound.{Sound}
-use Rattle.pcp_base.proofs.Members.{IsIn, All-IsIn, IsIn-filter, filter-IsIn, All-from_IsIn}
+use Rattle.pcp_base.specs.Reached.{IsReachedFirst}
+use Rattle.pcp_base.specs.Fits.{IsAllowed}
+use Rattle.pcp_base.specs.Apply.{apply, apply_first, empties, table_changed}
+use Rattle.pcp_base.proofs.Members.{IsIn, All-IsIn, All-filter, All-from_IsIn, IsIn-filter, filter-IsIn, IsIn-from_Contains, Contains-from_IsIn, find-none}
 use Rattle.pcp_base.proofs.Same.{same_protocol-Decides}
-use Rattle.pcp_base.proofs.EndOrder.{SamePort}
-use Rattle.pcp_base.proofs.EndLemmas.{left-by_expiry, left-owned, owners-live, owner-ports, owner-protocol}
-use Rattle.pcp_base.proofs.RestLaws.{left-one, end-same}
-use Rattle.pcp_base.proofs.StageLaws.{two_ways, unlike}
+use Rattle.pcp_base.proofs.EndLemmas.{left-by_expiry, left-owned, owner-protocol, owners-live, unowned-fewer}
+use Rattle.pcp_base.proofs.RestLaws.{end-same, protocol_number-same}
+use Rattle.pcp_base.proofs.StageLaws.{unlike}
+use Rattle.pcp_base.proofs.TableLemmas.{Sound-live}
 use Rattle.leased_ports.specs.LastEnds.{last_end}
-use Rattle.leased_ports.specs.Leased.{Leased, IsPortsOf, end_of, at_moment, fresh_ports, no_ends, place, while_recent}
-use Rattle.leased_ports.specs.Recorded.{latest, held_until}
-use Rattle.leased_ports.proofs.ExpiryLemmas.{owner-leaves, later-live}
-use Rattle.leased_ports.proofs.LastEndLemmas.{last-some, last-from, latest-last}
-use Rattle.std.proofs.Math.ListN.{get_or-map}
-use Rattle.leased_ports.proofs.StepLemmas.{end_in-no_ends}
-use Rattle.indexed_store.specs.Holding.{IsOwner, IsFirstAt, HoldsEach}
-use Rattle.leased_ports.proofs.RecordLemmas.{latest-least}
-use Rattle.indexed_store.proofs.SettlingLemmas.{port_is, is_port_of, any_more, settled_more}
+use Rattle.leased_ports.specs.Leased.{Leased, IsPortsOf, end_of}
+use Rattle.leased_ports.specs.Recorded.{held_until, latest, touched}
+use Rattle.leased_ports.proofs.ExpiryLemmas.{later-live, live-any, live-later, sooner-dead}
+use Rattle.leased_ports.proofs.LastEndLemmas.{last-from, last-some, later_or_not, latest-last, owned-last}
+use Rattle.leased_ports.proofs.RecordLemmas.{Apart, latest-is, latest-least, leaves-kept, map-from, map-kept, peer-from, peer-kept, touched-protocol}
+use Rattle.indexed_store.specs.declared.owning.OwnerRun.{OwnerRun}
+use Rattle.indexed_store.specs.declared.holding.Unowned.TheVariants.{IsFree}
+use Rattle.indexed_store.specs.Runs.{IsOwnerRun, has_port, have_port, owner_along, owner_in, owners_if, owners_among, touched_run}
+use Rattle.indexed_store.specs.Leaving.{AreOfDead, IsOfLeases}
+use Rattle.indexed_store.specs.Holding.{AreEndsOf, AreHeld, AreLiveAt, AreNear, Holds, HoldsIf, IsAgreed, IsHeldEnd, end_held}
+use Rattle.indexed_store.proofs.RunLemmas.{any_more, found_owner, owned_runs, place_in}
+use Rattle.indexed_store.proofs.SettlingLemmas.{port_is, is_port_of}
+use Rattle.indexed_store.proofs.TouchLemmas.{even_gone, map_agreed, peer_agreed, touched_owners}
 use Rattle.indexed_store.proofs.ApplyLemmas.{late}
 
-latest-one : (m : ℕ) (es : List End) → (latest m es ≡ m) ⊎ ((e : End) × IsIn e es × (e.end ≡ latest m es))
-latest-one m [] = inl refl
-latest-one m (e ∷ es) = elim (two_ways (nat_lt e.end (latest m es))) [
-  | inl less ↦ (let lt = ltb-true e.end (latest m es) less in
-      let same : latest m (e ∷ es) ≡ latest m es = omega (arith, lt) in
-      elim (latest-one m es) [
-        | inl a ↦ inl (same ∙ a)
-        | inr b ↦ inr (b.0, inr b.1, b.2 ∙ sym same)
-      ])
-  | inr more ↦ (let le = ltb-false e.end (latest m es) more in
-      let same : e.end ≡ latest m (e ∷ es) = omega (arith, le) in
-      inr (e, inl refl, same))
-]
+-- ---- a port that leases hold
 
-module _ (s : State) (t : Table) (m : ℕ) (is : IsFirstAt s t m) where
-  to_come : (e : End) → IsIn e (ends_at_expiry t) → m < e.end
-  to_come e h = let lt = late s is.reached e (subst (λ (x : Table). IsIn e (ends_at_expiry x)) (sym is.leases) h) in omega (arith, lt, is.last)
+module _ (m : ℕ) (t : Table) (all : AreLiveAt m t) (protocol : Protocol) (port : ℕ) where
+  abbrev es : List End
+  es = filter (is_end_of protocol port) (ends_at_expiry t)
 
-  sound : Sound t
-  sound = subst Sound is.leases is.reached.sound.table
+  among : (f : End) → Contains (ends_at_expiry t) f → is_end_of protocol port f ≡ true → IsIn f es
+  among f there own = filter-IsIn (is_end_of protocol port) (ends_at_expiry t) f (IsIn-from_Contains (ends_at_expiry t) f there) own
 
-  -- the end until which the leases hold a port is its last
-  pub held-last : (o : Owner) → IsIn o (owners t) → Some (end_at (held_until m t o.protocol o.external) o) ≡ last_end s m o.protocol o.external
-  held-last o i =
-      let f = owner-leaves t o i in
-      let es = filter (is_end_of o.protocol o.external) (ends_at_expiry t) in
-      let protocol : f.0.endpoint.protocol ≡ o.protocol = ap (λ (x : End). x.endpoint.protocol) (sym f.2) ∙ sym (owner-protocol t o i) in
-      let external : f.0.external ≡ o.external = ap (λ (x : End). x.external) (sym f.2) in
-      let there = filter-IsIn (is_end_of o.protocol o.external) (ends_at_expiry t) f.0 f.1 (is_port_of o.protocol o.external f.0 protocol external) in
-      let up = latest-least m es f.0 there in
-      let lt = to_come f.0 f.1 in
-      elim (latest-one m es) [
-        | inl none ↦ absurd (omega (arith, none, up, lt))
-        | inr e ↦ (let k = IsIn-filter (is_end_of o.protocol o.external) (ends_at_expiry t) e.0 e.1 in
-            let p = port_is o.protocol o.external e.0 k.1 in
-            let port : SamePort e.0 f.0 = record { protocol = ap Rattle.pcp_base.specs.Protocols.protocol_number (p.0 ∙ sym protocol); external = p.1 ∙ sym external } in
-            let endpoint : e.0.endpoint ≡ o.endpoint = left-one t e.0 f.0 sound.one_owner (left-by_expiry t e.0 k.0) (left-by_expiry t f.0 f.1) port ∙ ap (λ (x : End). x.endpoint) (sym f.2) in
-            let same : e.0 ≡ end_at (held_until m t o.protocol o.external) o = end-same e.0 (end_at (held_until m t o.protocol o.external) o) endpoint p.1 e.2 in
-            let of_s : IsIn e.0 (ends_at_expiry s.table) = subst (λ (x : Table). IsIn e.0 (ends_at_expiry x)) (sym is.leases) k.0 in
-            let lt' = to_come e.0 k.0 in
-            ap Some (sym same) ∙ sym (latest-last s is.reached.sound m o.protocol o.external e.0 p.0 p.1 of_s
-            (λ g there_g same_g. let of_t = subst (λ (x : Table). IsIn g (ends_at_expiry x)) is.leases there_g in
-            let mine : is_end_of o.protocol o.external g ≡ true = is_port_of o.protocol o.external g (Rattle.pcp_base.proofs.RestLaws.protocol_number-same g.endpoint.protocol o.protocol (same_g.protocol ∙ ap Rattle.pcp_base.specs.Protocols.protocol_number p.0)) (same_g.external ∙ p.1) in
-            let le = latest-least m es g (filter-IsIn (is_end_of o.protocol o.external) (ends_at_expiry t) g of_t mine) in omega (arith, le, e.2))
-            (lt-ltb m (e.0.end + 120) (omega (arith, lt')))))
-      ]
+  held-none : latest m es ≡ m → IsHeldEnd t protocol port None
+  held-none none = record {
+    there = tt;
+    own = tt;
+    latest = tt;
+    none = λ f there. false_from_ne_true (is_end_of protocol port f) (λ own.
+        let up = latest-least m es f (among f there own) in
+        let coming = all f there in
+        absurd (omega (arith, none, up, coming)));
+  }
 
-  -- and a port that none holds has none
-  none-last : (protocol : Protocol) (port : ℕ) → is_owned protocol port (owners (live t m)) ≡ false → (r : Option End) → last_end s m protocol port ≡ r → r ≡ None
-  none-last protocol port h None k = refl
-  none-last protocol port h (Some e) k =
-      let p = last-some s is.reached.sound m protocol port e k in
-      elim (last-from s is.reached.sound m protocol port e k) [
-        | inl old ↦ absurd (subst (λ (es : List End). IsIn e es) is.endless old)
-        | inr left ↦ absurd (let of_t = subst (λ (x : Table). IsIn e (ends_at_expiry x)) is.leases left.0 in
-            let owned = left-owned (live t m) e (left-by_expiry (live t m) e (later-live t m e (to_come e of_t) of_t)) in
-            unlike (is_owned protocol port (owners (live t m)))
-            (ap (λ (q : Protocol). is_owned q port (owners (live t m))) (sym p.2) ∙ ap (λ (n : ℕ). is_owned e.endpoint.protocol n (owners (live t m))) (sym p.3) ∙ owned) h)
-      ]
+  held-some : (e : End) → IsIn e es → e.end ≡ latest m es → IsHeldEnd t protocol port (Some e)
+  held-some e there last =
+      let k = IsIn-filter (is_end_of protocol port) (ends_at_expiry t) e there in
+      record {
+        there = Contains-from_IsIn (ends_at_expiry t) e k.0;
+        own = k.1;
+        latest = λ f c own. (let up = latest-least m es f (among f c own) in omega (arith, up, last));
+        none = tt;
+      }
 
-  pub no-last : (protocol : Protocol) (port : ℕ) → is_owned protocol port (owners (live t m)) ≡ false → None ≡ last_end s m protocol port
-  no-last protocol port h = sym (none-last protocol port h (last_end s m protocol port) refl)
+  -- by an owner of its endpoint it is held as long as leases hold it, and free where none does
+  pub held-end : (o : Owner) → o.external ≡ port → ((x : Owner) → IsIn x (owners t) → x.protocol ≡ protocol → x.external ≡ port → x.endpoint ≡ o.endpoint)
+      → IsHeldEnd t protocol port (end_held IsFree m (held_until m t protocol port) o)
+  held-end o at agreed = elim (latest-is m es) [
+    | inl none ↦ subst (IsHeldEnd t protocol port)
+        (sym (cond-false (nat_lt m (latest m es)) (Some (end_at (latest m es) o)) None (le-ltb m (latest m es) (omega (arith, none))))) (held-none none)
+    | inr e ↦ (let k = IsIn-filter (is_end_of protocol port) (ends_at_expiry t) e.0 e.1 in
+        let p = port_is protocol port e.0 k.1 in
+        let by = left-by_expiry t e.0 k.0 in
+        let of : by.owner.protocol ≡ protocol = owner-protocol t by.owner by.there ∙ ap (λ (x : End). x.endpoint.protocol) by.same ∙ p.0 in
+        let number : by.owner.external ≡ port = ap (λ (x : End). x.external) by.same ∙ p.1 in
+        let endpoint : e.0.endpoint ≡ o.endpoint = sym (ap (λ (x : End). x.endpoint) by.same) ∙ agreed by.owner by.there of number in
+        let same : e.0 ≡ end_at (latest m es) o = end-same e.0 (end_at (latest m es) o) endpoint (p.1 ∙ sym at) e.2 in
+        let coming = all e.0 (Contains-from_IsIn (ends_at_expiry t) e.0 k.0) in
+        let last = e.2 in
+        subst (IsHeldEnd t protocol port)
+        (ap Some same ∙ sym (cond-true (nat_lt m (latest m es)) (Some (end_at (latest m es) o)) None (lt-ltb m (latest m es) (omega (arith, coming, last)))))
+        (held-some e.0 e.1 e.2))
+  ]
 
-  -- a port that is held has its last end
-  pub held-here : (o : Owner) (protocol : Protocol) (port : ℕ) (before after : Option End) → IsIn o (owners (live t m)) →
-      after ≡ cond (is_port protocol port o) (Some (end_at (held_until m t protocol port) o)) before → after ≡ cond (is_port protocol port o) (last_end s m protocol port) before
-  held-here o protocol port before after i h = h ∙ step (is_port protocol port o) refl
+-- a port of which leases of both tables leave the same ends
+pub held-same : (t u : Table) (protocol : Protocol) (port : ℕ) → ((e : End) → is_end_of protocol port e ≡ true → IsIn e (ends_at_expiry t) → IsIn e (ends_at_expiry u))
+    → ((e : End) → is_end_of protocol port e ≡ true → IsIn e (ends_at_expiry u) → IsIn e (ends_at_expiry t)) → (r : Option End) → IsHeldEnd t protocol port r → IsHeldEnd u protocol port r
+held-same t u protocol port forth back None h = record {
+  there = tt;
+  own = tt;
+  latest = tt;
+  none = λ f there. false_from_ne_true (is_end_of protocol port f) (λ own. absurd (unlike (is_end_of protocol port f) own
+      (h.none f (Contains-from_IsIn (ends_at_expiry t) f (back f own (IsIn-from_Contains (ends_at_expiry u) f there))))));
+}
+held-same t u protocol port forth back (Some e) h = record {
+  there = Contains-from_IsIn (ends_at_expiry u) e (forth e h.own (IsIn-from_Contains (ends_at_expiry t) e h.there));
+  own = h.own;
+  latest = λ f there own. h.latest f (Contains-from_IsIn (ends_at_expiry t) f (back f own (IsIn-from_Contains (ends_at_expiry u) f there))) own;
+  none = tt;
+}
+
+-- ---- a state without ends
+
+module _ (s : State) (first : IsReachedFirst s) where
+  none_old : (e : End) → IsIn e s.ends → ⊥
+  none_old e there = subst (λ (es : List End). IsIn e es) first.endless there
+
+  -- a port that no lease owned which has ended
+  module _ (m : ℕ) (protocol : Protocol) (port : ℕ) (free : is_owned protocol port (owners (dead s.table m)) ≡ false) where
+    abbrev t : Table
+    t = live s.table m
+
+    kept-step : (r : Option End) → last_end s m protocol port ≡ r → IsHeldEnd t protocol port r
+    kept-step None h = record {
+      there = tt;
+      own = tt;
+      latest = tt;
+      none = λ f there. false_from_ne_true (is_end_of protocol port f) (λ own.
+          let p = port_is protocol port f own in
+          let by = left-by_expiry t f (IsIn-from_Contains (ends_at_expiry t) f there) in
+          let of : by.owner.protocol ≡ protocol = owner-protocol t by.owner by.there ∙ ap (λ (x : End). x.endpoint.protocol) by.same ∙ p.0 in
+          let number : by.owner.external ≡ port = ap (λ (x : End). x.external) by.same ∙ p.1 in
+          let last = owned-last s first.reached.sound m by.owner by.there in
+          let never : None ≡ Some last.0 = sym h ∙ sym (ap (λ (q : Protocol). last_end s m q port) of) ∙ sym (ap (λ (n : ℕ). last_end s m by.owner.protocol n) number) ∙ last.1 in
+          absurd (cc));
+    }
+    kept-step (Some e) h =
+        let k = last-some s first.reached.sound m protocol port e h in
+        elim (last-from s first.reached.sound m protocol port e h) [
+          | inl old ↦ absurd (none_old e old)
+          | inr left ↦ elim (later_or_not m e.end) [
+            | inl coming ↦ record {
+              there = Contains-from_IsIn (ends_at_expiry t) e (later-live s.table m e coming left.0);
+              own = is_port_of protocol port e k.2 k.3;
+              latest = λ f there own.
+                  let p = port_is protocol port f own in
+                  left.1 f (live-any s.table m f (IsIn-from_Contains (ends_at_expiry t) f there)) (record { protocol = ap protocol_number (p.0 ∙ sym k.2); external = p.1 ∙ sym k.3 });
+              none = tt;
+            }
+            | inr came ↦ (let owned = left-owned (dead s.table m) e (left-by_expiry (dead s.table m) e (sooner-dead s.table m e came left.0)) in
+                absurd (unlike (is_owned protocol port (owners (dead s.table m)))
+                (ap (λ (q : Protocol). is_owned q port (owners (dead s.table m))) (sym k.2) ∙ ap (λ (n : ℕ). is_owned e.endpoint.protocol n (owners (dead s.table m))) (sym k.3) ∙ owned) free))
+          ]
+        ]
+
+    pub kept-end : IsHeldEnd (live s.table m) protocol port (last_end s m protocol port)
+    kept-end = kept-step (last_end s m protocol port) refl
+
+  -- what the leases leave of a port last is its last end
+  told-end : (protocol : Protocol) (port : ℕ) (r : Option End) → IsHeldEnd s.table protocol port r → r ≡ last_end s s.last protocol port
+  told-end protocol port (Some e) h =
+      let there = IsIn-from_Contains (ends_at_expiry s.table) e h.there in
+      let p = port_is protocol port e h.own in
+      let coming = late s first.reached e there in
+      sym (latest-last s first.reached.sound s.last protocol port e p.0 p.1 there
+      (λ f left same. h.latest f (Contains-from_IsIn (ends_at_expiry s.table) f left)
+      (is_port_of protocol port f (protocol_number-same f.endpoint.protocol protocol (same.protocol ∙ ap protocol_number p.0)) (same.external ∙ p.1)))
+      (lt-ltb s.last (e.end + 120) (omega (arith, coming))))
+  told-end protocol port None h = step (last_end s s.last protocol port) refl
     where
-      step : (b : Bool) → is_port protocol port o ≡ b → cond b (Some (end_at (held_until m t protocol port) o)) before ≡ cond b (last_end s m protocol port) before
-      step false e = refl
-      step true e =
-          let p = and_parts _ _ e in
-          let a = (same_protocol-Decides o.protocol protocol).0 p.0 in let n = eqb-true o.external port p.1 in
-          ap (λ (q : Protocol). Some (end_at (held_until m t q port) o)) (sym a) ∙ ap (λ (k : ℕ). Some (end_at (held_until m t o.protocol k) o)) (sym n)
-          ∙ held-last o (owners-live t m o i) ∙ ap (λ (q : Protocol). last_end s m q o.external) a ∙ ap (λ (k : ℕ). last_end s m protocol k) n
+      step : (o : Option End) → last_end s s.last protocol port ≡ o → None ≡ o
+      step None e = refl
+      step (Some e) is =
+          let k = last-some s first.reached.sound s.last protocol port e is in
+          elim (last-from s first.reached.sound s.last protocol port e is) [
+            | inl old ↦ absurd (none_old e old)
+            | inr left ↦ absurd (unlike (is_end_of protocol port e) (is_port_of protocol port e k.2 k.3) (h.none e (Contains-from_IsIn (ends_at_expiry s.table) e left.0)))
+          ]
 
-pub live-owners : (t : Table) (m : ℕ) → Sound t → AllByRecursion IsOwner (owners (live t m))
-live-owners t m sound = All-from_IsIn IsOwner (owners (live t m)) (λ o i.
-    let there = owners-live t m o i in
-    record { external = (let some = (owner-ports t o sound there).1 in omega (arith, some)); protocol = owner-protocol t o there })
+  -- ports with the last ends of the leases are those of the state
+  pub ports-follow : (v : Leased) → AreEndsOf s.table v → v.reached ≡ s.last → IsPortsOf v s
+  ports-follow v ends now = record {
+    passed = omega (arith, now);
+    same = λ protocol port. told-end protocol port (end_of v protocol port) (ends protocol port) ∙ ap (λ (m : ℕ). last_end s m protocol port) (sym now);
+  }
 
-pub get-IsIn : {X : Type 0} (xs : List X) (i : ℕ) (d : X) → i < length xs → IsIn (get_or xs i d) xs
-get-IsIn [] i d lt = absurd (omega (arith, lt))
-get-IsIn (y ∷ ys) zero d lt = inl refl
-get-IsIn (y ∷ ys) (suc i) d lt = inr (get-IsIn ys i d (omega (arith, lt)))
+  -- where the ports of leases that have ended are held by the others, all are
+  pub ports-left : (m : ℕ) (left : List OwnerRun) (v w : Leased) → AreOfDead m s.table left → IsPortsOf v s → v.reached ≡ m → AreHeld (live s.table m) left v w → AreEndsOf (live s.table m) w
+  ports-left m left v w of ports now held protocol port = step (have_port protocol port left) refl
+    where
+      step : (b : Bool) → have_port protocol port left ≡ b → IsHeldEnd (live s.table m) protocol port (end_of w protocol port)
+      step true h = held.held protocol port h
+      step false h =
+          let free = unowned-fewer protocol port (owners_among left) (owners (dead s.table m)) (λ o i. IsIn-from_Contains (owners_among left) o (of.all o (Contains-from_IsIn (owners (dead s.table m)) o i)))
+          (owned_runs protocol port left ∙ h) in
+          subst (IsHeldEnd (live s.table m) protocol port)
+          (sym (held.others protocol port h ∙ ports.same protocol port ∙ ap (λ (n : ℕ). last_end s n protocol port) now)) (kept-end m protocol port free)
 
--- ports that begin anew have no end
-none-anew : (low high quota m : ℕ) (protocol : Protocol) (port : ℕ) → end_of (at_moment m (fresh_ports low high quota)) protocol port ≡ None
-none-anew low high quota m protocol port = get_or-map (while_recent m) (no_ends 131072) (place protocol port) None ∙ ap (while_recent m) (end_in-no_ends 131072 (place protocol port))
+-- ---- a change
 
--- so the ports that are held then are those of the state
-pub rebuilt : (s : State) (t : Table) (m low high quota : ℕ) (os : List Owner) (before after : Leased) → IsFirstAt s t m → os ≡ owners (live t m) → before ≡ at_moment m (fresh_ports low high quota) →
-    HoldsEach s m os before after → after.reached ≡ m → IsPortsOf after s
-rebuilt s t m low high quota os before after first are start each reached = record {
-  passed = omega (arith, first.last, reached);
-  same = λ protocol port. each protocol port ∙ step protocol port (is_owned protocol port os) refl ∙ ap (λ (k : ℕ). last_end s k protocol port) (sym reached);
+module _ (t : Table) (change : Change) (allowed : IsAllowed t change) (keeps : empties change ≡ false)
+    (protocol : Protocol) (port : ℕ) (none : find (is_port protocol port) (touched change t) ≡ None) where
+  untouched-apart : (e : End) → is_end_of protocol port e ≡ true → Apart (touched change t) e
+  untouched-apart e own o there external endpoint =
+      let p = port_is protocol port e own in
+      let fails : is_port protocol port o ≡ false = All-IsIn (λ o. is_port protocol port o ≡ false) (touched change t) o (find-none (is_port protocol port) (touched change t) none) there in
+      let of : o.protocol ≡ protocol = touched-protocol change t o there ∙ ap (λ (x : Endpoint). x.protocol) endpoint ∙ p.0 in
+      unlike (is_port protocol port o) (and_from _ _ ((same_protocol-Decides o.protocol protocol).1 of) (eq-eqb o.external port (external ∙ p.1))) fails
+
+  -- the leases leave the same of a port that isn't touched
+  pub untouched-end : (r : Option End) → IsHeldEnd t protocol port r → IsHeldEnd (table_changed change t) protocol port r
+  untouched-end = held-same t (table_changed change t) protocol port
+      (λ e own. leaves-kept t (table_changed change t) (touched change t) e (map-kept change t allowed keeps) (peer-kept change t allowed keeps) (untouched-apart e own))
+      (λ e own. leaves-kept (table_changed change t) t (touched change t) e (map-from change t keeps) (peer-from change t keeps) (untouched-apart e own))
+
+-- a port of a run that leases hold for no other endpoint
+module _ (m : ℕ) (t : Table) (all : AreLiveAt m t) (r : OwnerRun) (agreed : IsAgreed t r) (v w : Leased) (holds : Holds IsFree m t r v w) (protocol : Protocol) (port : ℕ) where
+  pub run-held : has_port protocol port r ≡ true → IsHeldEnd t protocol port (end_of w protocol port)
+  run-held h =
+      let p = place_in protocol port r h in
+      let at = p.port_is in
+      let off : p.place ≡ port - r.first.external = omega (arith, at) in
+      subst (IsHeldEnd t protocol port)
+      (sym (holds protocol port ∙ cond-true (has_port protocol port r) (end_held IsFree m (held_until m t protocol port) (owner_in r port)) (end_of v protocol port) h))
+      (held-end m t all protocol port (owner_in r port) (omega (arith, at)) (λ x there of number.
+      agreed.agreed p.place p.less x (Contains-from_IsIn (owners t) x there) (of ∙ sym p.protocol_is) (number ∙ sym p.port_is)
+      ∙ ap (λ (i : ℕ). (owner_along i r.first).endpoint) off))
+
+  pub run-other : has_port protocol port r ≡ false → end_of w protocol port ≡ end_of v protocol port
+  run-other h = holds protocol port ∙ cond-false (has_port protocol port r) (end_held IsFree m (held_until m t protocol port) (owner_in r port)) (end_of v protocol port) h
+
+-- where the ports that a change touches are held by the leases, all are
+pub ports-changed : (m : ℕ) (t : Table) (change : Change) (run : Option OwnerRun) (v w : Leased) → Sound t → IsAllowed t change → empties change ≡ false → AreLiveAt m (table_changed change t)
+    → run ≡ touched_run change t → IfSome run (IsAgreed (table_changed change t)) → AreEndsOf t v → HoldsIf IsFree m (table_changed change t) run v w → AreEndsOf (table_changed change t) w
+ports-changed m t change None v w sound allowed keeps all is agreed ends holds protocol port =
+    subst (IsHeldEnd (table_changed change t) protocol port) (sym (holds protocol port))
+    (untouched-end t change allowed keeps protocol port (ap (find (is_port protocol port)) (touched_owners change t sound ∙ ap owners_if (sym is))) (end_of v protocol port) (ends protocol port))
+ports-changed m t change (Some r) v w sound allowed keeps all is agreed ends holds protocol port = step (has_port protocol port r) refl
+  where
+    step : (b : Bool) → has_port protocol port r ≡ b → IsHeldEnd (table_changed change t) protocol port (end_of w protocol port)
+    step true h = run-held m (table_changed change t) all r agreed v w holds protocol port h
+    step false h =
+        let none : find (is_port protocol port) (touched change t) ≡ None =
+        ap (find (is_port protocol port)) (touched_owners change t sound ∙ ap owners_if (sym is)) ∙ found_owner protocol port r ∙ cond-false (has_port protocol port r) (Some (owner_in r port)) None h in
+        subst (IsHeldEnd (table_changed change t) protocol port) (sym (run-other m (table_changed change t) all r agreed v w holds protocol port h))
+        (untouched-end t change allowed keeps protocol port none (end_of v protocol port) (ends protocol port))
+
+-- ---- run by run
+
+pub held-begins : (t : Table) (v : Leased) → AreHeld t [] v v
+held-begins t v = record {
+  held = λ protocol port h. absurd (let never : false ≡ true = h in cc);
+  others = λ protocol port h. refl;
+}
+
+pub held-more : (m : ℕ) (t : Table) (runs : List OwnerRun) (i : ℕ) (d : OwnerRun) (v w x : Leased) → AreLiveAt m t → i < length runs → IsAgreed t (get_or runs i d)
+    → AreHeld t (take i runs) v w → Holds IsFree m t (get_or runs i d) w x → AreHeld t (take (i + 1) runs) v x
+held-more m t runs i d v w x all less agreed before holds = record {
+  held = λ protocol port h. held protocol port (has_port protocol port (get_or runs i d)) refl (sym (more protocol port) ∙ h);
+  others = λ protocol port h. others protocol port (have_port protocol port (take i runs)) (has_port protocol port (get_or runs i d)) refl refl (sym (more protocol port) ∙ h);
 }
   where
-    step : (protocol : Protocol) (port : ℕ) (b : Bool) → is_owned protocol port os ≡ b → cond b (last_end s m protocol port) (end_of before protocol port) ≡ last_end s m protocol port
-    step protocol port true h = refl
-    step protocol port false h =
-        ap (λ (x : Leased). end_of x protocol port) start ∙ none-anew low high quota m protocol port
-        ∙ no-last s t m first protocol port (ap (λ (xs : List Owner). is_owned protocol port xs) (sym are) ∙ h)
+    more : (protocol : Protocol) (port : ℕ) → have_port protocol port (take (i + 1) runs) ≡ (have_port protocol port (take i runs) || has_port protocol port (get_or runs i d))
+    more protocol port = any_more (has_port protocol port) runs i d less
 
-pub owner-here : (t : Table) (m : ℕ) (os : List Owner) (i : ℕ) (d : Owner) → Sound t → os ≡ owners (live t m) → i < length os → IsOwner (get_or os i d)
-owner-here t m os i d sound are lt = All-IsIn IsOwner (owners (live t m)) (get_or os i d) (live-owners t m sound) (subst (λ (xs : List Owner). IsIn (get_or os i d) xs) are (get-IsIn os i d lt))
+    or_false : (a : Bool) → (a || false) ≡ a
+    or_false true = refl
+    or_false false = refl
 
--- one port more is held
-pub held-step : (s : State) (t : Table) (m : ℕ) (os : List Owner) (i : ℕ) (d : Owner) (protocol : Protocol) (port : ℕ) (old mid after : Option End) → IsFirstAt s t m → os ≡ owners (live t m) → i < length os →
-    mid ≡ cond (is_owned protocol port (take i os)) (last_end s m protocol port) old →
-    after ≡ cond (is_port protocol port (get_or os i d)) (Some (end_at (held_until m t protocol port) (get_or os i d))) mid →
-    after ≡ cond (is_owned protocol port (take (i + 1) os)) (last_end s m protocol port) old
-held-step s t m os i d protocol port old mid after first are lt before now =
-    settled_more (is_owned protocol port (take i os)) (is_port protocol port (get_or os i d)) (last_end s m protocol port) old mid after before
-    (held-here s t m first (get_or os i d) protocol port mid after (subst (λ (xs : List Owner). IsIn (get_or os i d) xs) are (get-IsIn os i d lt)) now)
-    ∙ ap (λ (b : Bool). cond b (last_end s m protocol port) old) (sym (any_more (is_port protocol port) os i d lt))
+    held : (protocol : Protocol) (port : ℕ) (b : Bool) → has_port protocol port (get_or runs i d) ≡ b
+        → (have_port protocol port (take i runs) || has_port protocol port (get_or runs i d)) ≡ true → IsHeldEnd t protocol port (end_of x protocol port)
+    held protocol port true e h = run-held m t all (get_or runs i d) agreed w x holds protocol port e
+    held protocol port false e h =
+        subst (IsHeldEnd t protocol port) (sym (run-other m t all (get_or runs i d) agreed w x holds protocol port e))
+        (before.held protocol port (sym (or_false (have_port protocol port (take i runs))) ∙ ap (λ (b : Bool). have_port protocol port (take i runs) || b) (sym e) ∙ h))
+
+    others : (protocol : Protocol) (port : ℕ) (a b : Bool) → have_port protocol port (take i runs) ≡ a → has_port protocol port (get_or runs i d) ≡ b
+        → (have_port protocol port (take i runs) || has_port protocol port (get_or runs i d)) ≡ false → end_of x protocol port ≡ end_of v protocol port
+    others protocol port false false e f h = run-other m t all (get_or runs i d) agreed w x holds protocol port f ∙ before.others protocol port e
+    others protocol port true b e f h = absurd (let no : true ≡ false = ap (λ (c : Bool). c || has_port protocol port (get_or runs i d)) (sym e) ∙ h in cc)
+    others protocol port false true e f h =
+        absurd (let no : true ≡ false = ap (λ (c : Bool). false || c) (sym f) ∙ ap (λ (c : Bool). c || has_port protocol port (get_or runs i d)) (sym e) ∙ h in cc)
+
+-- ---- tables
+
+pub live-near : (t : Table) (m : ℕ) → AreNear t → AreNear (live t m)
+live-near t m near = record {
+  sound = Sound-live t m near.sound;
+  maps = All-filter (λ (l : MapLease). l.expiry < 2 ^ 41) (λ (l : MapLease). nat_lt m l.expiry) t.maps near.maps;
+  peers = All-filter (λ (l : PeerLease). l.expiry < 2 ^ 41) (λ (l : PeerLease). nat_lt m l.expiry) t.peers near.peers;
+}
+
+pub live-live : (t : Table) (m : ℕ) → AreLiveAt m (live t m)
+live-live t m e there = live-later t m e (IsIn-from_Contains (ends_at_expiry (live t m)) e there)
+
+pub first-live : (s : State) → IsReachedFirst s → AreLiveAt s.last s.table
+first-live s first e there = late s first.reached e (IsIn-from_Contains (ends_at_expiry s.table) e there)
+
+-- ports of a lease that has ended are held for no other endpoint
+pub left-agreed : (m : ℕ) (t : Table) (left : List OwnerRun) → Sound t → AreOfDead m t left → AllByRecursion (IsAgreed (live t m)) left
+left-agreed m t left sound of = All-from_IsIn (IsAgreed (live t m)) left (λ r i.
+    let formed = All-IsIn IsOwnerRun left r of.formed i in
+    elim (All-IsIn (IsOfLeases (dead t m)) left r of.of_dead i) [
+      | inl a ↦ (let k = IsIn-filter (λ (l : MapLease). not (nat_lt m l.expiry)) t.maps a.lease (IsIn-from_Contains (dead t m).maps a.lease a.there) in
+          subst (IsAgreed (live t m)) (sym a.is) (map_agreed t (live t m) a.lease sound (owners-live t m) k.0 (subst IsOwnerRun a.is formed)
+          (even_gone t a.lease (live t m).maps sound k.0 (subst IsOwnerRun a.is formed).some
+          (λ x j. (IsIn-filter (λ (l : MapLease). nat_lt m l.expiry) t.maps x j).0)
+          (λ j. let alive = (IsIn-filter (λ (l : MapLease). nat_lt m l.expiry) t.maps a.lease j).1 in
+          let no : false ≡ true = sym (ap not alive) ∙ k.1 in
+          absurd (cc)))))
+      | inr b ↦ (let k = IsIn-filter (λ (l : PeerLease). not (nat_lt m l.expiry)) t.peers b.lease (IsIn-from_Contains (dead t m).peers b.lease b.there) in
+          subst (IsAgreed (live t m)) (sym b.is) (peer_agreed t (live t m) b.lease sound (owners-live t m) k.0 (subst IsOwnerRun b.is formed)))
+    ])
+
+-- ---- a record that forgets all
+
+pub first-empties : (s : State) (r : Record) → empties r.change ≡ true → apply_first s r ≡ apply s r
+first-empties s r h = step r.change h
+  where
+    step : (change : Change) → empties change ≡ true → apply_first s (record { moment = r.moment; change = change }) ≡ apply s (record { moment = r.moment; change = change })
+    step Start h = refl
+    step Lose h = refl
+    step (Map l) h = absurd (let no : false ≡ true = h in cc)
+    step (Peer l) h = absurd (let no : false ≡ true = h in cc)
+    step (DropMap e) h = absurd (let no : false ≡ true = h in cc)
+    step (DropPeer e remote port) h = absurd (let no : false ≡ true = h in cc)
+    step Mark h = absurd (let no : false ≡ true = h in cc)
+    step (Rest e port end) h = absurd (let no : false ≡ true = h in cc)
+    step (Renumber a) h = absurd (let no : false ≡ true = h in cc)

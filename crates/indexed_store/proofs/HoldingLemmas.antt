@@ -1,5 +1,5 @@
 -- Until when the leases of a table hold a port.
-use Rattle.std.proofs.Common.{◌≡◌, ℕ, ◌<◌, ◌≤◌, ◌-◌, ◌^◌, ◌&&◌, ◌==◌, nat_lt, Bool, true, false, cond, List, [], ◌∷◌, filter, find, Option, Some, None, IfSome, refl, sym, ap, ◌∙◌, subst, inl, inr, arith}
+use Rattle.std.proofs.Common.{◌≡◌, ℕ, ◌<◌, ◌≤◌, ◌+◌, ◌-◌, ◌^◌, ◌&&◌, ◌==◌, nat_lt, Bool, true, false, cond, List, [], ◌∷◌, filter, find, Option, Some, None, IfSome, refl, sym, ap, ◌∙◌, subst, inl, inr, arith}
 use Rattle.std.specs.List.{list_any}
 use Rattle.std.specs.Option.{option_map, option_or}
 use Rattle.std.proofs.lemmas.Bool.{and_parts, and_from, eqb-true, eq-eqb, ltb-true, ltb-false}
@@ -14,16 +14,22 @@ use Rattle.pcp_base.specs.Tables.{Table, same_protocol}
 use Rattle.pcp_base.specs.Owners.{map_owners, peer_owner, is_port, owns}
 use Rattle.pcp_base.specs.Ends.{end_at, ends_at_expiry, is_end_of}
 use Rattle.pcp_base.proofs.Members.{IsIn, All-IsIn, IsIn-filter, filter-IsIn, IsIn-map, map-IsIn, any-some, some-any, find-some, find-none}
-use Rattle.pcp_base.proofs.Same.{same_protocol-Decides}
 use Rattle.pcp_base.proofs.TableLemmas.{map_owners-IsIn}
 use Rattle.pcp_base.proofs.StageLaws.{unlike, map_ends, peer_end, expiry-parts, from_map, from_peer}
 use Rattle.pcp_base.proofs.PortLemmas.{owned_by}
 use Rattle.leased_ports.proofs.RecordLemmas.{latest-least}
 use Rattle.mapping_table.specs.MapLists.{map_owning}
 use Rattle.peer_table.specs.PeerLists.{IsLastExpiry}
+use Rattle.leased_ports.specs.Leased.{Leased, end_of}
 use Rattle.leased_ports.specs.Recorded.{latest, held_until}
-use Rattle.indexed_store.specs.Holding.{AreNear, IsOwner, later_by}
+use Rattle.indexed_store.specs.declared.owning.OwnerRun.{OwnerRun}
+use Rattle.indexed_store.specs.declared.holding.Hold.{Hold}
+use Rattle.indexed_store.specs.declared.holding.Unowned.{Unowned}
+use Rattle.indexed_store.specs.declared.holding.Unowned.TheVariants.{Rests}
+use Rattle.indexed_store.specs.Runs.{behind, has_port, owner_in, owners_if, up_to}
+use Rattle.indexed_store.specs.Holding.{AreNear, Holds, HoldsIf, IsEven, IsHold, end_held, held_by_map, later_by}
 use Rattle.indexed_store.proofs.Uniques.{one-owns}
+use Rattle.indexed_store.proofs.RunLemmas.{found_owner, has_more, has_none, owner_behind, place_in, set_more}
 
 pub same_number : (a b : Protocol) → same_protocol a b ≡ (protocol_number a == protocol_number b)
 same_number Tcp Tcp = refl
@@ -91,6 +97,18 @@ module _ (t : Table) (protocol : Protocol) (port : ℕ) where
   peer-owns : (l : PeerLease) → is_port protocol port (peer_owner l) ≡ is_end_of protocol port (peer_end l)
   peer-owns l = ap (λ (b : Bool). b && l.external == port) (same_number l.endpoint.protocol protocol)
 
+  near-map : AreNear t → (o : Option MapLease) → find (owns protocol port) t.maps ≡ o → IfSome (option_map (λ (l : MapLease). l.expiry) o) (λ n. n ≤ 2 ^ 41 - 1)
+  near-map near None h = tt
+  near-map near (Some l) h = let f = find-some (owns protocol port) t.maps l h in let lt = All-IsIn (λ (x : MapLease). x.expiry < 2 ^ 41) t.maps l near.maps f.0 in omega (arith, lt)
+
+  -- when the MAP lease of the port expires
+  pub map_bounds : (m : ℕ) → AreNear t → m < 2 ^ 41 → (m ≤ held_by_map m t.maps protocol port) × (held_by_map m t.maps protocol port < 2 ^ 41)
+  map_bounds m near small =
+      let o = option_map (λ (l : MapLease). l.expiry) (map_owning protocol port t.maps) in
+      let from = later-least m o in
+      let to = later-most m (2 ^ 41 - 1) o (omega (arith, small)) (near-map near (map_owning protocol port t.maps) refl) in
+      (from, omega (arith, to))
+
   module _ (m : ℕ) (near : AreNear t) (b : Option ℕ) (last : IsLastExpiry protocol port t.peers b) where
     abbrev a : Option ℕ
     a = option_map (λ (l : MapLease). l.expiry) (map_owning protocol port t.maps)
@@ -151,47 +169,89 @@ module _ (t : Table) (protocol : Protocol) (port : ℕ) where
     pub held : r ≡ held_until m t protocol port
     held = let x = up in let y = latest-most m ends r r-from each in omega (arith, x, y)
 
-    near-map : (o : Option MapLease) → find (owns protocol port) t.maps ≡ o → IfSome (option_map (λ (l : MapLease). l.expiry) o) (λ n. n ≤ 2 ^ 41 - 1)
-    near-map None h = tt
-    near-map (Some l) h = let f = find-some (owns protocol port) t.maps l h in let lt = All-IsIn (λ (x : MapLease). x.expiry < 2 ^ 41) t.maps l near.maps f.0 in omega (arith, lt)
-
     near-peer : (o : Option ℕ) → IsLastExpiry protocol port t.peers o → IfSome o (λ n. n ≤ 2 ^ 41 - 1)
     near-peer None h = tt
     near-peer (Some n) h =
         let l = any-some (λ x. is_port protocol port (peer_owner x) && x.expiry == n) t.peers h.there in
-        let p = and_parts _ _ l.2 in
+        let p = and_parts (is_port protocol port (peer_owner l.0)) (l.0.expiry == n) l.2 in
         let same : l.0.expiry ≡ n = eqb-true l.0.expiry n p.1 in
         let lt = All-IsIn (λ (x : PeerLease). x.expiry < 2 ^ 41) t.peers l.0 near.peers l.1 in omega (arith, lt, same)
 
     pub bounded : m < 2 ^ 41 → (m ≤ r) × (r < 2 ^ 41)
     bounded small =
-        let x = later-most m (2 ^ 41 - 1) a (omega (arith, small)) (near-map (map_owning protocol port t.maps) refl) in
+        let x = later-most m (2 ^ 41 - 1) a (omega (arith, small)) (near-map near (map_owning protocol port t.maps) refl) in
         let y = later-most (later_by m a) (2 ^ 41 - 1) b x (near-peer b last) in
         (r-from, omega (arith, y))
 
--- ---- a port that is held
+-- ---- ports of a run that are held until the same moment
 
-module _ (owner : Owner) (is : IsOwner owner) (protocol : Protocol) (port : ℕ) where
-  own_test : (n : ℕ) → is_end_of protocol port (end_at n owner) ≡ is_port protocol port owner
-  own_test n = ap (λ (q : Protocol). protocol_number q == protocol_number protocol && owner.external == port) (sym is.protocol) ∙ ap (λ (b : Bool). b && owner.external == port) (sym (same_number owner.protocol protocol))
+module _ (m : ℕ) (t : Table) (near : AreNear t) (r : OwnerRun) (from : ℕ) (h : Hold) (hold : IsHold from t.peers r h)
+    (maps : (i : ℕ) → i < r.count → from ≡ held_by_map m t.maps r.first.protocol (r.first.external + i)) where
+  until-later : (i : ℕ) (less : i < h.count) → h.until ≡ later_by (held_by_map m t.maps r.first.protocol (r.first.external + i)) (hold.same i less).expiry
+  until-later i less = (hold.same i less).is ∙ ap (λ (n : ℕ). later_by n (hold.same i less).expiry) (maps i (let few = hold.few in omega (arith, less, few)))
 
-  pub held_port : (m : ℕ) (t : Table) (before after : Option End) →
-      after ≡ cond (is_end_of protocol port (end_at (held_until m t owner.protocol owner.external) owner)) (Some (end_at (held_until m t owner.protocol owner.external) owner)) before →
-      after ≡ cond (is_port protocol port owner) (Some (end_at (held_until m t protocol port) owner)) before
-  held_port m t before after h = h ∙ ap (λ (b : Bool). cond b (Some (end_at (held_until m t owner.protocol owner.external) owner)) before) (own_test (held_until m t owner.protocol owner.external)) ∙ step (is_port protocol port owner) refl
+  until-is : (i : ℕ) → i < h.count → h.until ≡ held_until m t r.first.protocol (r.first.external + i)
+  until-is i less = until-later i less ∙ held t r.first.protocol (r.first.external + i) m near (hold.same i less).expiry (hold.same i less).last
+
+  pub until-bounds : m < 2 ^ 41 → (m ≤ h.until) × (h.until < 2 ^ 41)
+  until-bounds small =
+      let some : 0 < h.count = (let one = hold.some in omega (arith, one)) in
+      subst (λ (n : ℕ). (m ≤ n) × (n < 2 ^ 41)) (sym (until-later 0 some))
+      (bounded t r.first.protocol (r.first.external + 0) m near (hold.same 0 some).expiry (hold.same 0 some).last small)
+
+  pub piece-holds : (unowned : Unowned) (old new : Leased) → ((protocol : Protocol) (port : ℕ) → end_of new protocol port
+      ≡ cond (has_port protocol port (up_to h.count r)) (end_held unowned m h.until (owner_in (up_to h.count r) port)) (end_of old protocol port)) → Holds unowned m t (up_to h.count r) old new
+  piece-holds unowned old new given protocol port = given protocol port ∙ step (has_port protocol port (up_to h.count r)) refl
     where
-      step : (b : Bool) → is_port protocol port owner ≡ b → cond b (Some (end_at (held_until m t owner.protocol owner.external) owner)) before ≡ cond b (Some (end_at (held_until m t protocol port) owner)) before
-      step true e =
-          let p = and_parts _ _ e in
-          ap (λ (q : Protocol). Some (end_at (held_until m t q owner.external) owner)) ((same_protocol-Decides owner.protocol protocol).0 p.0)
-          ∙ ap (λ (k : ℕ). Some (end_at (held_until m t protocol k) owner)) (eqb-true owner.external port p.1)
+      step : (b : Bool) → has_port protocol port (up_to h.count r) ≡ b → cond b (end_held unowned m h.until (owner_in (up_to h.count r) port)) (end_of old protocol port)
+          ≡ cond b (end_held unowned m (held_until m t protocol port) (owner_in (up_to h.count r) port)) (end_of old protocol port)
       step false e = refl
+      step true e =
+          let p = place_in protocol port (up_to h.count r) e in
+          let until : h.until ≡ held_until m t protocol port = until-is p.place p.less ∙ ap (λ (q : Protocol). held_until m t q (r.first.external + p.place)) p.protocol_is ∙ ap (λ (n : ℕ). held_until m t protocol n) p.port_is in
+          ap (λ (n : ℕ). end_held unowned m n (owner_in (up_to h.count r) port)) until
 
--- of several ports the first one counts
-pub held_first : (f : Owner → End) (test : Owner → Bool) (first : Owner) (rest : List Owner) (start before after : Option End) →
-    before ≡ option_or (option_map f (find test rest)) start → after ≡ cond (test first) (Some (f first)) before → after ≡ option_or (option_map f (find test (first ∷ rest))) start
-held_first f test first rest start before after h k = k ∙ step (test first)
+-- ---- a run piece by piece
+
+module _ (unowned : Unowned) (m : ℕ) (t : Table) (r : OwnerRun) where
+  pub holds-none : (v : Leased) → Holds unowned m t (up_to 0 r) v v
+  holds-none v protocol port = sym (ap (λ (b : Bool). cond b (end_held unowned m (held_until m t protocol port) (owner_in r port)) (end_of v protocol port)) (has_none protocol port r))
+
+  abbrev held_in : Protocol → ℕ → Option End
+  held_in protocol port = end_held unowned m (held_until m t protocol port) (owner_in r port)
+
+  -- a port of a piece behind the first ones has the same owner as in the run
+  same_piece : (done n : ℕ) (protocol : Protocol) (port : ℕ) (other : Option End) (b : Bool) → has_port protocol port (up_to n (behind done r)) ≡ b
+      → cond b (end_held unowned m (held_until m t protocol port) (owner_in (behind done r) port)) other ≡ cond b (held_in protocol port) other
+  same_piece done n protocol port other true e = ap (end_held unowned m (held_until m t protocol port)) (owner_behind protocol port r done n e)
+  same_piece done n protocol port other false e = refl
+
+  pub holds-more : (done n : ℕ) (before mid after : Leased) → Holds unowned m t (up_to done r) before mid → Holds unowned m t (up_to n (behind done r)) mid after → Holds unowned m t (up_to (done + n) r) before after
+  holds-more done n before mid after h k protocol port =
+      set_more (has_port protocol port (up_to done r)) (has_port protocol port (up_to n (behind done r))) (held_in protocol port) (end_of before protocol port) (end_of mid protocol port) (end_of after protocol port)
+      (h protocol port) (k protocol port ∙ same_piece done n protocol port (end_of mid protocol port) (has_port protocol port (up_to n (behind done r))) refl)
+      ∙ ap (λ (b : Bool). cond b (held_in protocol port) (end_of before protocol port)) (sym (has_more protocol port r done n))
+
+  pub holds-whole : (done : ℕ) (before after : Leased) → done ≡ r.count → Holds unowned m t (up_to done r) before after → Holds unowned m t r before after
+  holds-whole done before after whole h = subst (λ (n : ℕ). Holds unowned m t (up_to n r) before after) whole h
+
+-- what MAP leases hold of the ports behind the first of a run
+pub even-behind : (m : ℕ) (maps : List MapLease) (r : OwnerRun) (done : ℕ) → IsEven maps r → done < r.count → (i : ℕ) → i < r.count - done
+    → held_by_map m maps r.first.protocol r.first.external ≡ held_by_map m maps r.first.protocol (r.first.external + done + i)
+even-behind m maps r done even before i less =
+    let at : r.first.external + (done + i) ≡ r.first.external + done + i = omega arith in
+    ap (λ (o : Option MapLease). later_by m (option_map (λ (l : MapLease). l.expiry) o))
+    (sym (even (done + i) (omega (arith, before, less))) ∙ ap (λ (n : ℕ). map_owning r.first.protocol n maps) at)
+
+-- as a record tells it
+pub holds-after : (m : ℕ) (t : Table) (run : Option OwnerRun) (old new : Leased) → HoldsIf Rests m t run old new → (protocol : Protocol) (port : ℕ) →
+    end_of new protocol port ≡ option_or (option_map (λ (o : Owner). end_at (held_until m t protocol port) o) (find (is_port protocol port) (owners_if run))) (end_of old protocol port)
+holds-after m t None old new h protocol port = h protocol port
+holds-after m t (Some r) old new h protocol port =
+    h protocol port ∙ step (has_port protocol port r)
+    ∙ ap (λ (o : Option Owner). option_or (option_map (λ (o : Owner). end_at (held_until m t protocol port) o) o) (end_of old protocol port)) (sym (found_owner protocol port r))
   where
-    step : (b : Bool) → cond b (Some (f first)) before ≡ option_or (option_map f (cond b (Some first) (find test rest))) start
+    step : (b : Bool) → cond b (end_held Rests m (held_until m t protocol port) (owner_in r port)) (end_of old protocol port)
+        ≡ option_or (option_map (λ (o : Owner). end_at (held_until m t protocol port) o) (cond b (Some (owner_in r port)) None)) (end_of old protocol port)
     step true = refl
-    step false = h
+    step false = refl

@@ -1,19 +1,21 @@
 -- Leases that go out of a table because they have ended.
-use Rattle.std.proofs.Common.{◌≡◌, ℕ, ◌<◌, ◌⊎◌, nat_lt, not, Bool, true, false, List, [], ◌∷◌, ◌++◌, map, flat_map, filter, find, length, Contains, None, refl, sym, ap, ◌∙◌, subst, inl, inr}
+use Rattle.std.proofs.Common.{◌≡◌, ℕ, ◌<◌, ◌≤◌, ◌⊎◌, nat_lt, not, Bool, true, false, cond, List, [], ◌∷◌, ◌++◌, map, flat_map, filter, find, length, Contains, None, refl, sym, ap, ◌∙◌, subst, inl, inr, arith}
 use Rattle.pcp_base.specs.declared.leases.MapLease.{MapLease}
 use Rattle.pcp_base.specs.declared.leases.PeerLease.{PeerLease}
 use Rattle.pcp_base.specs.declared.leases.Owner.{Owner}
 use Rattle.pcp_base.specs.Tables.{Table, live, dead, first_endpoint, is_map_of, is_peer_of}
 use Rattle.pcp_base.specs.Owners.{map_owners, peer_owner, owners}
 use Rattle.pcp_base.specs.Sound.{Sound}
-use Rattle.pcp_base.proofs.Members.{IsIn, IsIn-filter, filter-IsIn, IsIn-append, IsIn-left, IsIn-right, IsIn-flat_map, flat_map-IsIn, IsIn-map, map-IsIn, IsIn-from_Contains, Contains-from_IsIn, find-none, filter-all, All-weaker}
+use Rattle.pcp_base.proofs.Members.{IsIn, IsIn-filter, filter-IsIn, IsIn-append, IsIn-left, IsIn-right, IsIn-flat_map, flat_map-IsIn, IsIn-map, map-IsIn, IsIn-from_Contains, Contains-from_IsIn, find-none, filter-all, All-weaker, All-push}
 use Rattle.pcp_base.proofs.TableLemmas.{Sound-filter, Sound-filter_maps, key-own}
 use Rattle.pcp_base.proofs.StageLaws.{two_ways, unlike}
 use Rattle.pcp_base.proofs.Same.{same_endpoint-Decides, same_address-Decides}
-use Rattle.std.proofs.lemmas.Bool.{and_from, eq-eqb}
-use Rattle.end_table.proofs.EndMaps.{filter_others, shorter}
-use Rattle.indexed_store.specs.Leaving.{AreLeaving}
+use Rattle.std.proofs.lemmas.Bool.{and_from, cond-false, eq-eqb}
+use Rattle.indexed_store.specs.declared.owning.OwnerRun.{OwnerRun}
+use Rattle.indexed_store.specs.Runs.{IsOwnerRun, map_run, owners_among, owners_of, peer_run}
+use Rattle.indexed_store.specs.Leaving.{AreLeaving, AreOfDead, IsOfLeases}
 use Rattle.indexed_store.proofs.Uniques.{AtMostOne, one-key, one-peer}
+use Rattle.indexed_store.proofs.TouchLemmas.{peer_owners}
 
 pub not_back : (b : Bool) → not b ≡ true → b ≡ false
 not_back true h = absurd (let no_way : false ≡ true = h in cc)
@@ -36,6 +38,37 @@ none_dead p xs all x i =
     let k = IsIn-filter (λ y. not (p y)) xs x i in
     let alive = IsIn-filter p xs x (subst (λ (ys : List _). IsIn x ys) all k.0) in
     unlike (p x) alive.1 (not_back (p x) k.1)
+
+-- what fails one test needs no other
+filter_others : {X : Type 0} (p q : X → Bool) (xs : List X) → ((x : X) → IsIn x xs → q x ≡ true → p x ≡ false) → filter p (filter (λ x. not (q x)) xs) ≡ filter p xs
+filter_others p q [] h = refl
+filter_others p q (x ∷ xs) h = step (q x) refl (filter_others p q xs (λ y i. h y (inr i)))
+  where
+    step : (b : Bool) → q x ≡ b → filter p (filter (λ y. not (q y)) xs) ≡ filter p xs → filter p (cond (not b) (x ∷ filter (λ y. not (q y)) xs) (filter (λ y. not (q y)) xs)) ≡ cond (p x) (x ∷ filter p xs) (filter p xs)
+    step true e later = later ∙ sym (cond-false (p x) (x ∷ filter p xs) (filter p xs) (h x (inl refl) e))
+    step false e later = ap (λ zs. cond (p x) (x ∷ zs) zs) later
+
+no_longer : {X : Type 0} (p : X → Bool) (xs : List X) → length (filter p xs) ≤ length xs
+no_longer p [] = omega arith
+no_longer p (x ∷ xs) = step (p x) (no_longer p xs)
+  where
+    step : (b : Bool) → length (filter p xs) ≤ length xs → length (cond b (x ∷ filter p xs) (filter p xs)) ≤ length (x ∷ xs)
+    step true rest = omega (arith, rest)
+    step false rest = omega (arith, rest)
+
+-- what one fails keeps fewer
+shorter : {X : Type 0} (p : X → Bool) (xs : List X) (x : X) → IsIn x xs → p x ≡ false → length (filter p xs) < length xs
+shorter p [] x h e = absurd h
+shorter p (y ∷ ys) x (inl same) e =
+    let fails : p y ≡ false = ap p same ∙ e in
+    let rest = no_longer p ys in
+    let is : length (filter p (y ∷ ys)) ≡ length (filter p ys) = ap length (cond-false (p y) (y ∷ filter p ys) (filter p ys) fails) in
+    omega (arith, rest, is)
+shorter p (y ∷ ys) x (inr h) e = step (p y) (shorter p ys x h e)
+  where
+    step : (b : Bool) → length (filter p ys) < length ys → length (cond b (y ∷ filter p ys) (filter p ys)) < length (y ∷ ys)
+    step true rest = omega (arith, rest)
+    step false rest = omega (arith, rest)
 
 -- ---- one lease of a list, of either kind
 
@@ -109,33 +142,68 @@ peer_own l =
 
 -- ---- the table
 
-pub begins : (m : ℕ) (t : Table) (left : List Owner) → Sound t → AreLeaving m t t left
-begins m t left sound = record { sound = sound; live_same = refl; left_all = λ o h. inr h }
+pub begins : (m : ℕ) (t : Table) (left : List OwnerRun) → Sound t → left ≡ [] → AreLeaving m t t left
+begins m t left sound none = subst (λ (rs : List OwnerRun). AreLeaving m t t rs) (sym none) (record {
+  sound = sound;
+  live_same = refl;
+  maps_from = λ l h. h;
+  peers_from = λ l h. h;
+  formed = tt;
+  of_dead = tt;
+  left_all = λ o h. inr h;
+})
 
--- the same of an equal table and equal owners
-pub leaving_same : (m : ℕ) (start t u : Table) (left more : List Owner) → u ≡ t → more ≡ left
+-- the same of an equal table and equal runs
+pub leaving_same : (m : ℕ) (start t u : Table) (left more : List OwnerRun) → u ≡ t → more ≡ left
     → AreLeaving m start t left → AreLeaving m start u more
-leaving_same m start t u left more tables owners h =
+leaving_same m start t u left more tables runs h =
     subst (λ (x : Table). AreLeaving m start x more) (sym tables)
-    (subst (λ (os : List Owner). AreLeaving m start t os) (sym owners) h)
+    (subst (λ (rs : List OwnerRun). AreLeaving m start t rs) (sym runs) h)
+
+-- runs with one more, which is this
+pub pushed : (left runs : List OwnerRun) (r s : OwnerRun) → runs ≡ left ++ r ∷ [] → r ≡ s
+    → runs ≡ left ++ s ∷ []
+pushed left runs r s h same = h ∙ ap (λ (x : OwnerRun). left ++ x ∷ []) same
+
+-- what one run more owns
+in_more : (left : List OwnerRun) (r : OwnerRun) (o : Owner) → IsIn o (owners_among left)
+    → IsIn o (owners_among (left ++ r ∷ []))
+in_more left r o h =
+    let k = IsIn-flat_map owners_of left o h in
+    flat_map-IsIn owners_of (left ++ r ∷ []) k.0 o (IsIn-left left (r ∷ []) k.0 k.1) k.2
+
+in_last : (left : List OwnerRun) (r : OwnerRun) (o : Owner) → IsIn o (owners_of r)
+    → IsIn o (owners_among (left ++ r ∷ []))
+in_last left r o h =
+    flat_map-IsIn owners_of (left ++ r ∷ []) r o (IsIn-right left (r ∷ []) r (inl refl)) h
 
 -- the table that is left has the same live leases, and what is owned no more is left
-leave : (m : ℕ) (start t gone : Table) (left own : List Owner) → AreLeaving m start t left
-    → Sound gone → live gone m ≡ live t m
-    → ((o : Owner) → IsIn o (owners (dead t m)) → IsIn o own ⊎ IsIn o (owners (dead gone m)))
-    → AreLeaving m start gone (left ++ own)
-leave m start t gone left own h sound same parts = record {
-  sound = sound;
-  live_same = same ∙ h.live_same;
-  left_all = λ o c. elim (h.left_all o c) [
-    | inl before ↦ inl (Contains-from_IsIn (left ++ own) o
-        (IsIn-left left own o (IsIn-from_Contains left o before)))
-    | inr there ↦ elim (parts o (IsIn-from_Contains (owners (dead t m)) o there)) [
-      | inl now ↦ inl (Contains-from_IsIn (left ++ own) o (IsIn-right left own o now))
-      | inr stays ↦ inr (Contains-from_IsIn (owners (dead gone m)) o stays)
-    ]
-  ];
-}
+module _ (m : ℕ) (start t gone : Table) (left : List OwnerRun) (r : OwnerRun)
+    (h : AreLeaving m start t left) where
+  leave : Sound gone → live gone m ≡ live t m → IsOwnerRun r → IsOfLeases (dead start m) r
+      → ((l : MapLease) → IsIn l gone.maps → IsIn l t.maps)
+      → ((l : PeerLease) → IsIn l gone.peers → IsIn l t.peers)
+      → ((o : Owner) → IsIn o (owners (dead t m))
+      → IsIn o (owners_of r) ⊎ IsIn o (owners (dead gone m)))
+      → AreLeaving m start gone (left ++ r ∷ [])
+  leave sound same formed of maps peers parts = record {
+    sound = sound;
+    live_same = same ∙ h.live_same;
+    maps_from = λ l c. h.maps_from l
+        (Contains-from_IsIn t.maps l (maps l (IsIn-from_Contains gone.maps l c)));
+    peers_from = λ l c. h.peers_from l
+        (Contains-from_IsIn t.peers l (peers l (IsIn-from_Contains gone.peers l c)));
+    formed = All-push IsOwnerRun left r h.formed formed;
+    of_dead = All-push (IsOfLeases (dead start m)) left r h.of_dead of;
+    left_all = λ o c. elim (h.left_all o c) [
+      | inl before ↦ inl (Contains-from_IsIn (owners_among (left ++ r ∷ [])) o
+          (in_more left r o (IsIn-from_Contains (owners_among left) o before)))
+      | inr there ↦ elim (parts o (IsIn-from_Contains (owners (dead t m)) o there)) [
+        | inl now ↦ inl (Contains-from_IsIn (owners_among (left ++ r ∷ [])) o (in_last left r o now))
+        | inr stays ↦ inr (Contains-from_IsIn (owners (dead gone m)) o stays)
+      ]
+    ];
+  }
 
 abbrev live_map : ℕ → MapLease → Bool
 live_map m l = nat_lt m l.expiry
@@ -182,12 +250,19 @@ module _ (m : ℕ) (t : Table) (sound : Sound t)
         | inr b ↦ inr (IsIn-right of_others of_peers o b)
       ]
 
-  pub leave_map : (start : Table) (left : List Owner) → AreLeaving m start t left
-      → AreLeaving m start map_gone (left ++ map_owners l)
-  leave_map start left h = leave m start t map_gone left (map_owners l) h
+  pub leave_map : (start : Table) (left : List OwnerRun) → IsOwnerRun (map_run l)
+      → AreLeaving m start t left → AreLeaving m start map_gone (left ++ map_run l ∷ [])
+  leave_map start left formed h = leave m start t map_gone left (map_run l) h
       (Sound-filter_maps t (λ x. not (map_key l x)) sound)
       (ap (λ (ls : List MapLease). record (live t m) { maps = ls }) (same_live _ _ _ _ map_out))
-      map_parts
+      formed (inl (record {
+        lease = l;
+        there = Contains-from_IsIn (dead start m).maps l
+            (filter-IsIn (λ (x : MapLease). not (live_map m x)) start.maps l
+            (IsIn-from_Contains start.maps l (h.maps_from l among)) (ap not ended));
+        is = refl;
+      }))
+      (λ x i. (IsIn-filter (λ y. not (map_key l y)) t.maps x i).0) (λ x i. i) map_parts
 
   pub fewer_maps : length map_gone.maps < length t.maps
   fewer_maps = fewer _ _ _ _ map_out
@@ -204,7 +279,7 @@ all_pass : {X : Type 0} (xs : List X) → filter (λ x. true) xs ≡ xs
 all_pass [] = refl
 all_pass (x ∷ xs) = ap (λ ys. x ∷ ys) (all_pass xs)
 
-Sound-filter_peers : (t : Table) (p : PeerLease → Bool) → Sound t
+pub Sound-filter_peers : (t : Table) (p : PeerLease → Bool) → Sound t
     → Sound (record t { peers = filter p t.peers })
 Sound-filter_peers t p sound =
     subst (λ (maps : List MapLease). Sound (record { maps = maps; peers = filter p t.peers }))
@@ -235,29 +310,41 @@ module _ (m : ℕ) (t : Table) (sound : Sound t)
         ]
       ]
 
-  pub leave_peer : (start : Table) (left : List Owner) → AreLeaving m start t left
-      → AreLeaving m start peer_gone (left ++ one_owner l)
-  leave_peer start left h = leave m start t peer_gone left (one_owner l) h
+  pub leave_peer : (start : Table) (left : List OwnerRun) → IsOwnerRun (peer_run l)
+      → AreLeaving m start t left → AreLeaving m start peer_gone (left ++ peer_run l ∷ [])
+  leave_peer start left formed h = leave m start t peer_gone left (peer_run l) h
       (Sound-filter_peers t (λ x. not (peer_key l x)) sound)
       (ap (λ (ls : List PeerLease). record (live t m) { peers = ls }) (same_live _ _ _ _ peer_out))
-      peer_parts
+      formed (inr (record {
+        lease = l;
+        there = Contains-from_IsIn (dead start m).peers l
+            (filter-IsIn (λ (x : PeerLease). not (live_peer m x)) start.peers l
+            (IsIn-from_Contains start.peers l (h.peers_from l among)) (ap not ended));
+        is = refl;
+      }))
+      (λ x i. i) (λ x i. (IsIn-filter (λ y. not (peer_key l y)) t.peers x i).0)
+      (λ o i. subst (λ (os : List Owner). IsIn o os ⊎ IsIn o (owners (dead peer_gone m)))
+      (peer_owners l) (peer_parts o i))
 
   pub fewer_peers : length peer_gone.peers < length t.peers
   fewer_peers = fewer _ _ _ _ peer_out
 
 -- ---- the end
 
--- where all leases of the table are live, those that were dead at the start are left
-pub all_left : (m : ℕ) (start t : Table) (left : List Owner) → AreLeaving m start t left
-    → t.maps ≡ (live t m).maps → t.peers ≡ (live t m).peers
-    → (o : Owner) → Contains (owners (dead start m)) o → Contains left o
-all_left m start t left h maps peers o c = elim (h.left_all o c) [
-  | inl gone ↦ gone
-  | inr stays ↦ elim (IsIn-append (map_part (dead t m)) (peer_part (dead t m)) o
-      (IsIn-from_Contains (owners (dead t m)) o stays)) [
-        | inl a ↦ absurd (let x = owned_by_maps.of_one (dead t m).maps o a in
-            none_dead (live_map m) t.maps maps x.0 x.1)
-        | inr b ↦ absurd (let x = owned_by_peers.of_one (dead t m).peers o b in
-            none_dead (live_peer m) t.peers peers x.0 x.1)
-      ]
-]
+-- where all leases of the table are live, the runs are of those that were dead at the start
+pub all_left : (m : ℕ) (start t : Table) (left : List OwnerRun) → AreLeaving m start t left
+    → t.maps ≡ (live t m).maps → t.peers ≡ (live t m).peers → AreOfDead m start left
+all_left m start t left h maps peers = record {
+  formed = h.formed;
+  of_dead = h.of_dead;
+  all = λ o c. elim (h.left_all o c) [
+    | inl gone ↦ gone
+    | inr stays ↦ elim (IsIn-append (map_part (dead t m)) (peer_part (dead t m)) o
+        (IsIn-from_Contains (owners (dead t m)) o stays)) [
+          | inl a ↦ absurd (let x = owned_by_maps.of_one (dead t m).maps o a in
+              none_dead (live_map m) t.maps maps x.0 x.1)
+          | inr b ↦ absurd (let x = owned_by_peers.of_one (dead t m).peers o b in
+              none_dead (live_peer m) t.peers peers x.0 x.1)
+        ]
+  ];
+}

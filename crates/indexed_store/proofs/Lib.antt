@@ -1,10 +1,12 @@
 pub mod Uniques
 pub mod SortLemmas
 pub mod LookLemmas
+pub mod RunLemmas
+pub mod MoveLemmas
+pub mod TouchLemmas
 pub mod LeavingLemmas
 pub mod HoldingLemmas
 pub mod SettlingLemmas
 pub mod ApplyLemmas
-pub mod MoveLemmas
 pub mod JudgeLemmas
 pub mod FirstLemmas

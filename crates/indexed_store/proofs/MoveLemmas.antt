@@ -1,9 +1,11 @@
 -- Small steps of ports and tables.
-use Rattle.std.proofs.Common.{◌≡◌, ℕ, true, false, cond, Bool, List, [], ◌∷◌, ◌++◌, map, flat_map, filter, find, Some, None, Result, Ok, Err, OnOk, refl, sym, ap, ◌∙◌, subst, append-nil}
+use Rattle.std.proofs.Common.{◌≡◌, ℕ, zero, suc, true, false, cond, Bool, List, [], ◌∷◌, ◌++◌, map, flat_map, filter, find, Some, None, Result, Ok, Err, OnOk, OnErr, refl, sym, ap, ◌∙◌, subst, append-nil}
 use Rattle.std.specs.List.{AllByRecursion}
 use Rattle.std.proofs.lemmas.Bool.{cond-false}
 use Rattle.pcp_base.specs.declared.addresses.Address.{Address}
+use Rattle.pcp_base.specs.declared.leases.Protocol.{Protocol}
 use Rattle.pcp_base.specs.declared.leases.Endpoint.{Endpoint}
+use Rattle.pcp_base.specs.declared.leases.End.{End}
 use Rattle.pcp_base.specs.declared.leases.MapLease.{MapLease}
 use Rattle.pcp_base.specs.declared.leases.PeerLease.{PeerLease}
 use Rattle.pcp_base.specs.declared.records.Change.TheVariants.{DropMap, DropPeer}
@@ -15,7 +17,7 @@ use Rattle.pcp_base.proofs.Members.{All-IsIn, All-from_IsIn, find-none}
 use Rattle.pcp_base.proofs.Same.{same_endpoint-Decides}
 use Rattle.pcp_base.proofs.TableLemmas.{covers-first}
 use Rattle.lease_store.specs.declared.terms.Terms.{Terms}
-use Rattle.leased_ports.specs.Leased.{Leased, IsOnTerms, at_moment, vacated}
+use Rattle.leased_ports.specs.Leased.{Leased, IsOnTerms, at_moment, vacated, with_last_ends, without_last_ends}
 use Rattle.indexed_store.proofs.Uniques.{keys-apart, two-weaker}
 
 pub on_later : (v : Leased) (m : ℕ) (terms : Terms) → IsOnTerms v terms → IsOnTerms (at_moment m v) terms
@@ -23,6 +25,28 @@ on_later v m terms h = record { low = h.low; high = h.high; quota = h.quota }
 
 pub on_anew : (v : Leased) (terms : Terms) → IsOnTerms v terms → IsOnTerms (vacated v) terms
 on_anew v terms h = record { low = h.low; high = h.high; quota = h.quota }
+
+-- ports in a row that get last ends, or lose theirs, stay on their terms and at their moment
+pub on_put : (e : End) (n : ℕ) (v : Leased) (terms : Terms) → IsOnTerms v terms → IsOnTerms (with_last_ends e n v) terms
+on_put e zero v terms h = h
+on_put e (suc n) v terms h = let on = on_put e n v terms h in record { low = on.low; high = on.high; quota = on.quota }
+
+pub on_free : (protocol : Protocol) (port n : ℕ) (v : Leased) (terms : Terms) → IsOnTerms v terms → IsOnTerms (without_last_ends protocol port n v) terms
+on_free protocol port zero v terms h = h
+on_free protocol port (suc n) v terms h = let on = on_free protocol port n v terms h in record { low = on.low; high = on.high; quota = on.quota }
+
+pub put_then : (e : End) (n : ℕ) (v : Leased) → (with_last_ends e n v).reached ≡ v.reached
+put_then e zero v = refl
+put_then e (suc n) v = put_then e n v
+
+pub free_then : (protocol : Protocol) (port n : ℕ) (v : Leased) → (without_last_ends protocol port n v).reached ≡ v.reached
+free_then protocol port zero v = refl
+free_then protocol port (suc n) v = free_then protocol port n v
+
+-- what stands behind a call that is refused, too
+pub either_way : {T E : Type 0} (r : Result T E) (P Q R : Type 0) → (P → R) → (Q → R) → OnOk r P → OnErr r Q → R
+either_way (Ok x) P Q R f g p q = f p
+either_way (Err e) P Q R f g p q = g q
 
 pub both_ok : {T E : Type 0} (r : Result T E) (P Q R : Type 0) → (P → Q → R) → OnOk r P → OnOk r Q → OnOk r R
 both_ok (Ok x) P Q R f p q = f p q
@@ -79,6 +103,3 @@ module _ (t : Table) (sound : Sound t) where
     pub one_peer_deleted : (l : PeerLease) → find (is_peer_of e remote port) t.peers ≡ Some l → peer_owner l ∷ [] ≡ owners (deleted (DropPeer e remote port) t)
     one_peer_deleted l h =
         sym (ap (map peer_owner) (one-filtered (is_peer_of e remote port) t.peers l (two-weaker HaveOtherKeys (λ a b. is_peer_of e remote port a ≡ true → is_peer_of e remote port b ≡ true → ⊥) (keys-apart e remote port) t.peers sound.different) h))
-
-pub nothing_more : {X : Type 0} (xs ys : List X) → [] ≡ ys → xs ≡ xs ++ ys
-nothing_more xs ys h = sym (append-nil xs) ∙ ap (λ zs. xs ++ zs) h

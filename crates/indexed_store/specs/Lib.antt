@@ -1,4 +1,5 @@
 pub mod Leading
+pub mod Runs
 pub mod Leaving
 pub mod Holding
 pub mod Settling

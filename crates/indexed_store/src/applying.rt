@@ -1,11 +1,9 @@
 //! A record that fits, applied to the state and to its ports.
-ghost use Rattle.std.specs.Prelude.{◌≡◌, ◌≤◌, ◌++◌, ℕ, true, false, OnOk, Contains, if◌then◌else◌};
+ghost use Rattle.std.specs.Prelude.{◌≡◌, ◌≤◌, ◌++◌, ℕ, true, false, IfSome, IfOk, OnOk, option_to_list, if◌then◌else◌};
 ghost use Rattle.std.specs.List.{AllByRecursion};
 ghost use Rattle.pcp_base.specs.declared.leases.Protocol.{Protocol};
-ghost use Rattle.pcp_base.specs.declared.leases.Owner.{Owner};
 ghost use Rattle.pcp_base.specs.States.{State};
-ghost use Rattle.pcp_base.specs.Tables.{live, dead};
-ghost use Rattle.pcp_base.specs.Owners.{owners, is_owned};
+ghost use Rattle.pcp_base.specs.Tables.{live};
 ghost use Rattle.pcp_base.specs.Sound.{Sound};
 ghost use Rattle.pcp_base.specs.Records.{IsWellFormedChange};
 ghost use Rattle.pcp_base.specs.Reached.{IsReached};
@@ -13,15 +11,17 @@ ghost use Rattle.pcp_base.specs.Fits.{Fits};
 ghost use Rattle.pcp_base.specs.Apply.{table_changed, table_1, table_2};
 ghost use Rattle.pcp_base.specs.Apply as by_apply;
 ghost use Rattle.lease_store.specs.declared.terms.Terms.{Terms};
+ghost use Rattle.end_table.specs.EndLists.{AreOrdered, end_among};
 ghost use Rattle.leased_ports.specs.Leased.{IsPortsOf, IsOnTerms, end_of, while_recent};
 ghost use Rattle.leased_ports.specs.Recorded.{end_by_rest};
-ghost use Rattle.leased_ports.specs.Recorded as the;
-ghost use Rattle.indexed_store.specs.Holding.{AreNear, IsOwner};
-ghost use Rattle.indexed_store.specs.Settling.{AreOrdered, AreOwn, come_by, end_among, rest_owners};
+ghost use Rattle.indexed_store.specs.Runs.{IsOwnerRun, have_port, touched_run};
+ghost use Rattle.indexed_store.specs.Holding.{AreNear, IsEvenRun};
+ghost use Rattle.indexed_store.specs.Settling.{AreMoved, AreOwn, come_by, rest_runs};
 
 use crate::facts::empties;
-use crate::holding::hold_all;
+use crate::holding::{Unowned, hold_touched};
 use crate::leases::Leases;
+use crate::owning::{OwnerRun, run_of_one};
 use crate::settling::settle_all;
 use crate::state::IndexedState;
 use end_table::EndTable;
@@ -30,45 +30,63 @@ use leased_ports::laws::{ports_follow_states, records_tell_last_ends};
 use pcp_base::{Change, End, Memory, Moment, Owner, Record, states_are_sound};
 use std::alloc::{AllocError, Global};
 
+/// What a record moves.
+#[derive(Drop)]
+struct Moved {
+    /// The ports of the lease that the change puts or takes out.
+    touched: Option<OwnerRun>,
+    /// All ports whose ends it may move: these too, those of leases that have ended, and that of a
+    /// Rest.
+    runs: Vec<OwnerRun>,
+}
+
 /// Adds the port of a Rest.
-fn add_rest(left: &mut Vec<Owner>, change: &Change) -> Result<(), AllocError>
-    ensures { OnOk result (left.new.items ≡ left.old.items ++ rest_owners change.now) }
+fn add_rest(runs: &mut Vec<OwnerRun>, m: Moment, change: &Change) -> Result<(), AllocError>
+    requires formed { IsWellFormedChange m change.now }
+    ensures runs { OnOk result (runs.new.items ≡ runs.old.items ++ rest_runs change.now) }
+    ensures formed { OnOk result (AllByRecursion IsOwnerRun runs.old.items
+        → AllByRecursion IsOwnerRun runs.new.items) }
 {
     let Change::Rest(endpoint, external, _) = change else {
         return Ok(());
     };
-    left.push(Owner {
+    runs.push(run_of_one(&Owner {
         protocol: endpoint.protocol,
         external: *external,
         endpoint: *endpoint,
-    })?;
+    }))?;
     Ok(())
 }
 
-/// Takes out the leases that have ended, and makes the change. What they owned is left, and what
-/// the change is about is touched.
-pub(crate) fn move_leases(
-    leases: &mut Leases,
-    kept: &Record,
-    alloc: Global,
-    left: &mut Vec<Owner>,
-    touched: &mut Vec<Owner>,
-) -> Result<(), Memory>
+/// Adds the run, if there is one.
+fn add_run(runs: &mut Vec<OwnerRun>, run: Option<OwnerRun>) -> Result<(), AllocError>
+    ensures { OnOk result (runs.new.items ≡ runs.old.items ++ option_to_list run) }
+{
+    let Some(run) = run else {
+        return Ok(());
+    };
+    runs.push(run)?;
+    Ok(())
+}
+
+/// Takes out the leases that have ended, and makes the change.
+fn move_leases(leases: &mut Leases, kept: &Record, alloc: Global) -> Result<Moved, Memory>
     requires formed { IsWellFormedChange kept.now.moment kept.now.change }
     requires before { Sound leases.old }
     requires after { Sound (table_changed kept.now.change (live leases.old kept.now.moment)) }
     ensures table { OnOk result (leases.new
         ≡ table_changed kept.now.change (live leases.old kept.now.moment)) }
-    ensures left { OnOk result ((o : Owner)
-        → Contains (owners (dead leases.old kept.now.moment)) o → Contains left.new.items o) }
-    ensures rest { OnOk result ((o : Owner)
-        → Contains (rest_owners kept.now.change) o → Contains left.new.items o) }
-    ensures touched { OnOk result (touched.new.items ≡ touched.old.items
-        ++ the.touched kept.now.change (live leases.old kept.now.moment)) }
+    ensures touched { IfOk result (λ moved. moved.touched
+        ≡ touched_run kept.now.change (live leases.old kept.now.moment)) }
+    ensures formed { IfOk result (λ moved. IfSome moved.touched IsOwnerRun) }
+    ensures runs { IfOk result (λ moved.
+        AreMoved kept.now.moment leases.old kept.now.change moved.runs.items) }
 {
-    leases.drop_dead(kept.moment, left)?;
-    add_rest(left, &kept.change)?;
-    leases.change(alloc, kept.moment, &kept.change, touched)
+    let mut runs = leases.drop_dead(alloc, kept.moment)?;
+    let touched = leases.change(alloc, kept.moment, &kept.change)?;
+    add_rest(&mut runs, kept.moment, &kept.change)?;
+    add_run(&mut runs, touched)?;
+    Ok(Moved { touched, runs })
 }
 
 /// Lets a port rest, where the change is a Rest.
@@ -103,25 +121,25 @@ fn move_ports(
     alloc: Global,
     leases: &Leases,
     kept: &Record,
-    touched: &[Owner],
+    touched: Option<OwnerRun>,
 ) -> Result<(), Memory>
     requires formed { IsWellFormedChange kept.now.moment kept.now.change }
     requires leases { AreNear leases.now }
-    requires touched { AllByRecursion IsOwner touched.now }
+    requires touched { IfSome touched (IsEvenRun leases.now.maps) }
     requires later { ports.old.reached ≤ kept.now.moment }
     ensures terms { (terms : Terms) → IsOnTerms ports.old terms → IsOnTerms ports.new terms }
     ensures reached { OnOk result (ports.new.reached ≡ kept.now.moment) }
     ensures ports { OnOk result ((s : State) → IsReached s → Fits s kept.now
         → by_apply.empties kept.now.change ≡ false → IsPortsOf ports.old s
         → leases.now ≡ table_2 s kept.now
-        → touched.now ≡ the.touched kept.now.change (table_1 s kept.now)
+        → touched ≡ touched_run kept.now.change (table_1 s kept.now)
         → IsPortsOf ports.new (by_apply.apply s kept.now)) }
 {
     ports_follow_states();
     records_tell_last_ends();
     ports.reach(kept.moment);
     hold_rest(ports, alloc, kept.moment, &kept.change)?;
-    hold_all(ports, alloc, leases, kept.moment, touched)
+    hold_touched(ports, alloc, leases, kept.moment, touched, Unowned::Rests)
 }
 
 /// Brings the ends of these ports to what the ports have, and takes out those that are over.
@@ -129,19 +147,17 @@ fn move_ends(
     ends: &mut EndTable,
     ports: &LeasedPorts,
     m: Moment,
-    left: &[Owner],
-    touched: &[Owner],
+    runs: &[OwnerRun],
 ) -> Result<(), Memory>
-    requires { AreOwn ports.now }
+    requires own { AreOwn ports.now }
+    requires runs { AllByRecursion IsOwnerRun runs.now }
     ensures ordered { OnOk result (AreOrdered ends.old → AreOrdered ends.new) }
     ensures ends { OnOk result (AreOrdered ends.old → (protocol : Protocol) (port : ℕ) →
         end_among protocol port ends.new ≡ while_recent m
-        (if is_owned protocol port touched.now then come_by m (end_of ports.now protocol port)
-        else if is_owned protocol port left.now then come_by m (end_of ports.now protocol port)
+        (if have_port protocol port runs.now then come_by m (end_of ports.now protocol port)
         else end_among protocol port ends.old)) }
 {
-    settle_all(ends, ports, m, left)?;
-    settle_all(ends, ports, m, touched)?;
+    settle_all(ends, ports, m, runs)?;
     ends.drop_over(m);
     Ok(())
 }
@@ -164,17 +180,15 @@ fn change(
     ensures reached { OnOk result (ports.new.reached ≡ kept.now.moment) }
 {
     states_are_sound();
-    let mut left = Vec::new(alloc);
-    let mut touched = Vec::new(alloc);
-    move_leases(&mut state.leases, kept, alloc, &mut left, &mut touched)?;
-    move_ports(ports, alloc, &state.leases, kept, &touched)?;
-    move_ends(&mut state.ends, ports, kept.moment, &left, &touched)?;
+    let moved = move_leases(&mut state.leases, kept, alloc)?;
+    move_ports(ports, alloc, &state.leases, kept, moved.touched)?;
+    move_ends(&mut state.ends, ports, kept.moment, &moved.runs)?;
     state.note(kept);
     Ok(())
 }
 
 /// Applies a record that forgets all.
-fn begin(state: &mut IndexedState, ports: &mut LeasedPorts, kept: &Record)
+pub(crate) fn begin(state: &mut IndexedState, ports: &mut LeasedPorts, kept: &Record)
     requires { by_apply.empties kept.now.change ≡ true }
     ensures terms { (terms : Terms) → IsOnTerms ports.old terms → IsOnTerms ports.new terms }
     ensures applied { state.new ≡ by_apply.apply state.old kept.now }

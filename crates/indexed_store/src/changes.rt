@@ -1,16 +1,16 @@
 //! What a change makes of the leases.
-ghost use Rattle.std.specs.Prelude.{◌≡◌, ◌++◌, OnOk};
-ghost use Rattle.pcp_base.specs.Tables.{HasPorts, empty_table};
+ghost use Rattle.std.specs.Prelude.{◌≡◌, IfSome, IfOk, OnOk};
+ghost use Rattle.pcp_base.specs.Tables.{HasPorts, IsPeerLease, empty_table};
 ghost use Rattle.pcp_base.specs.declared.records.Change.TheVariants.{Map, Peer, DropMap, DropPeer};
 ghost use Rattle.pcp_base.specs.Sound.{Sound};
 ghost use Rattle.pcp_base.specs.Records.{IsWellFormedChange};
 ghost use Rattle.pcp_base.specs.Apply.{table_changed};
-ghost use Rattle.leased_ports.specs.Recorded as the;
+ghost use Rattle.indexed_store.specs.Runs.{IsOwnerRun, touched_run};
 
 use crate::leases::Leases;
-use crate::owning::{add_owners, owner_of_peer};
+use crate::owning::{OwnerRun, run_of_map, run_of_peer};
 use mapping_table::laws::sound_tables_have_sound_maps;
-use pcp_base::{Address, Change, Endpoint, MapLease, Memory, Moment, Owner, PeerLease};
+use pcp_base::{Address, Change, Endpoint, MapLease, Memory, Moment, PeerLease};
 use peer_table::laws::sound_tables_have_sound_peers;
 use std::alloc::Global;
 
@@ -31,105 +31,84 @@ impl Leases {
         self.peers.reach(m);
     }
 
-    /// Puts a MAP lease, and adds its ports.
-    fn put_map(
-        &mut self,
-        alloc: Global,
-        lease: &MapLease,
-        touched: &mut Vec<Owner>,
-    ) -> Result<(), Memory>
+    /// Puts a MAP lease. Tells its ports.
+    fn put_map(&mut self, alloc: Global, lease: &MapLease) -> Result<Option<OwnerRun>, Memory>
         requires sound { Sound (table_changed (Map lease.now) self.old) }
         requires ports { HasPorts lease.now }
         ensures table { OnOk result (self.new ≡ table_changed (Map lease.now) self.old) }
-        ensures touched { OnOk result (touched.new.items
-            ≡ touched.old.items ++ the.touched (Map lease.now) self.old) }
+        ensures touched { IfOk result (λ run. run ≡ touched_run (Map lease.now) self.old) }
+        ensures formed { IfOk result (λ run. IfSome run IsOwnerRun) }
     {
         sound_tables_have_sound_maps();
         self.maps.put(alloc, *lease)?;
-        add_owners(touched, lease)?;
-        Ok(())
+        Ok(Some(run_of_map(lease)))
     }
 
-    /// Puts a PEER lease, and adds its port.
-    fn put_peer(
-        &mut self,
-        alloc: Global,
-        lease: &PeerLease,
-        touched: &mut Vec<Owner>,
-    ) -> Result<(), Memory>
-        requires { Sound (table_changed (Peer lease.now) self.old) }
+    /// Puts a PEER lease. Tells its port.
+    fn put_peer(&mut self, alloc: Global, lease: &PeerLease) -> Result<Option<OwnerRun>, Memory>
+        requires sound { Sound (table_changed (Peer lease.now) self.old) }
+        requires port { IsPeerLease lease.now }
         ensures table { OnOk result (self.new ≡ table_changed (Peer lease.now) self.old) }
-        ensures touched { OnOk result (touched.new.items
-            ≡ touched.old.items ++ the.touched (Peer lease.now) self.old) }
+        ensures touched { IfOk result (λ run. run ≡ touched_run (Peer lease.now) self.old) }
+        ensures formed { IfOk result (λ run. IfSome run IsOwnerRun) }
     {
         sound_tables_have_sound_peers();
         self.peers.put(alloc, *lease)?;
-        touched.push(owner_of_peer(lease))?;
-        Ok(())
+        Ok(Some(run_of_peer(lease)))
     }
 
-    /// Takes out a MAP lease, and adds its ports.
-    fn delete_map(&mut self, key: &Endpoint, touched: &mut Vec<Owner>) -> Result<(), Memory>
+    /// Takes out a MAP lease. Tells its ports.
+    fn delete_map(&mut self, key: &Endpoint) -> Option<OwnerRun>
         requires { Sound self.old }
-        ensures table { OnOk result (self.new ≡ table_changed (DropMap key.now) self.old) }
-        ensures touched { OnOk result (touched.new.items
-            ≡ touched.old.items ++ the.touched (DropMap key.now) self.old) }
+        ensures table { self.new ≡ table_changed (DropMap key.now) self.old }
+        ensures touched { result ≡ touched_run (DropMap key.now) self.old }
+        ensures formed { IfSome result IsOwnerRun }
     {
         let Some(lease) = self.maps.remove(key) else {
-            return Ok(());
+            return None;
         };
-        add_owners(touched, &lease)?;
-        Ok(())
+        Some(run_of_map(&lease))
     }
 
-    /// Takes out a PEER lease, and adds its port.
-    fn delete_peer(
-        &mut self,
-        endpoint: &Endpoint,
-        remote: &Address,
-        port: u16,
-        touched: &mut Vec<Owner>,
-    ) -> Result<(), Memory>
+    /// Takes out a PEER lease. Tells its port.
+    fn delete_peer(&mut self, endpoint: &Endpoint, remote: &Address, port: u16) -> Option<OwnerRun>
         requires { Sound self.old }
-        ensures table { OnOk result
-            (self.new ≡ table_changed (DropPeer endpoint.now remote.now port) self.old) }
-        ensures touched { OnOk result (touched.new.items
-            ≡ touched.old.items ++ the.touched (DropPeer endpoint.now remote.now port) self.old) }
+        ensures table { self.new ≡ table_changed (DropPeer endpoint.now remote.now port) self.old }
+        ensures touched { result ≡ touched_run (DropPeer endpoint.now remote.now port) self.old }
+        ensures formed { IfSome result IsOwnerRun }
     {
         let Some(lease) = self.peers.remove(endpoint, remote, port) else {
-            return Ok(());
+            return None;
         };
-        touched.push(owner_of_peer(&lease))?;
-        Ok(())
+        Some(run_of_peer(&lease))
     }
 
-    /// Makes a change, and adds the ports of the lease that it puts or takes out.
+    /// Makes a change. Tells the ports of the lease that it puts or takes out.
     pub(crate) fn change(
         &mut self,
         alloc: Global,
         m: Moment,
         change: &Change,
-        touched: &mut Vec<Owner>,
-    ) -> Result<(), Memory>
+    ) -> Result<Option<OwnerRun>, Memory>
         requires formed { IsWellFormedChange m change.now }
         requires before { Sound self.old }
         requires after { Sound (table_changed change.now self.old) }
         ensures table { OnOk result (self.new ≡ table_changed change.now self.old) }
-        ensures touched { OnOk result (touched.new.items
-            ≡ touched.old.items ++ the.touched change.now self.old) }
+        ensures touched { IfOk result (λ run. run ≡ touched_run change.now self.old) }
+        ensures formed { IfOk result (λ run. IfSome run IsOwnerRun) }
     {
         match change {
-            Change::Map(lease) => self.put_map(alloc, lease, touched),
-            Change::Peer(lease) => self.put_peer(alloc, lease, touched),
-            Change::DropMap(key) => self.delete_map(key, touched),
+            Change::Map(lease) => self.put_map(alloc, lease),
+            Change::Peer(lease) => self.put_peer(alloc, lease),
+            Change::DropMap(key) => Ok(self.delete_map(key)),
             Change::DropPeer(endpoint, remote, port) => {
-                self.delete_peer(endpoint, remote, *port, touched)
+                Ok(self.delete_peer(endpoint, remote, *port))
             }
             Change::Start | Change::Lose => {
                 self.clear();
-                Ok(())
+                Ok(None)
             }
-            Change::Mark | Change::Rest(..) | Change::Renumber(_) => Ok(()),
+            Change::Mark | Change::Rest(..) | Change::Renumber(_) => Ok(None),
         }
     }
 }

@@ -1,16 +1,15 @@
 //! Leases that have ended go out of the tables.
-ghost use Rattle.std.specs.Prelude.{◌≡◌, ◌+◌, ◌<◌, length, Contains, Ok, true, false, OnOk};
-ghost use Rattle.pcp_base.specs.declared.leases.Owner.{Owner};
-ghost use Rattle.pcp_base.specs.Tables.{Table, live, dead};
-ghost use Rattle.pcp_base.specs.Owners.{owners};
+ghost use Rattle.std.specs.Prelude.{◌≡◌, ◌<◌, length, Ok, true, false, IfOk, OnOk};
+ghost use Rattle.pcp_base.specs.Tables.{Table, live};
 ghost use Rattle.pcp_base.specs.Sound.{Sound};
 ghost use Rattle.mapping_table.specs.MapLists.{IsDeadMap};
 ghost use Rattle.peer_table.specs.PeerLists.{IsDeadPeer};
-ghost use Rattle.indexed_store.specs.Leaving.{AreLeaving};
+ghost use Rattle.indexed_store.specs.Leaving.{AreLeaving, AreOfDead};
 
 use crate::leases::Leases;
-use crate::owning::{add_owners, owner_of_peer};
-use pcp_base::{MapLease, Memory, Moment, Owner, PeerLease};
+use crate::owning::{OwnerRun, run_of_map, run_of_peer};
+use pcp_base::{MapLease, Memory, Moment, PeerLease};
+use std::alloc::Global;
 
 impl Leases {
     /// One of the MAP leases that aren't live at `m`.
@@ -28,10 +27,11 @@ impl Leases {
     }
 
     /// Takes out a MAP lease that isn't live at `m`, and adds its ports; false where there is none.
-    fn drop_map(&mut self, m: Moment, left: &mut Vec<Owner>) -> Result<bool, Memory>
+    fn drop_map(&mut self, m: Moment, left: &mut Vec<OwnerRun>) -> Result<bool, Memory>
         requires { Sound self.old }
         ensures leaving { OnOk result ((start : Table) → AreLeaving m start self.old left.old.items
             → AreLeaving m start self.new left.new.items) }
+        ensures sound { OnOk result (Sound self.new) }
         ensures peers { self.new.peers ≡ self.old.peers }
         ensures fewer { result ≡ Ok true → length self.new.maps < length self.old.maps }
         ensures all { result ≡ Ok false → self.new.maps ≡ (live self.new m).maps }
@@ -39,16 +39,17 @@ impl Leases {
         let Some(lease) = self.ended_map(m) else {
             return Ok(false);
         };
-        add_owners(left, &lease)?;
+        left.push(run_of_map(&lease))?;
         self.maps.remove(&lease.first_endpoint());
         Ok(true)
     }
 
     /// The same of a PEER lease.
-    fn drop_peer(&mut self, m: Moment, left: &mut Vec<Owner>) -> Result<bool, Memory>
+    fn drop_peer(&mut self, m: Moment, left: &mut Vec<OwnerRun>) -> Result<bool, Memory>
         requires { Sound self.old }
         ensures leaving { OnOk result ((start : Table) → AreLeaving m start self.old left.old.items
             → AreLeaving m start self.new left.new.items) }
+        ensures sound { OnOk result (Sound self.new) }
         ensures maps { self.new.maps ≡ self.old.maps }
         ensures fewer { result ≡ Ok true → length self.new.peers < length self.old.peers }
         ensures all { result ≡ Ok false → self.new.peers ≡ (live self.new m).peers }
@@ -56,14 +57,14 @@ impl Leases {
         let Some(lease) = self.ended_peer(m) else {
             return Ok(false);
         };
-        left.push(owner_of_peer(&lease))?;
+        left.push(run_of_peer(&lease))?;
         self.peers
             .remove(&lease.endpoint, &lease.remote, lease.remote_port);
         Ok(true)
     }
 
     /// Takes out the MAP leases that aren't live at `m`, and adds their ports.
-    fn drop_maps(&mut self, m: Moment, left: &mut Vec<Owner>) -> Result<(), Memory>
+    fn drop_maps(&mut self, m: Moment, left: &mut Vec<OwnerRun>) -> Result<(), Memory>
         requires { Sound self.old }
         ensures leaving { OnOk result ((start : Table) → AreLeaving m start self.old left.old.items
             → AreLeaving m start self.new left.new.items) }
@@ -76,7 +77,7 @@ impl Leases {
     }
 
     /// The same of PEER leases.
-    fn drop_peers(&mut self, m: Moment, left: &mut Vec<Owner>) -> Result<(), Memory>
+    fn drop_peers(&mut self, m: Moment, left: &mut Vec<OwnerRun>) -> Result<(), Memory>
         requires { Sound self.old }
         ensures leaving { OnOk result ((start : Table) → AreLeaving m start self.old left.old.items
             → AreLeaving m start self.new left.new.items) }
@@ -87,14 +88,15 @@ impl Leases {
         Ok(())
     }
 
-    /// Takes out the leases that aren't live at `m`, and adds their ports.
-    pub(crate) fn drop_dead(&mut self, m: Moment, left: &mut Vec<Owner>) -> Result<(), Memory>
+    /// Takes out the leases that aren't live at `m`. Tells their ports.
+    pub(crate) fn drop_dead(&mut self, alloc: Global, m: Moment) -> Result<Vec<OwnerRun>, Memory>
         requires { Sound self.old }
         ensures table { OnOk result (self.new ≡ live self.old m) }
-        ensures left { OnOk result ((o : Owner)
-            → Contains (owners (dead self.old m)) o → Contains left.new.items o) }
+        ensures left { IfOk result (λ left. AreOfDead m self.old left.items) }
     {
-        self.drop_maps(m, left)?;
-        self.drop_peers(m, left)
+        let mut left = Vec::new(alloc);
+        self.drop_maps(m, &mut left)?;
+        self.drop_peers(m, &mut left)?;
+        Ok(left)
     }
 }

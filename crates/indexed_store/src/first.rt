@@ -1,24 +1,28 @@
 //! Records of the first format, which knows no ends and no address.
-ghost use Rattle.std.specs.Prelude.{◌≡◌, ◌↔◌, IsTrue, IfOk, OnOk};
+ghost use Rattle.std.specs.Prelude.{◌≡◌, ◌≤◌, ◌↔◌, false, IsTrue, IfOk, OnOk};
+ghost use Rattle.std.specs.List.{AllByRecursion};
 ghost use Rattle.pcp_base.specs.States.{State};
 ghost use Rattle.pcp_base.specs.Tables.{live};
-ghost use Rattle.pcp_base.specs.Owners.{owners};
+ghost use Rattle.pcp_base.specs.Records.{IsWellFormedChange};
 ghost use Rattle.pcp_base.specs.Reached.{IsReached, IsReachedFirst};
-ghost use Rattle.pcp_base.specs.Fits.{IsOfFirst, FitsFirst};
+ghost use Rattle.pcp_base.specs.Fits.{IsAllowed, IsOfFirst, FitsFirst};
 ghost use Rattle.pcp_base.specs.Rooms.{SuitsFirst};
+ghost use Rattle.pcp_base.specs.Apply.{table_changed};
 ghost use Rattle.pcp_base.specs.Apply as by_apply;
 ghost use Rattle.lease_store.specs.declared.terms.Terms.{Terms};
 ghost use Rattle.leased_ports.specs.Leased.{IsPortsOf, IsOnTerms};
-ghost use Rattle.indexed_store.specs.Holding.{AreNear};
-ghost use Rattle.indexed_store.specs.Holding as the_owners;
+ghost use Rattle.indexed_store.specs.Holding.{AreEndsOf, AreHeld, AreLiveAt, AreNear, IsAgreed};
 
-use crate::applying::move_leases;
-use crate::holding::hold;
+use crate::applying::begin;
+use crate::facts::empties;
+use crate::holding::{Unowned, hold_run, hold_touched};
 use crate::judging::{is_next, suits_table};
 use crate::leases::Leases;
+use crate::owning::OwnerRun;
 use crate::state::IndexedState;
 use leased_ports::LeasedPorts;
-use pcp_base::{Change, Memory, Moment, Owner, Record, first_states_are_sound};
+use leased_ports::laws::ports_follow_states;
+use pcp_base::{Change, Memory, Moment, Record, first_states_are_sound};
 use std::alloc::Global;
 
 /// Whether the first format has such a change.
@@ -49,40 +53,96 @@ pub(crate) fn suits_first(
     suits_table(state, ports, alloc, kept)
 }
 
-/// Holds the ports of all leases.
-fn hold_each(
+/// Gives the ports of these runs the last ends by which the leases hold them; others of them are free.
+fn hold_all(
     ports: &mut LeasedPorts,
     alloc: Global,
     leases: &Leases,
     m: Moment,
-    owned: &[Owner],
+    runs: &[OwnerRun],
 ) -> Result<(), Memory>
-    requires leases { AreNear leases.now }
-    requires owned { owned.now ≡ owners (live leases.now m) }
+    requires near { AreNear leases.now }
+    requires live { AreLiveAt m leases.now }
+    requires runs { AllByRecursion (IsAgreed leases.now) runs.now }
     requires reached { ports.old.reached ≡ m }
     ensures terms { (terms : Terms) → IsOnTerms ports.old terms → IsOnTerms ports.new terms }
     ensures reached { OnOk result (ports.new.reached ≡ m) }
-    ensures ports { OnOk result ((s : State) → the_owners.IsFirstAt s leases.now m
-        → the_owners.HoldsEach s m owned.now ports.old ports.new) }
+    ensures ports { OnOk result (AreHeld leases.now runs.now ports.old ports.new) }
 {
-    for owner in owned {
-        hold(ports, alloc, leases, m, owner)?;
+    for run in runs {
+        hold_run(ports, alloc, leases, m, run, Unowned::IsFree)?;
     }
     Ok(())
 }
 
-/// Brings the ports to those of a state without ends that has these leases, at its last moment.
-fn rebuild(ports: &mut LeasedPorts, alloc: Global, leases: &Leases, m: Moment) -> Result<(), Memory>
-    requires leases { AreNear leases.now }
+/// Takes out the leases that have ended, and brings their ports to what the others hold.
+fn drop_dead(
+    leases: &mut Leases,
+    ports: &mut LeasedPorts,
+    alloc: Global,
+    m: Moment,
+) -> Result<(), Memory>
+    requires near { AreNear leases.old }
+    requires reached { ports.old.reached ≡ m }
     ensures terms { (terms : Terms) → IsOnTerms ports.old terms → IsOnTerms ports.new terms }
+    ensures table { OnOk result (leases.new ≡ live leases.old m) }
     ensures reached { OnOk result (ports.new.reached ≡ m) }
-    ensures ports { OnOk result ((s : State) → the_owners.IsFirstAt s leases.now m
-        → IsPortsOf ports.new s) }
+    ensures ports { OnOk result ((s : State) → IsReachedFirst s → s.table ≡ leases.old
+        → IsPortsOf ports.old s → AreEndsOf (live leases.old m) ports.new) }
 {
-    ports.clear();
-    ports.reach(m);
-    let owned = leases.live_owners(alloc, m)?;
-    hold_each(ports, alloc, leases, m, &owned)
+    let left = leases.drop_dead(alloc, m)?;
+    hold_all(ports, alloc, leases, m, &left)
+}
+
+/// Makes a change, and brings the ports that it touches to what the leases hold.
+fn make_change(
+    leases: &mut Leases,
+    ports: &mut LeasedPorts,
+    alloc: Global,
+    kept: &Record,
+) -> Result<(), Memory>
+    requires formed { IsWellFormedChange kept.now.moment kept.now.change }
+    requires keeps { by_apply.empties kept.now.change ≡ false }
+    requires allowed { IsAllowed leases.old kept.now.change }
+    requires before { AreNear leases.old }
+    requires after { AreNear (table_changed kept.now.change leases.old) }
+    requires live { AreLiveAt kept.now.moment (table_changed kept.now.change leases.old) }
+    requires reached { ports.old.reached ≡ kept.now.moment }
+    requires ports { AreEndsOf leases.old ports.old }
+    ensures terms { (terms : Terms) → IsOnTerms ports.old terms → IsOnTerms ports.new terms }
+    ensures table { OnOk result (leases.new ≡ table_changed kept.now.change leases.old) }
+    ensures reached { OnOk result (ports.new.reached ≡ kept.now.moment) }
+    ensures ports { OnOk result
+        (AreEndsOf (table_changed kept.now.change leases.old) ports.new) }
+{
+    let touched = leases.change(alloc, kept.moment, &kept.change)?;
+    hold_touched(ports, alloc, leases, kept.moment, touched, Unowned::IsFree)
+}
+
+/// Applies a record that doesn't forget all. After an error nothing is said of either.
+fn change(
+    state: &mut IndexedState,
+    ports: &mut LeasedPorts,
+    alloc: Global,
+    kept: &Record,
+) -> Result<(), Memory>
+    requires sound { IsReachedFirst state.old }
+    requires fits { FitsFirst state.old kept.now }
+    requires keeps { by_apply.empties kept.now.change ≡ false }
+    requires later { ports.old.reached ≤ kept.now.moment }
+    requires ports { IsPortsOf ports.old state.old }
+    ensures terms { (terms : Terms) → IsOnTerms ports.old terms → IsOnTerms ports.new terms }
+    ensures applied { OnOk result (state.new ≡ by_apply.apply_first state.old kept.now) }
+    ensures ports { OnOk result (IsPortsOf ports.new (by_apply.apply_first state.old kept.now)) }
+    ensures reached { OnOk result (ports.new.reached ≡ kept.now.moment) }
+{
+    first_states_are_sound();
+    ports_follow_states();
+    ports.reach(kept.moment);
+    drop_dead(&mut state.leases, ports, alloc, kept.moment)?;
+    make_change(&mut state.leases, ports, alloc, kept)?;
+    state.note(kept);
+    Ok(())
 }
 
 /// Applies a record that fits in the first format. After an error nothing is said of either.
@@ -94,16 +154,16 @@ pub(crate) fn apply_first(
 ) -> Result<(), Memory>
     requires sound { IsReachedFirst state.old }
     requires fits { FitsFirst state.old kept.now }
+    requires later { ports.old.reached ≤ kept.now.moment }
+    requires ports { IsPortsOf ports.old state.old }
     ensures terms { (terms : Terms) → IsOnTerms ports.old terms → IsOnTerms ports.new terms }
     ensures applied { OnOk result (state.new ≡ by_apply.apply_first state.old kept.now) }
     ensures ports { OnOk result (IsPortsOf ports.new (by_apply.apply_first state.old kept.now)) }
     ensures reached { OnOk result (ports.new.reached ≡ kept.now.moment) }
 {
-    first_states_are_sound();
-    let mut left = Vec::new(alloc);
-    let mut touched = Vec::new(alloc);
-    move_leases(&mut state.leases, kept, alloc, &mut left, &mut touched)?;
-    rebuild(ports, alloc, &state.leases, kept.moment)?;
-    state.note(kept);
-    Ok(())
+    if empties(&kept.change) {
+        begin(state, ports, kept);
+        return Ok(());
+    }
+    change(state, ports, alloc, kept)
 }

@@ -1,20 +1,39 @@
-//! Until when leases hold a port.
-ghost use Rattle.std.specs.Prelude.{◌≡◌, ℕ, ◌≤◌, ◌<◌, ◌^◌, Some, OnOk, find, if◌then◌else◌};
-ghost use Rattle.std.specs.List.{AllByRecursion};
-ghost use Rattle.std.specs.Option.{option_map, option_or};
+//! Until when leases hold ports.
+ghost use Rattle.std.specs.Prelude.{◌≡◌, ℕ, ◌≤◌, ◌<◌, ◌+◌, ◌^◌, IfSome, IfOk, OnOk, if◌then◌else◌};
+ghost use Rattle.std.specs.Option.{option_map};
 ghost use Rattle.pcp_base.specs.declared.leases.Protocol.{Protocol};
-ghost use Rattle.pcp_base.specs.Owners.{is_port};
 ghost use Rattle.pcp_base.specs.Ends.{end_at};
 ghost use Rattle.mapping_table.specs.MapLists.{map_owning};
 ghost use Rattle.lease_store.specs.declared.terms.Terms.{Terms};
-ghost use Rattle.leased_ports.specs.Recorded.{held_until};
 ghost use Rattle.leased_ports.specs.Leased.{IsOnTerms, end_of};
-ghost use Rattle.indexed_store.specs.Holding.{AreNear, IsOwner, later_by};
+ghost use Rattle.indexed_store.specs.Runs.{IsOwnerRun, has_port, owner_in, up_to};
+ghost use Rattle.indexed_store.specs.Holding.{AreNear, Holds, HoldsIf, IsEvenRun, IsHold, end_held, held_by_map, later_by};
+ghost use Rattle.indexed_store.specs.Holding as the;
 
 use crate::leases::Leases;
+use crate::owning::OwnerRun;
 use leased_ports::LeasedPorts;
 use pcp_base::{End, Memory, Moment, Owner, Protocol};
+use peer_table::PeerTable;
 use std::alloc::Global;
+
+/// What becomes of a port that no lease owns any more.
+#[derive(Clone, Copy)]
+pub(crate) enum Unowned {
+    /// It rests for its last endpoint, from the moment reached on.
+    Rests,
+    /// It is free: the first format knows no ends.
+    IsFree,
+}
+
+/// Ports in a row that leases hold until the same moment.
+#[derive(Clone, Copy)]
+struct Hold {
+    /// How many they are, at least 1.
+    count: u32,
+    /// In seconds.
+    until: u64,
+}
 
 /// The later of a moment and of another, which may be missing.
 fn later(m: u64, other: Option<u64>) -> u64
@@ -37,67 +56,165 @@ impl Leases {
         Some(lease.expiry)
     }
 
-    /// The latest of `m` and of the expiries of the leases that own the port.
-    fn held_until(&self, m: Moment, protocol: Protocol, port: u16) -> u64
+    /// The later of `m` and of the expiry of the MAP lease that owns the port.
+    fn held_by_map(&self, m: Moment, protocol: Protocol, port: u16) -> u64
         requires { AreNear self.now }
-        ensures value { result ≡ held_until m self.now protocol port }
+        ensures value { result ≡ held_by_map m self.now.maps protocol port }
         ensures bounds { (m ≤ result) × (result < 2 ^ 41) }
     {
-        let until = later(m.get(), self.map_expiry(protocol, port));
-        later(until, self.peers.last_expiry(protocol, port))
+        later(m.get(), self.map_expiry(protocol, port))
     }
 }
 
-/// Gives a port the end until which these leases hold it. Where memory is wanting, all ports are
-/// forgotten.
-pub(crate) fn hold(
-    ports: &mut LeasedPorts,
-    alloc: Global,
-    leases: &Leases,
-    m: Moment,
-    owner: &Owner,
-) -> Result<(), Memory>
-    requires leases { AreNear leases.now }
-    requires owner { IsOwner owner.now }
-    requires reached { ports.old.reached ≡ m }
-    ensures terms { (terms : Terms) → IsOnTerms ports.old terms → IsOnTerms ports.new terms }
-    ensures reached { OnOk result (ports.new.reached ≡ m) }
-    ensures ports { OnOk result ((protocol : Protocol) (port : ℕ) →
-        end_of ports.new protocol port ≡ (if is_port protocol port owner.now
-        then Some (end_at (held_until m leases.now protocol port) owner.now)
-        else end_of ports.old protocol port)) }
+/// How many ports of the run, from its first on, are held until the same moment, where MAP leases
+/// hold all of them until `from`: those before the next one that a PEER lease owns, or that one.
+fn hold_along(peers: &PeerTable, run: &OwnerRun, from: u64) -> Hold
+    requires { IsOwnerRun run.now }
+    ensures { IsHold from peers.now run.now result }
 {
-    let last = End {
-        endpoint: owner.endpoint,
-        external: owner.external,
-        end: leases.held_until(m, owner.protocol, owner.external),
+    let first = &run.first;
+    let Some(next) = peers.next_owned(first.protocol, first.external) else {
+        return Hold {
+            count: run.count,
+            until: from,
+        };
     };
-    ports.put(alloc, &last)
+    if next == first.external {
+        return Hold {
+            count: 1,
+            until: later(from, peers.last_expiry(first.protocol, next)),
+        };
+    }
+    Hold {
+        count: run.count.min(u32::from(next - first.external)),
+        until: from,
+    }
 }
 
-/// The same of each of the ports.
-pub(crate) fn hold_all(
+/// The end of an owner's port.
+fn end_at(owner: &Owner, end: u64) -> End
+    ensures { result ≡ end_at end owner.now }
+{
+    End {
+        endpoint: owner.endpoint,
+        external: owner.external,
+        end,
+    }
+}
+
+/// Whether a port that leases hold until then has a last end at `m`.
+fn has_end(unowned: Unowned, m: Moment, until: u64) -> bool
+    ensures { result ≡ the.has_end unowned m until }
+{
+    match unowned {
+        Unowned::Rests => true,
+        Unowned::IsFree => m.get() < until,
+    }
+}
+
+/// Holds ports in a row until then, or lets them rest or be free. Where memory is wanting, all ports
+/// are forgotten.
+fn give(
     ports: &mut LeasedPorts,
     alloc: Global,
-    leases: &Leases,
     m: Moment,
-    owners: &[Owner],
+    run: &OwnerRun,
+    until: u64,
+    unowned: Unowned,
 ) -> Result<(), Memory>
-    requires leases { AreNear leases.now }
-    requires owners { AllByRecursion IsOwner owners.now }
+    requires run { IsOwnerRun run.now }
+    requires until { (m ≤ until) × (until < 2 ^ 41) }
     requires reached { ports.old.reached ≡ m }
     ensures terms { (terms : Terms) → IsOnTerms ports.old terms → IsOnTerms ports.new terms }
     ensures reached { OnOk result (ports.new.reached ≡ m) }
     ensures ports { OnOk result ((protocol : Protocol) (port : ℕ) →
-        end_of ports.new protocol port ≡ option_or
-        (option_map (λ o. end_at (held_until m leases.now protocol port) o)
-        (find (is_port protocol port) owners.now)) (end_of ports.old protocol port)) }
+        end_of ports.new protocol port ≡ (if has_port protocol port run.now
+        then end_held unowned m until (owner_in run.now port)
+        else end_of ports.old protocol port)) }
 {
-    match owners {
-        [] => Ok(()),
-        [first, rest @ ..] => {
-            hold_all(ports, alloc, leases, m, rest)?;
-            hold(ports, alloc, leases, m, first)
-        }
+    let first = &run.first;
+    if has_end(unowned, m, until) {
+        return ports.put_run(alloc, &end_at(first, until), run.count);
+    }
+    ports.free_run(alloc, first.protocol, first.external, run.count)
+}
+
+/// Gives ports of a run their last ends, from the first on as far as these are of the same moment,
+/// where MAP leases hold all of the run until `from`. Tells how many.
+fn hold_piece(
+    ports: &mut LeasedPorts,
+    alloc: Global,
+    leases: &Leases,
+    m: Moment,
+    run: &OwnerRun,
+    from: u64,
+    unowned: Unowned,
+) -> Result<u32, Memory>
+    requires near { AreNear leases.now }
+    requires run { IsOwnerRun run.now }
+    requires from { (i : ℕ) → i < run.now.count → from
+        ≡ held_by_map m leases.now.maps run.now.first.protocol (run.now.first.external + i) }
+    requires bounds { (m ≤ from) × (from < 2 ^ 41) }
+    requires reached { ports.old.reached ≡ m }
+    ensures terms { (terms : Terms) → IsOnTerms ports.old terms → IsOnTerms ports.new terms }
+    ensures reached { OnOk result (ports.new.reached ≡ m) }
+    ensures count { IfOk result (λ n. (1 ≤ n) × (n ≤ run.now.count)) }
+    ensures ports { IfOk result (λ n.
+        Holds unowned m leases.now (up_to n run.now) ports.old ports.new) }
+{
+    let hold = hold_along(&leases.peers, run, from);
+    let piece = OwnerRun {
+        first: run.first,
+        count: hold.count,
+    };
+    give(ports, alloc, m, &piece, hold.until, unowned)?;
+    Ok(hold.count)
+}
+
+/// Gives ports in a row the last ends by which these leases hold them. Where memory is wanting, all
+/// ports are forgotten.
+pub(crate) fn hold_run(
+    ports: &mut LeasedPorts,
+    alloc: Global,
+    leases: &Leases,
+    m: Moment,
+    run: &OwnerRun,
+    unowned: Unowned,
+) -> Result<(), Memory>
+    requires near { AreNear leases.now }
+    requires run { IsEvenRun leases.now.maps run.now }
+    requires reached { ports.old.reached ≡ m }
+    ensures terms { (terms : Terms) → IsOnTerms ports.old terms → IsOnTerms ports.new terms }
+    ensures reached { OnOk result (ports.new.reached ≡ m) }
+    ensures ports { OnOk result (Holds unowned m leases.now run.now ports.old ports.new) }
+{
+    let from = leases.held_by_map(m, run.first.protocol, run.first.external);
+    let mut done = 0;
+    while done < run.count {
+        let count = hold_piece(ports, alloc, leases, m, &run.behind(done), from, unowned)?;
+        done += count;
+    }
+    Ok(())
+}
+
+/// The same of one run, if there is one.
+pub(crate) fn hold_touched(
+    ports: &mut LeasedPorts,
+    alloc: Global,
+    leases: &Leases,
+    m: Moment,
+    touched: Option<OwnerRun>,
+    unowned: Unowned,
+) -> Result<(), Memory>
+    requires near { AreNear leases.now }
+    requires touched { IfSome touched (IsEvenRun leases.now.maps) }
+    requires reached { ports.old.reached ≡ m }
+    ensures terms { (terms : Terms) → IsOnTerms ports.old terms → IsOnTerms ports.new terms }
+    ensures reached { OnOk result (ports.new.reached ≡ m) }
+    ensures ports { OnOk result (HoldsIf unowned m leases.now touched ports.old ports.new) }
+{
+    match touched {
+        Some(run) => hold_run(ports, alloc, leases, m, &run, unowned),
+        None => Ok(()),
     }
 }

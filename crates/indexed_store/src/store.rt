@@ -25,10 +25,11 @@ use std::alloc::Global;
 use std::marker::Model;
 
 /// The state that records made, at a moment that is reached. What is looked up, picked and applied
-/// takes logarithmic time in the number of leases, for each port and key that it touches. `reach`
-/// and `apply` take as much for each lease that ended meanwhile, each of them once for it. Calls
-/// that copy lists, or count at another moment than the one reached, take more, and so does
-/// `admit_first`.
+/// takes logarithmic time in the number of leases and of runs of their ports, for each of those that
+/// it touches: the ports of a MAP lease are one run, parted where PEER leases own some of them.
+/// `reach` and `apply` take as much for each lease that ended meanwhile, each of them once for it.
+/// `admit` and `admit_first` look at each port of a new lease besides. Calls that copy lists, or count
+/// at another moment than the one reached, take more.
 #[derive(Drop)]
 pub struct IndexedStore {
     state: IndexedState,
@@ -96,6 +97,8 @@ fn take_first(
 ) -> Result<(), Memory>
     requires sound { IsReachedFirst state.old }
     requires fits { FitsFirst state.old kept.now }
+    requires later { ports.old.reached ≤ kept.now.moment }
+    requires ports { IsPortsOf ports.old state.old }
     ensures terms { (terms : Terms) → IsOnTerms ports.old terms → IsOnTerms ports.new terms }
     ensures applied { OnOk result (state.new ≡ by_apply.apply_first state.old kept.now) }
     ensures ports { OnOk result (IsPortsOf ports.new (by_apply.apply_first state.old kept.now)) }

@@ -1,17 +1,16 @@
-use Rattle.std.proofs.Common.{◌++◌, List, Contains, sym, subst}
-use Rattle.pcp_base.specs.declared.leases.Owner.{Owner}
+use Rattle.std.proofs.Common.{sym, ap, ◌∙◌, subst}
 use Rattle.pcp_base.specs.Sound.{Sound}
-use Rattle.pcp_base.proofs.Members.{IsIn-left, IsIn-from_Contains, Contains-from_IsIn}
 use Rattle.pcp_base.proofs.TableLemmas.{Sound-live}
-use Rattle.indexed_store.specs.Settling.{rest_owners}
-use Rattle.indexed_store.proofs.MoveLemmas.{any_ok}
+use Rattle.indexed_store.specs.Runs.{touched_run}
+use Rattle.indexed_store.proofs.ApplyLemmas.{all-moved}
 use Rattle.indexed_store.proofs.applying.move_leases.Goals as goal
 
 pub change-requires-clause-before : goal.change-requires-clause-before
-change-requires-clause-before c = subst Sound (sym c.in_ok-drop_dead.ensures.table) (Sound-live c.args.leases.now c.args.kept.now.moment c.requires.before)
+change-requires-clause-before c = subst Sound (sym c.in_ok-runs.ensures.table) (Sound-live c.args.leases.now c.args.kept.now.moment c.requires.before)
 
-pub returns-clause-left : goal.returns-clause-left
-returns-clause-left c = any_ok c.change.result _ (λ o h.
-    let old = c.drop_dead.new.left.items in let rest = rest_owners c.args.kept.now.change in
-    subst (λ (os : List Owner). Contains os o) (sym c.in_ok-add_rest.ensures)
-    (Contains-from_IsIn (old ++ rest) o (IsIn-left old rest o (IsIn-from_Contains old o (c.in_ok-drop_dead.ensures.left o h)))))
+pub returns-clause-runs : goal.returns-clause-runs
+returns-clause-runs c =
+    let r = c.args.kept.now in let left = c.in_ok-runs.runs.items in let run = c.in_ok-touched.touched in
+    let touched = c.in_ok-touched.ensures.touched ∙ ap (touched_run r.change) c.in_ok-runs.ensures.table in
+    all-moved r.moment c.args.leases.now r.change left c.add_rest.new.runs.items c.add_run.new.runs.items run c.in_ok-runs.ensures.left c.in_ok-add_rest.ensures.runs c.in_ok-add_run.ensures
+    touched (c.in_ok-add_rest.ensures.formed c.in_ok-runs.ensures.left.formed) c.in_ok-touched.ensures.formed

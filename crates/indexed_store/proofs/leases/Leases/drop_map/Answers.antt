@@ -1,10 +1,12 @@
-use Rattle.std.proofs.Common.{◌≡◌, ◌++◌, ◌<◌, nat_lt, not, List, filter, length, ap, ◌∙◌, subst, sym}
+use Rattle.std.proofs.Common.{◌≡◌, ◌++◌, ◌∷◌, [], ◌<◌, nat_lt, not, List, filter, length, ap, ◌∙◌, subst, sym}
 use Rattle.pcp_base.specs.declared.leases.Endpoint.{Endpoint}
 use Rattle.pcp_base.specs.declared.leases.MapLease.{MapLease}
 use Rattle.pcp_base.specs.Tables.{Table, IsMapLease, first_endpoint, is_map_of}
-use Rattle.pcp_base.specs.Owners.{map_owners}
+use Rattle.pcp_base.specs.Sound.{Sound}
 use Rattle.pcp_base.proofs.Members.{IsIn-from_Contains, All-IsIn}
-use Rattle.indexed_store.proofs.LeavingLemmas.{all_live, leaving_same, without_map, leave_map, fewer_maps}
+use Rattle.pcp_base.proofs.TableLemmas.{Sound-filter_maps}
+use Rattle.indexed_store.specs.Runs.{IsOwnerRun, map_run}
+use Rattle.indexed_store.proofs.LeavingLemmas.{all_live, leaving_same, pushed, without_map, leave_map, fewer_maps}
 use Rattle.indexed_store.proofs.leases.Leases.drop_map.Goals as goal
 
 pub returns-in_default-clause-all : goal.returns-in_default-clause-all
@@ -12,8 +14,8 @@ returns-in_default-clause-all c = λ _.
     all_live (λ (l : MapLease). nat_lt c.args.m l.expiry) c.args.self.now.maps
     c.in_default.ensures.none
 
-pub add_owners-requires : goal.add_owners-requires
-add_owners-requires c =
+pub run_of_map-requires : goal.run_of_map-requires
+run_of_map-requires c =
     let ls = c.args.self.now.maps in
     (All-IsIn IsMapLease ls c.in-Some.lease c.requires.maps
     (IsIn-from_Contains ls c.in-Some.lease c.in-Some.ensures.among)).ports
@@ -36,9 +38,20 @@ returns-clause-leaving c = λ start h.
     let before : Table = record { maps = c.self.inside.maps; peers = c.self.inside.peers } in
     let gone = removed t before l _ c.remove.new.self c.self.view_is c.first_endpoint.ensures
     c.remove.ensures.removed in
-    leaving_same m start (without_map t l) _ (left ++ map_owners l) _ gone
-    c.in_ok-add_owners.ensures
-    (leave_map m t c.requires l c.in-Some.ensures.among c.in-Some.ensures.dead start left h)
+    let more = pushed left _ c.run_of_map.result (map_run l) c.in_ok-push.ensures.items
+    c.run_of_map.ensures.value in
+    let formed = subst IsOwnerRun c.run_of_map.ensures.value c.run_of_map.ensures.formed in
+    leaving_same m start (without_map t l) _ (left ++ map_run l ∷ []) _ gone more
+    (leave_map m t c.requires l c.in-Some.ensures.among c.in-Some.ensures.dead start left formed h)
+
+pub returns-clause-sound : goal.returns-clause-sound
+returns-clause-sound c =
+    let t = c.args.self.now in let l = c.in-Some.lease in
+    let before : Table = record { maps = c.self.inside.maps; peers = c.self.inside.peers } in
+    let gone = removed t before l _ c.remove.new.self c.self.view_is c.first_endpoint.ensures
+    c.remove.ensures.removed in
+    subst Sound (sym gone)
+    (Sound-filter_maps t (λ (x : MapLease). not (is_map_of (first_endpoint l) x)) c.requires)
 
 pub returns-clause-fewer : goal.returns-clause-fewer
 returns-clause-fewer c = λ _.

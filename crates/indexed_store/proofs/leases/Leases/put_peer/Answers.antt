@@ -7,4 +7,4 @@ use Rattle.indexed_store.proofs.leases.Leases.put_peer.Goals as goal
 
 pub put-requires : goal.put-requires
 put-requires c = subst (λ (t : Table). AreSoundPeers (with_peer c.args.lease.now t.peers)) (sym c.self.view_is)
-    (c.sound_tables_have_sound_peers.ensures (table_changed (Peer c.args.lease.now) c.args.self.now) c.requires)
+    (c.sound_tables_have_sound_peers.ensures (table_changed (Peer c.args.lease.now) c.args.self.now) c.requires.sound)
