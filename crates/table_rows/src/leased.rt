@@ -1,13 +1,13 @@
 //! Calls of the ports of an address, with answers that are worked out by hand: which are picked where
 //! others are held or rest.
 
-ghost use Rattle.std.specs.Prelude.{◌≡◌, ◌≤◌, OnOk};
+ghost use Rattle.std.specs.Prelude.{◌≡◌, ◌≤◌, ◌+◌, OnOk};
 ghost use Rattle.std.specs.Bool.{OnTrue};
 ghost use Rattle.external_pool.specs.Calls.{IsAsk};
-ghost use Rattle.leased_ports.specs.Leased.{IsLastEnd};
+ghost use Rattle.leased_ports.specs.Leased.{IsLastEnd, AreLastEnds};
 
 use crate::making::{all_are_so, at, moment};
-use Call::{LastEnd, Pick, Put, Reach};
+use Call::{FreeRun, LastEnd, Pick, PieceOf, Put, PutRun, Reach};
 use PickRefused::{CannotProvide, NoPort, Quota};
 use Protocol::{Tcp, Udp};
 use Wish::{Any, Away, First, Must};
@@ -39,6 +39,12 @@ enum Call {
     Pick(u8, Protocol, u16, u16, u32, Wish, Result<(u16, u32), PickRefused>),
     /// An external port over UDP, and host, internal port and end.
     LastEnd(u16, Option<(u8, u16, u64)>),
+    /// As `Put`, in one call.
+    PutRun(u8, Protocol, u16, u16, u32, u32),
+    /// A protocol, an external port, and how many from it on.
+    FreeRun(Protocol, u16, u32),
+    /// The same, with host, internal port and end of the first, and how many are one piece.
+    PieceOf(Protocol, u16, u32, Option<(u8, u16, u64)>, u32),
 }
 
 static SUGGESTED: [Call; 11] = [
@@ -179,6 +185,75 @@ static LAST: [Call; 9] = [
     Pick(2, Udp, 7, 0, 4, Any, Ok((65533, 3))),
 ];
 
+static RUNS: [Call; 29] = [
+    PieceOf(Udp, 1024, 10, None, 10),
+    PieceOf(Udp, 65535, 1, None, 1),
+    PutRun(5, Udp, 5000, 1030, 4, 100),
+    LastEnd(1033, Some((5, 5003, 100))),
+    LastEnd(1034, None),
+    PieceOf(Udp, 1024, 10, None, 6),
+    PieceOf(Udp, 1024, 5, None, 5),
+    PieceOf(Udp, 1030, 10, Some((5, 5000, 100)), 4),
+    PieceOf(Udp, 1032, 10, Some((5, 5002, 100)), 2),
+    PieceOf(Udp, 1032, 1, Some((5, 5002, 100)), 1),
+    PieceOf(Udp, 1034, 3, None, 3),
+    // What is free over TCP ends at the last port.
+    PieceOf(Tcp, 1030, 64506, None, 64506),
+    // A part gets another end.
+    PutRun(5, Udp, 5001, 1031, 2, 50),
+    PieceOf(Udp, 1030, 4, Some((5, 5000, 100)), 1),
+    PieceOf(Udp, 1031, 4, Some((5, 5001, 50)), 2),
+    PieceOf(Udp, 1033, 4, Some((5, 5003, 100)), 1),
+    // All get one, and then another.
+    PutRun(5, Udp, 5000, 1030, 4, 200),
+    PieceOf(Udp, 1030, 10, Some((5, 5000, 200)), 4),
+    PutRun(5, Udp, 5000, 1030, 4, 300),
+    PieceOf(Udp, 1031, 10, Some((5, 5001, 300)), 3),
+    FreeRun(Udp, 1031, 2),
+    PieceOf(Udp, 1030, 10, Some((5, 5000, 300)), 1),
+    PieceOf(Udp, 1031, 10, None, 2),
+    PieceOf(Udp, 1033, 10, Some((5, 5003, 300)), 1),
+    Pick(6, Udp, 5000, 1031, 2, Must, Ok((1031, 2))),
+    Pick(6, Udp, 5000, 1030, 1, Must, Err(CannotProvide)),
+    // Over several runs and what lies between.
+    FreeRun(Udp, 1029, 9),
+    PieceOf(Udp, 1024, 99, None, 99),
+    Pick(6, Udp, 5000, 1029, 9, Must, Ok((1029, 9))),
+];
+
+static RESTING_RUNS: [Call; 16] = [
+    PutRun(5, Udp, 5000, 1030, 4, 300),
+    Reach(299),
+    Pick(5, Udp, 5001, 1031, 1, Must, Err(CannotProvide)),
+    // Each port rests for its own endpoint.
+    Reach(300),
+    PieceOf(Udp, 1031, 9, Some((5, 5001, 300)), 3),
+    Pick(5, Udp, 5001, 1031, 1, Must, Ok((1031, 1))),
+    Pick(5, Udp, 5000, 1031, 1, Must, Err(CannotProvide)),
+    Pick(6, Udp, 5001, 1031, 1, Must, Err(CannotProvide)),
+    // Ports that rest from the first on.
+    PutRun(7, Tcp, 7000, 2000, 3, 250),
+    Pick(7, Tcp, 7001, 2001, 2, Must, Ok((2001, 2))),
+    Pick(6, Tcp, 7001, 2001, 1, Must, Err(CannotProvide)),
+    Reach(370),
+    PieceOf(Tcp, 1999, 5, None, 5),
+    PieceOf(Udp, 1030, 9, Some((5, 5000, 300)), 4),
+    Reach(420),
+    PieceOf(Udp, 1030, 9, None, 9),
+];
+
+// Of all ports: the last ones of TCP, and the first ones of UDP.
+static EDGES: [Call; 8] = [
+    PutRun(8, Tcp, 8000, 65534, 2, 900),
+    PutRun(8, Udp, 8000, 1, 2, 900),
+    PieceOf(Tcp, 65530, 6, None, 4),
+    PieceOf(Tcp, 65534, 2, Some((8, 8000, 900)), 2),
+    PieceOf(Udp, 0, 9, None, 1),
+    PieceOf(Udp, 1, 9, Some((8, 8000, 900)), 2),
+    FreeRun(Tcp, 0, 65536),
+    PieceOf(Tcp, 0, 65536, None, 65536),
+];
+
 /// Whether a port may have this last end at `now`.
 fn is_last_end(now: u32, last: &End) -> bool
     ensures { OnTrue result (IsLastEnd now last.now) }
@@ -207,6 +282,73 @@ fn put_all(
         ports.put(alloc, &last)?;
     }
     Ok(true)
+}
+
+/// How many ports there are from this one on.
+fn ports_from(start: u16) -> u32
+    ensures { start + result ≡ 65536 }
+{
+    65536 - u32::from(start)
+}
+
+/// Whether so many ports may have this last end and those along it at `now`.
+fn are_last_ends(now: u32, first: &End, count: u32) -> bool
+    ensures { OnTrue result (AreLastEnds now first.now count) }
+{
+    is_last_end(now, first)
+        && count >= 1
+        && count <= ports_from(first.external)
+        && count <= ports_from(first.endpoint.port)
+}
+
+/// Gives `count` ports, from this one on, the last end of it and those along it.
+fn put_run(
+    alloc: Global,
+    ports: &mut LeasedPorts,
+    now: u32,
+    first: &End,
+    count: u32,
+) -> Result<bool, Memory>
+    requires { ports.old.reached ≡ now }
+    ensures { OnOk result (ports.new.reached ≡ now) }
+{
+    if !are_last_ends(now, first, count) {
+        return Ok(false);
+    }
+    ports.put_run(alloc, first, count)?;
+    Ok(true)
+}
+
+/// Takes the last ends from `count` ports.
+fn free_run(
+    alloc: Global,
+    ports: &mut LeasedPorts,
+    protocol: Protocol,
+    start: u16,
+    count: u32,
+) -> Result<bool, Memory>
+    ensures { OnOk result (ports.new.reached ≡ ports.old.reached) }
+{
+    if count > ports_from(start) {
+        return Ok(false);
+    }
+    ports.free_run(alloc, protocol, start, count)?;
+    Ok(true)
+}
+
+/// Whether of `most` ports so many are one piece, with this last end.
+fn is_piece(
+    ports: &LeasedPorts,
+    protocol: Protocol,
+    start: u16,
+    most: u32,
+    wanted: (Option<End>, u32),
+) -> bool {
+    if most == 0 || most > ports_from(start) {
+        return false;
+    }
+    let piece = ports.piece(protocol, start, most);
+    (piece.last, piece.count) == wanted
 }
 
 /// What is picked for the endpoint, with room for as many ports as are asked for.
@@ -249,11 +391,11 @@ fn reaches(ports: &mut LeasedPorts, now: &mut u32, m: u32) -> bool
     true
 }
 
-/// The last end of an external port over UDP, for a port of the host 10.0.0.H.
-fn end_of(external: u16, row: Option<(u8, u16, u64)>) -> Option<End> {
+/// The last end of an external port, for a port of the host 10.0.0.H.
+fn end_of(protocol: Protocol, external: u16, row: Option<(u8, u16, u64)>) -> Option<End> {
     let (host, internal, end) = row?;
     Some(End {
-        endpoint: at(Udp, host, internal),
+        endpoint: at(protocol, host, internal),
         external,
         end,
     })
@@ -283,7 +425,20 @@ fn is_answered(
             let endpoint = at(protocol, host, internal);
             asked >= 1 && pick(ports, &endpoint, suggested, asked, wish) == wanted
         }
-        LastEnd(port, wanted) => ports.last_end(Udp, port) == end_of(port, wanted),
+        LastEnd(port, wanted) => ports.last_end(Udp, port) == end_of(Udp, port, wanted),
+        PutRun(host, protocol, internal, external, n, end) => {
+            let first = End {
+                endpoint: at(protocol, host, internal),
+                external,
+                end: u64::from(end),
+            };
+            put_run(alloc, ports, *now, &first, n)?
+        }
+        FreeRun(protocol, start, n) => free_run(alloc, ports, protocol, start, n)?,
+        PieceOf(protocol, start, most, row, count) => {
+            let last = end_of(protocol, start, row);
+            is_piece(ports, protocol, start, most, (last, count))
+        }
     })
 }
 
@@ -354,6 +509,24 @@ fn a_port_is_held_and_rests_for_its_endpoint(rt: HostRuntime) {
         &rt,
         first_other_of_new(rt.alloc(), 1024, 65535, 100, &RESTS),
     );
+}
+
+#[test]
+fn runs_get_their_last_ends_together(rt: HostRuntime) {
+    all_are_so(&rt, first_other_of_new(rt.alloc(), 1024, 65535, 100, &RUNS));
+}
+
+#[test]
+fn runs_rest_and_awake(rt: HostRuntime) {
+    all_are_so(
+        &rt,
+        first_other_of_new(rt.alloc(), 1024, 65535, 100, &RESTING_RUNS),
+    );
+}
+
+#[test]
+fn no_run_crosses_from_tcp_to_udp(rt: HostRuntime) {
+    all_are_so(&rt, first_other_of_new(rt.alloc(), 1, 65535, 100, &EDGES));
 }
 
 #[test]

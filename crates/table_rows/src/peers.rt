@@ -5,10 +5,11 @@ ghost use Rattle.std.specs.Prelude.{◌≡◌, OnOk};
 use crate::making::{all_are_so, at, moment, peer_of, remote};
 use crate::sound_peers::are_sound_with;
 use Call::{
-    Copied, External, Find, Last, Live, Next, NextAt, OfEndpoint, Put, Reach, Remove, Unsound,
+    Copied, External, Find, Last, Live, Next, NextAt, OfEndpoint, Owned, Put, Reach, Remove,
+    Unsound,
 };
-use pcp_base::Protocol::Udp;
-use pcp_base::{Address, Endpoint, Memory, PeerLease};
+use pcp_base::Protocol::{Tcp, Udp};
+use pcp_base::{Address, Endpoint, Memory, PeerLease, Protocol};
 use peer_table::plain::PlainPeerTable;
 use peer_table::{PeerTable, PortUse};
 use std::alloc::Global;
@@ -34,6 +35,9 @@ enum Call {
     Live(u32, u32),
     /// An external port, of which the plain body doesn't tell it.
     Last(u16, Option<u64>),
+    /// A protocol, a port, and the least one from it on that is owned, which the plain body doesn't
+    /// tell.
+    Owned(Protocol, u16, Option<u16>),
     /// The moments at which the one body and the plain one copy leases, and how many come.
     Copied(u32, u32, usize),
 }
@@ -129,6 +133,34 @@ static COPIED: [Call; 4] = [
     Put(5, 5000, 1024, 1, 53, 4610),
     Copied(4609, 4610, 2),
     Last(1024, Some(4610)),
+];
+
+static OWNED: [Call; 22] = [
+    Owned(Udp, 0, None),
+    Put(5, 5000, 1024, 7, 53, 1130),
+    Put(6, 5000, 1030, 7, 53, 1120),
+    Put(6, 5000, 1030, 8, 53, 4610),
+    Put(7, 5000, 65535, 7, 53, 4610),
+    Owned(Udp, 0, Some(1024)),
+    Owned(Udp, 1024, Some(1024)),
+    Owned(Udp, 1025, Some(1030)),
+    Owned(Udp, 1030, Some(1030)),
+    Owned(Udp, 1031, Some(65535)),
+    Owned(Udp, 65535, Some(65535)),
+    // None is owned over TCP.
+    Owned(Tcp, 0, None),
+    Owned(Tcp, 1024, None),
+    // Of two leases of a port one goes.
+    Remove(6, 5000, 7, 53, Some(1120)),
+    Owned(Udp, 1025, Some(1030)),
+    // A lease that has ended owns its port until it goes.
+    Reach(1130),
+    Owned(Udp, 1023, Some(1024)),
+    Remove(5, 5000, 7, 53, Some(1130)),
+    Owned(Udp, 1023, Some(1030)),
+    Remove(7, 5000, 7, 53, Some(4610)),
+    Owned(Udp, 1030, Some(1030)),
+    Owned(Udp, 1031, None),
 ];
 
 /// A lease of the host over UDP that was granted at 0.
@@ -230,6 +262,7 @@ fn is_told(table: &PeerTable, plain: &PlainPeerTable, call: &Call) -> bool {
         }
         Live(m, wanted) => (table.live(moment(m)), plain.live(moment(m))) == (wanted, wanted),
         Last(port, wanted) => table.last_expiry(Udp, port) == wanted,
+        Owned(protocol, port, wanted) => table.next_owned(protocol, port) == wanted,
         _ => false,
     }
 }
@@ -325,6 +358,11 @@ fn an_endpoint_has_sixteen_leases(rt: HostRuntime) {
 #[test]
 fn ended_leases_leave_the_live_ones(rt: HostRuntime) {
     all_are_so(&rt, first_other_of_new(rt.alloc(), &REACHED));
+}
+
+#[test]
+fn owned_ports_are_told_in_order(rt: HostRuntime) {
+    all_are_so(&rt, first_other_of_new(rt.alloc(), &OWNED));
 }
 
 #[test]
