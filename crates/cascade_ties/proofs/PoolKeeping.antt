@@ -59,12 +59,12 @@ held_after : (pool : Holdings) (protocol : Protocol) (local : ℕ) (value : Use)
     → ports_held (with_use protocol local 1 value pool) who + tally (is_held_by who (use_of pool protocol local)) ≡ ports_held pool who + tally (is_held_by who value)
 held_after pool Tcp local value whole within who =
     let short : local + 1 ≤ length pool.tcp.each = (let all = whole.tcp in omega (arith, within, all)) in
-    let a = count_painted local 1 pool.tcp.each short (is_held_by who) value in
+    let a = count_painted local 1 pool.tcp.each short who value in
     let b = part_count (is_held_by who) local pool.tcp.each short in
     omega (arith, a, b)
 held_after pool Udp local value whole within who =
     let short : local + 1 ≤ length pool.udp.each = (let all = whole.udp in omega (arith, within, all)) in
-    let a = count_painted local 1 pool.udp.each short (is_held_by who) value in
+    let a = count_painted local 1 pool.udp.each short who value in
     let b = part_count (is_held_by who) local pool.udp.each short in
     omega (arith, a, b)
 
