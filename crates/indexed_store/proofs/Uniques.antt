@@ -1,5 +1,6 @@
 -- What is found in a part of a list, where at most one of the whole passes.
 use Rattle.std.proofs.Common.{◌≡◌, ℕ, ◌<◌, ◌≤◌, ◌+◌, ◌==◌, ◌⊎◌, zero, suc, Bool, true, false, cond, ◌&&◌, nat_lt, List, [], ◌∷◌, map, flat_map, filter, find, Contains, Option, Some, None, refl, sym, ap, ◌∙◌, subst, inl, inr, arith}
+use Rattle.std.specs.Prelude.{is_some}
 use Rattle.std.specs.List.{AllByRecursion, range_with_len}
 use Rattle.std.proofs.lemmas.Bool.{cond-true, cond-false, and_parts, and_from, eqb-true, eqb-false, eq-eqb, false_from_ne_true}
 use Rattle.pcp_base.specs.declared.addresses.Address.{Address}
@@ -16,7 +17,7 @@ use Rattle.pcp_base.proofs.Members.{IsIn, IsIn-filter, IsIn-right, map-IsIn, Con
 use Rattle.pcp_base.proofs.Same.{same_address-Decides, same_endpoint-Decides, same_protocol-Decides}
 use Rattle.pcp_base.proofs.TableLemmas.{same_key, other_key, covers-first, Sound-live}
 use Rattle.pcp_base.proofs.StageLaws.{unlike}
-use Rattle.mapping_table.specs.MapLists.{AreSeparate}
+use Rattle.mapping_table.specs.MapLists.{AreSeparate, map_covering, some_live_map}
 use Rattle.mapping_table.proofs.Separates.{own_apart}
 use Rattle.mapping_table.proofs.SoundTables.{sound_maps}
 
@@ -83,6 +84,15 @@ module _ (e : Endpoint) (remote : Address) (port : ℕ) where
 
   pub one-peer : (t : Table) → Sound t → AtMostOne (is_peer_of e remote port) t.peers
   one-peer t sound = one-of (is_peer_of e remote port) t.peers (two-weaker HaveOtherKeys (λ a b. is_peer_of e remote port a ≡ true → is_peer_of e remote port b ≡ true → ⊥) keys-apart t.peers sound.different)
+
+-- whether one that is live covers an endpoint
+pub covered-is : (t : Table) (m : ℕ) (e : Endpoint) → Sound t → (o : Option MapLease) → map_covering e t.maps ≡ o → some_live_map m o ≡ is_some (find (λ l. covers l e) (live t m).maps)
+covered-is t m e sound None h = ap is_some (sym (none-within (λ l. covers l e) (λ l. nat_lt m l.expiry) t.maps h))
+covered-is t m e sound (Some l) h = step (nat_lt m l.expiry) refl
+  where
+    step : (b : Bool) → nat_lt m l.expiry ≡ b → b ≡ is_some (find (λ x. covers x e) (live t m).maps)
+    step true alive = ap is_some (sym (one-within (λ x. covers x e) (λ x. nat_lt m x.expiry) t.maps l h alive))
+    step false over = ap is_some (sym (gone-within (λ x. covers x e) (λ x. nat_lt m x.expiry) t.maps l (one-covers t e sound) h over))
 
 -- ---- a MAP lease by its key
 

@@ -16,7 +16,7 @@ impl Leases {
     fn ended_map(&self, m: Moment) -> Option<MapLease>
         ensures { IsDeadMap m self.now.maps result }
     {
-        self.maps.one_ended(m).copied()
+        self.maps.one_ended(m)
     }
 
     /// One of the PEER leases that aren't live at `m`.

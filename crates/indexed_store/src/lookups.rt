@@ -18,7 +18,7 @@ impl Leases {
         let Some(lease) = self.maps.find(endpoint) else {
             return None;
         };
-        if lease.is_live(m) { Some(*lease) } else { None }
+        if lease.is_live(m) { Some(lease) } else { None }
     }
 
     /// The PEER lease of this endpoint and remote.
@@ -72,7 +72,7 @@ impl Leases {
         requires { Sound self.now }
         ensures { result ≡ is_some (covering self.now m endpoint.now) }
     {
-        self.covering(m, endpoint).is_some()
+        self.maps.covers(endpoint, m)
     }
 
     /// Whether a live PEER lease names the endpoint.

@@ -50,8 +50,8 @@ impl Leases {
         let Some(lease) = self.maps.by_external(protocol, port) else {
             return None;
         };
-        if lets_in(lease, m, remote, remote_port) {
-            Some(*lease)
+        if lets_in(&lease, m, remote, remote_port) {
+            Some(lease)
         } else {
             None
         }

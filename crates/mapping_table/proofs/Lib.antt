@@ -6,3 +6,5 @@ pub mod Lookups
 pub mod Separates
 pub mod Sounds
 pub mod SoundTables
+pub mod Wholes
+pub mod Bares

@@ -11,9 +11,9 @@ use Rattle.pcp_base.specs.Protocols.{protocol_number}
 use Rattle.pcp_base.specs.Tables.{IsMapLease, covers}
 use Rattle.pcp_base.proofs.Members.{IsIn, IsIn-from_Contains, Contains-from_IsIn, All-IsIn, IsIn-filter, any-some, some-any}
 use Rattle.pcp_base.proofs.TableLemmas.{IsCovered, IsCovered-from_covers, covers-from_IsCovered}
-use Rattle.mapping_table.specs.MapLists.{is_live_map, is_covered, IsNextCovered, SkipsUncovered, AreSoundMaps, map_covering}
+use Rattle.mapping_table.specs.MapLists.{is_live_map, some_live_map, is_covered, IsNextCovered, SkipsUncovered, AreSoundMaps, map_covering}
 use Rattle.ordered_index.specs.Orders.{Place, place_of, place_cmp, IsFirst}
-use Rattle.mapping_table.specs.Kept.{place_of_lease, map_keying, AreKeptMaps, IsFirstLive, some_live_map}
+use Rattle.mapping_table.specs.Kept.{place_of_lease, map_keying, AreKeptMaps, IsFirstLive}
 use Rattle.ordered_index.specs.declared.numbered.Numbered.{Numbered}
 use Rattle.ordered_index.proofs.Entries.{entry_at, false_by}
 use Rattle.ordered_index.proofs.Keeping.{key-to}

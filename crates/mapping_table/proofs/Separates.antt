@@ -42,7 +42,7 @@ meet p a n b k h1 h2 h3 h4 = and_from _ _ (lt-ltb a (b + k) (omega (arith, h1, h
 clash : (b : Bool) → b ≡ true → b ≡ false → ⊥
 clash b h k = let no : true ≡ false = sym h ∙ k in cc
 
-cover_apart : (e : Endpoint) (a b : MapLease) → AreSeparate a b → covers a e ≡ true → covers b e ≡ true → ⊥
+pub cover_apart : (e : Endpoint) (a b : MapLease) → AreSeparate a b → covers a e ≡ true → covers b e ≡ true → ⊥
 cover_apart e a b h ca cb =
     let x = IsCovered-from_covers a e ca in let y = IsCovered-from_covers b e cb in
     clash _ (and_from _ _ (and_from _ _ ((same_address-Decides a.address b.address).1 (x.address ∙ sym y.address)) ((same_protocol-Decides a.protocol b.protocol).1 (x.protocol ∙ sym y.protocol)))

@@ -1,7 +1,8 @@
 -- How a table keeps its leases (our own; for proofs alone).
-use Rattle.std.specs.Prelude.{◌≡◌, ℕ, ◌<◌, ◌==◌, nat_lt, Bool, true, false, List, length, Contains, count_by, slice_index, Option, Some, None, IfSome, IfNone, if◌then◌else◌}
+use Rattle.std.specs.Prelude.{◌≡◌, ℕ, ◌<◌, ◌==◌, nat_lt, Bool, true, false, List, [], length, Contains, count_by, slice_index, Option, Some, None, IsSome, IfSome, IfNone, if◌then◌else◌}
 use Rattle.std.specs.Ordering.{is_gt}
-use Rattle.std.specs.BTreeMap.{values}
+use Rattle.std.specs.BTreeMap.{BTreeMap, get, is_at, values}
+use Rattle.pcp_base.specs.declared.leases.Filter.{Filter}
 use Rattle.pcp_base.specs.declared.leases.MapLease.{MapLease}
 use Rattle.pcp_base.specs.Tables.{first_endpoint}
 use Rattle.ordered_index.specs.declared.live.LiveKeys.{LiveKeys}
@@ -68,11 +69,6 @@ pub record AreReachedMaps (it : Numbered MapLease Place (ℕ × ℕ)) (sets : �
   pub sieved : AreSievedMaps it sets sieve
   pub live : AreLive map_keying (values it.leases) keys
 
--- whether there is a lease that is live at m
-abbrev pub some_live_map : ℕ → Option MapLease → Bool
-some_live_map m None = false
-some_live_map m (Some l) = is_live_map m l
-
 -- a place from which on the leases that are live at m are, if there is one at all
 pub record IsFirstLive (m : ℕ) (ls : List MapLease) (k : Place) (result : Option Place)
     : Type 0 where
@@ -82,3 +78,42 @@ pub record IsFirstLive (m : ℕ) (ls : List MapLease) (k : Place) (result : Opti
       → is_gt (place_cmp first (place_of_lease l)) ≡ false)
   pub none : IfNone result ((l : MapLease) → Contains ls l → is_live_map m l ≡ true
       → is_gt (place_cmp k (place_of_lease l)) ≡ true)
+
+-- the lease with these filters
+abbrev pub with_filters : List Filter → MapLease → MapLease
+with_filters filters l = record l { filters = filters }
+
+-- the lease without its filters
+abbrev pub bare : MapLease → MapLease
+bare l = with_filters [] l
+
+-- the filters that are kept, none where nothing is kept
+abbrev pub listed : Option (List Filter) → List Filter
+listed None = []
+listed (Some filters) = filters
+
+-- the filters that are kept at a place
+abbrev pub filters_at : BTreeMap Place (List Filter) → Place → List Filter
+filters_at kept k = listed (get place_cmp kept k)
+
+-- the lease with the filters that are kept at the place of its first endpoint
+abbrev pub whole : (Place → List Filter) → MapLease → MapLease
+whole kept l = with_filters (kept (place_of_lease l)) l
+
+-- the lease with its filters, where it is live at m
+unfoldable pub live_whole : ℕ → (Place → List Filter) → MapLease → Option MapLease
+live_whole m kept l = if is_live_map m l then Some (whole kept l) else None
+
+-- at each place the same filters
+abbrev pub HasSameFilters : (old new : BTreeMap Place (List Filter)) → Type 0
+HasSameFilters old new = (q : Place) → filters_at new q ≡ filters_at old q
+
+-- filters can be written at the place without memory, if there are any to write
+abbrev pub HasRoomAt : BTreeMap Place (List Filter) → Place → List Filter → Type 0
+HasRoomAt kept k filters = 0 < length filters → IsSome (get place_cmp kept k)
+
+-- these filters at the place, and at each other one the same
+abbrev pub WritesFilters : (old : BTreeMap Place (List Filter)) → Place → List Filter
+    → (new : BTreeMap Place (List Filter)) → Type 0
+WritesFilters old k filters new = (q : Place) → filters_at new q
+    ≡ (if is_at (place_cmp k) q then filters else filters_at old q)

@@ -1,6 +1,6 @@
 -- What is asked of a list of MAP leases, in the order granted, and what it must keep to (our own; a
 -- MAP lease is a mapping of RFC 6887, section 11).
-use Rattle.std.specs.Prelude.{◌≡◌, ℕ, ◌+◌, ◌<◌, ◌≤◌, ◌&&◌, nat_lt, not, Bool, false, List, ◌++◌, length, filter, find, Contains, IsTrue, Option, None, IfSome, IfNone, Result, OnOk, OnErr}
+use Rattle.std.specs.Prelude.{◌≡◌, ℕ, ◌+◌, ◌<◌, ◌≤◌, ◌&&◌, nat_lt, not, Bool, false, List, ◌++◌, length, filter, find, Contains, IsTrue, Option, Some, None, IfSome, IfNone, Result, OnOk, OnErr}
 use Rattle.std.specs.List.{AllByRecursion, list_any}
 use Rattle.pcp_base.specs.declared.leases.TheConstants.{MOST_LEASES}
 use Rattle.pcp_base.specs.declared.leases.Protocol.{Protocol}
@@ -20,6 +20,11 @@ map_covering e ls = find (λ l. covers l e) ls
 -- the lease that owns the external port
 abbrev pub map_owning : Protocol → ℕ → List MapLease → Option MapLease
 map_owning protocol port ls = find (owns protocol port) ls
+
+-- whether there is a lease that is live at m
+abbrev pub some_live_map : ℕ → Option MapLease → Bool
+some_live_map m None = false
+some_live_map m (Some l) = is_live_map m l
 
 -- the lease with this key: its first endpoint
 abbrev pub map_with_key : Endpoint → List MapLease → Option MapLease

@@ -1,9 +1,11 @@
 //! The MAP leases of an external address, in the order granted (RFC 6887, section 11).
 #![tactic(auto)]
 
+mod bare;
+mod bare_table;
 mod changes;
+mod filters;
 pub mod laws;
-mod owning;
 mod passing;
 pub mod plain;
 mod table;

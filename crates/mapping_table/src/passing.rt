@@ -5,14 +5,14 @@ ghost use Rattle.std.specs.BTreeMap.{values};
 ghost use Rattle.ordered_index.specs.Live.{AreLive, AreLiveFrom, PassesOne};
 ghost use Rattle.mapping_table.specs.Kept.{map_keying, AreKeptMaps, IsFirstLive};
 
-use crate::changes::place_of_first;
+use crate::bare::BareLease;
 use ordered_index::{LiveKeys, Numbered, Place, Port, first_from};
-use pcp_base::{MapLease, Moment};
+use pcp_base::Moment;
 
 /// Lets one lease leave that has ended by `m`, of those from an expiry with a number on. Tells from
 /// where to go on.
 fn pass_one(
-    kept: &Numbered<MapLease, Place, Port>,
+    kept: &Numbered<BareLease, Place, Port>,
     live: &mut LiveKeys<Place>,
     at: (u64, u64),
     m: Moment,
@@ -32,12 +32,12 @@ fn pass_one(
     if kept.next <= number {
         return None;
     }
-    live.leave(place_of_first(&kept.leases[&number]));
+    live.leave(kept.leases[&number].place());
     Some((expiry, number + 1))
 }
 
 /// Lets the leases leave that have ended by `m`, each once.
-pub(crate) fn pass(kept: &Numbered<MapLease, Place, Port>, live: &mut LiveKeys<Place>, m: Moment)
+pub(crate) fn pass(kept: &Numbered<BareLease, Place, Port>, live: &mut LiveKeys<Place>, m: Moment)
     requires kept { AreKeptMaps kept.now }
     requires live { AreLive map_keying (values kept.now.leases) live.old }
     ensures { AreLive map_keying (values kept.now.leases) live.new }
@@ -55,7 +55,7 @@ pub(crate) fn pass(kept: &Numbered<MapLease, Place, Port>, live: &mut LiveKeys<P
 /// A place from which on the leases are that are live at `m`: at the moment that was reached last
 /// the first of theirs, and else the first of any.
 pub(crate) fn first_live(
-    kept: &Numbered<MapLease, Place, Port>,
+    kept: &Numbered<BareLease, Place, Port>,
     live: &LiveKeys<Place>,
     place: Place,
     m: Moment,

@@ -3,10 +3,11 @@
 ghost use Rattle.std.specs.Prelude.{◌≡◌, [], ◌∷◌, filter, find, count_by, position, not, IfOk, OnOk, OnErr};
 ghost use Rattle.std.specs.Option.{option_copied};
 ghost use Rattle.std.specs.List.{AllByRecursion};
+ghost use Rattle.pcp_base.specs.Owners.{owns};
 ghost use Rattle.pcp_base.specs.Tables.{is_map_of, IsMapLease};
-ghost use Rattle.mapping_table.specs.MapLists.{is_live_map, map_covering, map_owning, map_with_key, IsNextCovered, SkipsUncovered, AreSoundMaps, with_map, PutsMap, RemovesMap, CopiesLiveMaps};
+ghost use Rattle.mapping_table.specs.MapLists.{is_live_map, some_live_map, map_covering, map_owning, map_with_key, IsNextCovered, SkipsUncovered, AreSoundMaps, with_map, PutsMap, RemovesMap, CopiesLiveMaps};
 
-use crate::owning::owns;
+use crate::bare::BareLease;
 use ordered_index::lesser;
 use pcp_base::{Endpoint, MapLease, Memory, Moment, Protocol};
 use std::alloc::{AllocError, Global};
@@ -37,11 +38,32 @@ fn has_key(lease: &MapLease, key: &Endpoint) -> bool
     lease.first_endpoint() == *key
 }
 
+/// Whether the lease owns the external port.
+fn owns(lease: &MapLease, protocol: Protocol, port: u16) -> bool
+    ensures { result ≡ owns protocol port lease.now }
+{
+    BareLease::of(lease).owns(protocol, port)
+}
+
 /// The lease with this key.
 fn lease_with<'a>(leases: &'a [MapLease], key: &Endpoint) -> Option<&'a MapLease>
     ensures { option_copied result ≡ map_with_key key.now leases.now }
 {
     leases.iter().find(|lease| has_key(lease, key))
+}
+
+/// The lease that covers the endpoint.
+fn lease_covering<'a>(leases: &'a [MapLease], endpoint: &Endpoint) -> Option<&'a MapLease>
+    ensures { option_copied result ≡ map_covering endpoint.now leases.now }
+{
+    leases.iter().find(|lease| lease.covers(endpoint))
+}
+
+/// The lease that owns the external port.
+fn lease_owning(leases: &[MapLease], protocol: Protocol, port: u16) -> Option<&MapLease>
+    ensures { option_copied result ≡ map_owning protocol port leases.now }
+{
+    leases.iter().find(|lease| owns(lease, protocol, port))
 }
 
 /// Takes out the leases with this key.
@@ -128,17 +150,27 @@ impl PlainMapTable {
     }
 
     /// The lease that covers the endpoint.
-    pub fn find(&self, endpoint: &Endpoint) -> Option<&MapLease>
-        ensures { option_copied result ≡ map_covering endpoint.now self.now }
+    pub fn find(&self, endpoint: &Endpoint) -> Option<MapLease>
+        ensures { result ≡ map_covering endpoint.now self.now }
     {
-        self.leases.iter().find(|lease| lease.covers(endpoint))
+        lease_covering(&self.leases, endpoint).copied()
+    }
+
+    /// Whether a lease that is live at `m` covers the endpoint.
+    pub fn covers(&self, endpoint: &Endpoint, m: Moment) -> bool
+        ensures { result ≡ some_live_map m (map_covering endpoint.now self.now) }
+    {
+        match self.find(endpoint) {
+            Some(lease) => lease.is_live(m),
+            None => false,
+        }
     }
 
     /// The lease that owns the external port.
-    pub fn by_external(&self, protocol: Protocol, port: u16) -> Option<&MapLease>
-        ensures { option_copied result ≡ map_owning protocol port self.now }
+    pub fn by_external(&self, protocol: Protocol, port: u16) -> Option<MapLease>
+        ensures { result ≡ map_owning protocol port self.now }
     {
-        self.leases.iter().find(|lease| owns(lease, protocol, port))
+        lease_owning(&self.leases, protocol, port).copied()
     }
 
     /// The least internal port above the endpoint's that any lease of its address and protocol

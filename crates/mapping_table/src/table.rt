@@ -1,104 +1,37 @@
-//! The fast body: leases by numbers that grow, and ordered maps to the numbers beside them.
+//! The fast body: leases in ordered maps, and the filters of those that have any beside them.
 
-ghost use Rattle.std.specs.Prelude.{◌≡◌, ◌+◌, [], find, filter, count_by, not, IfOk};
-ghost use Rattle.std.specs.Option.{option_copied};
-ghost use Rattle.std.specs.BTreeMap.{get, values};
-ghost use Rattle.pcp_base.specs.declared.leases.MapLease.{MapLease};
-ghost use Rattle.mapping_table.specs.MapLists.{is_live_map, map_covering, map_owning, IsDeadMap, SkipsUncovered, AreSoundMaps, with_map, PutsMap, RemovesMap, CopiesLiveMaps};
-ghost use Rattle.ordered_index.specs.Orders.{Place, port_cmp, place_cmp};
-ghost use Rattle.mapping_table.specs.Kept.{place_of_lease, port_of_lease, AreKeptMaps, SievesMaps, AreSievedMaps, some_live_map};
+ghost use Rattle.std.specs.Prelude.{◌≡◌, [], filter, count_by, IfOk};
+ghost use Rattle.mapping_table.specs.MapLists.{is_live_map, some_live_map, map_covering, map_owning, IsDeadMap, SkipsUncovered, AreSoundMaps, with_map, PutsMap, RemovesMap, CopiesLiveMaps};
 
-use crate::changes::{append, place_of_first, port_of, replace, sets_of};
-use crate::owning::owns;
-use crate::passing::{first_live, pass};
-use ordered_index::{
-    LiveKeys, Numbered, Place, Port, Sieve, is_beside, last_up_to, place_of, port_at, port_in,
-};
-use pcp_base::{Endpoint, MapLease, Memory, Moment, Protocol};
-use std::alloc::{AllocError, Global};
+use crate::bare::BareLease;
+use crate::bare_table::BareTable;
+use crate::filters::{leave_room, make_room, whole, whole_found, write};
+use ordered_index::{Place, place_of};
+use pcp_base::{Endpoint, Filters, MapLease, Memory, Moment, Protocol};
+use std::alloc::Global;
 use std::collections::BTreeMap;
 use std::marker::Model;
 
 /// MAP leases, seen as a list in the order granted.
 #[derive(Drop)]
 pub struct MapTable {
-    /// The leases, by their first endpoints and by their first external ports.
-    kept: Numbered<MapLease, Place, Port>,
-    /// How many of them are sets of ports. A lease of a single port is found by that port alone.
-    sets: u32,
-    /// How many of their first endpoints fall on each number. Most look-ups that miss end here.
-    sieve: Sieve,
-    /// The first endpoints of those that haven't ended by the moment that was reached last.
-    live: LiveKeys<Place>,
+    /// The leases without their filters.
+    leases: BareTable,
+    /// The filters of the leases that have any, by the places of their first endpoints.
+    filters: BTreeMap<Place, Filters>,
 }
 
 impl Model for MapTable {
-    ghost use Rattle.std.specs.Prelude.{List};
-    ghost use Rattle.std.specs.BTreeMap.{values};
+    ghost use Rattle.std.specs.Prelude.{List, map};
     ghost use Rattle.pcp_base.specs.declared.leases.MapLease.{MapLease};
-    ghost use Rattle.mapping_table.specs.Kept.{AreReachedMaps};
+    ghost use Rattle.mapping_table.specs.MapLists.{AreSoundMaps};
+    ghost use Rattle.mapping_table.specs.Kept.{filters_at, whole};
 
     ghost Value = { List MapLease };
 
-    ghost view = { λ t. values t.kept.leases };
+    ghost view = { λ t. map (whole (filters_at t.filters)) t.leases };
 
-    ghost invariant = { λ t. AreReachedMaps t.kept t.sets t.sieve t.live };
-}
-
-/// The leases that are live at `m`, in the order of their numbers.
-fn live_of(
-    alloc: Global,
-    leases: &BTreeMap<u64, MapLease>,
-    m: Moment,
-) -> Result<Vec<MapLease>, AllocError>
-    ensures { IfOk result (λ v. v.items ≡ filter (is_live_map m) (values leases.now)) }
-{
-    leases
-        .values()
-        .copied()
-        .filter(|lease| lease.is_live(m))
-        .collect(alloc)
-}
-
-/// The number at the place. The ordered map is asked only where the sieve doesn't tell that there
-/// is none.
-fn number_at(sieve: &Sieve, kept: &Numbered<MapLease, Place, Port>, place: &Place) -> Option<u64>
-    requires kept { AreKeptMaps kept.now }
-    requires sieved { SievesMaps sieve.now (values kept.now.leases) }
-    ensures { result ≡ get place_cmp kept.now.keys place.now }
-{
-    if sieve.lacks(place) {
-        return None;
-    }
-    kept.keys.get(place).copied()
-}
-
-/// Whether there is a lease that is live at `m`.
-fn is_live_at(found: Option<&MapLease>, m: Moment) -> bool
-    ensures { result ≡ some_live_map m (option_copied found.entry) }
-{
-    match found {
-        Some(lease) => lease.is_live(m),
-        None => false,
-    }
-}
-
-/// Puts a lease in the place of the one with its key, or at the end.
-fn put_kept(
-    kept: &mut Numbered<MapLease, Place, Port>,
-    sieve: &mut Sieve,
-    sets: &mut u32,
-    lease: MapLease,
-) -> Result<(), Memory>
-    requires sieved { AreSievedMaps kept.old sets.old sieve.old }
-    requires sound { AreSoundMaps (with_map lease (values kept.old.leases)) }
-    ensures sieved { AreSievedMaps kept.new sets.new sieve.new }
-    ensures put { PutsMap (values kept.old.leases) lease result (values kept.new.leases) }
-{
-    match number_at(sieve, kept, &place_of_first(&lease)) {
-        Some(number) => replace(kept, sets, number, lease),
-        None => append(kept, sieve, sets, lease),
-    }
+    ghost invariant = { λ t. AreSoundMaps t.leases };
 }
 
 impl MapTable {
@@ -107,10 +40,8 @@ impl MapTable {
         ensures { IfOk result (λ table. table ≡ []) }
     {
         Ok(MapTable {
-            kept: Numbered::new(alloc),
-            sets: 0,
-            sieve: Sieve::new(alloc)?,
-            live: LiveKeys::new(alloc),
+            leases: BareTable::new(alloc)?,
+            filters: BTreeMap::new(alloc),
         })
     }
 
@@ -118,70 +49,29 @@ impl MapTable {
     pub fn clear(&mut self)
         ensures { self.new ≡ [] }
     {
-        self.kept.clear();
-        self.sets = 0;
-        self.sieve.clear();
-        self.live.clear();
+        self.leases.clear();
+        self.filters.clear();
     }
 
     /// The lease that covers the endpoint.
-    pub fn find(&self, endpoint: &Endpoint) -> Option<&MapLease>
-        ensures { option_copied result ≡ map_covering endpoint.now self.now }
+    pub fn find(&self, endpoint: &Endpoint) -> Option<MapLease>
+        ensures { result ≡ map_covering endpoint.now self.now }
     {
-        if let Some(number) = number_at(&self.sieve, &self.kept, &place_of(endpoint)) {
-            return self.kept.leases.get(&number);
-        }
-        if self.sets == 0 {
-            return None;
-        }
-        self.find_nearest(endpoint)
+        whole_found(&self.filters, self.leases.find(endpoint))
     }
 
-    /// The lease that covers the endpoint, by the nearest key up to it.
-    fn find_nearest(&self, endpoint: &Endpoint) -> Option<&MapLease>
-        ensures { option_copied result ≡ map_covering endpoint.now self.now }
+    /// Whether a lease that is live at `m` covers the endpoint. It looks at no filters.
+    pub fn covers(&self, endpoint: &Endpoint, m: Moment) -> bool
+        ensures { result ≡ some_live_map m (map_covering endpoint.now self.now) }
     {
-        let Some(number) = last_up_to(&self.kept.keys, place_of(endpoint)) else {
-            return None;
-        };
-        let Some(lease) = self.kept.leases.get(&number) else {
-            return None;
-        };
-        if lease.covers(endpoint) {
-            Some(lease)
-        } else {
-            None
-        }
+        self.leases.covers(endpoint, m)
     }
 
     /// The lease that owns the external port.
-    pub fn by_external(&self, protocol: Protocol, port: u16) -> Option<&MapLease>
-        ensures { option_copied result ≡ map_owning protocol port self.now }
+    pub fn by_external(&self, protocol: Protocol, port: u16) -> Option<MapLease>
+        ensures { result ≡ map_owning protocol port self.now }
     {
-        if let Some(number) = self.kept.ports.get(&port_at(protocol, port)).copied() {
-            return self.kept.leases.get(&number);
-        }
-        if self.sets == 0 {
-            return None;
-        }
-        self.owner_nearest(protocol, port)
-    }
-
-    /// The lease that owns the external port, by the nearest first port up to it.
-    fn owner_nearest(&self, protocol: Protocol, port: u16) -> Option<&MapLease>
-        ensures { option_copied result ≡ map_owning protocol port self.now }
-    {
-        let Some(number) = last_up_to(&self.kept.ports, port_at(protocol, port)) else {
-            return None;
-        };
-        let Some(lease) = self.kept.leases.get(&number) else {
-            return None;
-        };
-        if owns(lease, protocol, port) {
-            Some(lease)
-        } else {
-            None
-        }
+        whole_found(&self.filters, self.leases.by_external(protocol, port))
     }
 
     /// How many leases are live at `m`. At the moment that was reached last it looks at none, and
@@ -189,10 +79,7 @@ impl MapTable {
     pub fn live(&self, m: Moment) -> u32
         ensures { result ≡ count_by (is_live_map m) self.now }
     {
-        if self.live.from == m.get() + 1 {
-            return self.live.keys.len() as u32;
-        }
-        (self.kept.leases.len() - self.kept.ended(m)) as u32
+        self.leases.live(m)
     }
 
     /// An internal port above the endpoint's, up to which none above the endpoint's is covered by a
@@ -201,25 +88,7 @@ impl MapTable {
     pub fn next_internal(&self, endpoint: &Endpoint, m: Moment) -> Option<u16>
         ensures { SkipsUncovered endpoint.now (filter (is_live_map m) self.now) result }
     {
-        let kept = &self.kept;
-        if endpoint.port == u16::MAX {
-            return None;
-        }
-        let above = Endpoint {
-            port: endpoint.port + 1,
-            ..*endpoint
-        };
-        if is_live_at(self.find(&above), m) {
-            return Some(above.port);
-        }
-        let Some(first) = first_live(kept, &self.live, place_of(&above), m) else {
-            return None;
-        };
-        if is_beside(first, endpoint) {
-            Some(port_in(first))
-        } else {
-            None
-        }
+        self.leases.next_internal(endpoint, m)
     }
 
     /// Puts a lease in the place of the one with its key, or at the end. The one error is want of
@@ -228,13 +97,13 @@ impl MapTable {
         requires { AreSoundMaps (with_map lease self.old) }
         ensures { PutsMap self.old lease result self.new }
     {
-        let place = place_of_first(&lease);
-        let anew = self.live.enter(place, lease.expiry)?;
-        let Err(refused) = put_kept(&mut self.kept, &mut self.sieve, &mut self.sets, lease) else {
-            self.live.settle(place, lease.expiry);
+        let place = place_of(&lease.first_endpoint());
+        make_room(&mut self.filters, place, &lease.filters)?;
+        let Err(refused) = self.leases.put(BareLease::of(&lease)) else {
+            write(&mut self.filters, place, lease.filters);
             return Ok(());
         };
-        self.live.undo(place, anew);
+        leave_room(&mut self.filters, place);
         Err(refused)
     }
 
@@ -242,18 +111,11 @@ impl MapTable {
     pub fn remove(&mut self, key: &Endpoint) -> Option<MapLease>
         ensures { RemovesMap self.old key.now result self.new }
     {
-        let place = place_of(key);
-        let Some(number) = number_at(&self.sieve, &self.kept, &place) else {
+        let Some(bare) = self.leases.remove(key) else {
             return None;
         };
-        let Some(lease) = self.kept.leases.get(&number).copied() else {
-            return None;
-        };
-        self.kept
-            .forget(number, place, port_of(&lease), lease.expiry);
-        self.sets -= sets_of(&lease);
-        self.sieve.take(&place);
-        self.live.leave(place);
+        let lease = whole(&self.filters, &bare);
+        write(&mut self.filters, place_of(key), Filters::none());
         Some(lease)
     }
 
@@ -262,17 +124,14 @@ impl MapTable {
     pub fn reach(&mut self, m: Moment)
         ensures { self.new ≡ self.old }
     {
-        pass(&self.kept, &mut self.live, m);
+        self.leases.reach(m);
     }
 
     /// One of the leases that aren't live at `m` and expired first. It looks at that one alone.
-    pub fn one_ended(&self, m: Moment) -> Option<&MapLease>
-        ensures { IsDeadMap m self.now (option_copied result) }
+    pub fn one_ended(&self, m: Moment) -> Option<MapLease>
+        ensures { IsDeadMap m self.now result }
     {
-        let Some(number) = self.kept.one_ended(m) else {
-            return None;
-        };
-        self.kept.leases.get(&number)
+        whole_found(&self.filters, self.leases.one_ended(m))
     }
 
     /// Appends the leases that are live at `m`, in the order granted. The one error is want of
@@ -280,7 +139,7 @@ impl MapTable {
     pub fn copy_live(&self, alloc: Global, m: Moment, out: &mut Vec<MapLease>) -> Result<(), Memory>
         ensures { CopiesLiveMaps self.now m out.old.items result out.new.items }
     {
-        let mut live = live_of(alloc, &self.kept.leases, m)?;
+        let mut live = self.leases.copy_live(alloc, &self.filters, m)?;
         out.append(&mut live)?;
         Ok(())
     }

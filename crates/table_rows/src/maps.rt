@@ -2,13 +2,13 @@
 
 ghost use Rattle.std.specs.Prelude.{◌≡◌, OnOk};
 
-use crate::making::{all_are_so, at, map_of, moment};
+use crate::making::{all_are_so, at, map_of, moment, remote};
 use crate::sound_maps::are_sound_with;
-use Call::{Copied, External, Find, Live, Next, NextAt, Put, Reach, Remove};
+use Call::{Allowed, Copied, External, Filtered, Find, Live, Next, NextAt, Put, Reach, Remove};
 use mapping_table::MapTable;
 use mapping_table::plain::PlainMapTable;
 use pcp_base::Protocol::{Tcp, Udp};
-use pcp_base::{Endpoint, MapLease, Memory, Protocol};
+use pcp_base::{Endpoint, Filter, Filters, MapLease, Memory, Protocol};
 use std::alloc::Global;
 
 /// A call, and the answer that is wanted. Leases are told by their first external ports.
@@ -16,6 +16,10 @@ use std::alloc::Global;
 enum Call {
     /// Protocol, host, its first port, how many, the first external port, and the expiry.
     Put(Protocol, u8, u16, u16, u16, u32),
+    /// Host, external port, and the remote port of its filter. Its one internal port is 5000.
+    Filtered(u8, u16, u16),
+    /// Of such a lease, the remote port of its filter.
+    Allowed(u8, u16, Option<u16>),
     Find(u8, u16, Option<u16>),
     External(u16, Option<u16>),
     /// While all leases are live.
@@ -107,9 +111,48 @@ static COPIED: [Call; 4] = [
     Copied(1130, 1131, &[1024, 1026, 1026]),
 ];
 
+// Filters go with the lease that they were put with.
+static FILTERED: [Call; 16] = [
+    Filtered(5, 1024, 80),
+    Put(Udp, 6, 5000, 1, 1025, 4610),
+    Allowed(5, 1024, Some(80)),
+    Allowed(6, 1025, None),
+    // Renewed with another port and filter.
+    Filtered(5, 1026, 443),
+    Allowed(5, 1026, Some(443)),
+    // And without one.
+    Put(Udp, 5, 5000, 1, 1026, 4610),
+    Allowed(5, 1026, None),
+    Filtered(6, 1025, 22),
+    Filtered(5, 1026, 25),
+    Allowed(5, 1026, Some(25)),
+    Remove(5, 5000, Some(1026)),
+    Allowed(6, 1025, Some(22)),
+    // Put anew, it has none.
+    Put(Udp, 5, 5000, 1, 1026, 4610),
+    Allowed(5, 1026, None),
+    Allowed(6, 1025, Some(22)),
+];
+
 /// A lease that was granted at 0.
 fn lease(first: &Endpoint, count: u16, external: u16, expiry: u32) -> MapLease {
     map_of(first, count, external, moment(0), u64::from(expiry))
+}
+
+/// The lease with one filter: the remote peer 198.51.100.1 with this port.
+fn with_filter(lease: MapLease, port: u16) -> MapLease {
+    let mut filters = Filters::none();
+    filters.push(Filter {
+        prefix: 128,
+        port,
+        remote: remote(1),
+    });
+    MapLease { filters, ..lease }
+}
+
+/// The remote port of the first filter.
+fn allowed(lease: Option<&MapLease>) -> Option<u16> {
+    Some(lease?.filters.items().first()?.port)
 }
 
 /// The first external port.
@@ -147,6 +190,7 @@ fn is_removed(
 {
     let (removed, plainly) = (table.remove(key), plain.remove(key));
     (told(removed.as_ref()), told(plainly.as_ref())) == (wanted, wanted)
+        && allowed(removed.as_ref()) == allowed(plainly.as_ref())
 }
 
 /// Whether both bodies copy the leases of these external ports.
@@ -167,16 +211,46 @@ fn are_copied(
     )
 }
 
+/// Whether both bodies tell this filter of the lease that covers the endpoint and owns the port.
+fn are_allowed(
+    table: &MapTable,
+    plain: &PlainMapTable,
+    endpoint: &Endpoint,
+    external: u16,
+    wanted: Option<u16>,
+) -> bool {
+    let (found, plainly) = (table.find(endpoint), plain.find(endpoint));
+    let owning = table.by_external(Udp, external);
+    (allowed(found.as_ref()), allowed(plainly.as_ref())) == (wanted, wanted)
+        && allowed(owning.as_ref()) == wanted
+}
+
+/// Whether a lease that is live at 0 covers the endpoint, by both bodies, where one is wanted.
+fn are_covered(
+    table: &MapTable,
+    plain: &PlainMapTable,
+    endpoint: &Endpoint,
+    wanted: Option<u16>,
+) -> bool {
+    let covered = table.covers(endpoint, moment(0));
+    (covered, plain.covers(endpoint, moment(0))) == (wanted.is_some(), wanted.is_some())
+}
+
 /// Whether both bodies answer so a call that changes nothing and copies nothing.
 fn is_told(table: &MapTable, plain: &PlainMapTable, call: &Call) -> bool {
     match *call {
         Find(host, port, wanted) => {
             let endpoint = at(Udp, host, port);
-            (told(table.find(&endpoint)), told(plain.find(&endpoint))) == (wanted, wanted)
+            let (found, plainly) = (table.find(&endpoint), plain.find(&endpoint));
+            (told(found.as_ref()), told(plainly.as_ref())) == (wanted, wanted)
+                && are_covered(table, plain, &endpoint, wanted)
         }
         External(port, wanted) => {
-            let found = told(table.by_external(Udp, port));
-            (found, told(plain.by_external(Udp, port))) == (wanted, wanted)
+            let (found, plainly) = (table.by_external(Udp, port), plain.by_external(Udp, port));
+            (told(found.as_ref()), told(plainly.as_ref())) == (wanted, wanted)
+        }
+        Allowed(host, external, wanted) => {
+            are_allowed(table, plain, &at(Udp, host, 5000), external, wanted)
         }
         Next(host, port, wanted) => {
             let endpoint = at(Udp, host, port);
@@ -205,6 +279,10 @@ fn is_answered(
         Put(protocol, host, internal, count, external, expiry) => {
             let new = lease(&at(protocol, host, internal), count, external, expiry);
             put_both(alloc, table, plain, &new)?
+        }
+        Filtered(host, external, port) => {
+            let new = lease(&at(Udp, host, 5000), 1, external, 4610);
+            put_both(alloc, table, plain, &with_filter(new, port))?
         }
         Remove(host, port, wanted) => is_removed(table, plain, &at(Udp, host, port), wanted),
         Copied(first, second, wanted) => {
@@ -271,4 +349,9 @@ fn ended_leases_leave_the_live_ones(rt: HostRuntime) {
 #[test]
 fn live_leases_are_copied_in_order(rt: HostRuntime) {
     all_are_so(&rt, first_other_of_new(rt.alloc(), &COPIED));
+}
+
+#[test]
+fn filters_go_with_their_leases(rt: HostRuntime) {
+    all_are_so(&rt, first_other_of_new(rt.alloc(), &FILTERED));
 }

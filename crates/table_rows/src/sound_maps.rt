@@ -2,13 +2,13 @@
 ghost use Rattle.std.specs.Prelude.{◌≡◌, ◌+◌, ◌<◌, ◌≤◌, IsTrue, false, position, IfOk, OnOk, OnErr};
 ghost use Rattle.std.specs.Bool.{OnTrue};
 ghost use Rattle.std.specs.List.{AllByRecursion};
-ghost use Rattle.pcp_base.specs.Tables.{EachTwo, HasPorts, IsMapLease, is_map_of};
+ghost use Rattle.pcp_base.specs.Tables.{EachTwo, HasPorts, IsMapLease, AreLeaseFilters, is_map_of};
 ghost use Rattle.mapping_table.specs.MapLists.{runs_meet, AreSeparate, AreSoundMaps, with_map};
 
-use pcp_base::{Endpoint, MOST_LEASES, MOST_PORTS, MapLease};
+use pcp_base::{Endpoint, Filter, MOST_LEASES, MOST_PORTS, MapLease};
 use std::alloc::{AllocError, Global};
 
-/// Whether these leases, without filters, may be the MAP leases of a sound table.
+/// Whether these leases, with at most one filter each, may be the MAP leases of a sound table.
 fn are_sound(leases: &[MapLease]) -> bool
     ensures { OnTrue result (AreSoundMaps leases.now) }
 {
@@ -25,11 +25,22 @@ fn are_leases(leases: &[MapLease]) -> bool
     }
 }
 
-/// Whether the lease has ports that are in their ranges, and no filter.
+/// Whether the lease has ports that are in their ranges, and at most one filter.
 fn is_lease(lease: &MapLease) -> bool
     ensures { OnTrue result (IsMapLease lease.now) }
 {
-    has_ports(lease) && lease.filters.items().is_empty()
+    has_ports(lease) && are_filters(lease.filters.items())
+}
+
+/// Whether there is at most one filter, and its prefix is in its range.
+fn are_filters(filters: &[Filter]) -> bool
+    ensures { OnTrue result (AreLeaseFilters filters.now) }
+{
+    match filters {
+        [] => true,
+        [filter] => 0 < filter.prefix && filter.prefix <= 128,
+        _ => false,
+    }
 }
 
 fn has_ports(lease: &MapLease) -> bool

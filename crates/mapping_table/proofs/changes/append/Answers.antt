@@ -10,18 +10,18 @@ use Rattle.mapping_table.proofs.changes.append.Goals as goal
 
 pub append-requires-clause-port : goal.append-requires-clause-port
 append-requires-clause-port c =
-    ap (get port_cmp c.args.kept.now.ports) c.port_of.ensures ∙ port_is_free c.args.kept.now c.requires.counted.kept c.args.lease c.requires.sound c.requires.free
+    ap (get port_cmp c.args.kept.now.ports) c.port.ensures ∙ port_is_free c.args.kept.now c.requires.counted.kept c.args.lease c.requires.sound c.requires.free
 
 pub returns-clause-put : goal.returns-clause-put
 returns-clause-put c =
     (map_appended c.args.kept.now c.requires.counted.kept c.args.lease c.requires.sound c.append.new.self (Ok tt)
-    c.place_of_first-place.result c.port_of.result c.place_of_first-place.ensures c.port_of.ensures c.requires.free c.in_ok-append.ensures.ok tt).1
+    c.place-place.result c.port.result c.expiry.result c.place-place.ensures c.port.ensures c.expiry.ensures c.requires.free c.in_ok-append.ensures.ok tt).1
 
 pub returns-clause-counted : goal.returns-clause-counted
 returns-clause-counted c =
     let put = map_appended c.args.kept.now c.requires.counted.kept c.args.lease c.requires.sound {E = Memory} c.append.new.self (Ok c.in_ok-append.field-0)
-    c.place_of_first-place.result c.port_of.result c.place_of_first-place.ensures c.port_of.ensures c.requires.free c.in_ok-append.ensures.ok tt in
-    counted_appended c.args.kept.now c.args.sets.now c.requires.counted c.append.new.self c.args.lease put.0 put.1.ok c.requires.free c.sets_of.result c.sets_of.ensures
+    c.place-place.result c.port.result c.expiry.result c.place-place.ensures c.port.ensures c.expiry.ensures c.requires.free c.in_ok-append.ensures.ok tt in
+    counted_appended c.args.kept.now c.args.sets.now c.requires.counted c.append.new.self c.args.lease put.0 put.1.ok c.requires.free c.sets.result c.sets.ensures
 
 pub returns-in_err-append-clause-put : goal.returns-in_err-append-clause-put
 returns-in_err-append-clause-put c =
@@ -34,9 +34,9 @@ returns-in_err-append-clause-counted c =
 pub returns-clause-sieved : goal.returns-clause-sieved
 returns-clause-sieved c =
     let put = map_appended c.args.kept.now c.requires.counted.kept c.args.lease c.requires.sound {E = Memory} c.append.new.self (Ok c.in_ok-append.field-0)
-    c.place_of_first-place.result c.port_of.result c.place_of_first-place.ensures c.port_of.ensures c.requires.free c.in_ok-append.ensures.ok tt in
+    c.place-place.result c.port.result c.expiry.result c.place-place.ensures c.port.ensures c.expiry.ensures c.requires.free c.in_ok-append.ensures.ok tt in
     subst (λ (s : List ℕ). SievesMaps s (values c.append.new.self.leases)) (sym c.add.ensures)
-    (sieved_more c.args.kept.now c.requires.counted.kept c.args.sieve.now c.requires.sieved c.append.new.self c.args.lease put.1.ok c.requires.free c.place_of_first-place.result c.place_of_first-place.ensures)
+    (sieved_more c.args.kept.now c.requires.counted.kept c.args.sieve.now c.requires.sieved c.append.new.self c.args.lease put.1.ok c.requires.free c.place-place.result c.place-place.ensures)
 
 pub returns-in_err-append-clause-sieved : goal.returns-in_err-append-clause-sieved
 returns-in_err-append-clause-sieved c =

@@ -14,21 +14,21 @@ index-requires c = place_has c.args.kept.now c.requires.counted.kept (place_of_l
 pub overflow_sub-sets : goal.overflow_sub-sets
 overflow_sub-sets c =
     let at_n : get nat_cmp c.args.kept.now.leases c.args.number ≡ Some c.index.result.now = search rules in
-    replaced_few c.args.kept.now c.args.sets.now c.requires.counted c.replace.new.self c.args.lease c.args.number c.index.result.now c.requires.key at_n c.sets_of.result c.sets_of-2.result c.sets_of-2.ensures
+    replaced_few c.args.kept.now c.args.sets.now c.requires.counted c.replace.new.self c.args.lease c.args.number c.index.result.now c.requires.key at_n c.sets.result c.sets-2.result c.sets-2.ensures
 
 pub returns-clause-put : goal.returns-clause-put
 returns-clause-put c =
     let at_n : get nat_cmp c.args.kept.now.leases c.args.number ≡ Some c.index.result.now = search rules in
     (map_replaced c.args.kept.now c.requires.counted.kept c.args.lease c.requires.sound c.replace.new.self (Ok tt)
-    c.args.number c.index.result.now c.port_of.result c.port_of-2.result c.requires.key at_n c.port_of.ensures c.port_of-2.ensures c.in_ok-replace.ensures.ok tt).1
+    c.args.number c.index.result.now c.port.result c.port-2.result c.expiry.result c.expiry-2.result c.requires.key at_n c.port.ensures c.port-2.ensures c.expiry.ensures c.expiry-2.ensures c.in_ok-replace.ensures.ok tt).1
 
 pub returns-clause-counted : goal.returns-clause-counted
 returns-clause-counted c =
     let at_n : get nat_cmp c.args.kept.now.leases c.args.number ≡ Some c.index.result.now = search rules in
     let put = map_replaced c.args.kept.now c.requires.counted.kept c.args.lease c.requires.sound {E = Memory} c.replace.new.self (Ok c.in_ok-replace.field-0)
-    c.args.number c.index.result.now c.port_of.result c.port_of-2.result c.requires.key at_n c.port_of.ensures c.port_of-2.ensures c.in_ok-replace.ensures.ok tt in
+    c.args.number c.index.result.now c.port.result c.port-2.result c.expiry.result c.expiry-2.result c.requires.key at_n c.port.ensures c.port-2.ensures c.expiry.ensures c.expiry-2.ensures c.in_ok-replace.ensures.ok tt in
     counted_replaced c.args.kept.now c.args.sets.now c.requires.counted c.replace.new.self c.args.lease c.args.number c.index.result.now c.requires.key at_n put.0 put.1.ok
-    c.sets_of.result c.sets_of-2.result c.sets_of.ensures c.sets_of-2.ensures
+    c.sets.result c.sets-2.result c.sets.ensures c.sets-2.ensures
 
 pub returns-in_err-replace-clause-put : goal.returns-in_err-replace-clause-put
 returns-in_err-replace-clause-put c =
@@ -42,7 +42,7 @@ pub returns-clause-sieved : goal.returns-clause-sieved
 returns-clause-sieved c =
     let at_n : get nat_cmp c.args.kept.now.leases c.args.number ≡ Some c.index.result.now = search rules in
     let put = map_replaced c.args.kept.now c.requires.counted.kept c.args.lease c.requires.sound {E = Memory} c.replace.new.self (Ok c.in_ok-replace.field-0)
-    c.args.number c.index.result.now c.port_of.result c.port_of-2.result c.requires.key at_n c.port_of.ensures c.port_of-2.ensures c.in_ok-replace.ensures.ok tt in
+    c.args.number c.index.result.now c.port.result c.port-2.result c.expiry.result c.expiry-2.result c.requires.key at_n c.port.ensures c.port-2.ensures c.expiry.ensures c.expiry-2.ensures c.in_ok-replace.ensures.ok tt in
     λ sieve sieved. sieved_as_many c.args.kept.now c.requires.counted.kept sieve sieved c.replace.new.self c.args.lease put.1.ok c.args.number c.requires.key
 
 pub returns-in_err-replace-clause-sieved : goal.returns-in_err-replace-clause-sieved

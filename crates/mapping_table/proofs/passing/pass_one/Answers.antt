@@ -25,4 +25,4 @@ returns c =
     let low : c.in-Some.due.0 ≤ c.args.m = (let value = c.get.ensures.value in let late = c.if-get-expiry.false in omega (arith, value, late)) in
     let at_n : get nat_cmp c.args.kept.now.leases c.in-Some.due.1 ≡ Some c.index.result.now = search rules in
     one-left map_keying map_laws c.args.kept.now c.requires.kept.kept c.args.at c.in-Some.due c.args.m c.in-Some.ensures low c.index.result.now at_n
-    c.args.live.now c.leave.new.self c.place_of_first.result c.place_of_first.ensures c.requires.live c.leave.ensures
+    c.args.live.now c.leave.new.self c.place.result c.place.ensures c.requires.live c.leave.ensures

@@ -12,10 +12,10 @@ returns-in_default c =
 pub returns-then-is_live : goal.returns-then-is_live
 returns-then-is_live c =
     let found = c.in-Some.ensures ∙ ap (λ (t : Table). map_covering c.args.endpoint.now t.maps) c.self.view_is in
-    sym (one-within (λ l. covers l c.args.endpoint.now) (λ l. nat_lt c.args.m l.expiry) c.args.self.now.maps c.in-Some.lease.now (sym found) (sym c.is_live.ensures ∙ c.if-is_live.true))
+    sym (one-within (λ l. covers l c.args.endpoint.now) (λ l. nat_lt c.args.m l.expiry) c.args.self.now.maps c.in-Some.lease (sym found) (sym c.is_live.ensures ∙ c.if-is_live.true))
 
 pub returns-else-is_live : goal.returns-else-is_live
 returns-else-is_live c =
     let found = c.in-Some.ensures ∙ ap (λ (t : Table). map_covering c.args.endpoint.now t.maps) c.self.view_is in
-    sym (gone-within (λ l. covers l c.args.endpoint.now) (λ l. nat_lt c.args.m l.expiry) c.args.self.now.maps c.in-Some.lease.now
+    sym (gone-within (λ l. covers l c.args.endpoint.now) (λ l. nat_lt c.args.m l.expiry) c.args.self.now.maps c.in-Some.lease
     (one-covers c.args.self.now c.args.endpoint.now c.requires) (sym found) (sym c.is_live.ensures ∙ c.if-is_live.false))

@@ -21,7 +21,7 @@ returns-then-lets_in c =
     let found = c.in-Some.ensures ∙ ap (λ (t : Table). map_owning c.args.protocol c.args.port t.maps) c.self.view_is in
     let alive : MapLease → Bool = λ l. nat_lt c.args.m l.expiry in
     let lets : MapLease → Bool = λ l. allows l.filters c.args.remote.now c.args.remote_port in
-    let ls = c.args.self.now.maps in let l = c.in-Some.lease.now in
+    let ls = c.args.self.now.maps in let l = c.in-Some.lease in
     let both = and_parts (alive l) (lets l) (sym c.lets_in.ensures ∙ c.if-lets_in.true) in
     sym (one-within (owns c.args.protocol c.args.port) lets (filter alive ls) l (one-within (owns c.args.protocol c.args.port) alive ls l (sym found) both.0) both.1)
 
@@ -30,6 +30,6 @@ returns-else-lets_in c =
     let found = c.in-Some.ensures ∙ ap (λ (t : Table). map_owning c.args.protocol c.args.port t.maps) c.self.view_is in
     let alive : MapLease → Bool = λ l. nat_lt c.args.m l.expiry in
     let lets : MapLease → Bool = λ l. allows l.filters c.args.remote.now c.args.remote_port in
-    let l = c.in-Some.lease.now in
+    let l = c.in-Some.lease in
     sym (gone-within_both (owns c.args.protocol c.args.port) lets alive c.args.self.now.maps l (one-owns c.args.self.now c.args.protocol c.args.port c.requires) (sym found)
     (sym c.lets_in.ensures ∙ c.if-lets_in.false))

@@ -1,17 +1,13 @@
-use Rattle.std.proofs.Common.{sym, ap, ◌∙◌}
+use Rattle.std.proofs.Common.{refl, sym, ap, ◌∙◌}
+use Rattle.std.specs.Option.{option_map}
+use Rattle.pcp_base.specs.Owners.{owns}
+use Rattle.mapping_table.specs.Kept.{filters_at, whole}
 use Rattle.mapping_table.specs.MapLists.{map_owning}
-use Rattle.mapping_table.proofs.Lookups.{first_owned, no_first_port}
+use Rattle.mapping_table.proofs.Wholes.{find_whole}
 use Rattle.mapping_table.proofs.table.MapTable.by_external.Goals as goal
 
-pub returns-in-Some : goal.returns-in-Some
-returns-in-Some c =
-    let t = c.self.inside.kept in
-    c.get-in-Some.ensures.value
-    ∙ first_owned t c.self.invariant.sieved.counted.kept c.args.protocol c.args.port c.port_at.result c.in-Some.number c.port_at.ensures (sym (c.in-Some.ensures ∙ c.get.ensures.value))
-    ∙ ap (map_owning c.args.protocol c.args.port) c.self.view_is
-
-pub returns-then-self-eq0 : goal.returns-then-self-eq0
-returns-then-self-eq0 c =
-    let t = c.self.inside.kept in
-    no_first_port t c.self.inside.sets c.self.invariant.sieved.counted c.if-self-eq0.true c.args.protocol c.args.port c.port_at.result c.port_at.ensures (sym (c.in_default.ensures ∙ c.get.ensures.value))
-    ∙ ap (map_owning c.args.protocol c.args.port) c.self.view_is
+pub returns : goal.returns
+returns c =
+    let kept = filters_at c.self.inside.filters in
+    c.whole_found.ensures ∙ ap (option_map (whole kept)) c.by_external.ensures
+    ∙ sym (find_whole kept (owns c.args.protocol c.args.port) (λ fs l. refl) c.self.inside.leases) ∙ ap (map_owning c.args.protocol c.args.port) c.self.view_is

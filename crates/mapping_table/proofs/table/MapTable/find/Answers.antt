@@ -1,17 +1,13 @@
-use Rattle.std.proofs.Common.{sym, ap, ◌∙◌}
+use Rattle.std.proofs.Common.{refl, sym, ap, ◌∙◌}
+use Rattle.std.specs.Option.{option_map}
+use Rattle.pcp_base.specs.Tables.{covers}
+use Rattle.mapping_table.specs.Kept.{filters_at, whole}
 use Rattle.mapping_table.specs.MapLists.{map_covering}
-use Rattle.mapping_table.proofs.Lookups.{first_found, no_first}
+use Rattle.mapping_table.proofs.Wholes.{find_whole}
 use Rattle.mapping_table.proofs.table.MapTable.find.Goals as goal
 
-pub returns-in-Some : goal.returns-in-Some
-returns-in-Some c =
-    let t = c.self.inside.kept in
-    c.get.ensures.value
-    ∙ first_found t c.self.invariant.sieved.counted.kept c.args.endpoint.now c.place_of.result c.in-Some.number c.place_of.ensures (sym c.in-Some.ensures)
-    ∙ ap (map_covering c.args.endpoint.now) c.self.view_is
-
-pub returns-then-self-eq0 : goal.returns-then-self-eq0
-returns-then-self-eq0 c =
-    let t = c.self.inside.kept in
-    no_first t c.self.inside.sets c.self.invariant.sieved.counted c.if-self-eq0.true c.args.endpoint.now c.place_of.result c.place_of.ensures (sym c.in_default.ensures)
-    ∙ ap (map_covering c.args.endpoint.now) c.self.view_is
+pub returns : goal.returns
+returns c =
+    let kept = filters_at c.self.inside.filters in
+    c.whole_found.ensures ∙ ap (option_map (whole kept)) c.find.ensures
+    ∙ sym (find_whole kept (λ l. covers l c.args.endpoint.now) (λ fs l. refl) c.self.inside.leases) ∙ ap (map_covering c.args.endpoint.now) c.self.view_is

@@ -1,24 +1,13 @@
-use Rattle.std.proofs.Common.{Contains, Option, List, sym, ap, ◌∙◌, subst}
+use Rattle.std.proofs.Common.{List, sym, subst}
+use Rattle.std.specs.Option.{option_copied}
 use Rattle.pcp_base.specs.declared.leases.MapLease.{MapLease}
-use Rattle.mapping_table.specs.MapLists.{first_dead_map, IsDeadMap}
-use Rattle.mapping_table.specs.Kept.{map_keying}
-use Rattle.ordered_index.proofs.Endings.{one-none, one-stands, one-among}
-use Rattle.mapping_table.proofs.MapKeeping.{map_laws}
+use Rattle.mapping_table.specs.Kept.{filters_at}
+use Rattle.mapping_table.specs.MapLists.{IsDeadMap}
+use Rattle.mapping_table.proofs.Wholes.{dead_whole}
 use Rattle.mapping_table.proofs.table.MapTable.one_ended.Goals as goal
-
-pub returns-in_default : goal.returns-in_default
-returns-in_default c = record {
-  among = tt;
-  dead = tt;
-  none = ap (first_dead_map c.args.m) (sym c.self.view_is) ∙ one-none map_keying map_laws c.self.inside.kept c.self.invariant.sieved.counted.kept.kept c.args.m c.in_default.ensures;
-}
 
 pub returns : goal.returns
 returns c =
-    let t = c.self.inside.kept in
-    let y = one-stands map_keying map_laws t c.self.invariant.sieved.counted.kept.kept c.args.m c.in-Some.number c.in-Some.ensures in
-    subst (λ (o : Option MapLease). IsDeadMap c.args.m c.args.self.now o) (sym (c.get.ensures.value ∙ y.1)) (record {
-      among = subst (λ (ls : List MapLease). Contains ls y.0) c.self.view_is (one-among map_keying map_laws t c.self.invariant.sieved.counted.kept.kept c.args.m c.in-Some.number y.0 y.1);
-      dead = y.2;
-      none = tt;
-    })
+    let kept = filters_at c.self.inside.filters in let m = c.args.m in
+    subst (λ (v : List MapLease). IsDeadMap m v c.whole_found.result) c.self.view_is
+    (subst (IsDeadMap m _) (sym c.whole_found.ensures) (dead_whole kept c.self.inside.leases m (option_copied c.one_ended.result) c.one_ended.ensures))

@@ -1,35 +1,32 @@
-use Rattle.std.proofs.Common.{List, refl, sym, subst}
-use Rattle.std.specs.BTreeMap.{values}
+use Rattle.std.proofs.Common.{◌≡◌, List, map, sym, ap, ◌∙◌, subst}
 use Rattle.pcp_base.specs.declared.leases.MapLease.{MapLease}
-use Rattle.pcp_base.specs.Tables.{first_endpoint, is_map_of}
-use Rattle.ordered_index.specs.Live.{AreLive}
-use Rattle.ordered_index.proofs.Lives.{one-key, same-live, put-live, undone-live}
-use Rattle.mapping_table.specs.Kept.{place_of_lease, map_keying}
-use Rattle.mapping_table.proofs.MapKeeping.{map_laws, map_tells}
+use Rattle.ordered_index.specs.Orders.{place_of}
+use Rattle.mapping_table.specs.Kept.{place_of_lease, filters_at, whole}
+use Rattle.mapping_table.specs.MapLists.{with_map, AreSoundMaps}
+use Rattle.mapping_table.proofs.Bares.{bare_put}
+use Rattle.mapping_table.proofs.Wholes.{whole_same, put_whole}
 use Rattle.mapping_table.proofs.table.MapTable.put.Goals as goal
 
-pub invariant_of-self : goal.invariant_of-self
-invariant_of-self c =
-    let ls = values c.self.inside.kept.leases in
-    record {
-      sieved = c.self.invariant.sieved;
-      live = same-live map_keying map_laws ls ls c.self.inside.live c.enter.new.self refl c.enter.ensures.from c.in_err-anew.ensures.err c.self.invariant.live;
-    }
+pub put-requires : goal.put-requires
+put-requires c =
+    let l = c.args.lease in let ls = c.self.inside.leases in
+    subst (λ (x : MapLease). AreSoundMaps (with_map x ls)) (sym c.of.ensures)
+    (bare_put (filters_at c.self.inside.filters) l ls c.self.invariant (subst (λ (v : List MapLease). AreSoundMaps (with_map l v)) (sym c.self.view_is) c.requires))
 
 pub invariant_of-self-in_default : goal.invariant_of-self-in_default
 invariant_of-self-in_default c =
-    let l = c.args.lease in let e = first_endpoint l in let kept = c.self.inside.kept in
-    let one = one-key map_keying map_laws kept c.self.invariant.sieved.counted.kept.kept (is_map_of e) (place_of_lease l) (map_tells e) in
-    let put = put-live map_keying map_laws (is_map_of e) (place_of_lease l) (map_tells e) (values kept.leases) c.self.inside.live c.self.invariant.live one l refl
-    c.enter.new.self c.settle.new.self c.in_ok-anew.anew c.place_of_first-place.result c.place_of_first-place.ensures c.enter.ensures.from c.in_ok-anew.ensures.ok c.settle.ensures in
-    record {
-      sieved = c.put_kept.ensures.sieved;
-      live = subst (λ (v : List MapLease). AreLive map_keying v c.settle.new.self) (sym c.in_default.ensures.put.ok) put;
-    }
+    let l = c.args.lease in let ls = c.self.inside.leases in
+    subst AreSoundMaps (sym (c.in_default.ensures.ok ∙ ap (λ (x : MapLease). with_map x ls) c.of.ensures))
+    (bare_put (filters_at c.self.inside.filters) l ls c.self.invariant (subst (λ (v : List MapLease). AreSoundMaps (with_map l v)) (sym c.self.view_is) c.requires))
 
-pub invariant_of-self-2 : goal.invariant_of-self-2
-invariant_of-self-2 c = record {
-  sieved = c.put_kept.ensures.sieved;
-  live = undone-live map_keying map_laws (values c.self.inside.kept.leases) (values c.put_kept.new.kept.leases) c.self.inside.live c.enter.new.self c.undo.new.self
-      c.place_of_first-place.result c.args.lease.expiry c.in_ok-anew.anew c.self.invariant.live c.in-Err.ensures.put.err c.enter.ensures.from c.in_ok-anew.ensures.ok c.undo.ensures;
-}
+pub returns-in_default : goal.returns-in_default
+returns-in_default c =
+    let l = c.args.lease in let ls = c.self.inside.leases in
+    let old = c.self.inside.filters in let mid = c.make_room.new.filters in let new = c.write.new.filters in
+    let place : c.place_of-place.result ≡ place_of_lease l = c.place_of-place.ensures ∙ ap place_of c.first_endpoint.ensures in
+    record {
+      ok = ap (map (whole (filters_at new))) (c.in_default.ensures.ok ∙ ap (λ (x : MapLease). with_map x ls) c.of.ensures)
+          ∙ put_whole l c.place_of-place.result place mid new c.write.ensures ls c.self.invariant.leases c.self.invariant.separate
+          ∙ ap (with_map l) (whole_same (filters_at old) (filters_at mid) c.make_room.ensures.same ls ∙ c.self.view_is);
+      err = tt;
+    }

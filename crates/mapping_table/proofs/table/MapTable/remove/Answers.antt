@@ -1,52 +1,32 @@
-use Rattle.std.proofs.Common.{ℕ, List, Some, None, sym, ◌∙◌, subst}
-use Rattle.std.specs.BTreeMap.{values}
-use Rattle.pcp_base.specs.declared.leases.MapLease.{MapLease}
-use Rattle.mapping_table.specs.MapLists.{RemovesMap}
-use Rattle.mapping_table.specs.Kept.{SievesMaps}
-use Rattle.mapping_table.proofs.Lookups.{number_stands}
+use Rattle.std.proofs.Common.{Some, map, not, filter, refl, sym, ap, ◌∙◌, subst}
+use Rattle.std.specs.Option.{option_map}
 use Rattle.pcp_base.specs.Tables.{is_map_of}
-use Rattle.ordered_index.specs.Orders.{place_of}
-use Rattle.ordered_index.proofs.Lives.{one-key, removed-out, take-live}
-use Rattle.mapping_table.specs.Kept.{map_keying}
-use Rattle.mapping_table.proofs.MapKeeping.{map_laws, map_tells, none_removed, map_removed}
-use Rattle.mapping_table.proofs.Sets.{removed_few, counted_removed}
-use Rattle.mapping_table.proofs.Sieving.{sieved_removed}
+use Rattle.mapping_table.specs.Kept.{filters_at, whole}
+use Rattle.mapping_table.specs.MapLists.{map_with_key, AreSoundMaps}
+use Rattle.mapping_table.proofs.Sounds.{AreSoundMaps-filter}
+use Rattle.mapping_table.proofs.Wholes.{find_whole, filter_whole, removed_whole}
 use Rattle.mapping_table.proofs.table.MapTable.remove.Goals as goal
+
+pub invariant_of-self : goal.invariant_of-self
+invariant_of-self c = subst AreSoundMaps (sym c.remove.ensures.removed) (AreSoundMaps-filter (λ l. not (is_map_of c.args.key.now l)) c.self.inside.leases c.self.invariant)
 
 pub returns-in_default : goal.returns-in_default
 returns-in_default c =
-    subst (λ (v : List MapLease). RemovesMap v c.args.key.now None v) c.self.view_is
-    (none_removed c.self.inside.kept c.self.invariant.sieved.counted.kept c.args.key.now c.place_of-place.result c.place_of-place.ensures (sym c.in_default.ensures))
-
-pub returns-in_default-copied : goal.returns-in_default-copied
-returns-in_default-copied c =
-    absurd (number_stands c.self.inside.kept c.self.invariant.sieved.counted.kept c.place_of-place.result c.in-Some.number (sym c.in-Some.ensures) (c.in_default-copied.ensures ∙ c.get.ensures.value))
-
-pub overflow_sub-self : goal.overflow_sub-self
-overflow_sub-self c =
-    removed_few c.self.inside.kept c.self.inside.sets c.self.invariant.sieved.counted c.forget.new.self c.in-Some.number c.in-Some-copied.lease (sym (c.in-Some-copied.ensures ∙ c.get.ensures.value)) c.sets_of.result c.sets_of.ensures
-
-pub invariant_of-self : goal.invariant_of-self
-invariant_of-self c =
-    let removed = map_removed c.self.inside.kept c.self.invariant.sieved.counted.kept c.args.key.now c.place_of-place.result c.place_of-place.ensures c.forget.new.self c.port_of.result c.in-Some.number c.in-Some-copied.lease
-    c.port_of.ensures (sym c.in-Some.ensures) (sym (c.in-Some-copied.ensures ∙ c.get.ensures.value)) c.forget.ensures in
-    let at_number = sym (c.in-Some-copied.ensures ∙ c.get.ensures.value) in
-    let kept = c.self.inside.kept in let e = c.args.key.now in let x = c.in-Some-copied.lease in
-    let out = removed-out kept.leases c.forget.new.self.leases (is_map_of e) c.in-Some.number x at_number (sym removed.1.answer) c.forget.ensures.leases in
+    let e = c.args.key.now in let ls = c.self.inside.leases in let kept = filters_at c.self.inside.filters in
     record {
-      sieved = record {
-        counted = counted_removed kept c.self.inside.sets c.self.invariant.sieved.counted c.forget.new.self c.in-Some.number x at_number c.sets_of.result c.sets_of.ensures removed.0 c.forget.ensures.leases;
-        sieved = subst (λ (s : List ℕ). SievesMaps s (values c.forget.new.self.leases)) (sym c.take.ensures)
-            (sieved_removed kept c.self.inside.sieve c.self.invariant.sieved.sieved c.forget.new.self c.in-Some.number x at_number c.self.invariant.sieved.counted.kept c.forget.ensures.leases
-            c.place_of-place.result (sym c.in-Some.ensures));
-      };
-      live = take-live map_keying map_laws (is_map_of e) (place_of e) (map_tells e) (values kept.leases) c.self.inside.live c.self.invariant.live
-          (one-key map_keying map_laws kept c.self.invariant.sieved.counted.kept.kept (is_map_of e) (place_of e) (map_tells e))
-          (values c.forget.new.self.leases) out c.leave.new.self c.place_of-place.result c.place_of-place.ensures c.leave.ensures;
+      answer = ap (option_map (whole kept)) c.in_default.ensures.answer ∙ sym (find_whole kept (is_map_of e) (λ fs l. refl) ls) ∙ ap (map_with_key e) c.self.view_is;
+      removed = ap (map (whole kept)) c.remove.ensures.removed ∙ sym (filter_whole kept (λ l. not (is_map_of e l)) (λ fs l. refl) ls) ∙ ap (filter (λ l. not (is_map_of e l))) c.self.view_is;
     }
+
+pub invariant_of-self-2 : goal.invariant_of-self-2
+invariant_of-self-2 c = subst AreSoundMaps (sym c.remove.ensures.removed) (AreSoundMaps-filter (λ l. not (is_map_of c.args.key.now l)) c.self.inside.leases c.self.invariant)
 
 pub returns : goal.returns
 returns c =
-    let removed = (map_removed c.self.inside.kept c.self.invariant.sieved.counted.kept c.args.key.now c.place_of-place.result c.place_of-place.ensures c.forget.new.self c.port_of.result c.in-Some.number c.in-Some-copied.lease
-    c.port_of.ensures (sym c.in-Some.ensures) (sym (c.in-Some-copied.ensures ∙ c.get.ensures.value)) c.forget.ensures).1 in
-    subst (λ (v : List MapLease). RemovesMap v c.args.key.now (Some c.in-Some-copied.lease) (values c.forget.new.self.leases)) c.self.view_is removed
+    let e = c.args.key.now in let ls = c.self.inside.leases in let old = c.self.inside.filters in let new = c.write.new.filters in
+    record {
+      answer = ap Some c.whole-lease.ensures ∙ ap (option_map (whole (filters_at old))) c.in-Some.ensures.answer
+          ∙ sym (find_whole (filters_at old) (is_map_of e) (λ fs l. refl) ls) ∙ ap (map_with_key e) c.self.view_is;
+      removed = ap (map (whole (filters_at new))) c.remove.ensures.removed
+          ∙ removed_whole e c.place_of.result c.place_of.ensures c.none.result old new c.write.ensures ls ∙ ap (filter (λ l. not (is_map_of e l))) c.self.view_is;
+    }

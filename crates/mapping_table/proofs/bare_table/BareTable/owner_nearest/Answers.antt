@@ -2,7 +2,7 @@ use Rattle.std.proofs.Common.{ℕ, sym, ap, ◌∙◌, subst, Some, None}
 use Rattle.mapping_table.specs.MapLists.{map_owning}
 use Rattle.ordered_index.specs.Orders.{port_cmp, IsLast}
 use Rattle.mapping_table.proofs.Lookups.{last_port_has, owning_is, no_port_below, last_port_fails}
-use Rattle.mapping_table.proofs.table.MapTable.owner_nearest.Goals as goal
+use Rattle.mapping_table.proofs.bare_table.BareTable.owner_nearest.Goals as goal
 
 pub returns-in_default : goal.returns-in_default
 returns-in_default c =

@@ -4,7 +4,7 @@ use Rattle.ordered_index.proofs.Lives.{blank-live}
 use Rattle.mapping_table.specs.Kept.{map_keying, AreCountedMaps}
 use Rattle.mapping_table.proofs.MapKeeping.{map_laws}
 use Rattle.mapping_table.proofs.Sieving.{sieved_blank}
-use Rattle.mapping_table.proofs.table.MapTable.new.Goals as goal
+use Rattle.mapping_table.proofs.bare_table.BareTable.new.Goals as goal
 
 pub invariant_of-result : goal.invariant_of-result
 invariant_of-result c =

@@ -1,6 +1,6 @@
 use Rattle.std.proofs.Common.{sym, ◌∙◌}
 use Rattle.mapping_table.proofs.Sieving.{none_lacked}
-use Rattle.mapping_table.proofs.table.number_at.Goals as goal
+use Rattle.mapping_table.proofs.bare_table.number_at.Goals as goal
 
 pub returns-then-lacks : goal.returns-then-lacks
 returns-then-lacks c =

@@ -2,7 +2,7 @@ use Rattle.std.proofs.Common.{sym, ap, ◌∙◌, subst, Some, None}
 use Rattle.mapping_table.specs.MapLists.{map_covering}
 use Rattle.ordered_index.specs.Orders.{Place, place_cmp, IsLast}
 use Rattle.mapping_table.proofs.Lookups.{last_has, covering_is, none_below, last_fails}
-use Rattle.mapping_table.proofs.table.MapTable.find_nearest.Goals as goal
+use Rattle.mapping_table.proofs.bare_table.BareTable.find_nearest.Goals as goal
 
 pub returns-in_default : goal.returns-in_default
 returns-in_default c =

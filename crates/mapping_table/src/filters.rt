@@ -1,0 +1,102 @@
+//! The filters of leases, by the places of their first endpoints.
+
+ghost use Rattle.std.specs.Prelude.{◌≡◌, OnOk};
+ghost use Rattle.std.specs.Option.{option_copied, option_map};
+ghost use Rattle.mapping_table.specs.Kept.{filters_at, place_of_lease, whole, live_whole, HasRoomAt, HasSameFilters, WritesFilters};
+
+use crate::bare::BareLease;
+use ordered_index::Place;
+use pcp_base::{Filters, MapLease, Moment};
+use std::alloc::AllocError;
+use std::collections::BTreeMap;
+
+/// The filters of the lease. The map is asked only where it has any.
+fn filters_of(filters: &BTreeMap<Place, Filters>, lease: &BareLease) -> Filters
+    ensures { result ≡ filters_at filters.now (place_of_lease lease.now) }
+{
+    if filters.is_empty() {
+        return Filters::none();
+    }
+    match filters.get(&lease.place()) {
+        Some(found) => *found,
+        None => Filters::none(),
+    }
+}
+
+/// The lease with its filters.
+pub(crate) fn whole(filters: &BTreeMap<Place, Filters>, lease: &BareLease) -> MapLease
+    ensures { result ≡ whole (filters_at filters.now) lease.now }
+{
+    lease.with(filters_of(filters, lease))
+}
+
+/// The lease that was found, with its filters.
+pub(crate) fn whole_found(
+    filters: &BTreeMap<Place, Filters>,
+    found: Option<&BareLease>,
+) -> Option<MapLease>
+    ensures { result ≡ option_map (whole (filters_at filters.now)) (option_copied found.entry) }
+{
+    match found {
+        Some(lease) => Some(whole(filters, lease)),
+        None => None,
+    }
+}
+
+/// The lease with its filters, where it is live at `m`.
+#[tactic(auto, unfolding(crate::specs::Kept::live_whole))]
+pub(crate) fn live_whole(
+    filters: &BTreeMap<Place, Filters>,
+    lease: &BareLease,
+    m: Moment,
+) -> Option<MapLease>
+    ensures { result ≡ live_whole m (filters_at filters.now) lease.now }
+{
+    if lease.is_live(m) {
+        Some(whole(filters, lease))
+    } else {
+        None
+    }
+}
+
+/// Makes room for filters at a place, which changes none. The one error is want of memory.
+pub(crate) fn make_room(
+    filters: &mut BTreeMap<Place, Filters>,
+    place: Place,
+    wanted: &Filters,
+) -> Result<(), AllocError>
+    ensures same { HasSameFilters filters.old filters.new }
+    ensures room { OnOk result (HasRoomAt filters.new place wanted.now) }
+{
+    if wanted.items().is_empty() || filters.contains_key(&place) {
+        return Ok(());
+    }
+    filters.insert(place, Filters::none())?;
+    Ok(())
+}
+
+/// Writes filters where there is room, or takes out what stands there, where they are none.
+pub(crate) fn write(filters: &mut BTreeMap<Place, Filters>, place: Place, wanted: Filters)
+    requires { HasRoomAt filters.old place wanted }
+    ensures { WritesFilters filters.old place wanted filters.new }
+{
+    if wanted.items().is_empty() {
+        filters.remove(&place);
+        return;
+    }
+    if let Some(found) = filters.get_mut(&place) {
+        *found = wanted;
+    }
+}
+
+/// Takes out room that nothing was written to, which changes no filters.
+pub(crate) fn leave_room(filters: &mut BTreeMap<Place, Filters>, place: Place)
+    ensures { HasSameFilters filters.old filters.new }
+{
+    let Some(found) = filters.get(&place) else {
+        return;
+    };
+    if found.items().is_empty() {
+        filters.remove(&place);
+    }
+}
