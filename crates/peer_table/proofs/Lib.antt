@@ -7,3 +7,5 @@ pub mod PortUses
 pub mod SoundTables
 pub mod LastExpiries
 pub mod NextOwned
+mod Views
+mod Spending

@@ -1,11 +1,12 @@
 -- What the live leases of an endpoint use.
-use Rattle.std.proofs.Common.{◌≡◌, ℕ, ◌+◌, ◌≤◌, ◌&&◌, ◌==◌, Bool, true, false, cond, List, [], ◌∷◌, filter, find, count_by, Option, Some, None, refl, sym, ap, ◌∙◌, inl, inr, arith}
+use Rattle.std.proofs.Common.{◌≡◌, ℕ, ◌+◌, ◌≤◌, ◌&&◌, ◌==◌, Bool, true, false, cond, List, [], ◌∷◌, length, filter, find, count_by, Option, Some, None, refl, sym, ap, ◌∙◌, inl, inr, arith}
 use Rattle.std.specs.Option.{option_map}
 use Rattle.std.specs.Ordering.{nat_cmp}
 use Rattle.std.specs.declared.ops.Bound.TheVariants.{Included, Excluded}
 use Rattle.std.specs.BTreeMap.{get, is_at, values}
 use Rattle.std.specs.BTreeMap.Range.{range_contains, entries_between}
 use Rattle.std.proofs.lemmas.Bool.{and_from}
+use Rattle.std.proofs.lemmas.List.Sums.{length-filter}
 use Rattle.std.proofs.lemmas.Bool.Decides.{Decides-eqb}
 use Rattle.pcp_base.specs.declared.leases.TheConstants.{MOST_PEERS}
 use Rattle.pcp_base.specs.declared.leases.Endpoint.{Endpoint}
@@ -94,6 +95,16 @@ module _ (it : Numbered PeerLease PeerKey Opening) (h : AreKeptPeers it) (e : En
       ∙ count_same (λ (x : ℕ × PeerLease). within (key_of_lease x.1) && some_live m (get nat_cmp it.leases x.0)) (λ (x : ℕ × PeerLease). is_live_of e m x.1) it.leases.entries
       (λ x i. ap (λ t. t && some_live m (get nat_cmp it.leases x.0)) (within_names x.1) ∙ ap (λ o. names x.1 e && some_live m o) (entry_at it.leases h.kept.ordered x.0 x.1 i))
       ∙ count-values (is_live_of e m) it.leases.entries
+
+  -- no more numbers stand there than an endpoint has leases
+  pub few_there : length part ≤ MOST_PEERS
+  few_there =
+      let all = length-filter (λ (x : PeerKey × ℕ). within x.0) it.keys.entries in
+      let keys = h.kept.keys (λ (x : PeerKey × ℕ). within x.0) in
+      let named = count_same (λ (x : ℕ × PeerLease). within (key_of_lease x.1)) (λ (x : ℕ × PeerLease). names x.1 e) it.leases.entries (λ x i. within_names x.1) in
+      let listed = count-values (λ l. names l e) it.leases.entries in
+      let few = h.sound.few_peers e in
+      omega (arith, all, keys, named, listed, few)
 
   few_step : (xs : List PeerLease) → count_by (is_live_of e m) xs ≤ count_by (λ l. names l e) xs
   few_step [] = omega arith

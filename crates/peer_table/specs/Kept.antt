@@ -1,5 +1,5 @@
 -- How a table keeps its leases (our own; for proofs alone).
-use Rattle.std.specs.Prelude.{◌≡◌, ℕ, nat_lt, Bool, true, false, List, Contains, Option, Some, None, IfSome, IfNone, if◌then◌else◌}
+use Rattle.std.specs.Prelude.{◌≡◌, ℕ, ◌≤◌, nat_lt, Bool, true, false, List, Contains, Option, Some, None, IfSome, IfNone, if◌then◌else◌}
 use Rattle.std.specs.List.{fold}
 use Rattle.std.specs.Ordering.{nat_cmp, ordering_then, is_gt}
 use Rattle.std.specs.declared.cmp.Ordering.{Ordering}
@@ -81,11 +81,12 @@ pub record AreKeptPeers (it : Numbered PeerLease PeerKey Opening) : Type 0 where
   pub sound : AreSoundPeers (values it.leases)
   pub kept : IsKept peer_keying it
 
--- all that, and the keys of the leases that are live
+-- all that, and the keys of the leases that are live behind the moment reached
 pub record AreReachedPeers (it : Numbered PeerLease PeerKey Opening) (keys : LiveKeys PeerKey)
     : Type 0 where
   pub kept : AreKeptPeers it
   pub live : AreLive peer_keying (values it.leases) keys
+  pub begun : 1 ≤ keys.from
 
 -- a lease's key from which on the leases that are live at m are, if there is one at all
 pub record IsFirstLive (m : ℕ) (ls : List PeerLease) (k : PeerKey) (result : Option PeerKey)
@@ -97,6 +98,13 @@ pub record IsFirstLive (m : ℕ) (ls : List PeerLease) (k : PeerKey) (result : O
       → is_gt (key_cmp first (key_of_lease l)) ≡ false)
   pub none : IfNone result ((l : PeerLease) → Contains ls l → is_live_peer m l ≡ true
       → is_gt (key_cmp k (key_of_lease l)) ≡ true)
+
+-- a lease that is live at m has the key
+pub record HasLive (m : ℕ) (ls : List PeerLease) (k : PeerKey) : Type 0 where
+  pub lease : PeerLease
+  pub stands : Contains ls lease
+  pub alive : is_live_peer m lease ≡ true
+  pub key : key_of_lease lease ≡ k
 
 -- whether there is a lease that is live at m
 abbrev pub some_live : ℕ → Option PeerLease → Bool

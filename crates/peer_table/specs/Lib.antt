@@ -1,3 +1,4 @@
 pub mod PeerLists
+pub mod PeerTables
 pub mod Kept
 pub mod Laws

@@ -5,6 +5,7 @@ mod changes;
 mod endpoints;
 mod keys;
 pub mod laws;
+mod looks;
 mod passing;
 pub mod plain;
 mod ports;

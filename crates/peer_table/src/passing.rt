@@ -1,26 +1,47 @@
 //! Leases that end leave the keys of those that are live.
 
-ghost use Rattle.std.specs.Prelude.{◌≡◌, ℕ};
+ghost use Rattle.std.specs.Prelude.{◌≡◌, ◌≤◌, ◌<◌, ◌+◌, ◌-◌, ◌*◌, ℕ, [], max, length, IfSome, IfNone};
 ghost use Rattle.std.specs.BTreeMap.{values};
-ghost use Rattle.ordered_index.specs.Live.{AreLive, AreLiveFrom, PassesOne};
-ghost use Rattle.peer_table.specs.Kept.{peer_keying, AreKeptPeers, IsFirstLive};
+ghost use Rattle.step_count.specs.Levels.{levels};
+ghost use Rattle.ordered_index.specs.Live.{HasNone, AreLive, AreLiveFrom, PassesOne};
+ghost use Rattle.peer_table.specs.PeerTables.{ended_between};
+ghost use Rattle.peer_table.specs.Kept.{key_cmp, peer_keying, AreKeptPeers, IsFirstLive, HasLive};
 
 use crate::keys::{Key, Opening, key_of};
+use crate::looks::look;
 use ordered_index::{LiveKeys, Numbered, first_from};
 use pcp_base::{Moment, PeerLease};
+use std::sync::ledger::Ledger;
+use step_count::Steps;
+
+/// Lets no key be at the moment 0.
+pub(crate) fn begin(live: &mut LiveKeys<Key>)
+    requires { HasNone key_cmp live.old }
+    ensures from { live.new.from ≡ 1 }
+    ensures live { AreLive peer_keying [] live.new }
+{
+    live.from = 1;
+}
 
 /// Lets one lease leave that has ended by `m`, of those from an expiry with a number on. Tells from
-/// where to go on.
-fn pass_one(
+/// where to go on. It takes three looks, or one where there is none.
+fn pass_one<L: Ledger>(
     kept: &Numbered<PeerLease, Key, Opening>,
     live: &mut LiveKeys<Key>,
     at: (u64, u64),
     m: Moment,
+    steps: &mut Steps<L>,
 ) -> Option<(u64, u64)>
     requires kept { AreKeptPeers kept.now }
     requires live { AreLiveFrom peer_keying at kept.now live.old }
-    ensures { PassesOne peer_keying m kept.now at live.old live.new result }
+    ensures pass { PassesOne peer_keying m kept.now at live.old live.new result }
+    ensures from { live.new.from ≡ live.old.from }
+    ensures some { IfSome result (λ _.
+        steps.new ≡ steps.old + 3 * levels (length (values kept.now.leases))) }
+    ensures none { IfNone result (
+        steps.new ≡ steps.old + levels (length (values kept.now.leases))) }
 {
+    look(kept, steps);
     let Some(due) = first_from(&kept.expiries, at) else {
         return None;
     };
@@ -32,38 +53,56 @@ fn pass_one(
     if kept.next <= number {
         return None;
     }
+    look(kept, steps);
+    look(kept, steps);
     live.leave(key_of(&kept.leases[&number]));
     Some((expiry, number + 1))
 }
 
-/// Lets the leases leave that have ended by `m`, each once.
-pub(crate) fn pass(kept: &Numbered<PeerLease, Key, Opening>, live: &mut LiveKeys<Key>, m: Moment)
+/// Lets the leases leave that have ended by `m`, each once, by three looks, and by one look more.
+pub(crate) fn pass<L: Ledger>(
+    kept: &Numbered<PeerLease, Key, Opening>,
+    live: &mut LiveKeys<Key>,
+    m: Moment,
+    steps: &mut Steps<L>,
+)
     requires kept { AreKeptPeers kept.now }
     requires live { AreLive peer_keying (values kept.now.leases) live.old }
-    ensures { AreLive peer_keying (values kept.now.leases) live.new }
+    requires begun { 1 ≤ live.old.from }
+    ensures live { AreLive peer_keying (values kept.now.leases) live.new }
+    ensures begun { 1 ≤ live.new.from }
+    ensures reached { live.new.from - 1 ≡ max (live.old.from - 1) m }
+    ensures steps { steps.new ≤ steps.old
+        + (1 + 3 * ended_between (live.old.from - 1) m (values kept.now.leases))
+        * levels (length (values kept.now.leases)) }
 {
     if m.get() < live.from {
         return;
     }
     let mut at = (live.from, 0);
-    while let Some(next) = pass_one(kept, live, at, m) {
+    while let Some(next) = pass_one(kept, live, at, m, steps) {
         at = next;
     }
     live.from = m.get() + 1;
 }
 
 /// A lease's key from which on the leases are that are live at `m`: at the moment that was reached last
-/// the first of theirs, and else the first of any.
-pub(crate) fn first_live_key(
+/// the first of theirs, and else the first of any. It is one look.
+pub(crate) fn first_live_key<L: Ledger>(
     kept: &Numbered<PeerLease, Key, Opening>,
     live: &LiveKeys<Key>,
     key: Key,
     m: Moment,
+    steps: &mut Steps<L>,
 ) -> Option<Key>
     requires kept { AreKeptPeers kept.now }
     requires live { AreLive peer_keying (values kept.now.leases) live.now }
-    ensures { IsFirstLive m (values kept.now.leases) key result }
+    ensures first { IsFirstLive m (values kept.now.leases) key result }
+    ensures live { live.now.from ≡ m + 1 →
+        IfSome result (HasLive m (values kept.now.leases)) }
+    ensures steps { steps.new ≡ steps.old + levels (length (values kept.now.leases)) }
 {
+    look(kept, steps);
     if live.from == m.get() + 1 {
         return first_from(&live.keys, key);
     }

@@ -1,9 +1,10 @@
 //! The plain body: a list that is searched, and nothing beside it.
 
-ghost use Rattle.std.specs.Prelude.{◌≡◌, ◌≤◌, [], ◌∷◌, length, filter, find, count_by, position, not, IfOk, OnOk, OnErr};
+ghost use Rattle.std.specs.Prelude.{◌≡◌, ◌≤◌, [], ◌∷◌, length, max, filter, find, count_by, position, not, IfOk, OnOk, OnErr};
 ghost use Rattle.std.specs.Option.{option_copied};
 ghost use Rattle.pcp_base.specs.declared.leases.TheConstants.{MOST_LEASES};
 ghost use Rattle.pcp_base.specs.Tables.{is_peer_of};
+ghost use Rattle.peer_table.specs.PeerTables.{no_peers};
 ghost use Rattle.peer_table.specs.PeerLists.{is_live_peer, is_live_of, opens, peer_with_key, peer_opening, IsPortUse, IsNextNamed, SkipsUnnamed, AreSoundPeers, with_peer, PutsPeer, RemovesPeer, CopiesLivePeers};
 
 use crate::uses::PortUse;
@@ -11,21 +12,24 @@ use ordered_index::lesser;
 use pcp_base::{Address, Endpoint, Memory, Moment, PeerLease, Protocol};
 use std::alloc::{AllocError, Global};
 use std::marker::Model;
+use std::sync::ledger::Ledger;
+use step_count::Steps;
 
-/// PEER leases in the order granted, with the same clauses as `PeerTable`.
+/// PEER leases in the order granted, with the same clauses as `PeerTable`. It has no ordered map, so it
+/// takes no steps.
 #[derive(Drop)]
 pub struct PlainPeerTable {
     leases: Vec<PeerLease>,
+    reached: u64,
 }
 
 impl Model for PlainPeerTable {
-    ghost use Rattle.std.specs.Prelude.{List};
-    ghost use Rattle.pcp_base.specs.declared.leases.PeerLease.{PeerLease};
+    ghost use Rattle.peer_table.specs.PeerTables.{PeerTableView};
     ghost use Rattle.peer_table.specs.PeerLists.{AreSoundPeers};
 
-    ghost Value = { List PeerLease };
+    ghost Value = { PeerTableView };
 
-    ghost view = { λ t. t.leases.items };
+    ghost view = { λ t. record { leases = t.leases.items; reached = t.reached } };
 
     ghost invariant = { λ t. AreSoundPeers t.leases.items };
 }
@@ -137,43 +141,69 @@ fn next_of(lease: &PeerLease, endpoint: &Endpoint) -> Option<u16>
     Some(lease.endpoint.port)
 }
 
-/// The least port above the endpoint's that a lease names.
-fn next_in(leases: &[PeerLease], endpoint: &Endpoint) -> Option<u16>
-    ensures { IsNextNamed endpoint.now leases.now result }
+/// The least port above the endpoint's that a lease names which is live at `m`.
+fn next_in(leases: &[PeerLease], endpoint: &Endpoint, m: Moment) -> Option<u16>
+    ensures { IsNextNamed endpoint.now (filter (is_live_peer m) leases.now) result }
 {
-    match leases {
-        [] => None,
-        [first, rest @ ..] => lesser(next_of(first, endpoint), next_in(rest, endpoint)),
+    let [first, rest @ ..] = leases else {
+        return None;
+    };
+    let next = next_in(rest, endpoint, m);
+    if !first.is_live(m) {
+        return next;
     }
+    lesser(next_of(first, endpoint), next)
+}
+
+/// The later of both moments, in seconds.
+fn later(reached: u64, m: Moment) -> u64
+    ensures { result ≡ max reached m }
+{
+    reached.max(m.get())
 }
 
 impl PlainPeerTable {
     /// A table without a lease. The one error is want of memory.
     pub fn new(alloc: Global) -> Result<PlainPeerTable, Memory>
-        ensures { IfOk result (λ table. table ≡ []) }
+        ensures { IfOk result (λ table. table ≡ no_peers) }
     {
         Ok(PlainPeerTable {
             leases: Vec::new(alloc),
+            reached: 0,
         })
     }
 
     /// The leases, in the order granted.
     pub fn leases(&self) -> &[PeerLease]
-        ensures { result.now ≡ self.now }
+        ensures { result.now ≡ self.now.leases }
     {
         &self.leases
     }
 
     /// The lease with this endpoint, remote address and remote port.
-    pub fn find(&self, endpoint: &Endpoint, remote: &Address, port: u16) -> Option<&PeerLease>
-        ensures { option_copied result ≡ peer_with_key endpoint.now remote.now port self.now }
+    pub fn find<L: Ledger>(
+        &self,
+        endpoint: &Endpoint,
+        remote: &Address,
+        port: u16,
+        _steps: &mut Steps<L>,
+    ) -> Option<&PeerLease>
+        ensures lease { option_copied result
+            ≡ peer_with_key endpoint.now remote.now port self.now.leases }
+        ensures steps { _steps.new ≡ _steps.old }
     {
         lease_with(&self.leases, endpoint, remote, port)
     }
 
     /// The external port of the endpoint's leases that are live at `m`, and how many they are.
-    pub fn of_endpoint(&self, endpoint: &Endpoint, m: Moment) -> Option<PortUse>
-        ensures { IsPortUse endpoint.now m self.now result }
+    pub fn of_endpoint<L: Ledger>(
+        &self,
+        endpoint: &Endpoint,
+        m: Moment,
+        _steps: &mut Steps<L>,
+    ) -> Option<PortUse>
+        ensures used { IsPortUse endpoint.now m self.now.leases result }
+        ensures steps { _steps.new ≡ _steps.old }
     {
         let external = live_with(&self.leases, endpoint, m)?.external;
         let count = count_of(&self.leases, endpoint, m);
@@ -189,31 +219,43 @@ impl PlainPeerTable {
         remote_port: u16,
     ) -> Option<&PeerLease>
         ensures { option_copied result ≡
-            peer_opening protocol port remote.now remote_port self.now }
+            peer_opening protocol port remote.now remote_port self.now.leases }
     {
         self.leases
             .iter()
             .find(|lease| opens(lease, protocol, port, remote, remote_port))
     }
 
-    /// The least port above the endpoint's that any lease of its address and protocol names.
-    pub fn next_internal(&self, endpoint: &Endpoint, _m: Moment) -> Option<u16>
-        ensures next { IsNextNamed endpoint.now self.now result }
-        ensures skips { SkipsUnnamed endpoint.now (filter (is_live_peer _m) self.now) result }
+    /// The least port above the endpoint's that a lease of its address and protocol names which is live
+    /// at `m`.
+    pub fn next_internal<L: Ledger>(
+        &self,
+        endpoint: &Endpoint,
+        m: Moment,
+        _steps: &mut Steps<L>,
+    ) -> Option<u16>
+        ensures next { IsNextNamed endpoint.now (filter (is_live_peer m) self.now.leases) result }
+        ensures skips { SkipsUnnamed endpoint.now (filter (is_live_peer m) self.now.leases) result }
+        ensures steps { _steps.new ≡ _steps.old }
     {
-        next_in(&self.leases, endpoint)
+        next_in(&self.leases, endpoint, m)
     }
 
-    /// Lets a moment pass, which changes nothing.
-    pub fn reach(&mut self, _m: Moment)
-        ensures { self.new ≡ self.old }
-    {}
+    /// Lets a moment pass. All leases stay.
+    pub fn reach<L: Ledger>(&mut self, m: Moment, _steps: &mut Steps<L>)
+        ensures leases { self.new.leases ≡ self.old.leases }
+        ensures reached { self.new.reached ≡ max self.old.reached m }
+        ensures steps { _steps.new ≡ _steps.old }
+    {
+        self.reached = later(self.reached, m);
+    }
 
     /// Puts a lease in the place of the one with its key, or at the end. The one error is want of
     /// memory, which changes nothing.
     pub fn put(&mut self, _alloc: Global, lease: PeerLease) -> Result<(), Memory>
-        requires { AreSoundPeers (with_peer lease self.old) }
-        ensures { PutsPeer self.old lease result self.new }
+        requires { AreSoundPeers (with_peer lease self.old.leases) }
+        ensures put { PutsPeer self.old.leases lease result self.new.leases }
+        ensures reached { self.new.reached ≡ self.old.reached }
     {
         put_into(&mut self.leases, lease)?;
         Ok(())
@@ -221,7 +263,9 @@ impl PlainPeerTable {
 
     /// Takes out the lease with this endpoint, remote address and remote port.
     pub fn remove(&mut self, endpoint: &Endpoint, remote: &Address, port: u16) -> Option<PeerLease>
-        ensures { RemovesPeer self.old endpoint.now remote.now port result self.new }
+        ensures removed { RemovesPeer self.old.leases endpoint.now remote.now port result
+            self.new.leases }
+        ensures reached { self.new.reached ≡ self.old.reached }
     {
         let found = lease_with(&self.leases, endpoint, remote, port).copied();
         drop_from(&mut self.leases, endpoint, remote, port);
@@ -229,8 +273,9 @@ impl PlainPeerTable {
     }
 
     /// How many leases are live at `m`.
-    pub fn live(&self, m: Moment) -> u32
-        ensures { result ≡ count_by (is_live_peer m) self.now }
+    pub fn live<L: Ledger>(&self, m: Moment, _steps: &mut Steps<L>) -> u32
+        ensures live { result ≡ count_by (is_live_peer m) self.now.leases }
+        ensures steps { _steps.new ≡ _steps.old }
     {
         self.leases.iter().filter(|lease| lease.is_live(m)).count() as u32
     }
@@ -243,7 +288,7 @@ impl PlainPeerTable {
         m: Moment,
         out: &mut Vec<PeerLease>,
     ) -> Result<(), Memory>
-        ensures { CopiesLivePeers self.now m out.old.items result out.new.items }
+        ensures { CopiesLivePeers self.now.leases m out.old.items result out.new.items }
     {
         let mut live = live_of(alloc, &self.leases, m)?;
         out.append(&mut live)?;

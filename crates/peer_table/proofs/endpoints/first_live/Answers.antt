@@ -1,4 +1,4 @@
-use Rattle.std.proofs.Common.{refl, find, sym, ap, ◌∙◌, ℕ}
+use Rattle.std.proofs.Common.{refl, find, sym, ap, ◌∙◌, ℕ, arith}
 use Rattle.std.specs.Ordering.{nat_cmp}
 use Rattle.std.specs.BTreeMap.{get}
 use Rattle.peer_table.specs.Kept.{PeerKey, some_live}
@@ -6,17 +6,17 @@ use Rattle.peer_table.proofs.PortUses.{found_here, found_nowhere}
 use Rattle.peer_table.proofs.endpoints.first_live.Goals as goal
 
 pub loop-number-init : goal.loop-number-init
-loop-number-init c = refl
+loop-number-init g c = (refl, omega arith)
 
-pub returns-then-is_live_at : goal.returns-then-is_live_at
-returns-then-is_live_at c =
-    let test = λ (e : PeerKey × ℕ). some_live c.args.m (get nat_cmp c.args.leases.now e.1) in
+pub returns-then-is_live_at-clause-first : goal.returns-then-is_live_at-clause-first
+returns-then-is_live_at-clause-first g c =
+    let test = λ (e : PeerKey × ℕ). some_live c.args.m (get nat_cmp c.args.kept.now.leases e.1) in
     let whole = c.into_iter-number-iterator.ensures.into_iter_gives ∙ c.range-number-items.ensures.between tt in
     found_here test c.in-Some.field-0-0.now c.in-Some.number.now c.next.new.self c.loop-number.number-iterator _
-    (sym c.is_live_at.ensures ∙ c.if-is_live_at.true) c.in-Some.ensures.steps (c.loop-number.invariant ∙ ap (find test) whole)
+    (sym c.is_live_at.ensures.live ∙ c.if-is_live_at.true) c.in-Some.ensures.steps (c.loop-number.invariant.0 ∙ ap (find test) whole)
 
-pub returns : goal.returns
-returns c =
-    let test = λ (e : PeerKey × ℕ). some_live c.args.m (get nat_cmp c.args.leases.now e.1) in
+pub returns-clause-first : goal.returns-clause-first
+returns-clause-first g c =
+    let test = λ (e : PeerKey × ℕ). some_live c.args.m (get nat_cmp c.args.kept.now.leases e.1) in
     let whole = c.into_iter-number-iterator.ensures.into_iter_gives ∙ c.range-number-items.ensures.between tt in
-    found_nowhere test c.loop-number.number-iterator _ c.in-None.ensures.steps.0 (c.loop-number.invariant ∙ ap (find test) whole)
+    found_nowhere test c.loop-number.number-iterator _ c.in-None.ensures.steps.0 (c.loop-number.invariant.0 ∙ ap (find test) whole)

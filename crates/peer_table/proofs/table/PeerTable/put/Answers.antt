@@ -1,4 +1,4 @@
-use Rattle.std.proofs.Common.{List, refl, sym, subst}
+use Rattle.std.proofs.Common.{◌≤◌, List, refl, sym, subst, ◌∙◌}
 use Rattle.std.specs.BTreeMap.{values}
 use Rattle.pcp_base.specs.declared.leases.PeerLease.{PeerLease}
 use Rattle.pcp_base.specs.Tables.{is_peer_of}
@@ -14,6 +14,7 @@ invariant_of-self c =
     record {
       kept = c.self.invariant.kept;
       live = same-live peer_keying peer_laws ls ls c.self.inside.live c.enter.new.self refl c.enter.ensures.from c.in_err-anew.ensures.err c.self.invariant.live;
+      begun = subst (λ n. 1 ≤ n) (sym c.enter.ensures.from) c.self.invariant.begun;
     }
 
 pub invariant_of-self-in_default : goal.invariant_of-self-in_default
@@ -26,6 +27,7 @@ invariant_of-self-in_default c =
     record {
       kept = c.put_kept.ensures.kept;
       live = subst (λ (v : List PeerLease). AreLive peer_keying v c.settle.new.self) (sym c.in_default.ensures.put.ok) put;
+      begun = subst (λ n. 1 ≤ n) (sym (c.settle.ensures.from ∙ c.enter.ensures.from)) c.self.invariant.begun;
     }
 
 pub invariant_of-self-2 : goal.invariant_of-self-2
@@ -33,4 +35,5 @@ invariant_of-self-2 c = record {
   kept = c.put_kept.ensures.kept;
   live = undone-live peer_keying peer_laws (values c.self.inside.kept.leases) (values c.put_kept.new.kept.leases) c.self.inside.live c.enter.new.self c.undo.new.self
       c.key_of-key.result c.args.lease.expiry c.in_ok-anew.anew c.self.invariant.live c.in-Err.ensures.put.err c.enter.ensures.from c.in_ok-anew.ensures.ok c.undo.ensures;
+  begun = subst (λ n. 1 ≤ n) (sym (c.undo.ensures.from ∙ c.enter.ensures.from)) c.self.invariant.begun;
 }
