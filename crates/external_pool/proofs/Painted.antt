@@ -1,7 +1,7 @@
 -- Uses after some of them were painted.
 use Rattle.std.specs.Prelude.{◌⊎◌}
 use Rattle.std.proofs.lemmas.Bool.{eqb-true, eq-eqb}
-use Rattle.std.proofs.Common.{◌==◌, inl, inr, length-set, take-append-drop, slice_set, ◌≡◌, ℕ, zero, suc, ◌+◌, ◌-◌, ◌<◌, ◌≤◌, ◌&&◌, nat_le, nat_lt, Bool, true, false, cond, List, [], ◌∷◌, ◌++◌, length, take, drop, replicate, refl, sym, ap, ◌∙◌, arith, length-take-le, length-append, length-drop, get_or-take, get_or-drop, Vec}
+use Rattle.std.proofs.Common.{◌==◌, inl, inr, length-set, take-append-drop, slice_set, ◌≡◌, ℕ, zero, suc, ◌+◌, ◌-◌, ◌<◌, ◌≤◌, ◌&&◌, nat_le, nat_lt, Bool, true, false, cond, List, ◌∷◌, ◌++◌, length, take, drop, replicate, refl, sym, ap, ◌∙◌, arith, length-take-le, length-append, length-drop, get_or-take, get_or-drop, Vec}
 use Rattle.std.proofs.lemmas.List.{append-nil, drop_all, get_or-append_right, with_items_is, get_or_append_left, ext_get_or, get_or-set_same, get_or-set_other}
 use Rattle.std.proofs.lemmas.Bool.Decides.{nat_tests}
 use Rattle.std.specs.Vec.{with_items}

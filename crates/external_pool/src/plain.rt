@@ -18,6 +18,8 @@ use crate::uses::{PORTS, Use, cleared, is_free_to, is_free_use, paint, resting};
 use pcp_base::{Address, Endpoint, Memory, Protocol};
 use std::alloc::Global;
 use std::marker::Model;
+use std::sync::ledger::Ledger;
+use step_count::Steps;
 
 /// The external ports of one address, with the same clauses as [`Pool`](crate::Pool).
 #[derive(Drop)]
@@ -185,15 +187,17 @@ impl PlainPool {
         })
     }
 
-    /// The ports that an address would be given.
-    pub fn pick(
+    /// The ports that an address would be given. It looks at no tree and no ordered map.
+    pub fn pick<L: Ledger>(
         &self,
         who: &Address,
         protocol: Protocol,
         ask: &PickAsk,
+        _steps: &mut Steps<L>,
     ) -> Result<Picked, PickRefused>
         requires { IsAsk ask.now }
-        ensures { IsPickAnswer self.now who.now protocol ask.now result }
+        ensures pick { IsPickAnswer self.now who.now protocol ask.now result }
+        ensures steps { _steps.new ≡ _steps.old }
     {
         let owned = count(&self.tcp, who) as u32 + count(&self.udp, who) as u32;
         if owned >= self.quota {

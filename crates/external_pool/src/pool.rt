@@ -16,6 +16,8 @@ use pcp_base::{Address, Endpoint, Memory, Protocol};
 use std::alloc::Global;
 use std::collections::BTreeMap;
 use std::marker::Model;
+use std::sync::ledger::Ledger;
+use step_count::{Steps, levels};
 
 /// The external ports of one address: who holds which, and for whom others rest.
 ///
@@ -83,15 +85,21 @@ impl Pool {
     /// the longest run of vacant ports whose first meets it, of at most the room and of what the
     /// quota leaves, and of these runs the one with the least start. The refusal is the first of
     /// [`PickRefused`] that applies. The ask is for at least one port, with room for one.
-    pub fn pick(
+    ///
+    /// A step is a node of a tree that is looked at, or a level of the ordered map of addresses, of
+    /// which it has 64 at most, or a port that is suggested.
+    pub fn pick<L: Ledger>(
         &self,
         who: &Address,
         protocol: Protocol,
         ask: &PickAsk,
+        steps: &mut Steps<L>,
     ) -> Result<Picked, PickRefused>
         requires { IsAsk ask.now }
-        ensures { IsPickAnswer self.now who.now protocol ask.now result }
+        ensures pick { IsPickAnswer self.now who.now protocol ask.now result }
+        ensures steps { steps.new ≤ steps.old + 133 + ask.now.room }
     {
+        steps.take(levels(self.counts.len()));
         let owned = count_of(&self.counts, who);
         if owned >= self.quota {
             return Err(PickRefused::Quota(owned));
@@ -99,7 +107,7 @@ impl Pool {
         let room = ask.room.min(self.quota - owned);
         let choice = self
             .side(protocol)
-            .pick(who, ask.internal, ask.suggested, room, ask.parity);
+            .pick(who, ask.internal, ask.suggested, room, ask.parity, steps);
         judge(ask, choice)
     }
 

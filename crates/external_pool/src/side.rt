@@ -1,7 +1,7 @@
 //! The ports of one protocol: what each is used for, and which of the range are vacant.
 
 ghost use Rattle.std.specs.Prelude.{◌≡◌, ◌+◌, ◌-◌, ◌≤◌, ◌<◌, ◌↔◌, ℕ, true, not, IsTrue, IfOk, IfSome, IfNone, if◌then◌else◌};
-ghost use Rattle.port_runs.specs.Ports.{is_taken, is_in_run, HasParity, IsFittingRun, HasFittingRun, IsLeast, IsGreatest};
+ghost use Rattle.port_runs.specs.Ports.{is_taken, is_in_run, HasParity, IsLeast, IsGreatest};
 ghost use Rattle.external_pool.specs.PortUses as the;
 ghost use Rattle.external_pool.specs.Choosing.{IsVacantRun, HasVacantRun, GoesBack, IsLongest, IsPick};
 
@@ -10,8 +10,8 @@ use crate::uses::{PORTS, Use, cleared, is_free_to, is_free_use, paint};
 use pcp_base::{Address, Memory};
 use port_runs::Runs;
 use std::alloc::Global;
-use std::marker::{Brand, Model};
-use std::sync::ledger::{Blank, Ledger};
+use std::marker::Model;
+use std::sync::ledger::Ledger;
 use step_count::Steps;
 
 /// The ports of one protocol: a use for each number of 16 bits, and a tree of the range's vacant ones.
@@ -66,29 +66,6 @@ fn settle(runs: &mut Runs, start: u16, n: u32, vacant: bool)
     }
     runs.give(start, n);
     runs.take(start, n);
-}
-
-/// The least start of a free run, for a caller that counts no steps.
-fn first_run<L: Ledger>(runs: &Runs, n: u32, parity: Option<u8>, blank: Blank) -> Option<u16>
-    requires name { blank.name ≡ L.name }
-    requires parts { blank.parts ≡ L.parts }
-    requires part { 0 < L.parts }
-    requires some { 1 ≤ n }
-    ensures { IsLeast (IsFittingRun runs.now n parity) result }
-{
-    let mut steps = Steps::<L>::begin(blank);
-    runs.first_run(n, parity, &mut steps)
-}
-
-/// How long the longest free run is, for a caller that counts no steps.
-fn longest_run<L: Ledger>(runs: &Runs, parity: Option<u8>, blank: Blank) -> u32
-    requires name { blank.name ≡ L.name }
-    requires parts { blank.parts ≡ L.parts }
-    requires part { 0 < L.parts }
-    ensures { IsGreatest (HasFittingRun runs.now parity) result }
-{
-    let mut steps = Steps::<L>::begin(blank);
-    runs.longest_run(parity, &mut steps)
 }
 
 /// Whether a port has the remainder by 2 that is asked, if one is.
@@ -161,21 +138,24 @@ impl Side {
     }
 
     /// Whether each of the `n` ports from `start` on is open to the endpoint that it would be given
-    /// to, and the parity asked is met.
-    fn goes_back(
+    /// to, and the parity asked is met. It is one step for each port that is looked at.
+    fn goes_back<L: Ledger>(
         &self,
         who: &Address,
         internal: u16,
         start: u16,
         n: u32,
         parity: Option<u8>,
+        steps: &mut Steps<L>,
     ) -> bool
-        ensures { IsTrue result ↔ GoesBack self.now who.now internal parity start n }
+        ensures back { IsTrue result ↔ GoesBack self.now who.now internal parity start n }
+        ensures steps { steps.new ≤ steps.old + n }
     {
         if !meets(start, parity) {
             return false;
         }
         for i in 0..n {
+            steps.tick();
             if !self.is_open(
                 who,
                 u64::from(internal) + u64::from(i),
@@ -188,30 +168,43 @@ impl Side {
     }
 
     /// The least start of `n` vacant ports that meets the parity asked.
-    fn first_vacant(&self, n: u32, parity: Option<u8>) -> Option<u16>
+    fn first_vacant<L: Ledger>(
+        &self,
+        n: u32,
+        parity: Option<u8>,
+        steps: &mut Steps<L>,
+    ) -> Option<u16>
         requires { 1 ≤ n }
-        ensures { IsLeast (IsVacantRun self.now n parity) result }
+        ensures first { IsLeast (IsVacantRun self.now n parity) result }
+        ensures steps { steps.new ≤ steps.old + 68 }
     {
-        first_run::<Brand>(&self.runs, n, parity, Blank::new(1))
+        self.runs.first_run(n, parity, steps)
     }
 
     /// How many ports the longest run of vacant ones has whose start meets the parity asked.
-    fn most_vacant(&self, parity: Option<u8>) -> u32
-        ensures { IsGreatest (HasVacantRun self.now parity) result }
+    fn most_vacant<L: Ledger>(&self, parity: Option<u8>, steps: &mut Steps<L>) -> u32
+        ensures most { IsGreatest (HasVacantRun self.now parity) result }
+        ensures steps { steps.new ≡ steps.old + 1 }
     {
-        longest_run::<Brand>(&self.runs, parity, Blank::new(1))
+        self.runs.longest_run(parity, steps)
     }
 
     /// The longest run of vacant ports, of at most `room`, and of these the one with the least
     /// start.
-    fn longest(&self, room: u32, parity: Option<u8>) -> Option<Picked>
-        ensures { IsLongest self.now parity room result }
+    fn longest<L: Ledger>(
+        &self,
+        room: u32,
+        parity: Option<u8>,
+        steps: &mut Steps<L>,
+    ) -> Option<Picked>
+        ensures longest { IsLongest self.now parity room result }
+        ensures steps { steps.new ≤ steps.old + 69 }
     {
-        let count = self.most_vacant(parity).min(room);
+        let count = self.most_vacant(parity, steps).min(room);
         if count == 0 {
             return None;
         }
-        let Some(start) = self.first_vacant(count, parity) else {
+        let Some(start) = self.first_vacant(count, parity, steps) else {
             return None;
         };
         Some(Picked { start, count })
@@ -219,24 +212,26 @@ impl Side {
 
     /// The ports to pick: those suggested, where each can go back to its endpoint, and else the
     /// longest run.
-    pub fn pick(
+    pub fn pick<L: Ledger>(
         &self,
         who: &Address,
         internal: u16,
         suggested: u16,
         room: u32,
         parity: Option<u8>,
+        steps: &mut Steps<L>,
     ) -> Option<Picked>
-        ensures { IsPick self.now who.now internal suggested parity room result }
+        ensures pick { IsPick self.now who.now internal suggested parity room result }
+        ensures steps { steps.new ≤ steps.old + 69 + room }
     {
         if suggested != 0 {
-            if self.goes_back(who, internal, suggested, room, parity) {
+            if self.goes_back(who, internal, suggested, room, parity, steps) {
                 return Some(Picked {
                     start: suggested,
                     count: room,
                 });
             }
         }
-        self.longest(room, parity)
+        self.longest(room, parity, steps)
     }
 }
