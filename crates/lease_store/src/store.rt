@@ -1,5 +1,5 @@
 //! The state that records made, as decisions ask for it.
-ghost use Rattle.std.specs.Prelude.{◌≡◌, ℕ, ◌≤◌, Ok, true, false, is_some, OnOk, IfOk};
+ghost use Rattle.std.specs.Prelude.{◌≡◌, ℕ, ◌≤◌, ◌+◌, Ok, true, false, is_some, OnOk, IfOk};
 ghost use Rattle.pcp_base.specs.Tables.{live};
 ghost use Rattle.pcp_base.specs.States.{State, empty_state};
 ghost use Rattle.pcp_base.specs.Apply.{apply, apply_first};
@@ -19,11 +19,16 @@ use pcp_base::{
     Address, End, Endpoint, MapLease, Memory, Moment, Owner, PeerLease, Protocol, Record,
 };
 use std::alloc::Global;
+use std::sync::ledger::Ledger;
+use step_count::Steps;
 
 /// A value that stands for the state that records have made, at a moment that is reached. Leases
 /// that ended since the last record stay in the state until a record is applied, but at the moment
 /// reached they count as ended, and their ports as resting. After `Memory` it is to be cleared; no
 /// other call but `terms` may be made before.
+///
+/// A step is a look at a level of an ordered map or at a node of a tree, or at a port that is
+/// suggested.
 pub trait LeaseStore {
     /// The table, the ends, the base, the address, the last moment, and whether a Start came.
     ghost state: { Self → State };
@@ -34,6 +39,12 @@ pub trait LeaseStore {
 
     /// The terms on which ports are leased; they never change.
     ghost terms: { Self → Terms };
+
+    /// How many steps one look-up in a state takes at most.
+    ghost look_steps: { State → ℕ };
+
+    /// How many steps `reach` takes at most, in a state from one moment to another.
+    ghost reach_steps: { State → ℕ → ℕ → ℕ };
 
     /// It is new or was cleared, and nothing but `admit` changed it since.
     ghost replaying: { Self → Type 0 };
@@ -88,12 +99,14 @@ pub trait LeaseStore {
         ensures terms { terms self.new ≡ terms self.old };
 
     /// Moves on to a moment that isn't below the one reached. The state stays.
-    fn reach(&mut self, m: Moment)
+    fn reach<L: Ledger>(&mut self, m: Moment, steps: &mut Steps<L>)
         requires sound { IsReached (state self.old) }
         requires later { reached self.old ≤ m }
         ensures state { state self.new ≡ state self.old }
         ensures reached { reached self.new ≡ m }
-        ensures terms { terms self.new ≡ terms self.old };
+        ensures terms { terms self.new ≡ terms self.old }
+        ensures steps { steps.new
+            ≤ steps.old + reach_steps (state self.old) (reached self.old) m };
 
     /// The terms on which ports are leased.
     fn terms(&self) -> Terms
@@ -101,46 +114,64 @@ pub trait LeaseStore {
         ensures allowed { AreTerms result };
 
     /// The MAP lease, live at the moment reached, that covers the endpoint.
-    fn covering(&self, endpoint: &Endpoint) -> Option<MapLease>
+    fn covering<L: Ledger>(&self, endpoint: &Endpoint, steps: &mut Steps<L>) -> Option<MapLease>
         requires { IsReached (state self.now) }
-        ensures { result ≡ covering (state self.now).table (reached self.now) endpoint.now };
+        ensures lease { result ≡ covering (state self.now).table (reached self.now) endpoint.now }
+        ensures steps { steps.new ≤ steps.old + look_steps (state self.now) };
 
     /// The PEER lease, live at the moment reached, of this endpoint and remote.
-    fn peering(&self, endpoint: &Endpoint, remote: &Address, remote_port: u16) -> Option<PeerLease>
+    fn peering<L: Ledger>(
+        &self,
+        endpoint: &Endpoint,
+        remote: &Address,
+        remote_port: u16,
+        steps: &mut Steps<L>,
+    ) -> Option<PeerLease>
         requires { IsReached (state self.now) }
-        ensures { result ≡ peering (state self.now).table (reached self.now)
-            endpoint.now remote.now remote_port };
+        ensures lease { result ≡ peering (state self.now).table (reached self.now)
+            endpoint.now remote.now remote_port }
+        ensures steps { steps.new ≤ steps.old + look_steps (state self.now) };
 
     /// The external port of the PEER leases, live at the moment reached, that name the endpoint.
-    fn named_port(&self, endpoint: &Endpoint) -> Option<u16>
+    fn named_port<L: Ledger>(&self, endpoint: &Endpoint, steps: &mut Steps<L>) -> Option<u16>
         requires { IsReached (state self.now) }
-        ensures { result ≡ named_port (state self.now).table (reached self.now) endpoint.now };
+        ensures port { result ≡ named_port (state self.now).table (reached self.now) endpoint.now }
+        ensures steps { steps.new ≤ steps.old + look_steps (state self.now) };
 
     /// How many PEER leases, live at the moment reached, name the endpoint.
-    fn peer_count(&self, endpoint: &Endpoint) -> u32
+    fn peer_count<L: Ledger>(&self, endpoint: &Endpoint, steps: &mut Steps<L>) -> u32
         requires { IsReached (state self.now) }
-        ensures { result ≡ peer_count (state self.now).table (reached self.now) endpoint.now };
+        ensures count { result ≡ peer_count (state self.now).table (reached self.now) endpoint.now }
+        ensures steps { steps.new ≤ steps.old + look_steps (state self.now) };
 
     /// The next greater internal port, of the endpoint's address and protocol, that a lease covers
     /// or names which is live at the moment reached.
-    fn next_inside(&self, endpoint: &Endpoint) -> Option<u16>
+    fn next_inside<L: Ledger>(&self, endpoint: &Endpoint, steps: &mut Steps<L>) -> Option<u16>
         requires { IsReached (state self.now) }
-        ensures { result ≡ next_inside (state self.now).table (reached self.now) endpoint.now };
+        ensures next { result ≡ next_inside (state self.now).table (reached self.now) endpoint.now }
+        ensures steps { steps.new ≤ steps.old + look_steps (state self.now) };
 
     /// How many leases are live at the moment reached.
-    fn lease_count(&self) -> u32
+    fn lease_count<L: Ledger>(&self, steps: &mut Steps<L>) -> u32
         requires { IsReached (state self.now) }
-        ensures { result ≡ lease_count (state self.now).table (reached self.now) };
+        ensures count { result ≡ lease_count (state self.now).table (reached self.now) }
+        ensures steps { steps.new ≤ steps.old + look_steps (state self.now) };
 
     /// The ports that would be given at the moment reached, the first one to this endpoint, by the
     /// rules of [`Pool::pick`](external_pool::Pool::pick). The ask is for at least one port, with
     /// room for one.
-    fn pick(&self, endpoint: &Endpoint, ask: &PickAsk) -> Result<Picked, PickRefused>
+    fn pick<L: Ledger>(
+        &self,
+        endpoint: &Endpoint,
+        ask: &PickAsk,
+        steps: &mut Steps<L>,
+    ) -> Result<Picked, PickRefused>
         requires sound { IsReached (state self.now) }
         requires ask { IsAsk ask.now }
         requires internal { ask.now.internal ≡ endpoint.now.port }
-        ensures { result ≡ pick_answer (terms self.now) (state self.now) (reached self.now)
-            endpoint.now ask.now };
+        ensures pick { result ≡ pick_answer (terms self.now) (state self.now) (reached self.now)
+            endpoint.now ask.now }
+        ensures steps { steps.new ≤ steps.old + look_steps (state self.now) + ask.now.room };
 
     /// The endpoint to which a remote peer may send through this external port. A moment below the
     /// last one counts as that.
