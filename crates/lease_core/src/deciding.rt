@@ -1,8 +1,8 @@
 //! What is decided on requests of all kinds.
-ghost use Rattle.std.specs.Prelude.{◌≡◌, ◌≤◌};
+ghost use Rattle.std.specs.Prelude.{◌≡◌, ◌≤◌, ◌+◌, ◌*◌};
 ghost use Rattle.pcp_base.specs.Asks.{IsWellFormedAsk};
 ghost use Rattle.pcp_base.specs.Reached.{IsReached};
-ghost use Rattle.lease_core.specs.Decide.{decide};
+ghost use Rattle.lease_core.specs.Decide.{decide, ports_asked};
 
 use crate::answers::answered;
 use crate::decided::Decided;
@@ -10,11 +10,19 @@ use crate::mapping::decide_map;
 use crate::peering::decide_peer;
 use lease_store::LeaseStore;
 use pcp_base::{Answer, Ask, Moment};
+use std::sync::ledger::Ledger;
+use step_count::Steps;
 
 /// What is decided on a request at a moment that isn't below the one reached, which it becomes. The
-/// state stays: a record that is told is for the caller to apply. No memory is taken.
+/// state stays: a record that is told is for the caller to apply. No memory is taken. It is at most six
+/// look-ups, what `reach` takes, and a step for each port that is asked for.
 #[inline(never)]
-pub fn decide<S: LeaseStore>(store: &mut S, ask: &Ask, m: Moment) -> Decided
+pub fn decide<S: LeaseStore, L: Ledger>(
+    store: &mut S,
+    ask: &Ask,
+    m: Moment,
+    steps: &mut Steps<L>,
+) -> Decided
     requires sound { IsReached (S.state store.old) }
     requires later { S.reached store.old ≤ m }
     requires ask { IsWellFormedAsk ask.now }
@@ -22,12 +30,14 @@ pub fn decide<S: LeaseStore>(store: &mut S, ask: &Ask, m: Moment) -> Decided
     ensures state { S.state store.new ≡ S.state store.old }
     ensures reached { S.reached store.new ≡ m }
     ensures terms { S.terms store.new ≡ S.terms store.old }
+    ensures steps { steps.new ≤ steps.old + S.reach_steps (S.state store.old) (S.reached store.old) m
+        + 6 * S.look_steps (S.state store.old) + ports_asked ask.now }
 {
-    store.reach(m);
+    store.reach(m, steps);
     match ask {
         Ask::Known(refusal) => answered(Answer::Refused(*refusal)),
         Ask::Announce => answered(Answer::Announced),
-        Ask::Map(map) => decide_map(store, m, map),
-        Ask::Peer(peer) => decide_peer(store, m, peer),
+        Ask::Map(map) => decide_map(store, m, map, steps),
+        Ask::Peer(peer) => decide_peer(store, m, peer, steps),
     }
 }

@@ -1,5 +1,5 @@
 //! What is decided on MAP requests (RFC 6887, sections 11.3, 13 and 15; sets of ports: RFC 7753).
-ghost use Rattle.std.specs.Prelude.{◌≡◌, ◌+◌, ◌-◌, ◌<◌, ◌≤◌, ◌^◌, ◌&&◌, ℕ, [], None, Some, if◌then◌else◌};
+ghost use Rattle.std.specs.Prelude.{◌≡◌, ◌+◌, ◌-◌, ◌*◌, ◌<◌, ◌≤◌, ◌^◌, ◌&&◌, ℕ, [], None, Some, if◌then◌else◌};
 ghost use Rattle.pcp_base.specs.States.{State};
 ghost use Rattle.pcp_base.specs.Asks.{IsMapAsk};
 ghost use Rattle.pcp_base.specs.Reached.{IsReached};
@@ -23,6 +23,8 @@ use lease_store::{LeaseStore, Terms};
 use pcp_base::{
     Answer, Change, Code, Filters, MOST_LEASES, MOST_PORTS, MapAsk, MapLease, Moment, PortSet,
 };
+use std::sync::ledger::Ledger;
+use step_count::Steps;
 
 /// The external port that is told.
 fn port_told(ask: &MapAsk, lease: &MapLease) -> u16
@@ -147,11 +149,18 @@ fn up_to_next(next: Option<u16>, internal: u16, room: u32) -> u32
 }
 
 /// How many ports may be given from the endpoint on, apart from the quota.
-fn room_inside<S: LeaseStore>(store: &S, m: Moment, ask: &MapAsk) -> u32
+fn room_inside<S: LeaseStore, L: Ledger>(
+    store: &S,
+    m: Moment,
+    ask: &MapAsk,
+    steps: &mut Steps<L>,
+) -> u32
     requires sound { IsReached (S.state store.now) }
     requires reached { S.reached store.now ≡ m }
     requires ask { IsMapAsk ask.now }
-    ensures { result ≡ room_inside (S.state store.now) m ask.now }
+    ensures room { result ≡ room_inside (S.state store.now) m ask.now }
+    ensures few { result ≤ size_asked ask.now }
+    ensures steps { steps.new ≤ steps.old + S.look_steps (S.state store.now) }
 {
     let internal = ask.endpoint.port;
     let size = size_asked(ask);
@@ -161,22 +170,29 @@ fn room_inside<S: LeaseStore>(store: &S, m: Moment, ask: &MapAsk) -> u32
     let room = size
         .min(u32::from(MOST_PORTS))
         .min(65536 - u32::from(internal));
-    up_to_next(store.next_inside(&ask.endpoint), internal, room)
+    up_to_next(store.next_inside(&ask.endpoint, steps), internal, room)
 }
 
 /// What a pool is asked for.
-fn pick_ask<S: LeaseStore>(store: &S, m: Moment, ask: &MapAsk) -> PickAsk
+fn pick_ask<S: LeaseStore, L: Ledger>(
+    store: &S,
+    m: Moment,
+    ask: &MapAsk,
+    steps: &mut Steps<L>,
+) -> PickAsk
     requires sound { IsReached (S.state store.now) }
     requires reached { S.reached store.now ≡ m }
     requires ask { IsMapAsk ask.now }
-    ensures { result ≡ pick_ask (S.terms store.now) (S.state store.now) m ask.now }
+    ensures asks { result ≡ pick_ask (S.terms store.now) (S.state store.now) m ask.now }
+    ensures few { result.room ≤ size_asked ask.now }
+    ensures steps { steps.new ≤ steps.old + S.look_steps (S.state store.now) }
 {
     let address = store.terms().external.address;
     PickAsk {
         internal: ask.endpoint.port,
         suggested: ask.port,
         asked: size_asked(ask),
-        room: room_inside(store, m, ask),
+        room: room_inside(store, m, ask, steps),
         parity: parity_of(ask.set, ask.endpoint.port),
         must: ask.prefer,
         here: is_address_met(&ask.address, &address),
@@ -184,13 +200,21 @@ fn pick_ask<S: LeaseStore>(store: &S, m: Moment, ask: &MapAsk) -> PickAsk
 }
 
 /// The ports that are picked, or why none are.
-fn pick_ports<S: LeaseStore>(store: &S, m: Moment, ask: &MapAsk) -> Result<Picked, Code>
+fn pick_ports<S: LeaseStore, L: Ledger>(
+    store: &S,
+    m: Moment,
+    ask: &MapAsk,
+    steps: &mut Steps<L>,
+) -> Result<Picked, Code>
     requires sound { IsReached (S.state store.now) }
     requires reached { S.reached store.now ≡ m }
     requires ask { IsMapAsk ask.now }
-    ensures { result ≡ chosen_by None (S.terms store.now) (S.state store.now) m ask.now }
+    ensures ports { result ≡ chosen_by None (S.terms store.now) (S.state store.now) m ask.now }
+    ensures steps { steps.new
+        ≤ steps.old + 2 * S.look_steps (S.state store.now) + size_asked ask.now }
 {
-    match store.pick(&ask.endpoint, &pick_ask(store, m, ask)) {
+    let port_ask = pick_ask(store, m, ask, steps);
+    match store.pick(&ask.endpoint, &port_ask, steps) {
         Ok(run) => Ok(run),
         Err(refused) => Err(code_of(refused)),
     }
@@ -220,15 +244,22 @@ fn judge_named(terms: &Terms, ask: &MapAsk, port: u16) -> Result<Picked, Code>
 }
 
 /// The ports that a new lease is given, or why there are none.
-fn choose<S: LeaseStore>(store: &S, m: Moment, ask: &MapAsk) -> Result<Picked, Code>
+fn choose<S: LeaseStore, L: Ledger>(
+    store: &S,
+    m: Moment,
+    ask: &MapAsk,
+    steps: &mut Steps<L>,
+) -> Result<Picked, Code>
     requires sound { IsReached (S.state store.now) }
     requires reached { S.reached store.now ≡ m }
     requires ask { IsMapAsk ask.now }
-    ensures { result ≡ chosen (S.terms store.now) (S.state store.now) m ask.now }
+    ensures ports { result ≡ chosen (S.terms store.now) (S.state store.now) m ask.now }
+    ensures steps { steps.new
+        ≤ steps.old + 3 * S.look_steps (S.state store.now) + size_asked ask.now }
 {
-    match store.named_port(&ask.endpoint) {
+    match store.named_port(&ask.endpoint, steps) {
         Some(port) => judge_named(&store.terms(), ask, port),
-        None => pick_ports(store, m, ask),
+        None => pick_ports(store, m, ask, steps),
     }
 }
 
@@ -256,46 +287,67 @@ fn grant_new(terms: &Terms, m: Moment, ask: &MapAsk, run: Picked) -> Decided
 }
 
 /// What is decided on a MAP request that no live lease covers, and that is no deletion.
-fn grant<S: LeaseStore>(store: &S, m: Moment, ask: &MapAsk) -> Decided
+fn grant<S: LeaseStore, L: Ledger>(
+    store: &S,
+    m: Moment,
+    ask: &MapAsk,
+    steps: &mut Steps<L>,
+) -> Decided
     requires sound { IsReached (S.state store.now) }
     requires reached { S.reached store.now ≡ m }
     requires ask { IsMapAsk ask.now }
-    ensures { result ≡ granted_by (S.terms store.now) (S.state store.now) m ask.now
+    ensures decided { result ≡ granted_by (S.terms store.now) (S.state store.now) m ask.now
         (chosen (S.terms store.now) (S.state store.now) m ask.now) }
+    ensures steps { steps.new
+        ≤ steps.old + 4 * S.look_steps (S.state store.now) + size_asked ask.now }
 {
-    let run = match choose(store, m, ask) {
+    let run = match choose(store, m, ask, steps) {
         Ok(run) => run,
         Err(code) => return refused(code),
     };
-    if store.lease_count() as usize >= MOST_LEASES {
+    if store.lease_count(steps) as usize >= MOST_LEASES {
         return refused(Code::NoResources);
     }
     grant_new(&store.terms(), m, ask, run)
 }
 
 /// What is decided on a MAP request that no live lease covers.
-fn decide_uncovered<S: LeaseStore>(store: &S, m: Moment, ask: &MapAsk) -> Decided
+fn decide_uncovered<S: LeaseStore, L: Ledger>(
+    store: &S,
+    m: Moment,
+    ask: &MapAsk,
+    steps: &mut Steps<L>,
+) -> Decided
     requires sound { IsReached (S.state store.now) }
     requires reached { S.reached store.now ≡ m }
     requires ask { IsMapAsk ask.now }
-    ensures { result ≡ uncovered (S.terms store.now) (S.state store.now) m ask.now
+    ensures decided { result ≡ uncovered (S.terms store.now) (S.state store.now) m ask.now
         (named_port (S.state store.now).table m ask.now.endpoint) }
+    ensures steps { steps.new
+        ≤ steps.old + 4 * S.look_steps (S.state store.now) + size_asked ask.now }
 {
     if ask.lifetime == 0 {
         return answered(Answer::Gone);
     }
-    grant(store, m, ask)
+    grant(store, m, ask, steps)
 }
 
 /// What is decided on a MAP request at the moment reached.
-pub(crate) fn decide_map<S: LeaseStore>(store: &S, m: Moment, ask: &MapAsk) -> Decided
+pub(crate) fn decide_map<S: LeaseStore, L: Ledger>(
+    store: &S,
+    m: Moment,
+    ask: &MapAsk,
+    steps: &mut Steps<L>,
+) -> Decided
     requires sound { IsReached (S.state store.now) }
     requires reached { S.reached store.now ≡ m }
     requires ask { IsMapAsk ask.now }
-    ensures { result ≡ decide_map (S.terms store.now) (S.state store.now) m ask.now }
+    ensures decided { result ≡ decide_map (S.terms store.now) (S.state store.now) m ask.now }
+    ensures steps { steps.new
+        ≤ steps.old + 5 * S.look_steps (S.state store.now) + size_asked ask.now }
 {
-    match store.covering(&ask.endpoint) {
+    match store.covering(&ask.endpoint, steps) {
         Some(lease) => decide_covered(&store.terms(), m, ask, &lease),
-        None => decide_uncovered(store, m, ask),
+        None => decide_uncovered(store, m, ask, steps),
     }
 }

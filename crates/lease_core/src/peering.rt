@@ -1,5 +1,5 @@
 //! What is decided on PEER requests (RFC 6887, sections 12.3 and 15).
-ghost use Rattle.std.specs.Prelude.{◌≡◌, ◌+◌, ◌-◌, ◌<◌, ◌≤◌, ◌^◌, ℕ, None, Some, Ok, Err, if◌then◌else◌};
+ghost use Rattle.std.specs.Prelude.{◌≡◌, ◌+◌, ◌-◌, ◌*◌, ◌<◌, ◌≤◌, ◌^◌, ℕ, None, Some, Ok, Err, if◌then◌else◌};
 ghost use Rattle.pcp_base.specs.Asks.{IsPeerAsk};
 ghost use Rattle.pcp_base.specs.States.{State};
 ghost use Rattle.pcp_base.specs.Reached.{IsReached};
@@ -16,6 +16,8 @@ use lease_store::{LeaseStore, Terms};
 use pcp_base::{
     Answer, Change, Code, Endpoint, MOST_LEASES, MOST_PEERS, Moment, PeerAsk, PeerLease,
 };
+use std::sync::ledger::Ledger;
+use step_count::Steps;
 
 /// The lease is granted or renewed.
 fn peered(terms: &Terms, m: Moment, ask: &PeerAsk, lease: PeerLease) -> Decided
@@ -66,22 +68,34 @@ fn grant_port(terms: &Terms, m: Moment, ask: &PeerAsk, port: u16) -> Decided
 }
 
 /// The external port that a live lease gives the endpoint.
-fn given_port<S: LeaseStore>(store: &S, m: Moment, endpoint: &Endpoint) -> Option<u16>
+fn given_port<S: LeaseStore, L: Ledger>(
+    store: &S,
+    m: Moment,
+    endpoint: &Endpoint,
+    steps: &mut Steps<L>,
+) -> Option<u16>
     requires sound { IsReached (S.state store.now) }
     requires reached { S.reached store.now ≡ m }
-    ensures { result ≡ given_port (S.state store.now).table m endpoint.now }
+    ensures port { result ≡ given_port (S.state store.now).table m endpoint.now }
+    ensures steps { steps.new ≤ steps.old + 2 * S.look_steps (S.state store.now) }
 {
-    match store.covering(endpoint) {
+    match store.covering(endpoint, steps) {
         Some(lease) => Some(port_within(endpoint, &lease)),
-        None => store.named_port(endpoint),
+        None => store.named_port(endpoint, steps),
     }
 }
 
 /// The port that is picked, or why none is.
-fn pick_port<S: LeaseStore>(store: &S, m: Moment, ask: &PeerAsk) -> Result<u16, Code>
+fn pick_port<S: LeaseStore, L: Ledger>(
+    store: &S,
+    m: Moment,
+    ask: &PeerAsk,
+    steps: &mut Steps<L>,
+) -> Result<u16, Code>
     requires sound { IsReached (S.state store.now) }
     requires reached { S.reached store.now ≡ m }
-    ensures { result ≡ picked_port (S.terms store.now) (S.state store.now) m ask.now }
+    ensures port { result ≡ picked_port (S.terms store.now) (S.state store.now) m ask.now }
+    ensures steps { steps.new ≤ steps.old + S.look_steps (S.state store.now) + 1 }
 {
     let port_ask = PickAsk {
         internal: ask.endpoint.port,
@@ -92,66 +106,90 @@ fn pick_port<S: LeaseStore>(store: &S, m: Moment, ask: &PeerAsk) -> Result<u16, 
         must: false,
         here: true,
     };
-    match store.pick(&ask.endpoint, &port_ask) {
+    match store.pick(&ask.endpoint, &port_ask, steps) {
         Ok(run) => Ok(run.start),
         Err(refused) => Err(code_of(refused)),
     }
 }
 
 /// The port that a new lease is given, or why there is none.
-fn choose_port<S: LeaseStore>(store: &S, m: Moment, ask: &PeerAsk) -> Result<u16, Code>
+fn choose_port<S: LeaseStore, L: Ledger>(
+    store: &S,
+    m: Moment,
+    ask: &PeerAsk,
+    steps: &mut Steps<L>,
+) -> Result<u16, Code>
     requires sound { IsReached (S.state store.now) }
     requires reached { S.reached store.now ≡ m }
-    ensures { result ≡ port_chosen (S.terms store.now) (S.state store.now) m ask.now }
+    ensures port { result ≡ port_chosen (S.terms store.now) (S.state store.now) m ask.now }
+    ensures steps { steps.new ≤ steps.old + 3 * S.look_steps (S.state store.now) + 1 }
 {
-    match given_port(store, m, &ask.endpoint) {
+    match given_port(store, m, &ask.endpoint, steps) {
         Some(port) => Ok(port),
-        None => pick_port(store, m, ask),
+        None => pick_port(store, m, ask, steps),
     }
 }
 
 /// A lease of a chosen port, unless there is no room for it.
-fn grant<S: LeaseStore>(store: &S, m: Moment, ask: &PeerAsk) -> Decided
+fn grant<S: LeaseStore, L: Ledger>(
+    store: &S,
+    m: Moment,
+    ask: &PeerAsk,
+    steps: &mut Steps<L>,
+) -> Decided
     requires sound { IsReached (S.state store.now) }
     requires reached { S.reached store.now ≡ m }
-    ensures { result ≡ port_granted_by (S.terms store.now) (S.state store.now) m ask.now
+    ensures decided { result ≡ port_granted_by (S.terms store.now) (S.state store.now) m ask.now
         (port_chosen (S.terms store.now) (S.state store.now) m ask.now) }
+    ensures steps { steps.new ≤ steps.old + 4 * S.look_steps (S.state store.now) + 1 }
 {
-    let port = match choose_port(store, m, ask) {
+    let port = match choose_port(store, m, ask, steps) {
         Ok(port) => port,
         Err(code) => return refused(code),
     };
-    if store.lease_count() as usize >= MOST_LEASES {
+    if store.lease_count(steps) as usize >= MOST_LEASES {
         return refused(Code::NoResources);
     }
     grant_port(&store.terms(), m, ask, port)
 }
 
 /// What is decided where there is no live lease of the endpoint and remote.
-fn decide_unknown<S: LeaseStore>(store: &S, m: Moment, ask: &PeerAsk) -> Decided
+fn decide_unknown<S: LeaseStore, L: Ledger>(
+    store: &S,
+    m: Moment,
+    ask: &PeerAsk,
+    steps: &mut Steps<L>,
+) -> Decided
     requires sound { IsReached (S.state store.now) }
     requires reached { S.reached store.now ≡ m }
-    ensures { result ≡ unknown (S.terms store.now) (S.state store.now) m ask.now
+    ensures decided { result ≡ unknown (S.terms store.now) (S.state store.now) m ask.now
         (given_port (S.state store.now).table m ask.now.endpoint) }
+    ensures steps { steps.new ≤ steps.old + 5 * S.look_steps (S.state store.now) + 1 }
 {
     if ask.lifetime == 0 {
         return answered(Answer::Gone);
     }
-    if store.peer_count(&ask.endpoint) as usize >= MOST_PEERS {
+    if store.peer_count(&ask.endpoint, steps) as usize >= MOST_PEERS {
         return refused(Code::UserExQuota);
     }
-    grant(store, m, ask)
+    grant(store, m, ask, steps)
 }
 
 /// What is decided on a PEER request at the moment reached.
 #[inline(never)]
-pub(crate) fn decide_peer<S: LeaseStore>(store: &S, m: Moment, ask: &PeerAsk) -> Decided
+pub(crate) fn decide_peer<S: LeaseStore, L: Ledger>(
+    store: &S,
+    m: Moment,
+    ask: &PeerAsk,
+    steps: &mut Steps<L>,
+) -> Decided
     requires sound { IsReached (S.state store.now) }
     requires reached { S.reached store.now ≡ m }
-    ensures { result ≡ decide_peer (S.terms store.now) (S.state store.now) m ask.now }
+    ensures decided { result ≡ decide_peer (S.terms store.now) (S.state store.now) m ask.now }
+    ensures steps { steps.new ≤ steps.old + 6 * S.look_steps (S.state store.now) + 1 }
 {
-    match store.peering(&ask.endpoint, &ask.remote, ask.remote_port) {
+    match store.peering(&ask.endpoint, &ask.remote, ask.remote_port, steps) {
         Some(lease) => decide_known(&store.terms(), m, ask, &lease),
-        None => decide_unknown(store, m, ask),
+        None => decide_unknown(store, m, ask, steps),
     }
 }

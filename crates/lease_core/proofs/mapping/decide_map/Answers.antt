@@ -8,19 +8,19 @@ use Rattle.lease_core.proofs.mapping.decide_map.Goals as goal
 pub decide_covered-requires : goal.decide_covered-requires
 decide_covered-requires g c =
     own_port-fits (g.S.LeaseStore.state c.args.store.now) (g.S.LeaseStore.reached c.args.store.now) c.args.ask.now.endpoint
-    c.in-Some.lease c.requires.sound (sym c.covering.ensures ∙ c.in-Some.is)
+    c.in-Some.lease c.requires.sound (sym c.covering.ensures.lease ∙ c.in-Some.is)
 
-pub returns-in-Some : goal.returns-in-Some
-returns-in-Some g c =
+pub returns-in-Some-clause-decided : goal.returns-in-Some-clause-decided
+returns-in-Some-clause-decided g c =
     let terms = g.S.LeaseStore.terms c.args.store.now in let s = g.S.LeaseStore.state c.args.store.now in
     c.decide_covered.ensures
     ∙ ap (λ (t : Terms). covered t c.args.m c.args.ask.now c.in-Some.lease) c.terms.ensures.value
     ∙ decided_by terms s (g.S.LeaseStore.reached c.args.store.now) c.args.m c.args.ask.now (Some c.in-Some.lease)
-    c.requires.reached (sym c.in-Some.is ∙ c.covering.ensures)
+    c.requires.reached (sym c.in-Some.is ∙ c.covering.ensures.lease)
 
-pub returns-in-None : goal.returns-in-None
-returns-in-None g c =
+pub returns-in-None-clause-decided : goal.returns-in-None-clause-decided
+returns-in-None-clause-decided g c =
     let terms = g.S.LeaseStore.terms c.args.store.now in let s = g.S.LeaseStore.state c.args.store.now in
-    c.decide_uncovered.ensures
+    c.decide_uncovered.ensures.decided
     ∙ decided_by terms s (g.S.LeaseStore.reached c.args.store.now) c.args.m c.args.ask.now None
-    c.requires.reached (sym c.in-None.is ∙ c.covering.ensures)
+    c.requires.reached (sym c.in-None.is ∙ c.covering.ensures.lease)

@@ -5,4 +5,4 @@ use Rattle.lease_core.proofs.mapping.grant.Goals as goal
 pub grant_new-requires : goal.grant_new-requires
 grant_new-requires g c =
     chosen-few (g.S.LeaseStore.terms c.args.store.now) (g.S.LeaseStore.state c.args.store.now) c.args.m c.args.ask.now
-    c.in-Ok.run' c.requires.ask (sym c.choose.ensures ∙ c.in-Ok.is)
+    c.in-Ok.run' c.requires.ask (sym c.choose.ensures.ports ∙ c.in-Ok.is)
