@@ -9,6 +9,7 @@ pub mod UseLemmas
 pub mod PartLemmas
 pub mod FreeLemmas
 pub mod FallLemmas
+pub mod CountLemmas
 pub mod AssignLemmas
 pub mod ViewLemmas
 pub mod MomentLemmas

@@ -4,5 +4,6 @@ pub mod Pieces
 pub mod Kept
 pub mod Steps
 pub mod Falling
+pub mod Counts
 pub mod Recorded
 pub mod Laws

@@ -1,6 +1,6 @@
 //! The ports of an external address at a moment.
 
-ghost use Rattle.std.specs.Prelude.{◌≡◌, ◌≤◌, ◌+◌, ◌-◌, ◌&&◌, ℕ, [], Some, None, IfOk, IfSome, OnOk, OnErr, if◌then◌else◌};
+ghost use Rattle.std.specs.Prelude.{◌≡◌, ◌≤◌, ◌+◌, ◌-◌, ◌*◌, ◌&&◌, ℕ, [], Some, None, IfOk, IfSome, OnOk, OnErr, if◌then◌else◌};
 ghost use Rattle.std.specs.Bool.{OnTrue};
 ghost use Rattle.std.specs.FinMap as map;
 ghost use Rattle.pcp_base.specs.declared.leases.Protocol.{Protocol};
@@ -16,6 +16,8 @@ ghost use Rattle.lease_store.specs.declared.terms.Terms.{Terms};
 ghost use Rattle.lease_store.specs.Picks.{pick_answer};
 ghost use Rattle.leased_ports.specs.Leased.{AreLastEnds, IsLastEnd, IsPortsOf, IsOnTerms, at_moment, end_of, fresh_ports, vacated, with_last_end, with_last_ends, without_last_ends};
 ghost use Rattle.port_spans.specs.Along.{end_along};
+ghost use Rattle.leased_ports.specs.Counts.{ports_due};
+ghost use Rattle.leased_ports.specs.declared.falls.TheConstants.{RUN_STEPS};
 ghost use Rattle.leased_ports.specs.Pieces.{IsPiece};
 ghost use Rattle.leased_ports.specs.Kept.{IsOn, IsSet, AreInStep, AreRecent, end_by, held_at};
 ghost use Rattle.leased_ports.specs.Steps.{AreAssigned, IsOwnRun, last_along, no_last};
@@ -30,6 +32,8 @@ use pcp_base::{End, Endpoint, Memory, Moment, Protocol};
 use port_spans::{Run, Spans};
 use std::alloc::Global;
 use std::marker::Model;
+use std::sync::ledger::Ledger;
+use step_count::Steps;
 
 /// The ports of an external address at the moment reached.
 ///
@@ -207,10 +211,12 @@ impl LeasedPorts {
     }
 
     /// Moves on to a moment that isn't below the one reached: ports whose end came rest, and those
-    /// whose rest is over are free. It takes no memory.
-    pub fn reach(&mut self, m: Moment)
+    /// whose rest is over are free. It takes no memory. Steps are taken for each run of ports that goes
+    /// to rest or awakes, so for no more runs than ports.
+    pub fn reach<L: Ledger>(&mut self, m: Moment, steps: &mut Steps<L>)
         requires { self.old.reached ≤ m }
-        ensures { self.new ≡ at_moment m self.old }
+        ensures moved { self.new ≡ at_moment m self.old }
+        ensures steps { steps.new ≤ steps.old + 1 + (1 + RUN_STEPS) * ports_due self.old m }
     {
         let now = m.get();
         settle(
@@ -219,6 +225,7 @@ impl LeasedPorts {
             &mut self.ends,
             self.reached,
             now,
+            steps,
         );
         self.reached = now;
     }
@@ -322,13 +329,20 @@ impl LeasedPorts {
 
     /// The ports that would be given, the first one to this endpoint, by the rules of
     /// [`Pool::pick`](external_pool::Pool::pick).
-    pub fn pick(&self, endpoint: &Endpoint, ask: &PickAsk) -> Result<Picked, PickRefused>
+    pub fn pick<L: Ledger>(
+        &self,
+        endpoint: &Endpoint,
+        ask: &PickAsk,
+        steps: &mut Steps<L>,
+    ) -> Result<Picked, PickRefused>
         requires ask { IsAsk ask.now }
         requires internal { ask.now.internal ≡ endpoint.now.port }
-        ensures { (terms : Terms) (s : State) →
+        ensures pick { (terms : Terms) (s : State) →
             IsReached s → IsPortsOf self.now s → IsOnTerms self.now terms →
             result ≡ pick_answer terms s self.now.reached endpoint.now ask.now }
+        ensures steps { steps.new ≤ steps.old + 133 + ask.now.room }
     {
-        self.pool.pick(&endpoint.address, endpoint.protocol, ask)
+        self.pool
+            .pick(&endpoint.address, endpoint.protocol, ask, steps)
     }
 }

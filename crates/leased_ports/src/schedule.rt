@@ -1,6 +1,6 @@
 //! When runs fall due.
 
-ghost use Rattle.std.specs.Prelude.{◌≡◌, ◌<◌, ℕ, true, Some, None, OnOk, IfSome, IfNone};
+ghost use Rattle.std.specs.Prelude.{◌≡◌, ◌<◌, ◌+◌, ℕ, true, Some, None, OnOk, IfSome, IfNone};
 ghost use Rattle.std.specs.FinMap as fin;
 ghost use Rattle.expiry_wheel.specs.Due.{IsNextDue};
 ghost use Rattle.expiry_wheel.specs.declared.TheConstants.{MOST_PAIRS};
@@ -10,8 +10,7 @@ ghost use Rattle.leased_ports.specs.Steps.{Waits, NoneFrom};
 use expiry_wheel::Wheel;
 use pcp_base::Memory;
 use std::alloc::Global;
-use std::marker::Brand;
-use std::sync::ledger::{Blank, Ledger};
+use std::sync::ledger::Ledger;
 use step_count::Steps;
 
 /// Sets when an id falls due.
@@ -49,24 +48,12 @@ pub fn waits_until(wheel: &Wheel, id: u32, end: u64) -> bool
     }
 }
 
-/// The id that falls due next, for a caller that counts no steps.
-fn next_counted<L: Ledger>(wheel: &Wheel, m: u64, blank: Blank) -> Option<u32>
-    requires name { blank.name ≡ L.name }
-    requires parts { blank.parts ≡ L.parts }
-    requires part { 0 < L.parts }
+/// The id that falls due next, by one look at the root.
+pub fn next_due<L: Ledger>(wheel: &Wheel, m: u64, steps: &mut Steps<L>) -> Option<u32>
     ensures next { IfSome result (IsNextDue wheel.now m) }
     ensures none { IfNone result (
         (id expiry : ℕ) → fin.get wheel.now id ≡ Some expiry → m < expiry) }
+    ensures steps { steps.new ≡ steps.old + 1 }
 {
-    let mut steps = Steps::<L>::begin(blank);
-    wheel.next_due(m, &mut steps)
-}
-
-/// The id that falls due next.
-pub fn next_due(wheel: &Wheel, m: u64) -> Option<u32>
-    ensures next { IfSome result (IsNextDue wheel.now m) }
-    ensures none { IfNone result (
-        (id expiry : ℕ) → fin.get wheel.now id ≡ Some expiry → m < expiry) }
-{
-    next_counted::<Brand>(wheel, m, Blank::new(1))
+    wheel.next_due(m, steps)
 }

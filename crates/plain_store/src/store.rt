@@ -14,8 +14,11 @@ use pcp_base::{
 use plain_replay::PlainReplay;
 use std::alloc::Global;
 use std::marker::Model;
+use std::sync::ledger::Ledger;
+use step_count::Steps;
 
-/// The state that records made, at a moment that is reached, in lists that are searched.
+/// The state that records made, at a moment that is reached, in lists that are searched. It has no
+/// ordered map and no tree, so it takes no steps.
 #[derive(Debug, Drop)]
 pub struct PlainStore {
     pub(crate) replay: PlainReplay,
@@ -64,6 +67,10 @@ impl LeaseStore for PlainStore {
 
     ghost terms = { λ s. s.terms };
 
+    ghost look_steps = { λ s. 0 };
+
+    ghost reach_steps = { λ s from to. 0 };
+
     ghost replaying = { λ s. IsReached s.state };
 
     ghost replaying_first = { λ s. IsReachedFirst s.state };
@@ -95,7 +102,7 @@ impl LeaseStore for PlainStore {
         fits.map(|_| ())
     }
 
-    fn reach(&mut self, m: Moment) {
+    fn reach<L: Ledger>(&mut self, m: Moment, _steps: &mut Steps<L>) {
         self.reached = m;
     }
 
@@ -103,36 +110,42 @@ impl LeaseStore for PlainStore {
         self.terms
     }
 
-    fn covering(&self, endpoint: &Endpoint) -> Option<MapLease> {
+    fn covering<L: Ledger>(&self, endpoint: &Endpoint, _steps: &mut Steps<L>) -> Option<MapLease> {
         lookups::covering(&self.replay, self.reached, endpoint)
     }
 
-    fn peering(
+    fn peering<L: Ledger>(
         &self,
         endpoint: &Endpoint,
         remote: &Address,
         remote_port: u16,
+        _steps: &mut Steps<L>,
     ) -> Option<PeerLease> {
         lookups::peering(&self.replay, self.reached, endpoint, remote, remote_port)
     }
 
-    fn named_port(&self, endpoint: &Endpoint) -> Option<u16> {
+    fn named_port<L: Ledger>(&self, endpoint: &Endpoint, _steps: &mut Steps<L>) -> Option<u16> {
         lookups::named_port(&self.replay, self.reached, endpoint)
     }
 
-    fn peer_count(&self, endpoint: &Endpoint) -> u32 {
+    fn peer_count<L: Ledger>(&self, endpoint: &Endpoint, _steps: &mut Steps<L>) -> u32 {
         lookups::peer_count(&self.replay, self.reached, endpoint)
     }
 
-    fn next_inside(&self, endpoint: &Endpoint) -> Option<u16> {
+    fn next_inside<L: Ledger>(&self, endpoint: &Endpoint, _steps: &mut Steps<L>) -> Option<u16> {
         lookups::next_inside(&self.replay, self.reached, endpoint)
     }
 
-    fn lease_count(&self) -> u32 {
+    fn lease_count<L: Ledger>(&self, _steps: &mut Steps<L>) -> u32 {
         lookups::lease_count(&self.replay, self.reached)
     }
 
-    fn pick(&self, endpoint: &Endpoint, ask: &PickAsk) -> Result<Picked, PickRefused> {
+    fn pick<L: Ledger>(
+        &self,
+        endpoint: &Endpoint,
+        ask: &PickAsk,
+        _steps: &mut Steps<L>,
+    ) -> Result<Picked, PickRefused> {
         self.answer(endpoint, ask)
     }
 

@@ -1,6 +1,6 @@
 //! Calls of both bodies of a table of PEER leases, with answers that are worked out by hand.
 
-ghost use Rattle.std.specs.Prelude.{◌≡◌, OnOk};
+ghost use Rattle.std.specs.Prelude.{◌≡◌, ◌<◌, OnOk};
 
 use crate::making::{all_are_so, at, moment, peer_of, remote};
 use crate::sound_peers::are_sound_with;
@@ -13,6 +13,9 @@ use pcp_base::{Address, Endpoint, Memory, PeerLease, Protocol};
 use peer_table::plain::PlainPeerTable;
 use peer_table::{PeerTable, PortUse};
 use std::alloc::Global;
+use std::marker::Brand;
+use std::sync::ledger::{Blank, Ledger};
+use step_count::Steps;
 
 /// A call, and the answer that is wanted. Remotes are 198.51.100.0 and so on. Leases are told by
 /// their expiries.
@@ -26,7 +29,7 @@ enum Call {
     External(u16, u8, u16, Option<u64>),
     /// While all leases are live.
     Next(u8, u16, Option<u16>),
-    /// At a moment, of which the plain body doesn't tell it.
+    /// At a moment that was reached last.
     NextAt(u8, u16, u32, Option<u16>),
     Reach(u32),
     /// A host and its port, a moment, and the external port and count.
@@ -232,12 +235,17 @@ fn copied(
 }
 
 /// Whether both bodies answer so a call that changes nothing and copies nothing.
-fn is_told(table: &PeerTable, plain: &PlainPeerTable, call: &Call) -> bool {
+fn is_told<L: Ledger>(
+    table: &PeerTable,
+    plain: &PlainPeerTable,
+    call: &Call,
+    steps: &mut Steps<L>,
+) -> bool {
     match *call {
         Find(host, port, number, remote_port, wanted) => {
             let (endpoint, remote) = (at(Udp, host, port), remote(number));
-            let found = told(table.find(&endpoint, &remote, remote_port));
-            let plainly = told(plain.find(&endpoint, &remote, remote_port));
+            let found = told(table.find(&endpoint, &remote, remote_port, steps));
+            let plainly = told(plain.find(&endpoint, &remote, remote_port, steps));
             (found, plainly) == (wanted, wanted)
         }
         External(port, number, remote_port, wanted) => {
@@ -248,23 +256,60 @@ fn is_told(table: &PeerTable, plain: &PlainPeerTable, call: &Call) -> bool {
         }
         Next(host, port, wanted) => {
             let endpoint = at(Udp, host, port);
-            let next = table.next_internal(&endpoint, moment(0));
-            (next, plain.next_internal(&endpoint, moment(0))) == (wanted, wanted)
+            let next = table.next_internal(&endpoint, moment(0), steps);
+            (next, plain.next_internal(&endpoint, moment(0), steps)) == (wanted, wanted)
         }
         NextAt(host, port, m, wanted) => {
-            table.next_internal(&at(Udp, host, port), moment(m)) == wanted
+            let endpoint = at(Udp, host, port);
+            let next = table.next_internal(&endpoint, moment(m), steps);
+            (next, plain.next_internal(&endpoint, moment(m), steps)) == (wanted, wanted)
         }
         OfEndpoint(host, port, m, wanted) => {
             let endpoint = at(Udp, host, port);
-            let found = use_told(table.of_endpoint(&endpoint, moment(m)));
-            let plainly = use_told(plain.of_endpoint(&endpoint, moment(m)));
+            let found = use_told(table.of_endpoint(&endpoint, moment(m), steps));
+            let plainly = use_told(plain.of_endpoint(&endpoint, moment(m), steps));
             (found, plainly) == (wanted, wanted)
         }
-        Live(m, wanted) => (table.live(moment(m)), plain.live(moment(m))) == (wanted, wanted),
+        Live(m, wanted) => {
+            let live = table.live(moment(m), steps);
+            (live, plain.live(moment(m), steps)) == (wanted, wanted)
+        }
         Last(port, wanted) => table.last_expiry(Udp, port) == wanted,
         Owned(protocol, port, wanted) => table.next_owned(protocol, port) == wanted,
         _ => false,
     }
+}
+
+/// The same of a caller that counts no steps.
+fn is_told_uncounted<L: Ledger>(
+    table: &PeerTable,
+    plain: &PlainPeerTable,
+    call: &Call,
+    blank: Blank,
+) -> bool
+    requires name { blank.name ≡ L.name }
+    requires parts { blank.parts ≡ L.parts }
+    requires some { 0 < L.parts }
+{
+    is_told(table, plain, call, &mut Steps::<L>::begin(blank))
+}
+
+/// Lets both bodies reach a moment.
+fn reach_both<L: Ledger>(
+    table: &mut PeerTable,
+    plain: &mut PlainPeerTable,
+    m: u32,
+    blank: Blank,
+)
+    requires name { blank.name ≡ L.name }
+    requires parts { blank.parts ≡ L.parts }
+    requires some { 0 < L.parts }
+    requires same { table.old ≡ plain.old }
+    ensures { table.new ≡ plain.new }
+{
+    let mut steps = Steps::<L>::begin(blank);
+    table.reach(moment(m), &mut steps);
+    plain.reach(moment(m), &mut steps);
 }
 
 /// Makes a call of both bodies. Whether both give the answer that is wanted.
@@ -298,18 +343,26 @@ fn is_answered(
         }
         Copied(first, second, count) => copied(alloc, table, plain, (first, second))? == count,
         Reach(m) => {
-            table.reach(moment(m));
-            plain.reach(moment(m));
+            reach_both::<Brand>(table, plain, m, Blank::new(1));
             true
         }
-        _ => is_told(table, plain, call),
+        _ => is_told_uncounted::<Brand>(table, plain, call, Blank::new(1)),
     })
+}
+
+/// How many leases are live at 0.
+fn live_uncounted<L: Ledger>(table: &PeerTable, blank: Blank) -> u32
+    requires name { blank.name ≡ L.name }
+    requires parts { blank.parts ≡ L.parts }
+    requires some { 0 < L.parts }
+{
+    table.live(moment(0), &mut Steps::<L>::begin(blank))
 }
 
 /// Whether the table forgets its leases.
 fn forgets(table: &mut PeerTable) -> bool {
     table.clear();
-    table.last_expiry(Udp, 1024) == None && table.live(moment(0)) == 0
+    table.last_expiry(Udp, 1024) == None && live_uncounted::<Brand>(table, Blank::new(1)) == 0
 }
 
 /// Makes calls, one after the other, of bodies that hold the same, and clears the one then. The

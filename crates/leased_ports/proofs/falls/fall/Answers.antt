@@ -10,21 +10,21 @@ use Rattle.leased_ports.proofs.FallLemmas.{no_due_run, due_first, due_set, due_u
 use Rattle.leased_ports.proofs.falls.fall.Goals as goal
 
 pub returns-in_default-run_at-clause-none : goal.returns-in_default-run_at-clause-none
-returns-in_default-run_at-clause-none c =
+returns-in_default-run_at-clause-none g c =
     absurd (no_due_run c.args.m c.args.ends.now c.args.pool.now c.args.wheel.now c.requires c.in-Some.id c.in-Some.ensures.next (sym c.run_at.ensures.run ∙ c.in_default-run_at.is))
 
 pub overflow_add-over : goal.overflow_add-over
-overflow_add-over c =
+overflow_add-over g c =
     let r = c.in-Some-run_at.run' in
     let set = due_set c.args.m c.args.ends.now c.args.pool.now c.args.wheel.now c.requires c.in-Some.id c.in-Some.ensures.next r (sym c.run_at.ensures.run ∙ c.in-Some-run_at.is) in
     omega (arith, set.near)
 
 pub take_out-requires-clause-set : goal.take_out-requires-clause-set
-take_out-requires-clause-set c =
+take_out-requires-clause-set g c =
     due_set c.args.m c.args.ends.now c.args.pool.now c.args.wheel.now c.requires c.in-Some.id c.in-Some.ensures.next c.in-Some-run_at.run' (sym c.run_at.ensures.run ∙ c.in-Some-run_at.is)
 
 pub take_out-requires-clause-used : goal.take_out-requires-clause-used
-take_out-requires-clause-used c =
+take_out-requires-clause-used g c =
     let r = c.in-Some-run_at.run' in
     let waits = c.args.wheel.now in
     let there : run_at c.args.ends.now c.in-Some.id ≡ Some r = sym c.run_at.ensures.run ∙ c.in-Some-run_at.is in
@@ -34,20 +34,20 @@ take_out-requires-clause-used c =
     (due_uses c.args.m c.args.ends.now c.args.pool.now waits c.requires c.in-Some.id c.in-Some.ensures.next r there)
 
 pub returns-then-over-m-clause-fewer : goal.returns-then-over-m-clause-fewer
-returns-then-over-m-clause-fewer c =
+returns-then-over-m-clause-fewer g c =
     let r = c.in-Some-run_at.run' in
     let there : run_at c.args.ends.now c.in-Some.id ≡ Some r = sym c.run_at.ensures.run ∙ c.in-Some-run_at.is in
     due_fewer c.args.m c.args.ends.now c.args.pool.now c.args.wheel.now c.requires c.in-Some.id c.in-Some.ensures.next r there c.take_out.new.pool c.take_out.new.wheel None c.take_out.ensures.waits refl
 
 pub returns-then-over-m-clause-falling : goal.returns-then-over-m-clause-falling
-returns-then-over-m-clause-falling c start f =
+returns-then-over-m-clause-falling g c start f =
     let r = c.in-Some-run_at.run' in
     let there : run_at c.args.ends.now c.in-Some.id ≡ Some r = sym c.run_at.ensures.run ∙ c.in-Some-run_at.is in
     falls_gone c.args.m c.args.ends.now c.args.pool.now c.args.wheel.now c.requires c.in-Some.id c.in-Some.ensures.next r there c.if-over-m.true c.take_out.new.pool c.take_out.new.wheel c.take_out.ensures.waits
     c.take_out.new.ends c.take_out.ensures.apart c.take_out.ensures.runs c.take_out.ensures.used start f
 
 pub retire-requires-clause-held : goal.retire-requires-clause-held
-retire-requires-clause-held c =
+retire-requires-clause-held g c =
     let r = c.in-Some-run_at.run' in
     let waits = c.args.wheel.now in
     let there : run_at c.args.ends.now c.in-Some.id ≡ Some r = sym c.run_at.ensures.run ∙ c.in-Some-run_at.is in
@@ -58,15 +58,15 @@ retire-requires-clause-held c =
     (due_uses c.args.m c.args.ends.now c.args.pool.now waits c.requires c.in-Some.id c.in-Some.ensures.next r there))
 
 pub retire-requires-clause-internal : goal.retire-requires-clause-internal
-retire-requires-clause-internal c =
+retire-requires-clause-internal g c =
     let r = c.in-Some-run_at.run' in
     (due_set c.args.m c.args.ends.now c.args.pool.now c.args.wheel.now c.requires c.in-Some.id c.in-Some.ensures.next r (sym c.run_at.ensures.run ∙ c.in-Some-run_at.is)).internal
 
 pub reschedule-requires : goal.reschedule-requires
-reschedule-requires c = ap is_some c.in-Some.ensures.next.expires
+reschedule-requires g c = ap is_some c.in-Some.ensures.next.expires
 
 pub returns-clause-fewer : goal.returns-clause-fewer
-returns-clause-fewer c =
+returns-clause-fewer g c =
     let r = c.in-Some-run_at.run' in
     let waits = c.args.wheel.now in
     let there : run_at c.args.ends.now c.in-Some.id ≡ Some r = sym c.run_at.ensures.run ∙ c.in-Some-run_at.is in
@@ -79,7 +79,7 @@ returns-clause-fewer c =
     (rest_isnt_due c.args.m c.args.ends.now c.args.pool.now waits c.requires c.in-Some.id c.in-Some.ensures.next r there late c.retire.new.self c.reschedule.new.wheel waits_are gives)
 
 pub returns-clause-falling : goal.returns-clause-falling
-returns-clause-falling c start f =
+returns-clause-falling g c start f =
     let r = c.in-Some-run_at.run' in
     let waits = c.args.wheel.now in
     let there : run_at c.args.ends.now c.in-Some.id ≡ Some r = sym c.run_at.ensures.run ∙ c.in-Some-run_at.is in

@@ -1,14 +1,15 @@
-use Rattle.std.proofs.Common.{ℕ}
+use Rattle.std.proofs.Common.{ℕ, ◌≤◌, ◌+◌, ◌*◌}
 use Rattle.leased_ports.specs.Kept.{IsOn}
 use Rattle.leased_ports.specs.Falling.{AreFalling, due_below}
 use Rattle.leased_ports.proofs.falls.settle.Given as goal
 
 -- some of what falls due is seen to
 abbrev pub invariant-loop : goal.invariant-loop
-invariant-loop l = record {
+invariant-loop g l = record {
   on : (low high most : ℕ) → IsOn l.fn.pool low high most → IsOn l.pool low high most;
   falling : AreFalling l.m l.fn.ends l.ends l.pool l.wheel;
+  paid : l.steps + 169 * due_below l.m l.wheel 131072 ≤ l.fn.steps + 169 * due_below l.m l.fn.wheel 131072;
 }
 
 abbrev pub decreases-loop : goal.decreases-loop
-decreases-loop l = due_below l.m l.wheel 131072
+decreases-loop g l = due_below l.m l.wheel 131072
