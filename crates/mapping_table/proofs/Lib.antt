@@ -7,4 +7,6 @@ pub mod Separates
 pub mod Sounds
 pub mod SoundTables
 pub mod Wholes
+mod Views
+mod Spending
 pub mod Bares

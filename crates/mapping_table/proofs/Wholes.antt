@@ -1,10 +1,12 @@
 -- Leases with the filters that are kept apart from them.
-use Rattle.std.proofs.Common.{◌≡◌, ℕ, Bool, true, false, cond, not, List, [], ◌∷◌, map, length, find, filter, count_by, Option, Some, None, refl, sym, ap, ◌∙◌, subst}
+use Rattle.std.proofs.Common.{◌≡◌, ℕ, ◌&&◌, nat_lt, Bool, true, false, cond, not, List, [], ◌∷◌, map, length, find, filter, count_by, Option, Some, None, refl, sym, ap, ◌∙◌, subst}
+use Rattle.std.specs.Prelude.{nat_le}
 use Rattle.std.specs.List.{AllByRecursion, filter_map, cons_option}
 use Rattle.std.specs.Option.{option_map}
 use Rattle.std.specs.BTreeMap.{BTreeMap, get, is_at}
 use Rattle.std.proofs.lemmas.List.{length-map}
 use Rattle.std.proofs.lemmas.List.Sums.{length-filter}
+use Rattle.step_count.specs.Levels.{levels}
 use Rattle.pcp_base.specs.declared.leases.Endpoint.{Endpoint}
 use Rattle.pcp_base.specs.declared.leases.Filter.{Filter}
 use Rattle.pcp_base.specs.declared.leases.MapLease.{MapLease}
@@ -18,7 +20,8 @@ use Rattle.ordered_index.proofs.Entries.{false_by}
 use Rattle.ordered_index.proofs.EntryLaws.{key-self}
 use Rattle.ordered_index.proofs.OrderLaws.{at_exact, place_exact}
 use Rattle.mapping_table.specs.Kept.{place_of_lease, with_filters, bare, listed, filters_at, whole, live_whole, WritesFilters}
-use Rattle.mapping_table.specs.MapLists.{is_live_map, some_live_map, is_covered, with_map, IsDeadMap, SkipsUncovered, AreSeparate}
+use Rattle.mapping_table.specs.MapTables.{ended_between}
+use Rattle.mapping_table.specs.MapLists.{is_live_map, some_live_map, is_covered, with_map, IsDeadMap, IsNextCovered, SkipsUncovered, AreSeparate}
 use Rattle.mapping_table.proofs.MapKeeping.{map_tells}
 use Rattle.mapping_table.proofs.Separates.{cover_apart}
 
@@ -81,6 +84,21 @@ module _ (kept : Place → List Filter) where
     pub skips_whole : (e : Endpoint) (r : Option ℕ) → SkipsUncovered e ls r → SkipsUncovered e (map (whole kept) ls) r
     skips_whole e None h = record { above = tt; between = tt; none = λ q above. covered_whole e q ∙ h.none q above }
     skips_whole e (Some port) h = record { above = h.above; between = λ q above below. covered_whole e q ∙ h.between q above below; none = tt }
+
+    pub next_whole : (e : Endpoint) (r : Option ℕ) → IsNextCovered e ls r → IsNextCovered e (map (whole kept) ls) r
+    next_whole e None h = record { above = tt; covered = tt; least = tt; none = λ q above. covered_whole e q ∙ h.none q above }
+    next_whole e (Some port) h = record {
+      above = h.above;
+      covered = covered_whole e port ∙ h.covered;
+      least = λ q above there. h.least q above (sym (covered_whole e q) ∙ there);
+      none = tt;
+    }
+
+    pub ended_whole : (before m : ℕ) → ended_between before m (map (whole kept) ls) ≡ ended_between before m ls
+    ended_whole before m = count_whole (λ l. nat_lt before l.expiry && nat_le l.expiry m) (λ fs l. refl) ls
+
+    pub levels_whole : levels (length (map (whole kept) ls)) ≡ levels (length ls)
+    levels_whole = ap levels (length-map ls (whole kept))
 
     pub dead_whole : (m : ℕ) (o : Option MapLease) → IsDeadMap m ls o → IsDeadMap m (map (whole kept) ls) (option_map (whole kept) o)
     dead_whole m None h = record { among = tt; dead = tt; none = find_whole (λ l. not (is_live_map m l)) (λ fs l. refl) ls ∙ ap (option_map (whole kept)) h.none }

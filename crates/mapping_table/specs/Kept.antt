@@ -1,5 +1,5 @@
 -- How a table keeps its leases (our own; for proofs alone).
-use Rattle.std.specs.Prelude.{◌≡◌, ℕ, ◌<◌, ◌==◌, nat_lt, Bool, true, false, List, [], length, Contains, count_by, slice_index, Option, Some, None, IsSome, IfSome, IfNone, if◌then◌else◌}
+use Rattle.std.specs.Prelude.{◌≡◌, ℕ, ◌<◌, ◌≤◌, ◌==◌, nat_lt, Bool, true, false, List, [], length, Contains, count_by, slice_index, Option, Some, None, IsSome, IfSome, IfNone, if◌then◌else◌}
 use Rattle.std.specs.Ordering.{is_gt}
 use Rattle.std.specs.BTreeMap.{BTreeMap, get, is_at, values}
 use Rattle.pcp_base.specs.declared.leases.Filter.{Filter}
@@ -63,11 +63,12 @@ pub record AreSievedMaps (it : Numbered MapLease Place (ℕ × ℕ)) (sets : ℕ
   pub counted : AreCountedMaps it sets
   pub sieved : SievesMaps sieve (values it.leases)
 
--- all that, and the keys of the leases that are live
+-- all that, and the keys of the leases that are live behind the moment reached
 pub record AreReachedMaps (it : Numbered MapLease Place (ℕ × ℕ)) (sets : ℕ) (sieve : List ℕ)
     (keys : LiveKeys Place) : Type 0 where
   pub sieved : AreSievedMaps it sets sieve
   pub live : AreLive map_keying (values it.leases) keys
+  pub begun : 1 ≤ keys.from
 
 -- a place from which on the leases that are live at m are, if there is one at all
 pub record IsFirstLive (m : ℕ) (ls : List MapLease) (k : Place) (result : Option Place)
@@ -78,6 +79,13 @@ pub record IsFirstLive (m : ℕ) (ls : List MapLease) (k : Place) (result : Opti
       → is_gt (place_cmp first (place_of_lease l)) ≡ false)
   pub none : IfNone result ((l : MapLease) → Contains ls l → is_live_map m l ≡ true
       → is_gt (place_cmp k (place_of_lease l)) ≡ true)
+
+-- a lease that is live at m has its first endpoint at the place
+pub record HasLive (m : ℕ) (ls : List MapLease) (k : Place) : Type 0 where
+  pub lease : MapLease
+  pub stands : Contains ls lease
+  pub alive : is_live_map m lease ≡ true
+  pub key : place_of_lease lease ≡ k
 
 -- the lease with these filters
 abbrev pub with_filters : List Filter → MapLease → MapLease

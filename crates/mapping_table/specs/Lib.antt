@@ -1,3 +1,4 @@
 pub mod MapLists
+pub mod MapTables
 pub mod Kept
 pub mod Laws

@@ -1,17 +1,20 @@
 //! Leases without their filters, by numbers that grow, and ordered maps to the numbers beside them.
 
-ghost use Rattle.std.specs.Prelude.{◌≡◌, [], map, filter, count_by, IfOk};
+ghost use Rattle.std.specs.Prelude.{◌≡◌, ◌≤◌, ◌+◌, ◌*◌, map, filter, count_by, length, max, IfOk};
 ghost use Rattle.std.specs.List.{filter_map};
 ghost use Rattle.std.specs.Option.{option_copied};
 ghost use Rattle.std.specs.BTreeMap.{get, values};
-ghost use Rattle.mapping_table.specs.MapLists.{is_live_map, some_live_map, map_covering, map_owning, IsDeadMap, SkipsUncovered, AreSoundMaps, with_map, PutsMap, RemovesMap};
+ghost use Rattle.step_count.specs.Levels.{levels};
+ghost use Rattle.mapping_table.specs.MapTables.{no_maps, ended_between};
+ghost use Rattle.mapping_table.specs.MapLists.{is_live_map, some_live_map, map_covering, map_owning, IsDeadMap, IsNextCovered, SkipsUncovered, AreSoundMaps, with_map, PutsMap, RemovesMap};
 ghost use Rattle.ordered_index.specs.Orders.{place_cmp};
 ghost use Rattle.mapping_table.specs.Kept.{AreKeptMaps, SievesMaps, AreSievedMaps, filters_at, whole, live_whole};
 
 use crate::bare::BareLease;
 use crate::changes::{append, replace};
 use crate::filters::live_whole;
-use crate::passing::{first_live, pass};
+use crate::looks::{lease_at, look};
+use crate::passing::{begin, first_live, pass};
 use ordered_index::{
     LiveKeys, Numbered, Place, Port, Sieve, is_beside, last_up_to, place_of, port_at, port_in,
 };
@@ -19,8 +22,11 @@ use pcp_base::{Endpoint, Filters, MapLease, Memory, Moment, Protocol};
 use std::alloc::{AllocError, Global};
 use std::collections::BTreeMap;
 use std::marker::Model;
+use std::sync::ledger::Ledger;
+use step_count::{Steps, levels};
 
-/// MAP leases without their filters, seen as a list in the order granted.
+/// MAP leases without their filters, seen as a list in the order granted, and the moment that was
+/// reached last.
 #[derive(Drop)]
 pub(crate) struct BareTable {
     /// The leases, by their first endpoints and by their first external ports.
@@ -34,14 +40,14 @@ pub(crate) struct BareTable {
 }
 
 impl Model for BareTable {
-    ghost use Rattle.std.specs.Prelude.{List};
+    ghost use Rattle.std.specs.Prelude.{◌-◌};
     ghost use Rattle.std.specs.BTreeMap.{values};
-    ghost use Rattle.pcp_base.specs.declared.leases.MapLease.{MapLease};
+    ghost use Rattle.mapping_table.specs.MapTables.{MapTableView};
     ghost use Rattle.mapping_table.specs.Kept.{AreReachedMaps};
 
-    ghost Value = { List MapLease };
+    ghost Value = { MapTableView };
 
-    ghost view = { λ t. values t.kept.leases };
+    ghost view = { λ t. record { leases = values t.kept.leases; reached = t.live.from - 1 } };
 
     ghost invariant = { λ t. AreReachedMaps t.kept t.sets t.sieve t.live };
 }
@@ -106,54 +112,84 @@ fn put_kept(
 impl BareTable {
     /// A table without a lease. The one error is want of memory.
     pub(crate) fn new(alloc: Global) -> Result<BareTable, Memory>
-        ensures { IfOk result (λ table. table ≡ []) }
+        ensures { IfOk result (λ table. table ≡ no_maps) }
     {
+        let mut live = LiveKeys::new(alloc);
+        begin(&mut live);
         Ok(BareTable {
             kept: Numbered::new(alloc),
             sets: 0,
             sieve: Sieve::new(alloc)?,
-            live: LiveKeys::new(alloc),
+            live,
         })
     }
 
-    /// Forgets all leases. It takes no memory.
+    /// Forgets all leases, and begins at the moment 0. It takes no memory.
     pub(crate) fn clear(&mut self)
-        ensures { self.new ≡ [] }
+        ensures { self.new ≡ no_maps }
     {
         self.kept.clear();
         self.sets = 0;
         self.sieve.clear();
         self.live.clear();
+        begin(&mut self.live);
+    }
+
+    /// How many leases there are.
+    pub(crate) fn len(&self) -> usize
+        ensures { result ≡ length self.now.leases }
+    {
+        self.kept.leases.len()
     }
 
     /// The lease that covers the endpoint.
-    pub(crate) fn find(&self, endpoint: &Endpoint) -> Option<&BareLease>
-        ensures { option_copied result ≡ map_covering endpoint.now self.now }
+    pub(crate) fn find<L: Ledger>(
+        &self,
+        endpoint: &Endpoint,
+        steps: &mut Steps<L>,
+    ) -> Option<&BareLease>
+        ensures lease { option_copied result ≡ map_covering endpoint.now self.now.leases }
+        ensures steps { steps.new ≤ steps.old + 3 * levels (length self.now.leases) }
     {
-        if let Some(number) = number_at(&self.sieve, &self.kept, &place_of(endpoint)) {
-            return self.kept.leases.get(&number);
+        let kept = &self.kept;
+        look(kept, steps);
+        if let Some(number) = number_at(&self.sieve, kept, &place_of(endpoint)) {
+            return lease_at(kept, number, steps);
         }
         if self.sets == 0 {
             return None;
         }
-        self.find_nearest(endpoint)
+        self.find_nearest(endpoint, steps)
     }
 
     /// Whether a lease that is live at `m` covers the endpoint.
-    pub(crate) fn covers(&self, endpoint: &Endpoint, m: Moment) -> bool
-        ensures { result ≡ some_live_map m (map_covering endpoint.now self.now) }
+    pub(crate) fn covers<L: Ledger>(
+        &self,
+        endpoint: &Endpoint,
+        m: Moment,
+        steps: &mut Steps<L>,
+    ) -> bool
+        ensures covers { result ≡ some_live_map m (map_covering endpoint.now self.now.leases) }
+        ensures steps { steps.new ≤ steps.old + 3 * levels (length self.now.leases) }
     {
-        is_live_at(self.find(endpoint), m)
+        is_live_at(self.find(endpoint, steps), m)
     }
 
     /// The lease that covers the endpoint, by the nearest key up to it.
-    fn find_nearest(&self, endpoint: &Endpoint) -> Option<&BareLease>
-        ensures { option_copied result ≡ map_covering endpoint.now self.now }
+    fn find_nearest<L: Ledger>(
+        &self,
+        endpoint: &Endpoint,
+        steps: &mut Steps<L>,
+    ) -> Option<&BareLease>
+        ensures lease { option_copied result ≡ map_covering endpoint.now self.now.leases }
+        ensures steps { steps.new ≤ steps.old + 2 * levels (length self.now.leases) }
     {
-        let Some(number) = last_up_to(&self.kept.keys, place_of(endpoint)) else {
+        let kept = &self.kept;
+        look(kept, steps);
+        let Some(number) = last_up_to(&kept.keys, place_of(endpoint)) else {
             return None;
         };
-        let Some(lease) = self.kept.leases.get(&number) else {
+        let Some(lease) = lease_at(kept, number, steps) else {
             return None;
         };
         if lease.covers(endpoint) {
@@ -164,26 +200,42 @@ impl BareTable {
     }
 
     /// The lease that owns the external port.
-    pub(crate) fn by_external(&self, protocol: Protocol, port: u16) -> Option<&BareLease>
-        ensures { option_copied result ≡ map_owning protocol port self.now }
+    pub(crate) fn by_external<L: Ledger>(
+        &self,
+        protocol: Protocol,
+        port: u16,
+        steps: &mut Steps<L>,
+    ) -> Option<&BareLease>
+        ensures lease { option_copied result ≡ map_owning protocol port self.now.leases }
+        ensures steps { steps.new ≤ steps.old + 3 * levels (length self.now.leases) }
     {
-        if let Some(number) = self.kept.ports.get(&port_at(protocol, port)).copied() {
-            return self.kept.leases.get(&number);
+        let kept = &self.kept;
+        look(kept, steps);
+        if let Some(number) = kept.ports.get(&port_at(protocol, port)).copied() {
+            return lease_at(kept, number, steps);
         }
         if self.sets == 0 {
             return None;
         }
-        self.owner_nearest(protocol, port)
+        self.owner_nearest(protocol, port, steps)
     }
 
     /// The lease that owns the external port, by the nearest first port up to it.
-    fn owner_nearest(&self, protocol: Protocol, port: u16) -> Option<&BareLease>
-        ensures { option_copied result ≡ map_owning protocol port self.now }
+    fn owner_nearest<L: Ledger>(
+        &self,
+        protocol: Protocol,
+        port: u16,
+        steps: &mut Steps<L>,
+    ) -> Option<&BareLease>
+        ensures lease { option_copied result ≡ map_owning protocol port self.now.leases }
+        ensures steps { steps.new ≤ steps.old + 2 * levels (length self.now.leases) }
     {
-        let Some(number) = last_up_to(&self.kept.ports, port_at(protocol, port)) else {
+        let kept = &self.kept;
+        look(kept, steps);
+        let Some(number) = last_up_to(&kept.ports, port_at(protocol, port)) else {
             return None;
         };
-        let Some(lease) = self.kept.leases.get(&number) else {
+        let Some(lease) = lease_at(kept, number, steps) else {
             return None;
         };
         if lease.owns(protocol, port) {
@@ -195,20 +247,31 @@ impl BareTable {
 
     /// How many leases are live at `m`. At the moment that was reached last it looks at none, and
     /// else at those that have ended alone.
-    pub(crate) fn live(&self, m: Moment) -> u32
-        ensures { result ≡ count_by (is_live_map m) self.now }
+    pub(crate) fn live<L: Ledger>(&self, m: Moment, steps: &mut Steps<L>) -> u32
+        ensures live { result ≡ count_by (is_live_map m) self.now.leases }
+        ensures steps { m ≡ self.now.reached → steps.new ≡ steps.old }
     {
         if self.live.from == m.get() + 1 {
             return self.live.keys.len() as u32;
         }
-        (self.kept.leases.len() - self.kept.ended(m)) as u32
+        let ended = self.kept.ended(m);
+        steps.take(levels(self.kept.leases.len()) + ended as u64);
+        (self.kept.leases.len() - ended) as u32
     }
 
     /// An internal port above the endpoint's, up to which none above the endpoint's is covered by a
     /// lease of its address and protocol that is live at `m`. At the moment that was reached last
     /// that is the least one that is covered so.
-    pub(crate) fn next_internal(&self, endpoint: &Endpoint, m: Moment) -> Option<u16>
-        ensures { SkipsUncovered endpoint.now (filter (is_live_map m) self.now) result }
+    pub(crate) fn next_internal<L: Ledger>(
+        &self,
+        endpoint: &Endpoint,
+        m: Moment,
+        steps: &mut Steps<L>,
+    ) -> Option<u16>
+        ensures skips { SkipsUncovered endpoint.now (filter (is_live_map m) self.now.leases) result }
+        ensures next { m ≡ self.now.reached →
+            IsNextCovered endpoint.now (filter (is_live_map m) self.now.leases) result }
+        ensures steps { steps.new ≤ steps.old + 4 * levels (length self.now.leases) }
     {
         let kept = &self.kept;
         if endpoint.port == u16::MAX {
@@ -218,10 +281,10 @@ impl BareTable {
             port: endpoint.port + 1,
             ..*endpoint
         };
-        if self.covers(&above, m) {
+        if self.covers(&above, m, steps) {
             return Some(above.port);
         }
-        let Some(first) = first_live(kept, &self.live, place_of(&above), m) else {
+        let Some(first) = first_live(kept, &self.live, place_of(&above), m, steps) else {
             return None;
         };
         if is_beside(first, endpoint) {
@@ -234,8 +297,9 @@ impl BareTable {
     /// Puts a lease in the place of the one with its key, or at the end. The one error is want of
     /// memory, which changes nothing.
     pub(crate) fn put(&mut self, lease: BareLease) -> Result<(), Memory>
-        requires { AreSoundMaps (with_map lease self.old) }
-        ensures { PutsMap self.old lease result self.new }
+        requires { AreSoundMaps (with_map lease self.old.leases) }
+        ensures put { PutsMap self.old.leases lease result self.new.leases }
+        ensures reached { self.new.reached ≡ self.old.reached }
     {
         let place = lease.place();
         let expiry = lease.expiry();
@@ -250,7 +314,8 @@ impl BareTable {
 
     /// Takes out the lease with this first endpoint.
     pub(crate) fn remove(&mut self, key: &Endpoint) -> Option<BareLease>
-        ensures { RemovesMap self.old key.now result self.new }
+        ensures removed { RemovesMap self.old.leases key.now result self.new.leases }
+        ensures reached { self.new.reached ≡ self.old.reached }
     {
         let place = place_of(key);
         let Some(number) = number_at(&self.sieve, &self.kept, &place) else {
@@ -269,15 +334,19 @@ impl BareTable {
 
     /// Lets the leases that have ended by `m` leave the keys of those that are live, each once. All
     /// leases stay. It takes no memory.
-    pub(crate) fn reach(&mut self, m: Moment)
-        ensures { self.new ≡ self.old }
+    pub(crate) fn reach<L: Ledger>(&mut self, m: Moment, steps: &mut Steps<L>)
+        ensures leases { self.new.leases ≡ self.old.leases }
+        ensures reached { self.new.reached ≡ max self.old.reached m }
+        ensures steps { steps.new ≤ steps.old
+            + (1 + 3 * ended_between self.old.reached m self.old.leases)
+            * levels (length self.old.leases) }
     {
-        pass(&self.kept, &mut self.live, m);
+        pass(&self.kept, &mut self.live, m, steps);
     }
 
     /// One of the leases that aren't live at `m` and expired first. It looks at that one alone.
     pub(crate) fn one_ended(&self, m: Moment) -> Option<&BareLease>
-        ensures { IsDeadMap m self.now (option_copied result) }
+        ensures { IsDeadMap m self.now.leases (option_copied result) }
     {
         let Some(number) = self.kept.one_ended(m) else {
             return None;
@@ -294,7 +363,7 @@ impl BareTable {
         m: Moment,
     ) -> Result<Vec<MapLease>, AllocError>
         ensures { IfOk result (λ v. v.items
-            ≡ filter (is_live_map m) (map (whole (filters_at filters.now)) self.now)) }
+            ≡ filter (is_live_map m) (map (whole (filters_at filters.now)) self.now.leases)) }
     {
         live_of(alloc, &self.kept.leases, filters, m)
     }

@@ -1,7 +1,8 @@
 //! The filters of leases, by the places of their first endpoints.
 
-ghost use Rattle.std.specs.Prelude.{◌≡◌, OnOk};
+ghost use Rattle.std.specs.Prelude.{◌≡◌, ◌≤◌, ◌+◌, OnOk};
 ghost use Rattle.std.specs.Option.{option_copied, option_map};
+ghost use Rattle.step_count.specs.Levels.{levels};
 ghost use Rattle.mapping_table.specs.Kept.{filters_at, place_of_lease, whole, live_whole, HasRoomAt, HasSameFilters, WritesFilters};
 
 use crate::bare::BareLease;
@@ -9,6 +10,8 @@ use ordered_index::Place;
 use pcp_base::{Filters, MapLease, Moment};
 use std::alloc::AllocError;
 use std::collections::BTreeMap;
+use std::sync::ledger::Ledger;
+use step_count::{Steps, levels};
 
 /// The filters of the lease. The map is asked only where it has any.
 fn filters_of(filters: &BTreeMap<Place, Filters>, lease: &BareLease) -> Filters
@@ -41,6 +44,24 @@ pub(crate) fn whole_found(
         Some(lease) => Some(whole(filters, lease)),
         None => None,
     }
+}
+
+/// The same by one look more, of which there are as many levels at most as among so many leases.
+pub(crate) fn whole_by_look<L: Ledger>(
+    filters: &BTreeMap<Place, Filters>,
+    found: Option<&BareLease>,
+    leases: usize,
+    steps: &mut Steps<L>,
+) -> Option<MapLease>
+    ensures lease { result
+        ≡ option_map (whole (filters_at filters.now)) (option_copied found.entry) }
+    ensures steps { steps.new ≤ steps.old + levels leases }
+{
+    let Some(lease) = found else {
+        return None;
+    };
+    steps.take(levels(leases));
+    Some(whole(filters, lease))
 }
 
 /// The lease with its filters, where it is live at `m`.

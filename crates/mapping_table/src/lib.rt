@@ -6,6 +6,7 @@ mod bare_table;
 mod changes;
 mod filters;
 pub mod laws;
+mod looks;
 mod passing;
 pub mod plain;
 mod table;

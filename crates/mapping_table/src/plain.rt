@@ -1,10 +1,11 @@
 //! The plain body: a list that is searched, and nothing beside it.
 
-ghost use Rattle.std.specs.Prelude.{◌≡◌, [], ◌∷◌, filter, find, count_by, position, not, IfOk, OnOk, OnErr};
+ghost use Rattle.std.specs.Prelude.{◌≡◌, [], ◌∷◌, max, filter, find, count_by, position, not, IfOk, OnOk, OnErr};
 ghost use Rattle.std.specs.Option.{option_copied};
 ghost use Rattle.std.specs.List.{AllByRecursion};
 ghost use Rattle.pcp_base.specs.Owners.{owns};
 ghost use Rattle.pcp_base.specs.Tables.{is_map_of, IsMapLease};
+ghost use Rattle.mapping_table.specs.MapTables.{no_maps};
 ghost use Rattle.mapping_table.specs.MapLists.{is_live_map, some_live_map, map_covering, map_owning, map_with_key, IsNextCovered, SkipsUncovered, AreSoundMaps, with_map, PutsMap, RemovesMap, CopiesLiveMaps};
 
 use crate::bare::BareLease;
@@ -12,21 +13,24 @@ use ordered_index::lesser;
 use pcp_base::{Endpoint, MapLease, Memory, Moment, Protocol};
 use std::alloc::{AllocError, Global};
 use std::marker::Model;
+use std::sync::ledger::Ledger;
+use step_count::Steps;
 
-/// MAP leases in the order granted, with the same clauses as `MapTable`.
+/// MAP leases in the order granted, with the same clauses as `MapTable`. It has no ordered map, so it
+/// takes no steps.
 #[derive(Drop)]
 pub struct PlainMapTable {
     leases: Vec<MapLease>,
+    reached: u64,
 }
 
 impl Model for PlainMapTable {
-    ghost use Rattle.std.specs.Prelude.{List};
-    ghost use Rattle.pcp_base.specs.declared.leases.MapLease.{MapLease};
+    ghost use Rattle.mapping_table.specs.MapTables.{MapTableView};
     ghost use Rattle.mapping_table.specs.MapLists.{AreSoundMaps};
 
-    ghost Value = { List MapLease };
+    ghost Value = { MapTableView };
 
-    ghost view = { λ t. t.leases.items };
+    ghost view = { λ t. record { leases = t.leases.items; reached = t.reached } };
 
     ghost invariant = { λ t. AreSoundMaps t.leases.items };
 }
@@ -121,77 +125,108 @@ fn next_of(lease: &MapLease, endpoint: &Endpoint) -> Option<u16>
     Some(endpoint.port + 1)
 }
 
-/// The least port above the endpoint's that a lease covers.
-fn next_in(leases: &[MapLease], endpoint: &Endpoint) -> Option<u16>
+/// The least port above the endpoint's that a lease covers which is live at `m`.
+fn next_in(leases: &[MapLease], endpoint: &Endpoint, m: Moment) -> Option<u16>
     requires { AllByRecursion IsMapLease leases.now }
-    ensures { IsNextCovered endpoint.now leases.now result }
+    ensures { IsNextCovered endpoint.now (filter (is_live_map m) leases.now) result }
 {
-    match leases {
-        [] => None,
-        [first, rest @ ..] => lesser(next_of(first, endpoint), next_in(rest, endpoint)),
+    let [first, rest @ ..] = leases else {
+        return None;
+    };
+    let next = next_in(rest, endpoint, m);
+    if !first.is_live(m) {
+        return next;
     }
+    lesser(next_of(first, endpoint), next)
+}
+
+/// The later of both moments, in seconds.
+fn later(reached: u64, m: Moment) -> u64
+    ensures { result ≡ max reached m }
+{
+    reached.max(m.get())
 }
 
 impl PlainMapTable {
     /// A table without a lease. The one error is want of memory.
     pub fn new(alloc: Global) -> Result<PlainMapTable, Memory>
-        ensures { IfOk result (λ table. table ≡ []) }
+        ensures { IfOk result (λ table. table ≡ no_maps) }
     {
         Ok(PlainMapTable {
             leases: Vec::new(alloc),
+            reached: 0,
         })
     }
 
     /// The leases, in the order granted.
     pub fn leases(&self) -> &[MapLease]
-        ensures { result.now ≡ self.now }
+        ensures { result.now ≡ self.now.leases }
     {
         &self.leases
     }
 
     /// The lease that covers the endpoint.
-    pub fn find(&self, endpoint: &Endpoint) -> Option<MapLease>
-        ensures { result ≡ map_covering endpoint.now self.now }
+    pub fn find<L: Ledger>(&self, endpoint: &Endpoint, _steps: &mut Steps<L>) -> Option<MapLease>
+        ensures lease { result ≡ map_covering endpoint.now self.now.leases }
+        ensures steps { _steps.new ≡ _steps.old }
     {
         lease_covering(&self.leases, endpoint).copied()
     }
 
     /// Whether a lease that is live at `m` covers the endpoint.
-    pub fn covers(&self, endpoint: &Endpoint, m: Moment) -> bool
-        ensures { result ≡ some_live_map m (map_covering endpoint.now self.now) }
+    pub fn covers<L: Ledger>(&self, endpoint: &Endpoint, m: Moment, _steps: &mut Steps<L>) -> bool
+        ensures covers { result ≡ some_live_map m (map_covering endpoint.now self.now.leases) }
+        ensures steps { _steps.new ≡ _steps.old }
     {
-        match self.find(endpoint) {
+        match self.find(endpoint, _steps) {
             Some(lease) => lease.is_live(m),
             None => false,
         }
     }
 
     /// The lease that owns the external port.
-    pub fn by_external(&self, protocol: Protocol, port: u16) -> Option<MapLease>
-        ensures { result ≡ map_owning protocol port self.now }
+    pub fn by_external<L: Ledger>(
+        &self,
+        protocol: Protocol,
+        port: u16,
+        _steps: &mut Steps<L>,
+    ) -> Option<MapLease>
+        ensures lease { result ≡ map_owning protocol port self.now.leases }
+        ensures steps { _steps.new ≡ _steps.old }
     {
         lease_owning(&self.leases, protocol, port).copied()
     }
 
-    /// The least internal port above the endpoint's that any lease of its address and protocol
-    /// covers.
-    pub fn next_internal(&self, endpoint: &Endpoint, _m: Moment) -> Option<u16>
-        ensures next { IsNextCovered endpoint.now self.now result }
-        ensures skips { SkipsUncovered endpoint.now (filter (is_live_map _m) self.now) result }
+    /// The least internal port above the endpoint's that a lease of its address and protocol covers
+    /// which is live at `m`.
+    pub fn next_internal<L: Ledger>(
+        &self,
+        endpoint: &Endpoint,
+        m: Moment,
+        _steps: &mut Steps<L>,
+    ) -> Option<u16>
+        ensures next { IsNextCovered endpoint.now (filter (is_live_map m) self.now.leases) result }
+        ensures skips { SkipsUncovered endpoint.now (filter (is_live_map m) self.now.leases) result }
+        ensures steps { _steps.new ≡ _steps.old }
     {
-        next_in(&self.leases, endpoint)
+        next_in(&self.leases, endpoint, m)
     }
 
-    /// Lets a moment pass, which changes nothing.
-    pub fn reach(&mut self, _m: Moment)
-        ensures { self.new ≡ self.old }
-    {}
+    /// Lets a moment pass. All leases stay.
+    pub fn reach<L: Ledger>(&mut self, m: Moment, _steps: &mut Steps<L>)
+        ensures leases { self.new.leases ≡ self.old.leases }
+        ensures reached { self.new.reached ≡ max self.old.reached m }
+        ensures steps { _steps.new ≡ _steps.old }
+    {
+        self.reached = later(self.reached, m);
+    }
 
     /// Puts a lease in the place of the one with its key, or at the end. The one error is want of
     /// memory, which changes nothing.
     pub fn put(&mut self, _alloc: Global, lease: MapLease) -> Result<(), Memory>
-        requires { AreSoundMaps (with_map lease self.old) }
-        ensures { PutsMap self.old lease result self.new }
+        requires { AreSoundMaps (with_map lease self.old.leases) }
+        ensures put { PutsMap self.old.leases lease result self.new.leases }
+        ensures reached { self.new.reached ≡ self.old.reached }
     {
         put_into(&mut self.leases, lease)?;
         Ok(())
@@ -199,7 +234,8 @@ impl PlainMapTable {
 
     /// Takes out the lease with this first endpoint.
     pub fn remove(&mut self, key: &Endpoint) -> Option<MapLease>
-        ensures { RemovesMap self.old key.now result self.new }
+        ensures removed { RemovesMap self.old.leases key.now result self.new.leases }
+        ensures reached { self.new.reached ≡ self.old.reached }
     {
         let found = lease_with(&self.leases, key).copied();
         drop_from(&mut self.leases, key);
@@ -207,8 +243,9 @@ impl PlainMapTable {
     }
 
     /// How many leases are live at `m`.
-    pub fn live(&self, m: Moment) -> u32
-        ensures { result ≡ count_by (is_live_map m) self.now }
+    pub fn live<L: Ledger>(&self, m: Moment, _steps: &mut Steps<L>) -> u32
+        ensures live { result ≡ count_by (is_live_map m) self.now.leases }
+        ensures steps { _steps.new ≡ _steps.old }
     {
         self.leases.iter().filter(|lease| lease.is_live(m)).count() as u32
     }
@@ -216,7 +253,7 @@ impl PlainMapTable {
     /// Appends the leases that are live at `m`, in the order granted. The one error is want of
     /// memory, which changes nothing.
     pub fn copy_live(&self, alloc: Global, m: Moment, out: &mut Vec<MapLease>) -> Result<(), Memory>
-        ensures { CopiesLiveMaps self.now m out.old.items result out.new.items }
+        ensures { CopiesLiveMaps self.now.leases m out.old.items result out.new.items }
     {
         let mut live = live_of(alloc, &self.leases, m)?;
         out.append(&mut live)?;

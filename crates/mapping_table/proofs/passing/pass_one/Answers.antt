@@ -7,21 +7,21 @@ use Rattle.mapping_table.proofs.MapKeeping.{map_laws}
 use Rattle.mapping_table.proofs.passing.pass_one.Goals as goal
 
 pub index-requires : goal.index-requires
-index-requires c = due-has map_keying map_laws c.args.kept.now c.requires.kept.kept c.args.at c.in-Some.due c.in-Some.ensures
+index-requires g c = due-has map_keying map_laws c.args.kept.now c.requires.kept.kept c.args.at c.in-Some.due c.in-Some.ensures
 
 pub overflow_add-result : goal.overflow_add-result
-overflow_add-result c =
+overflow_add-result g c =
     let below = due-below map_keying map_laws c.args.kept.now c.requires.kept.kept c.args.at c.in-Some.due c.in-Some.ensures in
     omega (arith, below)
 
 pub returns-then-kept-number : goal.returns-then-kept-number
-returns-then-kept-number c =
+returns-then-kept-number g c =
     let below = due-below map_keying map_laws c.args.kept.now c.requires.kept.kept c.args.at c.in-Some.due c.in-Some.ensures in
     let high = c.if-kept-number.true in
     absurd (omega (arith, below, high))
 
-pub returns : goal.returns
-returns c =
+pub returns-clause-pass : goal.returns-clause-pass
+returns-clause-pass g c =
     let low : c.in-Some.due.0 ≤ c.args.m = (let value = c.get.ensures.value in let late = c.if-get-expiry.false in omega (arith, value, late)) in
     let at_n : get nat_cmp c.args.kept.now.leases c.in-Some.due.1 ≡ Some c.index.result.now = search rules in
     one-left map_keying map_laws c.args.kept.now c.requires.kept.kept c.args.at c.in-Some.due c.args.m c.in-Some.ensures low c.index.result.now at_n

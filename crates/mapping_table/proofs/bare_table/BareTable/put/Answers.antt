@@ -1,4 +1,4 @@
-use Rattle.std.proofs.Common.{List, refl, sym, subst}
+use Rattle.std.proofs.Common.{◌≤◌, List, refl, sym, subst, ◌∙◌}
 use Rattle.std.specs.BTreeMap.{values}
 use Rattle.pcp_base.specs.declared.leases.MapLease.{MapLease}
 use Rattle.pcp_base.specs.Tables.{first_endpoint, is_map_of}
@@ -15,6 +15,7 @@ invariant_of-self c =
     record {
       sieved = c.self.invariant.sieved;
       live = same-live map_keying map_laws ls ls c.self.inside.live c.enter.new.self refl c.enter.ensures.from c.in_err-anew.ensures.err c.self.invariant.live;
+      begun = subst (λ n. 1 ≤ n) (sym c.enter.ensures.from) c.self.invariant.begun;
     }
 
 pub invariant_of-self-in_default : goal.invariant_of-self-in_default
@@ -28,6 +29,7 @@ invariant_of-self-in_default c =
     record {
       sieved = c.put_kept.ensures.sieved;
       live = subst (λ (v : List MapLease). AreLive map_keying v c.settle.new.self) (sym c.in_default.ensures.put.ok) put;
+      begun = subst (λ n. 1 ≤ n) (sym (c.settle.ensures.from ∙ c.enter.ensures.from)) c.self.invariant.begun;
     }
 
 pub invariant_of-self-2 : goal.invariant_of-self-2
@@ -35,4 +37,5 @@ invariant_of-self-2 c = record {
   sieved = c.put_kept.ensures.sieved;
   live = undone-live map_keying map_laws (values c.self.inside.kept.leases) (values c.put_kept.new.kept.leases) c.self.inside.live c.enter.new.self c.undo.new.self
       c.place-place.result c.expiry-expiry.result c.in_ok-anew.anew c.self.invariant.live c.in-Err.ensures.put.err c.enter.ensures.from c.in_ok-anew.ensures.ok c.undo.ensures;
+  begun = subst (λ n. 1 ≤ n) (sym (c.undo.ensures.from ∙ c.enter.ensures.from)) c.self.invariant.begun;
 }

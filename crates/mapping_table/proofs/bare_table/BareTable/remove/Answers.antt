@@ -1,4 +1,4 @@
-use Rattle.std.proofs.Common.{ℕ, List, Some, None, sym, ◌∙◌, subst}
+use Rattle.std.proofs.Common.{ℕ, ◌≤◌, List, Some, None, sym, ◌∙◌, subst}
 use Rattle.std.specs.BTreeMap.{values}
 use Rattle.pcp_base.specs.declared.leases.MapLease.{MapLease}
 use Rattle.mapping_table.specs.MapLists.{RemovesMap}
@@ -11,11 +11,12 @@ use Rattle.mapping_table.specs.Kept.{map_keying}
 use Rattle.mapping_table.proofs.MapKeeping.{map_laws, map_tells, none_removed, map_removed}
 use Rattle.mapping_table.proofs.Sets.{removed_few, counted_removed}
 use Rattle.mapping_table.proofs.Sieving.{sieved_removed}
+use Rattle.mapping_table.proofs.Views.{leases_of}
 use Rattle.mapping_table.proofs.bare_table.BareTable.remove.Goals as goal
 
-pub returns-in_default : goal.returns-in_default
-returns-in_default c =
-    subst (λ (v : List MapLease). RemovesMap v c.args.key.now None v) c.self.view_is
+pub returns-in_default-clause-removed : goal.returns-in_default-clause-removed
+returns-in_default-clause-removed c =
+    subst (λ (v : List MapLease). RemovesMap v c.args.key.now None v) (leases_of c.self.view_is)
     (none_removed c.self.inside.kept c.self.invariant.sieved.counted.kept c.args.key.now c.place_of-place.result c.place_of-place.ensures (sym c.in_default.ensures))
 
 pub returns-in_default-copied : goal.returns-in_default-copied
@@ -43,10 +44,11 @@ invariant_of-self c =
       live = take-live map_keying map_laws (is_map_of e) (place_of e) (map_tells e) (values kept.leases) c.self.inside.live c.self.invariant.live
           (one-key map_keying map_laws kept c.self.invariant.sieved.counted.kept.kept (is_map_of e) (place_of e) (map_tells e))
           (values c.forget.new.self.leases) out c.leave.new.self c.place_of-place.result c.place_of-place.ensures c.leave.ensures;
+      begun = subst (λ n. 1 ≤ n) (sym c.leave.ensures.from) c.self.invariant.begun;
     }
 
-pub returns : goal.returns
-returns c =
+pub returns-clause-removed : goal.returns-clause-removed
+returns-clause-removed c =
     let removed = (map_removed c.self.inside.kept c.self.invariant.sieved.counted.kept c.args.key.now c.place_of-place.result c.place_of-place.ensures c.forget.new.self c.port.result c.in-Some.number c.expiry.result c.in-Some-copied.lease
     c.port.ensures c.expiry.ensures (sym c.in-Some.ensures) (sym (c.in-Some-copied.ensures ∙ c.get.ensures.value)) c.forget.ensures).1 in
-    subst (λ (v : List MapLease). RemovesMap v c.args.key.now (Some c.in-Some-copied.lease) (values c.forget.new.self.leases)) c.self.view_is removed
+    subst (λ (v : List MapLease). RemovesMap v c.args.key.now (Some c.in-Some-copied.lease) (values c.forget.new.self.leases)) (leases_of c.self.view_is) removed
