@@ -1,3 +1,4 @@
+pub mod Views
 pub mod Uniques
 pub mod SortLemmas
 pub mod LookLemmas

@@ -1,8 +1,8 @@
 -- What the tables tell of leases that are live at a moment.
-use Rattle.std.proofs.Common.{◌≡◌, ℕ, ◌<◌, ◌≤◌, ◌+◌, ◌-◌, ◌&&◌, ◌||◌, ◌==◌, nat_lt, Bool, true, false, cond, List, [], ◌∷◌, ◌++◌, map, flat_map, filter, find, count_by, Option, Some, None, IfSome, IfNone, refl, sym, ap, ◌∙◌, arith}
+use Rattle.std.proofs.Common.{◌≡◌, ℕ, ◌<◌, ◌≤◌, ◌+◌, ◌-◌, ◌&&◌, ◌||◌, ◌==◌, nat_lt, Bool, true, false, cond, List, [], ◌∷◌, ◌++◌, map, flat_map, filter, find, count_by, Option, Some, None, IfSome, IfNone, refl, sym, ap, subst, ◌∙◌, arith}
 use Rattle.std.specs.List.{AllByRecursion, list_any, range_with_len}
 use Rattle.std.specs.Option.{option_map, option_or}
-use Rattle.std.proofs.lemmas.Bool.{and_parts, and_from, or_from, eqb-true, eq-eqb, lt-ltb, ltb-true, ltb-false, cond-true, cond-false, false_from_ne_true}
+use Rattle.std.proofs.lemmas.Bool.{and_parts, and_from, or_from, or_left, or_right, eqb-true, eq-eqb, lt-ltb, ltb-true, ltb-false, cond-true, cond-false, false_from_ne_true}
 use Rattle.pcp_base.specs.declared.leases.Protocol.{Protocol}
 use Rattle.pcp_base.specs.declared.leases.Endpoint.{Endpoint}
 use Rattle.pcp_base.specs.declared.leases.MapLease.{MapLease}
@@ -16,11 +16,11 @@ use Rattle.pcp_base.proofs.Members.{IsIn, IsIn-filter, filter-IsIn, IsIn-right, 
 use Rattle.pcp_base.proofs.Same.{same_endpoint-Decides}
 use Rattle.ordered_index.specs.Lesser.{lesser}
 use Rattle.ordered_index.proofs.EntryLaws.{tally, count-cons, count-some}
-use Rattle.mapping_table.specs.MapLists.{is_covered, SkipsUncovered}
-use Rattle.peer_table.specs.PeerLists.{is_live_peer, is_live_of, is_named, IsPortUse, SkipsUnnamed}
+use Rattle.mapping_table.specs.MapLists.{is_covered, SkipsUncovered, IsNextCovered}
+use Rattle.peer_table.specs.PeerLists.{is_live_peer, is_live_of, is_named, IsPortUse, SkipsUnnamed, IsNextNamed}
 use Rattle.peer_table.specs.declared.uses.PortUse.{PortUse}
 use Rattle.lease_store.specs.Lookups.{with_port, is_taken_inside, named_port, peer_count, next_inside}
-use Rattle.indexed_store.proofs.Uniques.{all-none}
+use Rattle.indexed_store.proofs.Uniques.{all-none, first-in_range, none-in_range}
 
 -- ---- the leases that name an endpoint
 
@@ -186,6 +186,68 @@ module _ (t : Table) (m : ℕ) (e : Endpoint) where
         none None is = λ other up. let both = lesser-none a b is in
             not_taken other (uncovered a h other up (λ x w. absurd (let never : None ≡ Some x = sym both.0 ∙ w in cc))) (unnamed b k other up (λ y w. absurd (let never : None ≡ Some y = sym both.1 ∙ w in cc)))
 
+pub next_inside-is : (t : Table) (m : ℕ) (e : Endpoint) → next_inside t m e ≡ find (is_taken_inside t m e) (range_with_len (e.port + 1) (65535 - e.port))
+unfolding next_inside
+next_inside-is t m e = refl
+
+-- ---- the next port inside, where both tables tell the next one
+
+module _ (t : Table) (m : ℕ) (e : Endpoint) where
+  taken-map : (port : ℕ) → is_covered e (maps_live t m e) port ≡ true → is_taken_inside t m e port ≡ true
+  taken-map port h = or_left _ _ h
+
+  taken-peer : (port : ℕ) → is_named e (peers_live t m e) port ≡ true → is_taken_inside t m e port ≡ true
+  taken-peer port h = or_right _ _ h
+
+  lesser-taken : (a b : Option ℕ) → IfSome a (λ p. is_taken_inside t m e p ≡ true) → IfSome b (λ p. is_taken_inside t m e p ≡ true) → IfSome (lesser a b) (λ p. is_taken_inside t m e p ≡ true)
+  lesser-taken None b h k = k
+  lesser-taken (Some x) None h k = h
+  lesser-taken (Some x) (Some y) h k = step (Rattle.std.specs.Prelude.nat_le x y)
+    where
+      step : (c : Bool) → IfSome (cond c (Some x) (Some y)) (λ p. is_taken_inside t m e p ≡ true)
+      step true = h
+      step false = k
+
+  mapped : (a : Option ℕ) → IsNextCovered e (maps_live t m e) a → IfSome a (λ p. is_taken_inside t m e p ≡ true)
+  mapped None h = tt
+  mapped (Some p) h = taken-map p h.covered
+
+  peered : (b : Option ℕ) → IsNextNamed e (peers_live t m e) b → IfSome b (λ p. is_taken_inside t m e p ≡ true)
+  peered None h = tt
+  peered (Some p) h = taken-peer p h.named
+
+  between_map : (a : Option ℕ) → IsNextCovered e (maps_live t m e) a → SkipsUncovered e (maps_live t m e) a
+  between_map None h = record { above = tt; between = tt; none = h.none }
+  between_map (Some p) h = record {
+    above = h.above;
+    between = λ o up less. false_from_ne_true (is_covered e (maps_live t m e) o) (λ k. let low = h.least o up k in absurd (omega (arith, low, less)));
+    none = tt;
+  }
+
+  between_peer : (b : Option ℕ) → IsNextNamed e (peers_live t m e) b → SkipsUnnamed e (peers_live t m e) b
+  between_peer None h = record { above = tt; between = tt; none = h.none }
+  between_peer (Some p) h = record {
+    above = h.above;
+    between = λ o up less. false_from_ne_true (is_named e (peers_live t m e) o) (λ k. let low = h.least o up k in absurd (omega (arith, low, less)));
+    none = tt;
+  }
+
+  -- the lesser of both is the next one that is taken
+  pub next-known : (a b r : Option ℕ) → r ≡ lesser a b → IfSome r (λ p. p < 65536) → IsNextCovered e (maps_live t m e) a → IsNextNamed e (peers_live t m e) b → r ≡ next_inside t m e
+  next-known a b r is small h k =
+      step r small (subst (λ o. IfSome o (λ p. is_taken_inside t m e p ≡ true)) (sym is) (lesser-taken a b (mapped a h) (peered b k)))
+      (subst (λ o. IfSome o (λ port. e.port < port)) (sym is) (known_above t m e e.port a b (between_map a h) (between_peer b k)))
+      (subst (λ o. IfSome o (λ port. (other : ℕ) → e.port < other → other < port → is_taken_inside t m e other ≡ false)) (sym is) (known_between t m e e.port a b (between_map a h) (between_peer b k)))
+      (subst (λ o. IfNone o ((other : ℕ) → e.port < other → is_taken_inside t m e other ≡ false)) (sym is) (known_none t m e e.port a b (between_map a h) (between_peer b k)))
+      ∙ sym (next_inside-is t m e)
+    where
+      step : (o : Option ℕ) → IfSome o (λ p. p < 65536) → IfSome o (λ p. is_taken_inside t m e p ≡ true) → IfSome o (λ port. e.port < port) →
+          IfSome o (λ port. (other : ℕ) → e.port < other → other < port → is_taken_inside t m e other ≡ false) →
+          IfNone o ((other : ℕ) → e.port < other → is_taken_inside t m e other ≡ false) → o ≡ find (is_taken_inside t m e) (range_with_len (e.port + 1) (65535 - e.port))
+      step None small taken above between none = none-in_range (is_taken_inside t m e) (e.port + 1) (65535 - e.port) (λ x lo. none x (omega (arith, lo)))
+      step (Some p) small taken above between none =
+          first-in_range (is_taken_inside t m e) (e.port + 1) (65535 - e.port) p (omega (arith, above)) (omega (arith, above, small)) taken (λ x lo hi. between x (omega (arith, lo)) hi)
+
 -- ---- by port
 
 module _ (protocol : Protocol) (port : ℕ) (maps : List MapLease) (peers : List PeerLease) where
@@ -203,16 +265,3 @@ module _ (protocol : Protocol) (port : ℕ) (maps : List MapLease) (peers : List
 
   pub looked_map : (e : Endpoint) → Some e ≡ through_map → Some e ≡ through
   looked_map e some = ap (λ (o : Option Endpoint). option_or o through_peer) some ∙ sym (found_in protocol port maps peers)
-
--- ---- the next port inside
-
-pub next_inside-is : (t : Table) (m : ℕ) (e : Endpoint) → next_inside t m e ≡ find (is_taken_inside t m e) (range_with_len (e.port + 1) (65535 - e.port))
-unfolding next_inside
-next_inside-is t m e = refl
-
-pub low_or_high : (o k : ℕ) (P : Type 0) → (o ≤ k → P) → (k < o → P) → P
-low_or_high o k P f g = step (nat_lt k o) refl
-  where
-    step : (b : Bool) → nat_lt k o ≡ b → P
-    step true e = g (ltb-true k o e)
-    step false e = f (ltb-false k o e)

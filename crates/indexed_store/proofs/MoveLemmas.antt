@@ -103,3 +103,7 @@ module _ (t : Table) (sound : Sound t) where
     pub one_peer_deleted : (l : PeerLease) → find (is_peer_of e remote port) t.peers ≡ Some l → peer_owner l ∷ [] ≡ owners (deleted (DropPeer e remote port) t)
     one_peer_deleted l h =
         sym (ap (map peer_owner) (one-filtered (is_peer_of e remote port) t.peers l (two-weaker HaveOtherKeys (λ a b. is_peer_of e remote port a ≡ true → is_peer_of e remote port b ≡ true → ⊥) (keys-apart e remote port) t.peers sound.different) h))
+
+-- a later moment is the later one
+pub later_is : (x from m : ℕ) → x ≡ from → from ≤ m → max x m ≡ m
+later_is x from m is later = omega (arith, is, later)

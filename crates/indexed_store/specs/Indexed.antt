@@ -1,6 +1,6 @@
 -- What an indexed store is seen as, and what it keeps (our own).
 use Rattle.std.specs.Prelude.{◌≡◌, ℕ}
-use Rattle.pcp_base.specs.States.{State}
+use Rattle.indexed_store.specs.Tabled.{TabledState}
 use Rattle.pcp_base.specs.Reached.{IsReached, IsReachedFirst}
 use Rattle.lease_store.specs.declared.terms.Terms.{Terms}
 use Rattle.lease_store.specs.LeaseTerms.{AreTerms}
@@ -17,10 +17,12 @@ pub record IsReplayingFirst (s : Stored) : Type 0 where
   pub reached : IsReachedFirst s.state
   pub at_last : s.reached ≡ s.state.last
 
--- the ports are those of the state at the moment reached, on these terms
-pub record IsIndexed (s : State) (v : Leased) (reached : ℕ) (terms : Terms) : Type 0 where
+-- the ports are those of the state at the moment reached, on these terms, and the tables reached it
+pub record IsIndexed (s : TabledState) (v : Leased) (reached : ℕ) (terms : Terms) : Type 0 where
   pub allowed : AreTerms terms
-  pub sound : IsReached s
-  pub ports : IsPortsOf v s
+  pub sound : IsReached s.state
+  pub ports : IsPortsOf v s.state
   pub now : v.reached ≡ reached
+  pub maps_now : s.maps_reached ≡ reached
+  pub peers_now : s.peers_reached ≡ reached
   pub on : IsOnTerms v terms

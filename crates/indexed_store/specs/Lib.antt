@@ -4,4 +4,6 @@ pub mod Leaving
 pub mod Holding
 pub mod Settling
 pub mod Judging
+pub mod Tabled
+pub mod Looks
 pub mod Indexed

@@ -24,6 +24,7 @@ use crate::leases::Leases;
 use crate::owning::{OwnerRun, run_of_one};
 use crate::settling::settle_all;
 use crate::state::IndexedState;
+use crate::uncounted::reach_ports;
 use end_table::EndTable;
 use leased_ports::LeasedPorts;
 use leased_ports::laws::{ports_follow_states, records_tell_last_ends};
@@ -72,15 +73,17 @@ fn add_run(runs: &mut Vec<OwnerRun>, run: Option<OwnerRun>) -> Result<(), AllocE
 /// Takes out the leases that have ended, and makes the change.
 fn move_leases(leases: &mut Leases, kept: &Record, alloc: Global) -> Result<Moved, Memory>
     requires formed { IsWellFormedChange kept.now.moment kept.now.change }
-    requires before { Sound leases.old }
-    requires after { Sound (table_changed kept.now.change (live leases.old kept.now.moment)) }
-    ensures table { OnOk result (leases.new
-        ≡ table_changed kept.now.change (live leases.old kept.now.moment)) }
+    requires before { Sound leases.old.table }
+    requires after { Sound (table_changed kept.now.change (live leases.old.table kept.now.moment)) }
+    ensures table { OnOk result (leases.new.table
+        ≡ table_changed kept.now.change (live leases.old.table kept.now.moment)) }
     ensures touched { IfOk result (λ moved. moved.touched
-        ≡ touched_run kept.now.change (live leases.old kept.now.moment)) }
+        ≡ touched_run kept.now.change (live leases.old.table kept.now.moment)) }
     ensures formed { IfOk result (λ moved. IfSome moved.touched IsOwnerRun) }
     ensures runs { IfOk result (λ moved.
-        AreMoved kept.now.moment leases.old kept.now.change moved.runs.items) }
+        AreMoved kept.now.moment leases.old.table kept.now.change moved.runs.items) }
+    ensures maps_reached { leases.new.maps_reached ≡ leases.old.maps_reached }
+    ensures peers_reached { leases.new.peers_reached ≡ leases.old.peers_reached }
 {
     let mut runs = leases.drop_dead(alloc, kept.moment)?;
     let touched = leases.change(alloc, kept.moment, &kept.change)?;
@@ -124,20 +127,20 @@ fn move_ports(
     touched: Option<OwnerRun>,
 ) -> Result<(), Memory>
     requires formed { IsWellFormedChange kept.now.moment kept.now.change }
-    requires leases { AreNear leases.now }
-    requires touched { IfSome touched (IsEvenRun leases.now.maps) }
+    requires leases { AreNear leases.now.table }
+    requires touched { IfSome touched (IsEvenRun leases.now.table.maps) }
     requires later { ports.old.reached ≤ kept.now.moment }
     ensures terms { (terms : Terms) → IsOnTerms ports.old terms → IsOnTerms ports.new terms }
     ensures reached { OnOk result (ports.new.reached ≡ kept.now.moment) }
     ensures ports { OnOk result ((s : State) → IsReached s → Fits s kept.now
         → by_apply.empties kept.now.change ≡ false → IsPortsOf ports.old s
-        → leases.now ≡ table_2 s kept.now
+        → leases.now.table ≡ table_2 s kept.now
         → touched ≡ touched_run kept.now.change (table_1 s kept.now)
         → IsPortsOf ports.new (by_apply.apply s kept.now)) }
 {
     ports_follow_states();
     records_tell_last_ends();
-    ports.reach(kept.moment);
+    reach_ports(ports, kept.moment);
     hold_rest(ports, alloc, kept.moment, &kept.change)?;
     hold_touched(ports, alloc, leases, kept.moment, touched, Unowned::Rests)
 }
@@ -169,15 +172,17 @@ fn change(
     alloc: Global,
     kept: &Record,
 ) -> Result<(), Memory>
-    requires sound { IsReached state.old }
-    requires fits { Fits state.old kept.now }
+    requires sound { IsReached state.old.state }
+    requires fits { Fits state.old.state kept.now }
     requires keeps { by_apply.empties kept.now.change ≡ false }
     requires later { ports.old.reached ≤ kept.now.moment }
-    requires ports { IsPortsOf ports.old state.old }
+    requires ports { IsPortsOf ports.old state.old.state }
     ensures terms { (terms : Terms) → IsOnTerms ports.old terms → IsOnTerms ports.new terms }
-    ensures applied { OnOk result (state.new ≡ by_apply.apply state.old kept.now) }
-    ensures ports { OnOk result (IsPortsOf ports.new (by_apply.apply state.old kept.now)) }
+    ensures applied { OnOk result (state.new.state ≡ by_apply.apply state.old.state kept.now) }
+    ensures ports { OnOk result (IsPortsOf ports.new (by_apply.apply state.old.state kept.now)) }
     ensures reached { OnOk result (ports.new.reached ≡ kept.now.moment) }
+    ensures maps_reached { state.new.maps_reached ≡ state.old.maps_reached }
+    ensures peers_reached { state.new.peers_reached ≡ state.old.peers_reached }
 {
     states_are_sound();
     let moved = move_leases(&mut state.leases, kept, alloc)?;
@@ -191,16 +196,18 @@ fn change(
 pub(crate) fn begin(state: &mut IndexedState, ports: &mut LeasedPorts, kept: &Record)
     requires { by_apply.empties kept.now.change ≡ true }
     ensures terms { (terms : Terms) → IsOnTerms ports.old terms → IsOnTerms ports.new terms }
-    ensures applied { state.new ≡ by_apply.apply state.old kept.now }
-    ensures ports { IsPortsOf ports.new (by_apply.apply state.old kept.now) }
+    ensures applied { state.new.state ≡ by_apply.apply state.old.state kept.now }
+    ensures ports { IsPortsOf ports.new (by_apply.apply state.old.state kept.now) }
     ensures reached { ports.new.reached ≡ kept.now.moment }
+    ensures maps_reached { state.new.maps_reached ≤ state.old.maps_reached }
+    ensures peers_reached { state.new.peers_reached ≤ state.old.peers_reached }
 {
     records_tell_last_ends();
     state.leases.clear();
     state.ends.clear();
     state.note(kept);
     ports.clear();
-    ports.reach(kept.moment);
+    reach_ports(ports, kept.moment);
 }
 
 /// Applies a record that fits. After an error nothing is said of either.
@@ -210,14 +217,16 @@ pub(crate) fn apply(
     alloc: Global,
     kept: &Record,
 ) -> Result<(), Memory>
-    requires sound { IsReached state.old }
-    requires fits { Fits state.old kept.now }
+    requires sound { IsReached state.old.state }
+    requires fits { Fits state.old.state kept.now }
     requires later { ports.old.reached ≤ kept.now.moment }
-    requires ports { IsPortsOf ports.old state.old }
+    requires ports { IsPortsOf ports.old state.old.state }
     ensures terms { (terms : Terms) → IsOnTerms ports.old terms → IsOnTerms ports.new terms }
-    ensures applied { OnOk result (state.new ≡ by_apply.apply state.old kept.now) }
-    ensures ports { OnOk result (IsPortsOf ports.new (by_apply.apply state.old kept.now)) }
+    ensures applied { OnOk result (state.new.state ≡ by_apply.apply state.old.state kept.now) }
+    ensures ports { OnOk result (IsPortsOf ports.new (by_apply.apply state.old.state kept.now)) }
     ensures reached { OnOk result (ports.new.reached ≡ kept.now.moment) }
+    ensures maps_reached { state.new.maps_reached ≤ state.old.maps_reached }
+    ensures peers_reached { state.new.peers_reached ≤ state.old.peers_reached }
 {
     if empties(&kept.change) {
         begin(state, ports, kept);

@@ -1,10 +1,12 @@
 //! What a change makes of the leases.
-ghost use Rattle.std.specs.Prelude.{◌≡◌, IfSome, IfOk, OnOk};
-ghost use Rattle.pcp_base.specs.Tables.{HasPorts, IsPeerLease, empty_table};
+ghost use Rattle.std.specs.Prelude.{◌≡◌, ◌≤◌, ◌+◌, max, IfSome, IfOk, OnOk};
+ghost use Rattle.pcp_base.specs.Tables.{HasPorts, IsPeerLease};
 ghost use Rattle.pcp_base.specs.declared.records.Change.TheVariants.{Map, Peer, DropMap, DropPeer};
 ghost use Rattle.pcp_base.specs.Sound.{Sound};
 ghost use Rattle.pcp_base.specs.Records.{IsWellFormedChange};
 ghost use Rattle.pcp_base.specs.Apply.{table_changed};
+ghost use Rattle.indexed_store.specs.Tabled.{no_leases};
+ghost use Rattle.indexed_store.specs.Looks.{table_steps};
 ghost use Rattle.indexed_store.specs.Runs.{IsOwnerRun, touched_run};
 
 use crate::leases::Leases;
@@ -13,31 +15,39 @@ use mapping_table::laws::sound_tables_have_sound_maps;
 use pcp_base::{Address, Change, Endpoint, MapLease, Memory, Moment, PeerLease};
 use peer_table::laws::sound_tables_have_sound_peers;
 use std::alloc::Global;
+use std::sync::ledger::Ledger;
+use step_count::Steps;
 
 impl Leases {
     /// No leases.
     pub(crate) fn clear(&mut self)
-        ensures { self.new ≡ empty_table }
+        ensures { self.new ≡ no_leases }
     {
         self.maps.clear();
         self.peers.clear();
     }
 
     /// Lets the leases that have ended by `m` leave the keys of those that are live. All stay.
-    pub(crate) fn reach(&mut self, m: Moment)
-        ensures { self.new ≡ self.old }
+    pub(crate) fn reach<L: Ledger>(&mut self, m: Moment, steps: &mut Steps<L>)
+        ensures table { self.new.table ≡ self.old.table }
+        ensures maps_reached { self.new.maps_reached ≡ max self.old.maps_reached m }
+        ensures peers_reached { self.new.peers_reached ≡ max self.old.peers_reached m }
+        ensures steps { steps.new ≤ steps.old
+            + table_steps self.old.table self.old.maps_reached self.old.peers_reached m }
     {
         self.maps.reach(m);
-        self.peers.reach(m);
+        self.peers.reach(m, steps);
     }
 
     /// Puts a MAP lease. Tells its ports.
     fn put_map(&mut self, alloc: Global, lease: &MapLease) -> Result<Option<OwnerRun>, Memory>
-        requires sound { Sound (table_changed (Map lease.now) self.old) }
+        requires sound { Sound (table_changed (Map lease.now) self.old.table) }
         requires ports { HasPorts lease.now }
-        ensures table { OnOk result (self.new ≡ table_changed (Map lease.now) self.old) }
-        ensures touched { IfOk result (λ run. run ≡ touched_run (Map lease.now) self.old) }
+        ensures table { OnOk result (self.new.table ≡ table_changed (Map lease.now) self.old.table) }
+        ensures touched { IfOk result (λ run. run ≡ touched_run (Map lease.now) self.old.table) }
         ensures formed { IfOk result (λ run. IfSome run IsOwnerRun) }
+        ensures maps_reached { self.new.maps_reached ≡ self.old.maps_reached }
+        ensures peers_reached { self.new.peers_reached ≡ self.old.peers_reached }
     {
         sound_tables_have_sound_maps();
         self.maps.put(alloc, *lease)?;
@@ -46,11 +56,13 @@ impl Leases {
 
     /// Puts a PEER lease. Tells its port.
     fn put_peer(&mut self, alloc: Global, lease: &PeerLease) -> Result<Option<OwnerRun>, Memory>
-        requires sound { Sound (table_changed (Peer lease.now) self.old) }
+        requires sound { Sound (table_changed (Peer lease.now) self.old.table) }
         requires port { IsPeerLease lease.now }
-        ensures table { OnOk result (self.new ≡ table_changed (Peer lease.now) self.old) }
-        ensures touched { IfOk result (λ run. run ≡ touched_run (Peer lease.now) self.old) }
+        ensures table { OnOk result (self.new.table ≡ table_changed (Peer lease.now) self.old.table) }
+        ensures touched { IfOk result (λ run. run ≡ touched_run (Peer lease.now) self.old.table) }
         ensures formed { IfOk result (λ run. IfSome run IsOwnerRun) }
+        ensures maps_reached { self.new.maps_reached ≡ self.old.maps_reached }
+        ensures peers_reached { self.new.peers_reached ≡ self.old.peers_reached }
     {
         sound_tables_have_sound_peers();
         self.peers.put(alloc, *lease)?;
@@ -59,9 +71,11 @@ impl Leases {
 
     /// Takes out a MAP lease. Tells its ports.
     fn delete_map(&mut self, key: &Endpoint) -> Option<OwnerRun>
-        requires { Sound self.old }
-        ensures table { self.new ≡ table_changed (DropMap key.now) self.old }
-        ensures touched { result ≡ touched_run (DropMap key.now) self.old }
+        requires { Sound self.old.table }
+        ensures table { self.new.table ≡ table_changed (DropMap key.now) self.old.table }
+        ensures touched { result ≡ touched_run (DropMap key.now) self.old.table }
+        ensures maps_reached { self.new.maps_reached ≡ self.old.maps_reached }
+        ensures peers_reached { self.new.peers_reached ≡ self.old.peers_reached }
         ensures formed { IfSome result IsOwnerRun }
     {
         let Some(lease) = self.maps.remove(key) else {
@@ -72,9 +86,11 @@ impl Leases {
 
     /// Takes out a PEER lease. Tells its port.
     fn delete_peer(&mut self, endpoint: &Endpoint, remote: &Address, port: u16) -> Option<OwnerRun>
-        requires { Sound self.old }
-        ensures table { self.new ≡ table_changed (DropPeer endpoint.now remote.now port) self.old }
-        ensures touched { result ≡ touched_run (DropPeer endpoint.now remote.now port) self.old }
+        requires { Sound self.old.table }
+        ensures table { self.new.table ≡ table_changed (DropPeer endpoint.now remote.now port) self.old.table }
+        ensures touched { result ≡ touched_run (DropPeer endpoint.now remote.now port) self.old.table }
+        ensures maps_reached { self.new.maps_reached ≡ self.old.maps_reached }
+        ensures peers_reached { self.new.peers_reached ≡ self.old.peers_reached }
         ensures formed { IfSome result IsOwnerRun }
     {
         let Some(lease) = self.peers.remove(endpoint, remote, port) else {
@@ -91,10 +107,12 @@ impl Leases {
         change: &Change,
     ) -> Result<Option<OwnerRun>, Memory>
         requires formed { IsWellFormedChange m change.now }
-        requires before { Sound self.old }
-        requires after { Sound (table_changed change.now self.old) }
-        ensures table { OnOk result (self.new ≡ table_changed change.now self.old) }
-        ensures touched { IfOk result (λ run. run ≡ touched_run change.now self.old) }
+        requires before { Sound self.old.table }
+        requires after { Sound (table_changed change.now self.old.table) }
+        ensures table { OnOk result (self.new.table ≡ table_changed change.now self.old.table) }
+        ensures touched { IfOk result (λ run. run ≡ touched_run change.now self.old.table) }
+        ensures maps_reached { self.new.maps_reached ≡ self.old.maps_reached }
+        ensures peers_reached { self.new.peers_reached ≡ self.old.peers_reached }
         ensures formed { IfOk result (λ run. IfSome run IsOwnerRun) }
     {
         match change {

@@ -20,6 +20,7 @@ use crate::judging::{is_next, suits_table};
 use crate::leases::Leases;
 use crate::owning::OwnerRun;
 use crate::state::IndexedState;
+use crate::uncounted::reach_ports;
 use leased_ports::LeasedPorts;
 use leased_ports::laws::ports_follow_states;
 use pcp_base::{Change, Memory, Moment, Record, first_states_are_sound};
@@ -39,10 +40,10 @@ pub(crate) fn suits_first(
     alloc: Global,
     kept: &Record,
 ) -> Result<bool, Memory>
-    requires reached { IsReached state.now }
-    requires ports { IsPortsOf ports.now state.now }
-    requires at_last { ports.now.reached ≡ state.now.last }
-    ensures { IfOk result (λ b. IsTrue b ↔ SuitsFirst state.now kept.now) }
+    requires reached { IsReached state.now.state }
+    requires ports { IsPortsOf ports.now state.now.state }
+    requires at_last { ports.now.reached ≡ state.now.state.last }
+    ensures { IfOk result (λ b. IsTrue b ↔ SuitsFirst state.now.state kept.now) }
 {
     if !is_of_first(&kept.change) {
         return Ok(false);
@@ -61,13 +62,13 @@ fn hold_all(
     m: Moment,
     runs: &[OwnerRun],
 ) -> Result<(), Memory>
-    requires near { AreNear leases.now }
-    requires live { AreLiveAt m leases.now }
-    requires runs { AllByRecursion (IsAgreed leases.now) runs.now }
+    requires near { AreNear leases.now.table }
+    requires live { AreLiveAt m leases.now.table }
+    requires runs { AllByRecursion (IsAgreed leases.now.table) runs.now }
     requires reached { ports.old.reached ≡ m }
     ensures terms { (terms : Terms) → IsOnTerms ports.old terms → IsOnTerms ports.new terms }
     ensures reached { OnOk result (ports.new.reached ≡ m) }
-    ensures ports { OnOk result (AreHeld leases.now runs.now ports.old ports.new) }
+    ensures ports { OnOk result (AreHeld leases.now.table runs.now ports.old ports.new) }
 {
     for run in runs {
         hold_run(ports, alloc, leases, m, run, Unowned::IsFree)?;
@@ -82,13 +83,15 @@ fn drop_dead(
     alloc: Global,
     m: Moment,
 ) -> Result<(), Memory>
-    requires near { AreNear leases.old }
+    requires near { AreNear leases.old.table }
     requires reached { ports.old.reached ≡ m }
     ensures terms { (terms : Terms) → IsOnTerms ports.old terms → IsOnTerms ports.new terms }
-    ensures table { OnOk result (leases.new ≡ live leases.old m) }
+    ensures table { OnOk result (leases.new.table ≡ live leases.old.table m) }
     ensures reached { OnOk result (ports.new.reached ≡ m) }
-    ensures ports { OnOk result ((s : State) → IsReachedFirst s → s.table ≡ leases.old
-        → IsPortsOf ports.old s → AreEndsOf (live leases.old m) ports.new) }
+    ensures ports { OnOk result ((s : State) → IsReachedFirst s → s.table ≡ leases.old.table
+        → IsPortsOf ports.old s → AreEndsOf (live leases.old.table m) ports.new) }
+    ensures maps_reached { leases.new.maps_reached ≡ leases.old.maps_reached }
+    ensures peers_reached { leases.new.peers_reached ≡ leases.old.peers_reached }
 {
     let left = leases.drop_dead(alloc, m)?;
     hold_all(ports, alloc, leases, m, &left)
@@ -103,17 +106,19 @@ fn make_change(
 ) -> Result<(), Memory>
     requires formed { IsWellFormedChange kept.now.moment kept.now.change }
     requires keeps { by_apply.empties kept.now.change ≡ false }
-    requires allowed { IsAllowed leases.old kept.now.change }
-    requires before { AreNear leases.old }
-    requires after { AreNear (table_changed kept.now.change leases.old) }
-    requires live { AreLiveAt kept.now.moment (table_changed kept.now.change leases.old) }
+    requires allowed { IsAllowed leases.old.table kept.now.change }
+    requires before { AreNear leases.old.table }
+    requires after { AreNear (table_changed kept.now.change leases.old.table) }
+    requires live { AreLiveAt kept.now.moment (table_changed kept.now.change leases.old.table) }
     requires reached { ports.old.reached ≡ kept.now.moment }
-    requires ports { AreEndsOf leases.old ports.old }
+    requires ports { AreEndsOf leases.old.table ports.old }
     ensures terms { (terms : Terms) → IsOnTerms ports.old terms → IsOnTerms ports.new terms }
-    ensures table { OnOk result (leases.new ≡ table_changed kept.now.change leases.old) }
+    ensures table { OnOk result (leases.new.table ≡ table_changed kept.now.change leases.old.table) }
     ensures reached { OnOk result (ports.new.reached ≡ kept.now.moment) }
     ensures ports { OnOk result
-        (AreEndsOf (table_changed kept.now.change leases.old) ports.new) }
+        (AreEndsOf (table_changed kept.now.change leases.old.table) ports.new) }
+    ensures maps_reached { leases.new.maps_reached ≡ leases.old.maps_reached }
+    ensures peers_reached { leases.new.peers_reached ≡ leases.old.peers_reached }
 {
     let touched = leases.change(alloc, kept.moment, &kept.change)?;
     hold_touched(ports, alloc, leases, kept.moment, touched, Unowned::IsFree)
@@ -126,19 +131,21 @@ fn change(
     alloc: Global,
     kept: &Record,
 ) -> Result<(), Memory>
-    requires sound { IsReachedFirst state.old }
-    requires fits { FitsFirst state.old kept.now }
+    requires sound { IsReachedFirst state.old.state }
+    requires fits { FitsFirst state.old.state kept.now }
     requires keeps { by_apply.empties kept.now.change ≡ false }
     requires later { ports.old.reached ≤ kept.now.moment }
-    requires ports { IsPortsOf ports.old state.old }
+    requires ports { IsPortsOf ports.old state.old.state }
     ensures terms { (terms : Terms) → IsOnTerms ports.old terms → IsOnTerms ports.new terms }
-    ensures applied { OnOk result (state.new ≡ by_apply.apply_first state.old kept.now) }
-    ensures ports { OnOk result (IsPortsOf ports.new (by_apply.apply_first state.old kept.now)) }
+    ensures applied { OnOk result (state.new.state ≡ by_apply.apply_first state.old.state kept.now) }
+    ensures ports { OnOk result (IsPortsOf ports.new (by_apply.apply_first state.old.state kept.now)) }
     ensures reached { OnOk result (ports.new.reached ≡ kept.now.moment) }
+    ensures maps_reached { state.new.maps_reached ≡ state.old.maps_reached }
+    ensures peers_reached { state.new.peers_reached ≡ state.old.peers_reached }
 {
     first_states_are_sound();
     ports_follow_states();
-    ports.reach(kept.moment);
+    reach_ports(ports, kept.moment);
     drop_dead(&mut state.leases, ports, alloc, kept.moment)?;
     make_change(&mut state.leases, ports, alloc, kept)?;
     state.note(kept);
@@ -152,14 +159,16 @@ pub(crate) fn apply_first(
     alloc: Global,
     kept: &Record,
 ) -> Result<(), Memory>
-    requires sound { IsReachedFirst state.old }
-    requires fits { FitsFirst state.old kept.now }
+    requires sound { IsReachedFirst state.old.state }
+    requires fits { FitsFirst state.old.state kept.now }
     requires later { ports.old.reached ≤ kept.now.moment }
-    requires ports { IsPortsOf ports.old state.old }
+    requires ports { IsPortsOf ports.old state.old.state }
     ensures terms { (terms : Terms) → IsOnTerms ports.old terms → IsOnTerms ports.new terms }
-    ensures applied { OnOk result (state.new ≡ by_apply.apply_first state.old kept.now) }
-    ensures ports { OnOk result (IsPortsOf ports.new (by_apply.apply_first state.old kept.now)) }
+    ensures applied { OnOk result (state.new.state ≡ by_apply.apply_first state.old.state kept.now) }
+    ensures ports { OnOk result (IsPortsOf ports.new (by_apply.apply_first state.old.state kept.now)) }
     ensures reached { OnOk result (ports.new.reached ≡ kept.now.moment) }
+    ensures maps_reached { state.new.maps_reached ≤ state.old.maps_reached }
+    ensures peers_reached { state.new.peers_reached ≤ state.old.peers_reached }
 {
     if empties(&kept.change) {
         begin(state, ports, kept);

@@ -48,7 +48,7 @@ fn later(m: u64, other: Option<u64>) -> u64
 impl Leases {
     /// When the MAP lease expires that owns the port.
     fn map_expiry(&self, protocol: Protocol, port: u16) -> Option<u64>
-        ensures { result ≡ option_map (λ l. l.expiry) (map_owning protocol port self.now.maps) }
+        ensures { result ≡ option_map (λ l. l.expiry) (map_owning protocol port self.now.table.maps) }
     {
         let Some(lease) = self.maps.by_external(protocol, port) else {
             return None;
@@ -58,8 +58,8 @@ impl Leases {
 
     /// The later of `m` and of the expiry of the MAP lease that owns the port.
     fn held_by_map(&self, m: Moment, protocol: Protocol, port: u16) -> u64
-        requires { AreNear self.now }
-        ensures value { result ≡ held_by_map m self.now.maps protocol port }
+        requires { AreNear self.now.table }
+        ensures value { result ≡ held_by_map m self.now.table.maps protocol port }
         ensures bounds { (m ≤ result) × (result < 2 ^ 41) }
     {
         later(m.get(), self.map_expiry(protocol, port))
@@ -150,17 +150,17 @@ fn hold_piece(
     from: u64,
     unowned: Unowned,
 ) -> Result<u32, Memory>
-    requires near { AreNear leases.now }
+    requires near { AreNear leases.now.table }
     requires run { IsOwnerRun run.now }
     requires from { (i : ℕ) → i < run.now.count → from
-        ≡ held_by_map m leases.now.maps run.now.first.protocol (run.now.first.external + i) }
+        ≡ held_by_map m leases.now.table.maps run.now.first.protocol (run.now.first.external + i) }
     requires bounds { (m ≤ from) × (from < 2 ^ 41) }
     requires reached { ports.old.reached ≡ m }
     ensures terms { (terms : Terms) → IsOnTerms ports.old terms → IsOnTerms ports.new terms }
     ensures reached { OnOk result (ports.new.reached ≡ m) }
     ensures count { IfOk result (λ n. (1 ≤ n) × (n ≤ run.now.count)) }
     ensures ports { IfOk result (λ n.
-        Holds unowned m leases.now (up_to n run.now) ports.old ports.new) }
+        Holds unowned m leases.now.table (up_to n run.now) ports.old ports.new) }
 {
     let hold = hold_along(&leases.peers, run, from);
     let piece = OwnerRun {
@@ -181,12 +181,12 @@ pub(crate) fn hold_run(
     run: &OwnerRun,
     unowned: Unowned,
 ) -> Result<(), Memory>
-    requires near { AreNear leases.now }
-    requires run { IsEvenRun leases.now.maps run.now }
+    requires near { AreNear leases.now.table }
+    requires run { IsEvenRun leases.now.table.maps run.now }
     requires reached { ports.old.reached ≡ m }
     ensures terms { (terms : Terms) → IsOnTerms ports.old terms → IsOnTerms ports.new terms }
     ensures reached { OnOk result (ports.new.reached ≡ m) }
-    ensures ports { OnOk result (Holds unowned m leases.now run.now ports.old ports.new) }
+    ensures ports { OnOk result (Holds unowned m leases.now.table run.now ports.old ports.new) }
 {
     let from = leases.held_by_map(m, run.first.protocol, run.first.external);
     let mut done = 0;
@@ -206,12 +206,12 @@ pub(crate) fn hold_touched(
     touched: Option<OwnerRun>,
     unowned: Unowned,
 ) -> Result<(), Memory>
-    requires near { AreNear leases.now }
-    requires touched { IfSome touched (IsEvenRun leases.now.maps) }
+    requires near { AreNear leases.now.table }
+    requires touched { IfSome touched (IsEvenRun leases.now.table.maps) }
     requires reached { ports.old.reached ≡ m }
     ensures terms { (terms : Terms) → IsOnTerms ports.old terms → IsOnTerms ports.new terms }
     ensures reached { OnOk result (ports.new.reached ≡ m) }
-    ensures ports { OnOk result (HoldsIf unowned m leases.now touched ports.old ports.new) }
+    ensures ports { OnOk result (HoldsIf unowned m leases.now.table touched ports.old ports.new) }
 {
     match touched {
         Some(run) => hold_run(ports, alloc, leases, m, &run, unowned),

@@ -128,8 +128,8 @@ fn port_behind(lease: &MapLease, endpoint: &Endpoint) -> u16
 impl Leases {
     /// The live MAP lease with this key: its first endpoint.
     fn map_of(&self, m: Moment, key: &Endpoint) -> Option<MapLease>
-        requires { Sound self.now }
-        ensures { result ≡ find (is_map_of key.now) (live self.now m).maps }
+        requires { Sound self.now.table }
+        ensures { result ≡ find (is_map_of key.now) (live self.now.table m).maps }
     {
         let Some(lease) = self.covering(m, key) else {
             return None;
@@ -143,8 +143,8 @@ impl Leases {
 
     /// The port of the live MAP lease that covers the endpoint.
     fn covered_port(&self, m: Moment, endpoint: &Endpoint) -> Option<u16>
-        requires { Sound self.now }
-        ensures { result ≡ the.covered_port self.now m endpoint.now }
+        requires { Sound self.now.table }
+        ensures { result ≡ the.covered_port self.now.table m endpoint.now }
     {
         let Some(lease) = self.covering(m, endpoint) else {
             return None;
@@ -154,17 +154,17 @@ impl Leases {
 
     /// Whether one more lease may be live.
     fn has_space(&self, m: Moment) -> bool
-        requires { Sound self.now }
-        ensures { result ≡ nat_lt (lease_count self.now m) MOST_LEASES }
+        requires { Sound self.now.table }
+        ensures { result ≡ nat_lt (lease_count self.now.table m) MOST_LEASES }
     {
         (self.count(m) as usize) < MOST_LEASES
     }
 
     /// Whether the endpoint has no port, or this one, and may have a MAP lease on it.
     fn is_free_inside(&self, m: Moment, owner: &Owner) -> bool
-        requires { Sound self.now }
-        ensures { result ≡ (not (is_some (covering self.now m owner.now.endpoint))
-            && the.is_at_most (named_port self.now m owner.now.endpoint) owner.now.external) }
+        requires { Sound self.now.table }
+        ensures { result ≡ (not (is_some (covering self.now.table m owner.now.endpoint))
+            && the.is_at_most (named_port self.now.table m owner.now.endpoint) owner.now.external) }
     {
         !self.is_covered(m, &owner.endpoint)
             && is_at_most(self.named_port(m, &owner.endpoint), owner.external)
@@ -172,15 +172,15 @@ impl Leases {
 
     /// Whether a new MAP lease may have this port.
     fn has_room_at(&self, ports: &LeasedPorts, m: Moment, owner: &Owner) -> bool
-        requires { Sound self.now }
-        ensures { result ≡ the.has_room_at self.now m ports.now owner.now }
+        requires { Sound self.now.table }
+        ensures { result ≡ the.has_room_at self.now.table m ports.now owner.now }
     {
         self.is_free_inside(m, owner) && is_unheld_by(ports, m, owner)
     }
 
     fn have_room(&self, ports: &LeasedPorts, m: Moment, owners: &[Owner]) -> bool
-        requires { Sound self.now }
-        ensures { result ≡ list_all (the.has_room_at self.now m ports.now) owners.now }
+        requires { Sound self.now.table }
+        ensures { result ≡ list_all (the.has_room_at self.now.table m ports.now) owners.now }
     {
         for owner in owners {
             if !self.has_room_at(ports, m, owner) {
@@ -193,9 +193,9 @@ impl Leases {
     /// Whether there are few enough PEER leases of the endpoint, and those that cover it have this
     /// port.
     fn is_few_inside(&self, m: Moment, owner: &Owner) -> bool
-        requires { Sound self.now }
-        ensures { result ≡ (nat_lt (peer_count self.now m owner.now.endpoint) MOST_PEERS
-            && the.is_at_most (the.covered_port self.now m owner.now.endpoint)
+        requires { Sound self.now.table }
+        ensures { result ≡ (nat_lt (peer_count self.now.table m owner.now.endpoint) MOST_PEERS
+            && the.is_at_most (the.covered_port self.now.table m owner.now.endpoint)
             owner.now.external) }
     {
         (self.peer_count(m, &owner.endpoint) as usize) < MOST_PEERS
@@ -204,10 +204,10 @@ impl Leases {
 
     /// The same, and those that name it.
     fn is_one_inside(&self, m: Moment, owner: &Owner) -> bool
-        requires { Sound self.now }
-        ensures { result ≡ ((nat_lt (peer_count self.now m owner.now.endpoint) MOST_PEERS
-            && the.is_at_most (the.covered_port self.now m owner.now.endpoint) owner.now.external)
-            && the.is_at_most (named_port self.now m owner.now.endpoint) owner.now.external) }
+        requires { Sound self.now.table }
+        ensures { result ≡ ((nat_lt (peer_count self.now.table m owner.now.endpoint) MOST_PEERS
+            && the.is_at_most (the.covered_port self.now.table m owner.now.endpoint) owner.now.external)
+            && the.is_at_most (named_port self.now.table m owner.now.endpoint) owner.now.external) }
     {
         self.is_few_inside(m, owner)
             && is_at_most(self.named_port(m, &owner.endpoint), owner.external)
@@ -215,26 +215,26 @@ impl Leases {
 
     /// Whether a new PEER lease may have this port.
     fn peer_has_room(&self, ports: &LeasedPorts, m: Moment, owner: &Owner) -> bool
-        requires { Sound self.now }
-        ensures { result ≡ the.peer_has_room self.now m ports.now owner.now }
+        requires { Sound self.now.table }
+        ensures { result ≡ the.peer_has_room self.now.table m ports.now owner.now }
     {
         self.is_one_inside(m, owner) && is_unheld_by(ports, m, owner)
     }
 
     /// Whether a new MAP lease on these ports has room.
     fn has_room_for(&self, ports: &LeasedPorts, m: Moment, owners: &[Owner]) -> bool
-        requires { Sound self.now }
-        ensures { result ≡ (nat_lt (lease_count self.now m) MOST_LEASES
-            && list_all (the.has_room_at self.now m ports.now) owners.now) }
+        requires { Sound self.now.table }
+        ensures { result ≡ (nat_lt (lease_count self.now.table m) MOST_LEASES
+            && list_all (the.has_room_at self.now.table m ports.now) owners.now) }
     {
         self.has_space(m) && self.have_room(ports, m, owners)
     }
 
     /// Whether a new PEER lease on this port has room.
     fn has_room_for_peer(&self, ports: &LeasedPorts, m: Moment, owner: &Owner) -> bool
-        requires { Sound self.now }
-        ensures { result ≡ (nat_lt (lease_count self.now m) MOST_LEASES
-            && the.peer_has_room self.now m ports.now owner.now) }
+        requires { Sound self.now.table }
+        ensures { result ≡ (nat_lt (lease_count self.now.table m) MOST_LEASES
+            && the.peer_has_room self.now.table m ports.now owner.now) }
     {
         self.has_space(m) && self.peer_has_room(ports, m, owner)
     }
@@ -258,10 +258,10 @@ fn map_suits_table(
     m: Moment,
     lease: &MapLease,
 ) -> Result<bool, Memory>
-    requires current { IsCurrent state.now ports.now m }
+    requires current { IsCurrent state.now.state ports.now m }
     requires formed { IsMapLease lease.now }
-    ensures { IfOk result (λ b. IsTrue b ↔ (IsAllowed (live state.now.table m) (Map lease.now)
-        × HasRoom (live state.now.table m) (Map lease.now))) }
+    ensures { IfOk result (λ b. IsTrue b ↔ (IsAllowed (live state.now.state.table m) (Map lease.now)
+        × HasRoom (live state.now.state.table m) (Map lease.now))) }
 {
     let Some(held) = state.leases.map_of(m, &lease.first_endpoint()) else {
         let owners = owners_of(alloc, lease)?;
@@ -272,9 +272,9 @@ fn map_suits_table(
 
 /// Whether a PEER lease renews one, or is new and has room.
 fn peer_suits_table(state: &IndexedState, ports: &LeasedPorts, m: Moment, lease: &PeerLease) -> bool
-    requires { IsCurrent state.now ports.now m }
-    ensures { IsTrue result ↔ (IsAllowed (live state.now.table m) (Peer lease.now)
-        × HasRoom (live state.now.table m) (Peer lease.now)) }
+    requires { IsCurrent state.now.state ports.now m }
+    ensures { IsTrue result ↔ (IsAllowed (live state.now.state.table m) (Peer lease.now)
+        × HasRoom (live state.now.state.table m) (Peer lease.now)) }
 {
     let Some(held) = state
         .leases
@@ -294,11 +294,11 @@ pub(crate) fn suits_table(
     alloc: Global,
     kept: &Record,
 ) -> Result<bool, Memory>
-    requires current { IsCurrent state.now ports.now kept.now.moment }
+    requires current { IsCurrent state.now.state ports.now kept.now.moment }
     requires formed { IsWellFormedRecord kept.now }
     ensures { IfOk result (λ b. IsTrue b ↔
-        (IsAllowed (live state.now.table kept.now.moment) kept.now.change
-        × HasRoom (live state.now.table kept.now.moment) kept.now.change)) }
+        (IsAllowed (live state.now.state.table kept.now.moment) kept.now.change
+        × HasRoom (live state.now.state.table kept.now.moment) kept.now.change)) }
 {
     let m = kept.moment;
     match &kept.change {
@@ -320,9 +320,9 @@ fn map_is_rested(
     m: Moment,
     lease: &MapLease,
 ) -> Result<bool, Memory>
-    requires current { IsCurrent state.now ports.now m }
+    requires current { IsCurrent state.now.state ports.now m }
     requires formed { IsMapLease lease.now }
-    ensures { IfOk result (λ b. IsTrue b ↔ IsRested state.now m (Map lease.now)) }
+    ensures { IfOk result (λ b. IsTrue b ↔ IsRested state.now.state m (Map lease.now)) }
 {
     let Some(_held) = state.leases.map_of(m, &lease.first_endpoint()) else {
         let owners = owners_of(alloc, lease)?;
@@ -333,8 +333,8 @@ fn map_is_rested(
 
 /// Whether a new PEER lease takes no port that rests for another.
 fn peer_is_rested(state: &IndexedState, ports: &LeasedPorts, m: Moment, lease: &PeerLease) -> bool
-    requires { IsCurrent state.now ports.now m }
-    ensures { IsTrue result ↔ IsRested state.now m (Peer lease.now) }
+    requires { IsCurrent state.now.state ports.now m }
+    ensures { IsTrue result ↔ IsRested state.now.state m (Peer lease.now) }
 {
     let Some(_held) = state
         .leases
@@ -352,9 +352,9 @@ fn is_rested(
     alloc: Global,
     kept: &Record,
 ) -> Result<bool, Memory>
-    requires current { IsCurrent state.now ports.now kept.now.moment }
+    requires current { IsCurrent state.now.state ports.now kept.now.moment }
     requires formed { IsWellFormedRecord kept.now }
-    ensures { IfOk result (λ b. IsTrue b ↔ IsRested state.now kept.now.moment kept.now.change) }
+    ensures { IfOk result (λ b. IsTrue b ↔ IsRested state.now.state kept.now.moment kept.now.change) }
 {
     let m = kept.moment;
     match &kept.change {
@@ -377,7 +377,7 @@ fn is_unused(ports: &LeasedPorts, endpoint: &Endpoint, port: u16) -> bool
 
 /// Whether the record is well formed and comes next, whatever leases there are.
 pub(crate) fn is_next(state: &IndexedState, kept: &Record) -> bool
-    ensures { IsTrue result ↔ IsNext state.now kept.now }
+    ensures { IsTrue result ↔ IsNext state.now.state kept.now }
 {
     kept.is_well_formed()
         && is_start(&kept.change) != state.started
@@ -391,10 +391,10 @@ pub(crate) fn suits(
     alloc: Global,
     kept: &Record,
 ) -> Result<bool, Memory>
-    requires reached { IsReached state.now }
-    requires ports { IsPortsOf ports.now state.now }
-    requires at_last { ports.now.reached ≡ state.now.last }
-    ensures { IfOk result (λ b. IsTrue b ↔ Suits state.now kept.now) }
+    requires reached { IsReached state.now.state }
+    requires ports { IsPortsOf ports.now state.now.state }
+    requires at_last { ports.now.reached ≡ state.now.state.last }
+    ensures { IfOk result (λ b. IsTrue b ↔ Suits state.now.state kept.now) }
 {
     if !is_next(state, kept) {
         return Ok(false);

@@ -4,7 +4,7 @@ use mapping_table::MapTable;
 use peer_table::PeerTable;
 use std::marker::Model;
 
-/// MAP and PEER leases, seen as a table.
+/// MAP and PEER leases, seen as a table, and the moments that its two tables reached last.
 #[derive(Drop)]
 pub(crate) struct Leases {
     pub(crate) maps: MapTable,
@@ -12,9 +12,13 @@ pub(crate) struct Leases {
 }
 
 impl Model for Leases {
-    ghost use Rattle.pcp_base.specs.Tables.{Table};
+    ghost use Rattle.indexed_store.specs.Tabled.{TabledLeases};
 
-    ghost Value = { Table };
+    ghost Value = { TabledLeases };
 
-    ghost view = { λ t. record { maps = t.maps; peers = t.peers } };
+    ghost view = { λ t. record {
+      table = record { maps = t.maps; peers = t.peers.leases };
+      maps_reached = 0;
+      peers_reached = t.peers.reached;
+    } };
 }

@@ -17,5 +17,6 @@ mod owning;
 mod settling;
 mod state;
 mod store;
+mod uncounted;
 
 pub use store::IndexedStore;

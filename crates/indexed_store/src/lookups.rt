@@ -1,19 +1,27 @@
-//! What is looked up in the leases that are live at a moment, by internal endpoint.
-ghost use Rattle.std.specs.Prelude.{◌≡◌, ℕ, ◌<◌, false, filter, nat_lt, is_some, IfSome, IfNone};
-ghost use Rattle.std.specs.List.{list_any};
-ghost use Rattle.pcp_base.specs.Tables.{names};
+//! What is looked up in the leases that are live at a moment, by internal endpoint. A step is a look at a
+//! level of an ordered map.
+ghost use Rattle.std.specs.Prelude.{◌≡◌, ◌≤◌, ◌+◌, ◌*◌, length};
+ghost use Rattle.step_count.specs.Levels.{levels};
 ghost use Rattle.pcp_base.specs.Sound.{Sound};
-ghost use Rattle.lease_store.specs.Lookups.{covering, peering, named_port, peer_count, lease_count, is_taken_inside, next_inside};
+ghost use Rattle.lease_store.specs.Lookups.{covering, peering, named_port, peer_count, lease_count, next_inside};
 
 use crate::leases::Leases;
 use ordered_index::lesser;
 use pcp_base::{Address, Endpoint, MapLease, Moment, PeerLease};
+use std::sync::ledger::Ledger;
+use step_count::Steps;
 
 impl Leases {
     /// The MAP lease that covers the endpoint.
-    pub(crate) fn covering(&self, m: Moment, endpoint: &Endpoint) -> Option<MapLease>
-        requires { Sound self.now }
-        ensures { result ≡ covering self.now m endpoint.now }
+    pub(crate) fn covering_counted<L: Ledger>(
+        &self,
+        m: Moment,
+        endpoint: &Endpoint,
+        steps: &mut Steps<L>,
+    ) -> Option<MapLease>
+        requires { Sound self.now.table }
+        ensures lease { result ≡ covering self.now.table m endpoint.now }
+        ensures steps { steps.new ≤ steps.old + 4 * levels (length self.now.table.maps) }
     {
         let Some(lease) = self.maps.find(endpoint) else {
             return None;
@@ -22,109 +30,87 @@ impl Leases {
     }
 
     /// The PEER lease of this endpoint and remote.
-    pub(crate) fn peering(
+    pub(crate) fn peering_counted<L: Ledger>(
         &self,
         m: Moment,
         endpoint: &Endpoint,
         remote: &Address,
         remote_port: u16,
+        steps: &mut Steps<L>,
     ) -> Option<PeerLease>
-        requires { Sound self.now }
-        ensures { result ≡ peering self.now m endpoint.now remote.now remote_port }
+        requires { Sound self.now.table }
+        ensures lease { result ≡ peering self.now.table m endpoint.now remote.now remote_port }
+        ensures steps { steps.new ≤ steps.old + 2 * levels (length self.now.table.peers) }
     {
-        let Some(lease) = self.peers.find(endpoint, remote, remote_port) else {
+        let Some(lease) = self.peers.find(endpoint, remote, remote_port, steps) else {
             return None;
         };
         if lease.is_live(m) { Some(*lease) } else { None }
     }
 
     /// The external port of the PEER leases that name the endpoint.
-    pub(crate) fn named_port(&self, m: Moment, endpoint: &Endpoint) -> Option<u16>
-        requires { Sound self.now }
-        ensures { result ≡ named_port self.now m endpoint.now }
+    pub(crate) fn named_port_counted<L: Ledger>(
+        &self,
+        m: Moment,
+        endpoint: &Endpoint,
+        steps: &mut Steps<L>,
+    ) -> Option<u16>
+        requires { Sound self.now.table }
+        ensures port { result ≡ named_port self.now.table m endpoint.now }
+        ensures steps { steps.new ≤ steps.old + 35 * levels (length self.now.table.peers) }
     {
-        let Some(used) = self.peers.of_endpoint(endpoint, m) else {
+        let Some(used) = self.peers.of_endpoint(endpoint, m, steps) else {
             return None;
         };
         Some(used.external)
     }
 
     /// How many PEER leases name the endpoint.
-    pub(crate) fn peer_count(&self, m: Moment, endpoint: &Endpoint) -> u32
-        ensures { result ≡ peer_count self.now m endpoint.now }
+    pub(crate) fn peer_count_counted<L: Ledger>(
+        &self,
+        m: Moment,
+        endpoint: &Endpoint,
+        steps: &mut Steps<L>,
+    ) -> u32
+        ensures count { result ≡ peer_count self.now.table m endpoint.now }
+        ensures steps { steps.new ≤ steps.old + 35 * levels (length self.now.table.peers) }
     {
-        let Some(used) = self.peers.of_endpoint(endpoint, m) else {
+        let Some(used) = self.peers.of_endpoint(endpoint, m, steps) else {
             return 0;
         };
         used.count
     }
 
-    /// How many leases are live, MAP and PEER together.
-    pub(crate) fn count(&self, m: Moment) -> u32
-        requires { Sound self.now }
-        ensures { result ≡ lease_count self.now m }
+    /// How many leases are live, MAP and PEER together. At the moment that was reached last no lease is
+    /// looked at.
+    pub(crate) fn count_counted<L: Ledger>(&self, m: Moment, steps: &mut Steps<L>) -> u32
+        requires { Sound self.now.table }
+        ensures count { result ≡ lease_count self.now.table m }
+        ensures steps { m ≡ self.now.maps_reached → m ≡ self.now.peers_reached →
+            steps.new ≡ steps.old }
     {
-        self.maps.live(m) + self.peers.live(m)
+        self.maps.live(m) + self.peers.live(m, steps)
     }
 
-    /// Whether a live MAP lease covers the endpoint.
-    pub(crate) fn is_covered(&self, m: Moment, endpoint: &Endpoint) -> bool
-        requires { Sound self.now }
-        ensures { result ≡ is_some (covering self.now m endpoint.now) }
+    /// The next greater internal port, of the endpoint's address and protocol, that a lease covers or
+    /// names which is live at the moment that was reached last.
+    pub(crate) fn next_inside_counted<L: Ledger>(
+        &self,
+        m: Moment,
+        endpoint: &Endpoint,
+        steps: &mut Steps<L>,
+    ) -> Option<u16>
+        requires sound { Sound self.now.table }
+        requires maps { m ≡ self.now.maps_reached }
+        requires peers { m ≡ self.now.peers_reached }
+        ensures next { result ≡ next_inside self.now.table m endpoint.now }
+        ensures steps { steps.new ≤ steps.old + 4 * levels (length self.now.table.maps)
+            + levels (length self.now.table.peers) }
     {
-        self.maps.covers(endpoint, m)
-    }
-
-    /// Whether a live PEER lease names the endpoint.
-    fn is_named(&self, m: Moment, endpoint: &Endpoint) -> bool
-        requires { Sound self.now }
-        ensures { result ≡ list_any (λ l. names l endpoint.now)
-            (filter (λ l. nat_lt m l.expiry) self.now.peers) }
-    {
-        self.peers.of_endpoint(endpoint, m).is_some()
-    }
-
-    /// Whether a live lease covers or names this port of the endpoint's address and protocol.
-    fn is_taken_inside(&self, m: Moment, endpoint: &Endpoint, port: u16) -> bool
-        requires { Sound self.now }
-        ensures { result ≡ is_taken_inside self.now m endpoint.now port }
-    {
-        let inside = Endpoint { port, ..*endpoint };
-        self.is_covered(m, &inside) || self.is_named(m, &inside)
-    }
-
-    /// A greater port, up to which no live lease covers or names one of the endpoint's address and
-    /// protocol. At the moment that was reached last it is the next one that is covered or named.
-    fn next_known(&self, m: Moment, endpoint: &Endpoint, after: u16) -> Option<u16>
-        ensures above { IfSome result (λ port. after < port) }
-        ensures between { IfSome result (λ port. (other : ℕ) → after < other → other < port
-            → is_taken_inside self.now m endpoint.now other ≡ false) }
-        ensures none { IfNone result ((other : ℕ) → after < other
-            → is_taken_inside self.now m endpoint.now other ≡ false) }
-    {
-        let inside = Endpoint {
-            port: after,
-            ..*endpoint
+        let mapped = self.maps.next_internal(endpoint, m);
+        let Some(port) = lesser(mapped, self.peers.next_internal(endpoint, m, steps)) else {
+            return None;
         };
-        lesser(
-            self.maps.next_internal(&inside, m),
-            self.peers.next_internal(&inside, m),
-        )
-    }
-
-    /// The next greater internal port, of the endpoint's address and protocol, that a live lease
-    /// covers or names. At the moment that was reached last the first port that is tried is it.
-    pub(crate) fn next_inside(&self, m: Moment, endpoint: &Endpoint) -> Option<u16>
-        requires { Sound self.now }
-        ensures { result ≡ next_inside self.now m endpoint.now }
-    {
-        let mut after = endpoint.port;
-        while let Some(port) = self.next_known(m, endpoint, after) {
-            if self.is_taken_inside(m, endpoint, port) {
-                return Some(port);
-            }
-            after = port;
-        }
-        None
+        Some(port)
     }
 }

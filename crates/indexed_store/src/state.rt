@@ -1,6 +1,7 @@
 //! The state that records made, in tables.
-ghost use Rattle.std.specs.Prelude.{◌≡◌, ◌||◌, IfOk, if◌then◌else◌};
-ghost use Rattle.pcp_base.specs.States.{State, empty_state};
+ghost use Rattle.std.specs.Prelude.{◌≡◌, ◌≤◌, ◌+◌, ◌||◌, max, IfOk, if◌then◌else◌};
+ghost use Rattle.indexed_store.specs.Tabled.{no_state};
+ghost use Rattle.indexed_store.specs.Looks.{table_steps};
 ghost use Rattle.pcp_base.specs.Apply as the;
 
 use crate::facts::{address_after, base_after, is_start};
@@ -11,6 +12,8 @@ use pcp_base::{Address, Memory, Moment, Record};
 use peer_table::PeerTable;
 use std::alloc::Global;
 use std::marker::Model;
+use std::sync::ledger::Ledger;
+use step_count::Steps;
 
 /// The state that records made.
 #[derive(Drop)]
@@ -24,17 +27,21 @@ pub(crate) struct IndexedState {
 }
 
 impl Model for IndexedState {
-    ghost use Rattle.pcp_base.specs.States.{State};
+    ghost use Rattle.indexed_store.specs.Tabled.{TabledState};
 
-    ghost Value = { State };
+    ghost Value = { TabledState };
 
     ghost view = { λ s. record {
-      table = s.leases;
-      ends = s.ends;
-      base = s.base;
-      address = s.address;
-      last = s.last;
-      started = s.started;
+      state = record {
+        table = s.leases.table;
+        ends = s.ends;
+        base = s.base;
+        address = s.address;
+        last = s.last;
+        started = s.started;
+      };
+      maps_reached = s.leases.maps_reached;
+      peers_reached = s.leases.peers_reached;
     } };
 }
 
@@ -51,7 +58,7 @@ pub(crate) fn zero() -> Moment
 impl IndexedState {
     /// The state of no record. The one error is want of memory.
     pub(crate) fn new(alloc: Global) -> Result<IndexedState, Memory>
-        ensures { IfOk result (λ s. s ≡ empty_state) }
+        ensures { IfOk result (λ s. s ≡ no_state) }
     {
         Ok(IndexedState {
             leases: Leases {
@@ -68,7 +75,7 @@ impl IndexedState {
 
     /// Begins anew, without a record.
     pub(crate) fn clear(&mut self)
-        ensures { self.new ≡ empty_state }
+        ensures { self.new ≡ no_state }
     {
         self.leases.clear();
         self.ends.clear();
@@ -79,21 +86,27 @@ impl IndexedState {
     }
 
     /// Lets the leases that have ended by `m` leave the keys of those that are live. All stay.
-    pub(crate) fn reach(&mut self, m: Moment)
-        ensures { self.new ≡ self.old }
+    pub(crate) fn reach<L: Ledger>(&mut self, m: Moment, steps: &mut Steps<L>)
+        ensures state { self.new.state ≡ self.old.state }
+        ensures maps_reached { self.new.maps_reached ≡ max self.old.maps_reached m }
+        ensures peers_reached { self.new.peers_reached ≡ max self.old.peers_reached m }
+        ensures steps { steps.new ≤ steps.old
+            + table_steps self.old.state.table self.old.maps_reached self.old.peers_reached m }
     {
-        self.leases.reach(m);
+        self.leases.reach(m, steps);
     }
 
     /// Notes what a record makes of the base, the address and the last moment.
     pub(crate) fn note(&mut self, kept: &Record)
-        ensures { self.new ≡ record self.old {
-          base = if the.rebases kept.now.change self.old.address
-              then kept.now.moment else self.old.base;
-          address = the.address_changed kept.now.change self.old.address;
+        ensures state { self.new.state ≡ record self.old.state {
+          base = if the.rebases kept.now.change self.old.state.address
+              then kept.now.moment else self.old.state.base;
+          address = the.address_changed kept.now.change self.old.state.address;
           last = kept.now.moment;
-          started = the.is_start kept.now.change || self.old.started;
+          started = the.is_start kept.now.change || self.old.state.started;
         } }
+        ensures maps_reached { self.new.maps_reached ≡ self.old.maps_reached }
+        ensures peers_reached { self.new.peers_reached ≡ self.old.peers_reached }
     {
         self.base = base_after(kept, self.address, self.base);
         self.address = address_after(&kept.change, self.address);

@@ -1,18 +1,20 @@
 //! The store: a state in tables, its ports, the terms, and the moment that is reached.
 ghost use Rattle.std.specs.Prelude.{◌≡◌, ◌≤◌, ℕ, max, OnOk, OnErr, IfOk};
-ghost use Rattle.pcp_base.specs.States.{State, empty_state};
+ghost use Rattle.pcp_base.specs.States.{empty_state};
 ghost use Rattle.pcp_base.specs.Reached.{IsReached, IsReachedFirst};
 ghost use Rattle.pcp_base.specs.Fits.{Fits, FitsFirst};
 ghost use Rattle.pcp_base.specs.Apply as by_apply;
 ghost use Rattle.lease_store.specs.declared.terms.Terms.{Terms};
 ghost use Rattle.lease_store.specs.LeaseTerms.{AreTerms};
 ghost use Rattle.leased_ports.specs.Leased.{IsPortsOf, IsOnTerms};
+ghost use Rattle.indexed_store.specs.Tabled.{no_state};
 ghost use Rattle.indexed_store.specs.Indexed.{IsReplaying, IsReplayingFirst};
 
 use crate::applying::apply;
 use crate::first::{apply_first, suits_first};
 use crate::judging::suits;
 use crate::state::{IndexedState, zero};
+use crate::uncounted::reach_state;
 use external_pool::{PickAsk, PickRefused, Picked};
 use lease_store::{LeaseStore, Terms};
 use leased_ports::LeasedPorts;
@@ -23,6 +25,9 @@ use pcp_base::{
 };
 use std::alloc::Global;
 use std::marker::Model;
+use std::sync::ledger::Ledger;
+use step_count::Steps;
+use step_count::laws::levels_grow;
 
 /// The state that records made, at a moment that is reached. What is looked up, picked and applied
 /// takes logarithmic time in the number of leases and of runs of their ports, for each of those that
@@ -44,7 +49,7 @@ impl Model for IndexedStore {
 
     ghost Value = { Stored };
 
-    ghost view = { λ s. record { state = s.state; reached = s.reached; terms = s.terms } };
+    ghost view = { λ s. record { state = s.state.state; reached = s.reached; terms = s.terms } };
 
     ghost invariant = { λ s. IsIndexed s.state s.ports s.reached s.terms };
 }
@@ -52,7 +57,7 @@ impl Model for IndexedStore {
 /// Forgets all.
 fn vacate(state: &mut IndexedState, ports: &mut LeasedPorts)
     ensures terms { (terms : Terms) → IsOnTerms ports.old terms → IsOnTerms ports.new terms }
-    ensures state { state.new ≡ empty_state }
+    ensures state { state.new ≡ no_state }
     ensures ports { IsPortsOf ports.new empty_state }
     ensures reached { ports.new.reached ≡ 0 }
 {
@@ -68,20 +73,24 @@ fn take(
     alloc: Global,
     kept: &Record,
 ) -> Result<(), Memory>
-    requires sound { IsReached state.old }
-    requires fits { Fits state.old kept.now }
+    requires sound { IsReached state.old.state }
+    requires fits { Fits state.old.state kept.now }
     requires later { ports.old.reached ≤ kept.now.moment }
-    requires ports { IsPortsOf ports.old state.old }
+    requires ports { IsPortsOf ports.old state.old.state }
+    requires maps_later { state.old.maps_reached ≤ kept.now.moment }
+    requires peers_later { state.old.peers_reached ≤ kept.now.moment }
     ensures terms { (terms : Terms) → IsOnTerms ports.old terms → IsOnTerms ports.new terms }
-    ensures applied { OnOk result (state.new ≡ by_apply.apply state.old kept.now) }
-    ensures ports { OnOk result (IsPortsOf ports.new (by_apply.apply state.old kept.now)) }
+    ensures applied { OnOk result (state.new.state ≡ by_apply.apply state.old.state kept.now) }
+    ensures ports { OnOk result (IsPortsOf ports.new (by_apply.apply state.old.state kept.now)) }
     ensures reached { OnOk result (ports.new.reached ≡ kept.now.moment) }
-    ensures empty { OnErr result (state.new ≡ empty_state) }
+    ensures maps_reached { OnOk result (state.new.maps_reached ≡ kept.now.moment) }
+    ensures peers_reached { OnOk result (state.new.peers_reached ≡ kept.now.moment) }
+    ensures empty { OnErr result (state.new ≡ no_state) }
     ensures free { OnErr result (IsPortsOf ports.new empty_state) }
     ensures anew { OnErr result (ports.new.reached ≡ 0) }
 {
     let Err(refused) = apply(state, ports, alloc, kept) else {
-        state.reach(kept.moment);
+        reach_state(state, kept.moment);
         return Ok(());
     };
     vacate(state, ports);
@@ -95,20 +104,24 @@ fn take_first(
     alloc: Global,
     kept: &Record,
 ) -> Result<(), Memory>
-    requires sound { IsReachedFirst state.old }
-    requires fits { FitsFirst state.old kept.now }
+    requires sound { IsReachedFirst state.old.state }
+    requires fits { FitsFirst state.old.state kept.now }
     requires later { ports.old.reached ≤ kept.now.moment }
-    requires ports { IsPortsOf ports.old state.old }
+    requires ports { IsPortsOf ports.old state.old.state }
+    requires maps_later { state.old.maps_reached ≤ kept.now.moment }
+    requires peers_later { state.old.peers_reached ≤ kept.now.moment }
     ensures terms { (terms : Terms) → IsOnTerms ports.old terms → IsOnTerms ports.new terms }
-    ensures applied { OnOk result (state.new ≡ by_apply.apply_first state.old kept.now) }
-    ensures ports { OnOk result (IsPortsOf ports.new (by_apply.apply_first state.old kept.now)) }
+    ensures applied { OnOk result (state.new.state ≡ by_apply.apply_first state.old.state kept.now) }
+    ensures ports { OnOk result (IsPortsOf ports.new (by_apply.apply_first state.old.state kept.now)) }
     ensures reached { OnOk result (ports.new.reached ≡ kept.now.moment) }
-    ensures empty { OnErr result (state.new ≡ empty_state) }
+    ensures maps_reached { OnOk result (state.new.maps_reached ≡ kept.now.moment) }
+    ensures peers_reached { OnOk result (state.new.peers_reached ≡ kept.now.moment) }
+    ensures empty { OnErr result (state.new ≡ no_state) }
     ensures free { OnErr result (IsPortsOf ports.new empty_state) }
     ensures anew { OnErr result (ports.new.reached ≡ 0) }
 {
     let Err(refused) = apply_first(state, ports, alloc, kept) else {
-        state.reach(kept.moment);
+        reach_state(state, kept.moment);
         return Ok(());
     };
     vacate(state, ports);
@@ -146,12 +159,17 @@ impl IndexedStore {
 
 impl LeaseStore for IndexedStore {
     ghost use Rattle.indexed_store.specs.Indexed.{IsReplaying, IsReplayingFirst};
+    ghost use Rattle.indexed_store.specs.Looks.{look_steps, reach_steps};
 
     ghost state = { λ s. s.state };
 
     ghost reached = { λ s. s.reached };
 
     ghost terms = { λ s. s.terms };
+
+    ghost look_steps = { look_steps };
+
+    ghost reach_steps = { reach_steps };
 
     ghost replaying = { IsReplaying };
 
@@ -207,10 +225,10 @@ impl LeaseStore for IndexedStore {
         Err(refused)
     }
 
-    fn reach(&mut self, m: Moment) {
+    fn reach<L: Ledger>(&mut self, m: Moment, steps: &mut Steps<L>) {
         ports_follow_states();
-        self.state.reach(m);
-        self.ports.reach(m);
+        self.state.reach(m, steps);
+        self.ports.reach(m, steps);
         self.reached = m;
     }
 
@@ -218,39 +236,58 @@ impl LeaseStore for IndexedStore {
         self.terms
     }
 
-    fn covering(&self, endpoint: &Endpoint) -> Option<MapLease> {
-        self.state.leases.covering(self.reached, endpoint)
+    fn covering<L: Ledger>(&self, endpoint: &Endpoint, steps: &mut Steps<L>) -> Option<MapLease> {
+        levels_grow();
+        self.state
+            .leases
+            .covering_counted(self.reached, endpoint, steps)
     }
 
-    fn peering(
+    fn peering<L: Ledger>(
         &self,
         endpoint: &Endpoint,
         remote: &Address,
         remote_port: u16,
+        steps: &mut Steps<L>,
     ) -> Option<PeerLease> {
+        levels_grow();
         self.state
             .leases
-            .peering(self.reached, endpoint, remote, remote_port)
+            .peering_counted(self.reached, endpoint, remote, remote_port, steps)
     }
 
-    fn named_port(&self, endpoint: &Endpoint) -> Option<u16> {
-        self.state.leases.named_port(self.reached, endpoint)
+    fn named_port<L: Ledger>(&self, endpoint: &Endpoint, steps: &mut Steps<L>) -> Option<u16> {
+        levels_grow();
+        self.state
+            .leases
+            .named_port_counted(self.reached, endpoint, steps)
     }
 
-    fn peer_count(&self, endpoint: &Endpoint) -> u32 {
-        self.state.leases.peer_count(self.reached, endpoint)
+    fn peer_count<L: Ledger>(&self, endpoint: &Endpoint, steps: &mut Steps<L>) -> u32 {
+        levels_grow();
+        self.state
+            .leases
+            .peer_count_counted(self.reached, endpoint, steps)
     }
 
-    fn next_inside(&self, endpoint: &Endpoint) -> Option<u16> {
-        self.state.leases.next_inside(self.reached, endpoint)
+    fn next_inside<L: Ledger>(&self, endpoint: &Endpoint, steps: &mut Steps<L>) -> Option<u16> {
+        levels_grow();
+        self.state
+            .leases
+            .next_inside_counted(self.reached, endpoint, steps)
     }
 
-    fn lease_count(&self) -> u32 {
-        self.state.leases.count(self.reached)
+    fn lease_count<L: Ledger>(&self, steps: &mut Steps<L>) -> u32 {
+        self.state.leases.count_counted(self.reached, steps)
     }
 
-    fn pick(&self, endpoint: &Endpoint, ask: &PickAsk) -> Result<Picked, PickRefused> {
-        self.ports.pick(endpoint, ask)
+    fn pick<L: Ledger>(
+        &self,
+        endpoint: &Endpoint,
+        ask: &PickAsk,
+        steps: &mut Steps<L>,
+    ) -> Result<Picked, PickRefused> {
+        self.ports.pick(endpoint, ask, steps)
     }
 
     fn look(

@@ -8,10 +8,12 @@ use Rattle.pcp_base.specs.declared.leases.Protocol.TheVariants.{Tcp, Udp}
 use Rattle.pcp_base.specs.declared.leases.End.{End}
 use Rattle.port_spans.specs.declared.runs.Run.{Run}
 use Rattle.port_spans.specs.Runs.{run_at}
-use Rattle.leased_ports.specs.Leased.{leased, end_of}
+use Rattle.pcp_base.specs.States.{State}
+use Rattle.leased_ports.specs.LastEnds.{last_end}
+use Rattle.leased_ports.specs.Leased.{Leased, leased, end_of, IsPortsOf}
 use Rattle.leased_ports.specs.Kept.{spot, held_at, end_told, end_by, ends_of, until, wait_told, AreScheduled}
 use Rattle.leased_ports.specs.Falling.{is_due, due_below}
-use Rattle.leased_ports.specs.Counts.{count_below, falls_due, ports_due}
+use Rattle.leased_ports.specs.Counts.{count_below, falls_due, ports_due, ends_due}
 use Rattle.leased_ports.proofs.ViewLemmas.{ends_of-place}
 
 abbrev one : Bool → ℕ
@@ -71,3 +73,10 @@ module _ (low high quota from m : ℕ) (runs : List (Run End)) where
       let tcp = count-same p (λ i. falls_due from m (end_of (leased low high quota from (ends_of runs 131072)) Tcp i)) 65536 (λ i less. port_told Tcp i less) in
       let udp = count-same (λ i. p (65536 + i)) (λ i. falls_due from m (end_of (leased low high quota from (ends_of runs 131072)) Udp i)) 65536 (λ i less. port_told Udp i less) in
       omega (arith, some, all, tcp, udp)
+
+-- the ports of a state fall due with its last ends
+pub due-ends : (v : Leased) (s : State) (m : ℕ) → IsPortsOf v s → ports_due v m ≡ ends_due s v.reached m
+due-ends v s m is =
+    let tcp = count-same (λ i. falls_due v.reached m (end_of v Tcp i)) (λ i. falls_due v.reached m (last_end s v.reached Tcp i)) 65536 (λ i less. ap (falls_due v.reached m) (is.same Tcp i)) in
+    let udp = count-same (λ i. falls_due v.reached m (end_of v Udp i)) (λ i. falls_due v.reached m (last_end s v.reached Udp i)) 65536 (λ i less. ap (falls_due v.reached m) (is.same Udp i)) in
+    omega (arith, tcp, udp)

@@ -29,7 +29,7 @@ returns-clause-ports c = both_ok c.hold_touched.result _ _ _ (λ held moment s r
     let then = c.ports_follow_states.ensures.later c.args.ports.now s r.moment reached.sound c.requires.later ports in
     let own = ap owners_if is ∙ sym (touched_owners r.change (table_1 s r) (Sound-live s.table r.moment reached.sound.table)) in
     c.records_tell_last_ends.ensures.ports v s r reached fits keeps moment (λ protocol port.
-    holds-after r.moment c.args.leases.now c.args.touched rested v held protocol port
+    holds-after r.moment c.args.leases.now.table c.args.touched rested v held protocol port
     ∙ ap (λ (t : Table). option_or (option_map (λ (o : Owner). end_at (held_until r.moment t protocol port) o) (find (is_port protocol port) (owners_if c.args.touched))) (end_of rested protocol port)) table
     ∙ ap (λ (os : List Owner). option_or (option_map (λ (o : Owner). end_at (held_until r.moment (table_2 s r) protocol port) o) (find (is_port protocol port) os)) (end_of rested protocol port)) own
     ∙ ap (λ (e : Option End). option_or (option_map (λ (o : Owner). end_at (held_until r.moment (table_2 s r) protocol port) o) (find (is_port protocol port) (touched r.change (table_1 s r)))) e)

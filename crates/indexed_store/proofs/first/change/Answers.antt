@@ -9,10 +9,11 @@ use Rattle.indexed_store.specs.Holding.{AreEndsOf, AreLiveAt, AreNear}
 use Rattle.indexed_store.proofs.ApplyLemmas.{near}
 use Rattle.indexed_store.proofs.MoveLemmas.{on_later}
 use Rattle.indexed_store.proofs.FirstLemmas.{first-live, live-near, ports-follow}
+use Rattle.indexed_store.proofs.Views.{state_of}
 use Rattle.indexed_store.proofs.first.change.Goals as goal
 
 pub drop_dead-requires-clause-near : goal.drop_dead-requires-clause-near
-drop_dead-requires-clause-near c = subst (λ (x : State). AreNear x.table) (sym c.state.view_is) (near c.args.state.now c.requires.sound.reached)
+drop_dead-requires-clause-near c = subst (λ (x : State). AreNear x.table) (sym (state_of c.state.view_is)) (near c.args.state.now.state c.requires.sound.reached)
 
 pub drop_dead-requires-clause-reached : goal.drop_dead-requires-clause-reached
 drop_dead-requires-clause-reached c = ap (λ (v : Leased). v.reached) c.reach.ensures
@@ -20,40 +21,40 @@ drop_dead-requires-clause-reached c = ap (λ (v : Leased). v.reached) c.reach.en
 pub make_change-requires-clause-allowed : goal.make_change-requires-clause-allowed
 make_change-requires-clause-allowed c =
     let r = c.args.kept.now in
-    subst (λ (t : Table). IsAllowed t r.change) (sym (c.in_ok-drop_dead.ensures.table ∙ ap (λ (x : State). live x.table r.moment) c.state.view_is)) c.requires.fits.allowed
+    subst (λ (t : Table). IsAllowed t r.change) (sym (c.in_ok-drop_dead.ensures.table ∙ ap (λ (x : State). live x.table r.moment) (state_of c.state.view_is))) c.requires.fits.allowed
 
 pub make_change-requires-clause-before : goal.make_change-requires-clause-before
 make_change-requires-clause-before c =
     let r = c.args.kept.now in
-    subst AreNear (sym (c.in_ok-drop_dead.ensures.table ∙ ap (λ (x : State). live x.table r.moment) c.state.view_is))
-    (live-near c.args.state.now.table r.moment (near c.args.state.now c.requires.sound.reached))
+    subst AreNear (sym (c.in_ok-drop_dead.ensures.table ∙ ap (λ (x : State). live x.table r.moment) (state_of c.state.view_is)))
+    (live-near c.args.state.now.state.table r.moment (near c.args.state.now.state c.requires.sound.reached))
 
 pub make_change-requires-clause-after : goal.make_change-requires-clause-after
 make_change-requires-clause-after c =
-    let s = c.args.state.now in let r = c.args.kept.now in
-    subst (λ (t : Table). AreNear (table_changed r.change t)) (sym (c.in_ok-drop_dead.ensures.table ∙ ap (λ (x : State). live x.table r.moment) c.state.view_is))
+    let s = c.args.state.now.state in let r = c.args.kept.now in
+    subst (λ (t : Table). AreNear (table_changed r.change t)) (sym (c.in_ok-drop_dead.ensures.table ∙ ap (λ (x : State). live x.table r.moment) (state_of c.state.view_is)))
     (near (apply_first s r) (c.first_states_are_sound.ensures.kept s r c.requires.sound c.requires.fits).reached)
 
 pub make_change-requires-clause-live : goal.make_change-requires-clause-live
 make_change-requires-clause-live c =
-    let s = c.args.state.now in let r = c.args.kept.now in
-    subst (λ (t : Table). AreLiveAt r.moment (table_changed r.change t)) (sym (c.in_ok-drop_dead.ensures.table ∙ ap (λ (x : State). live x.table r.moment) c.state.view_is))
+    let s = c.args.state.now.state in let r = c.args.kept.now in
+    subst (λ (t : Table). AreLiveAt r.moment (table_changed r.change t)) (sym (c.in_ok-drop_dead.ensures.table ∙ ap (λ (x : State). live x.table r.moment) (state_of c.state.view_is)))
     (first-live (apply_first s r) (c.first_states_are_sound.ensures.kept s r c.requires.sound c.requires.fits))
 
 pub make_change-requires-clause-ports : goal.make_change-requires-clause-ports
 make_change-requires-clause-ports c =
-    let s = c.args.state.now in let r = c.args.kept.now in
+    let s = c.args.state.now.state in let r = c.args.kept.now in
     let then = subst (λ (v : Leased). IsPortsOf v s) (sym c.reach.ensures)
     (c.ports_follow_states.ensures.later c.args.ports.now s r.moment c.requires.sound.reached.sound c.requires.later c.requires.ports) in
     subst (λ (t : Table). AreEndsOf t c.drop_dead.new.ports) (sym c.in_ok-drop_dead.ensures.table)
-    (c.in_ok-drop_dead.ensures.ports s c.requires.sound (ap (λ (x : State). x.table) (sym c.state.view_is)) then)
+    (c.in_ok-drop_dead.ensures.ports s c.requires.sound (ap (λ (x : State). x.table) (sym (state_of c.state.view_is))) then)
 
 pub returns-clause-applied : goal.returns-clause-applied
 returns-clause-applied c =
-    let s = c.args.state.now in let r = c.args.kept.now in
+    let s = c.args.state.now.state in let r = c.args.kept.now in
     let after = c.first_states_are_sound.ensures.kept s r c.requires.sound c.requires.fits in
-    let table : c.make_change.new.leases ≡ (apply_first s r).table =
-    c.in_ok-make_change.ensures.table ∙ ap (table_changed r.change) (c.in_ok-drop_dead.ensures.table ∙ ap (λ (x : State). live x.table r.moment) c.state.view_is) in
+    let table : c.make_change.new.leases.table ≡ (apply_first s r).table =
+    c.in_ok-make_change.ensures.table ∙ ap (table_changed r.change) (c.in_ok-drop_dead.ensures.table ∙ ap (λ (x : State). live x.table r.moment) (state_of c.state.view_is)) in
     let ends : s.ends ≡ (apply_first s r).ends = c.requires.sound.endless ∙ sym after.endless in
     let noted : Table → List End → State → State = λ t es x. record {
       table = t;
@@ -63,13 +64,13 @@ returns-clause-applied c =
       last = r.moment;
       started = is_start r.change || x.started;
     } in
-    c.note.ensures ∙ ap (λ (x : State). noted c.make_change.new.leases x.ends x) c.state.view_is ∙ ap (λ (t : Table). noted t s.ends s) table ∙ ap (λ (es : List End). noted (apply_first s r).table es s) ends
+    c.note.ensures ∙ ap (λ (x : State). noted c.make_change.new.leases.table x.ends x) (state_of c.state.view_is) ∙ ap (λ (t : Table). noted t s.ends s) table ∙ ap (λ (es : List End). noted (apply_first s r).table es s) ends
 
 pub returns-clause-ports : goal.returns-clause-ports
 returns-clause-ports c =
-    let s = c.args.state.now in let r = c.args.kept.now in
+    let s = c.args.state.now.state in let r = c.args.kept.now in
     let after = c.first_states_are_sound.ensures.kept s r c.requires.sound c.requires.fits in
-    let table = ap (table_changed r.change) (c.in_ok-drop_dead.ensures.table ∙ ap (λ (x : State). live x.table r.moment) c.state.view_is) in
+    let table = ap (table_changed r.change) (c.in_ok-drop_dead.ensures.table ∙ ap (λ (x : State). live x.table r.moment) (state_of c.state.view_is)) in
     ports-follow (apply_first s r) after c.make_change.new.ports (subst (λ (t : Table). AreEndsOf t c.make_change.new.ports) table c.in_ok-make_change.ensures.ports) c.in_ok-make_change.ensures.reached
 
 pub returns-clause-terms : goal.returns-clause-terms

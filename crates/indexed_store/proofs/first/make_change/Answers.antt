@@ -13,11 +13,11 @@ hold_touched-requires-clause-near c = subst AreNear (sym c.in_ok-touched.ensures
 pub hold_touched-requires-clause-touched : goal.hold_touched-requires-clause-touched
 hold_touched-requires-clause-touched c =
     subst (λ (t : Table). IfSome c.in_ok-touched.touched (IsEvenRun t.maps)) (sym c.in_ok-touched.ensures.table)
-    (touched_even c.args.leases.now c.requires.before.sound c.args.kept.now.change c.requires.after.sound c.in_ok-touched.touched c.in_ok-touched.ensures.touched c.in_ok-touched.ensures.formed)
+    (touched_even c.args.leases.now.table c.requires.before.sound c.args.kept.now.change c.requires.after.sound c.in_ok-touched.touched c.in_ok-touched.ensures.touched c.in_ok-touched.ensures.formed)
 
 pub returns-clause-ports : goal.returns-clause-ports
 returns-clause-ports c =
-    let t = c.args.leases.now in let r = c.args.kept.now in let run = c.in_ok-touched.touched in let w = c.hold_touched.new.ports in
+    let t = c.args.leases.now.table in let r = c.args.kept.now in let run = c.in_ok-touched.touched in let w = c.hold_touched.new.ports in
     on_ok_weaker c.hold_touched.result (λ holds.
     let here = subst (λ (u : Table). HoldsIf IsFree r.moment u run c.args.ports.now w) c.in_ok-touched.ensures.table holds in
     let agreed = touched_agreed t c.requires.before.sound r.change c.requires.after.sound run c.in_ok-touched.ensures.touched c.in_ok-touched.ensures.formed in

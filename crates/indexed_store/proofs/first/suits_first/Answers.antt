@@ -7,7 +7,7 @@ use Rattle.indexed_store.proofs.first.suits_first.Goals as goal
 
 pub returns : goal.returns
 returns c =
-    let s = c.args.state.now in let r = c.args.kept.now in let t = live s.table r.moment in
+    let s = c.args.state.now.state in let r = c.args.kept.now in let t = live s.table r.moment in
     let first : c.is_of_first.result ≡ true = search rules in
     let next : c.is_next.result ≡ true = search rules in
     IfOk-weaker c.suits_table.result (λ b. IsTrue b ↔ (IsAllowed t r.change × HasRoom t r.change)) (λ b. IsTrue b ↔ SuitsFirst s r)

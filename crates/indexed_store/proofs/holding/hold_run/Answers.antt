@@ -8,11 +8,11 @@ use Rattle.indexed_store.proofs.holding.hold_run.Goals as goal
 pub hold_piece-requires-clause-from : goal.hold_piece-requires-clause-from
 hold_piece-requires-clause-from c =
     let run = c.args.run.now in
-    subst (λ (r : OwnerRun). (i : ℕ) → i < r.count → c.held_by_map-from.result ≡ held_by_map c.args.m c.args.leases.now.maps r.first.protocol (r.first.external + i)) (sym c.behind.ensures.value)
-    (λ i less. c.held_by_map-from.ensures.value ∙ even-behind c.args.m c.args.leases.now.maps run c.loop-done.done c.requires.run.even c.loop-done-test.true i less)
+    subst (λ (r : OwnerRun). (i : ℕ) → i < r.count → c.held_by_map-from.result ≡ held_by_map c.args.m c.args.leases.now.table.maps r.first.protocol (r.first.external + i)) (sym c.behind.ensures.value)
+    (λ i less. c.held_by_map-from.ensures.value ∙ even-behind c.args.m c.args.leases.now.table.maps run c.loop-done.done c.requires.run.even c.loop-done-test.true i less)
 
 pub loop-done-init : goal.loop-done-init
-loop-done-init c = (omega arith, λ terms h. h, c.requires.reached, holds-none c.args.unowned c.args.m c.args.leases.now c.args.run.now c.args.ports.now)
+loop-done-init c = (omega arith, λ terms h. h, c.requires.reached, holds-none c.args.unowned c.args.m c.args.leases.now.table c.args.run.now c.args.ports.now)
 
 pub loop-done-preserved : goal.loop-done-preserved
 loop-done-preserved c =
@@ -22,8 +22,8 @@ loop-done-preserved c =
       omega (arith, few, less),
       λ terms h. c.hold_piece.ensures.terms terms (c.loop-done.invariant.1 terms h),
       c.in_ok-count.ensures.reached,
-      holds-more c.args.unowned c.args.m c.args.leases.now run c.loop-done.done n c.args.ports.now c.loop-done.ports c.hold_piece.new.ports c.loop-done.invariant.3
-          (subst (λ (r : OwnerRun). Holds c.args.unowned c.args.m c.args.leases.now (up_to n r) c.loop-done.ports c.hold_piece.new.ports) c.behind.ensures.value c.in_ok-count.ensures.ports),
+      holds-more c.args.unowned c.args.m c.args.leases.now.table run c.loop-done.done n c.args.ports.now c.loop-done.ports c.hold_piece.new.ports c.loop-done.invariant.3
+          (subst (λ (r : OwnerRun). Holds c.args.unowned c.args.m c.args.leases.now.table (up_to n r) c.loop-done.ports c.hold_piece.new.ports) c.behind.ensures.value c.in_ok-count.ensures.ports),
     )
 
 pub returns-in_err-count-clause-terms : goal.returns-in_err-count-clause-terms
@@ -32,4 +32,4 @@ returns-in_err-count-clause-terms c = λ terms h. c.hold_piece.ensures.terms ter
 pub returns-clause-ports : goal.returns-clause-ports
 returns-clause-ports c =
     let most = c.loop-done.invariant.0 in let least = c.loop-done-test.false in
-    holds-whole c.args.unowned c.args.m c.args.leases.now c.args.run.now c.loop-done.done c.args.ports.now c.loop-done.ports (omega (arith, most, least)) c.loop-done.invariant.3
+    holds-whole c.args.unowned c.args.m c.args.leases.now.table c.args.run.now c.loop-done.done c.args.ports.now c.loop-done.ports (omega (arith, most, least)) c.loop-done.invariant.3

@@ -5,7 +5,7 @@ use Rattle.indexed_store.proofs.leases.Leases.drop_dead.Goals as goal
 
 pub returns-clause-left : goal.returns-clause-left
 returns-clause-left c =
-    let t = c.args.self.now in let m = c.args.m in let new = c.drop_peers.new.self in
+    let t = c.args.self.now.table in let m = c.args.m in let new = c.drop_peers.new.self.table in
     let alive : List MapLease → List MapLease = filter (λ (l : MapLease). nat_lt m l.expiry) in
     let maps : new.maps ≡ alive new.maps = c.drop_peers.ensures.maps
     ∙ c.in_ok-drop_maps.ensures.all ∙ ap alive (sym c.drop_peers.ensures.maps) in

@@ -7,16 +7,17 @@ use Rattle.pcp_base.proofs.Members.{IsIn-from_Contains, All-IsIn}
 use Rattle.pcp_base.proofs.TableLemmas.{Sound-filter_maps}
 use Rattle.indexed_store.specs.Runs.{IsOwnerRun, map_run}
 use Rattle.indexed_store.proofs.LeavingLemmas.{all_live, leaving_same, pushed, without_map, leave_map, fewer_maps}
+use Rattle.indexed_store.proofs.Views.{table_of}
 use Rattle.indexed_store.proofs.leases.Leases.drop_map.Goals as goal
 
 pub returns-in_default-clause-all : goal.returns-in_default-clause-all
 returns-in_default-clause-all c = λ _.
-    all_live (λ (l : MapLease). nat_lt c.args.m l.expiry) c.args.self.now.maps
+    all_live (λ (l : MapLease). nat_lt c.args.m l.expiry) c.args.self.now.table.maps
     c.in_default.ensures.none
 
 pub run_of_map-requires : goal.run_of_map-requires
 run_of_map-requires c =
-    let ls = c.args.self.now.maps in
+    let ls = c.args.self.now.table.maps in
     (All-IsIn IsMapLease ls c.in-Some.lease c.requires.maps
     (IsIn-from_Contains ls c.in-Some.lease c.in-Some.ensures.among)).ports
 
@@ -33,10 +34,10 @@ removed t before l key maps seen is_key are =
 
 pub returns-clause-leaving : goal.returns-clause-leaving
 returns-clause-leaving c = λ start h.
-    let m = c.args.m in let t = c.args.self.now in let l = c.in-Some.lease in
+    let m = c.args.m in let t = c.args.self.now.table in let l = c.in-Some.lease in
     let left = c.args.left.now.items in
-    let before : Table = record { maps = c.self.inside.maps; peers = c.self.inside.peers } in
-    let gone = removed t before l _ c.remove.new.self c.self.view_is c.first_endpoint.ensures
+    let before : Table = record { maps = c.self.inside.maps; peers = c.self.inside.peers.leases } in
+    let gone = removed t before l _ c.remove.new.self (table_of c.self.view_is) c.first_endpoint.ensures
     c.remove.ensures.removed in
     let more = pushed left _ c.run_of_map.result (map_run l) c.in_ok-push.ensures.items
     c.run_of_map.ensures.value in
@@ -46,18 +47,18 @@ returns-clause-leaving c = λ start h.
 
 pub returns-clause-sound : goal.returns-clause-sound
 returns-clause-sound c =
-    let t = c.args.self.now in let l = c.in-Some.lease in
-    let before : Table = record { maps = c.self.inside.maps; peers = c.self.inside.peers } in
-    let gone = removed t before l _ c.remove.new.self c.self.view_is c.first_endpoint.ensures
+    let t = c.args.self.now.table in let l = c.in-Some.lease in
+    let before : Table = record { maps = c.self.inside.maps; peers = c.self.inside.peers.leases } in
+    let gone = removed t before l _ c.remove.new.self (table_of c.self.view_is) c.first_endpoint.ensures
     c.remove.ensures.removed in
     subst Sound (sym gone)
     (Sound-filter_maps t (λ (x : MapLease). not (is_map_of (first_endpoint l) x)) c.requires)
 
 pub returns-clause-fewer : goal.returns-clause-fewer
 returns-clause-fewer c = λ _.
-    let m = c.args.m in let t = c.args.self.now in let l = c.in-Some.lease in
-    let before : Table = record { maps = c.self.inside.maps; peers = c.self.inside.peers } in
-    let gone = removed t before l _ c.remove.new.self c.self.view_is c.first_endpoint.ensures
+    let m = c.args.m in let t = c.args.self.now.table in let l = c.in-Some.lease in
+    let before : Table = record { maps = c.self.inside.maps; peers = c.self.inside.peers.leases } in
+    let gone = removed t before l _ c.remove.new.self (table_of c.self.view_is) c.first_endpoint.ensures
     c.remove.ensures.removed in
     subst (λ (x : Table). length x.maps < length t.maps) (sym gone)
     (fewer_maps m t c.requires l c.in-Some.ensures.among c.in-Some.ensures.dead)

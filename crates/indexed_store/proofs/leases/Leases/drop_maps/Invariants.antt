@@ -5,7 +5,8 @@ use Rattle.indexed_store.specs.Leaving.{AreLeaving}
 use Rattle.indexed_store.proofs.leases.Leases.drop_maps.Given as goal
 
 abbrev pub invariant-loop : goal.invariant-loop
-invariant-loop l = Sound l.self × ((start : Table) → AreLeaving l.m start l.initial.self l.initial.left.items → AreLeaving l.m start l.self l.left.items) × (l.self.peers ≡ l.initial.self.peers)
+invariant-loop l = Sound l.self.table × ((start : Table) → AreLeaving l.m start l.initial.self.table l.initial.left.items → AreLeaving l.m start l.self.table l.left.items) × (l.self.table.peers ≡ l.initial.self.table.peers)
+    × (l.self.maps_reached ≡ l.initial.self.maps_reached) × (l.self.peers_reached ≡ l.initial.self.peers_reached)
 
 abbrev pub decreases-loop : goal.decreases-loop
-decreases-loop l = length l.self.maps
+decreases-loop l = length l.self.table.maps
