@@ -1,11 +1,16 @@
 //! The local port for a new tie.
-ghost use Rattle.std.specs.Prelude.{◌≡◌, List};
+ghost use Rattle.std.specs.Prelude.{◌≡◌, ◌<◌, List};
+ghost use Rattle.external_pool.specs.Asking.{IsPickAnswer};
+ghost use Rattle.external_pool.specs.Calls.{IsAsk};
 ghost use Rattle.cascade_ties.specs.declared.ties.Tied.{Tied};
 ghost use Rattle.cascade_ties.specs.Kept.{IsTiePool, no_local, ties_of};
 ghost use Rattle.cascade_ties.specs.Ties.{local_for};
 
-use external_pool::{PickAsk, PickRefused, Pool};
+use external_pool::{PickAsk, PickRefused, Picked, Pool};
 use pcp_base::Endpoint;
+use std::marker::Brand;
+use std::sync::ledger::{Blank, Ledger};
+use step_count::Steps;
 use thiserror::Error;
 
 /// How many ties an address may have.
@@ -20,6 +25,23 @@ pub enum NoLocal {
     /// No port of the range is vacant.
     #[error("no port is vacant")]
     NoPort,
+}
+
+/// What a pool picks for an endpoint, for a caller that counts no steps.
+fn pick<L: Ledger>(
+    pool: &Pool,
+    client: &Endpoint,
+    ask: &PickAsk,
+    blank: Blank,
+) -> Result<Picked, PickRefused>
+    requires name { blank.name ≡ L.name }
+    requires parts { blank.parts ≡ L.parts }
+    requires part { 0 < L.parts }
+    requires ask { IsAsk ask.now }
+    ensures { IsPickAnswer pool.now client.now.address client.now.protocol ask.now result }
+{
+    let mut steps = Steps::<L>::begin(blank);
+    pool.pick(&client.address, client.protocol, ask, &mut steps)
 }
 
 /// The port that the pool of these ties picks for an endpoint: one port, its own where that is
@@ -37,7 +59,7 @@ pub(crate) fn local_for(pool: &Pool, client: &Endpoint) -> Result<u16, NoLocal>
         must: false,
         here: true,
     };
-    match pool.pick(&client.address, client.protocol, &ask) {
+    match pick::<Brand>(pool, client, &ask, Blank::new(1)) {
         Ok(picked) => Ok(picked.start),
         Err(refused) => Err(no_local(refused)),
     }

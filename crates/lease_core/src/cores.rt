@@ -1,5 +1,5 @@
 //! The leases of an external address, and what is decided on them.
-ghost use Rattle.std.specs.Prelude.{◌≡◌, ◌≤◌, ◌+◌, ◌*◌, Ok, true, false, is_some, OnOk, IfOk};
+ghost use Rattle.std.specs.Prelude.{◌≡◌, ◌≤◌, Ok, true, false, is_some, OnOk, IfOk};
 ghost use Rattle.pcp_base.specs.Asks.{IsWellFormedAsk};
 ghost use Rattle.pcp_base.specs.Tables.{live};
 ghost use Rattle.pcp_base.specs.States.{empty_state};
@@ -10,19 +10,18 @@ ghost use Rattle.filter_rules.specs.Lookups.{look};
 ghost use Rattle.lease_store.specs.declared.terms.Terms.{Terms};
 ghost use Rattle.lease_store.specs.Lookups.{covering, lease_count};
 ghost use Rattle.lease_store.specs.OwnerOrder.{owners_in_order};
-ghost use Rattle.lease_core.specs.Decide.{decide as decided, ports_asked};
+ghost use Rattle.lease_core.specs.Decide.{decide as decided};
 
 use crate::decided::Decided;
-use crate::deciding::decide;
+use crate::deciding::decide_uncounted;
 use lease_store::LeaseStore;
 use pcp_base::{
     Address, Ask, End, Endpoint, MapLease, Memory, Moment, Owner, PeerLease, Protocol, Record,
     Replay,
 };
 use std::alloc::Global;
-use std::marker::Model;
-use std::sync::ledger::Ledger;
-use step_count::Steps;
+use std::marker::{Brand, Model};
+use std::sync::ledger::Blank;
 
 /// The leases of an external address, and what is decided on them, over a store of the state that
 /// records made. Contracts see it as its store. After `Memory` it is to be cleared.
@@ -47,16 +46,7 @@ impl<S: LeaseStore> LeaseCore<S> {
 
     /// What is decided on a request at a moment that isn't below the one reached, which it becomes.
     /// The state stays: a record that is told is to be applied by `apply`. It takes no memory.
-    ///
-    /// A step is a look at a level of an ordered map or at a node of a tree, or at a port that is
-    /// suggested.
-    pub fn decide<L: Ledger>(
-        &mut self,
-        _alloc: Global,
-        ask: &Ask,
-        m: Moment,
-        steps: &mut Steps<L>,
-    ) -> Result<Decided, Memory>
+    pub fn decide(&mut self, _alloc: Global, ask: &Ask, m: Moment) -> Result<Decided, Memory>
         requires sound { IsReached (S.state self.old) }
         requires later { S.reached self.old ≤ m }
         requires ask { IsWellFormedAsk ask.now }
@@ -64,11 +54,8 @@ impl<S: LeaseStore> LeaseCore<S> {
         ensures state { S.state self.new ≡ S.state self.old }
         ensures reached { S.reached self.new ≡ m }
         ensures terms { S.terms self.new ≡ S.terms self.old }
-        ensures steps { steps.new ≤ steps.old
-            + S.reach_steps (S.state self.old) (S.reached self.old) m
-            + 6 * S.look_steps (S.state self.old) + ports_asked ask.now }
     {
-        Ok(decide(&mut self.store, ask, m, steps))
+        Ok(decide_uncounted::<S, Brand>(&mut self.store, ask, m, Blank::new(1)))
     }
 
     /// Applies a record that fits, and whose moment isn't below the one reached.

@@ -1,5 +1,5 @@
 //! What is decided on requests of all kinds.
-ghost use Rattle.std.specs.Prelude.{◌≡◌, ◌≤◌, ◌+◌, ◌*◌};
+ghost use Rattle.std.specs.Prelude.{◌≡◌, ◌<◌, ◌≤◌, ◌+◌, ◌*◌};
 ghost use Rattle.pcp_base.specs.Asks.{IsWellFormedAsk};
 ghost use Rattle.pcp_base.specs.Reached.{IsReached};
 ghost use Rattle.lease_core.specs.Decide.{decide, ports_asked};
@@ -10,7 +10,7 @@ use crate::mapping::decide_map;
 use crate::peering::decide_peer;
 use lease_store::LeaseStore;
 use pcp_base::{Answer, Ask, Moment};
-use std::sync::ledger::Ledger;
+use std::sync::ledger::{Blank, Ledger};
 use step_count::Steps;
 
 /// What is decided on a request at a moment that isn't below the one reached, which it becomes. The
@@ -40,4 +40,26 @@ pub fn decide<S: LeaseStore, L: Ledger>(
         Ask::Map(map) => decide_map(store, m, map, steps),
         Ask::Peer(peer) => decide_peer(store, m, peer, steps),
     }
+}
+
+/// Decides for a caller that counts no steps.
+pub(crate) fn decide_uncounted<S: LeaseStore, L: Ledger>(
+    store: &mut S,
+    ask: &Ask,
+    m: Moment,
+    blank: Blank,
+) -> Decided
+    requires name { blank.name ≡ L.name }
+    requires parts { blank.parts ≡ L.parts }
+    requires part { 0 < L.parts }
+    requires sound { IsReached (S.state store.old) }
+    requires later { S.reached store.old ≤ m }
+    requires ask { IsWellFormedAsk ask.now }
+    ensures decided { result ≡ decide (S.terms store.old) (S.state store.old) m ask.now }
+    ensures state { S.state store.new ≡ S.state store.old }
+    ensures reached { S.reached store.new ≡ m }
+    ensures terms { S.terms store.new ≡ S.terms store.old }
+{
+    let mut steps = Steps::<L>::begin(blank);
+    decide(store, ask, m, &mut steps)
 }

@@ -295,12 +295,7 @@ fn is_told_uncounted<L: Ledger>(
 }
 
 /// Lets both bodies reach a moment.
-fn reach_both<L: Ledger>(
-    table: &mut PeerTable,
-    plain: &mut PlainPeerTable,
-    m: u32,
-    blank: Blank,
-)
+fn reach_both<L: Ledger>(table: &mut PeerTable, plain: &mut PlainPeerTable, m: u32, blank: Blank)
     requires name { blank.name ≡ L.name }
     requires parts { blank.parts ≡ L.parts }
     requires some { 0 < L.parts }

@@ -1,5 +1,5 @@
 //! A store that some records made, and what it tells at moments that come later.
-ghost use Rattle.std.specs.Prelude.{◌≡◌, OnOk, IfOk, IfSome};
+ghost use Rattle.std.specs.Prelude.{◌≡◌, ◌<◌, ◌≤◌, OnOk, IfOk, IfSome};
 ghost use Rattle.pcp_base.specs.Reached.{IsReached, IsReachedFirst};
 ghost use Rattle.lease_store.specs.LeaseTerms.{AreTerms};
 
@@ -9,9 +9,12 @@ use PickRefused::{CannotProvide, Quota};
 use Protocol::{Tcp, Udp};
 use external_pool::{PickAsk, PickRefused, Picked};
 use lease_store::{LeaseStore, Terms};
-use pcp_base::{Address, Endpoint, External, MapLease, Memory, PeerLease, Protocol};
+use pcp_base::{Address, Endpoint, External, MapLease, Memory, Moment, PeerLease, Protocol};
 use plain_store::PlainStore;
 use std::alloc::Global;
+use std::marker::Brand;
+use std::sync::ledger::{Blank, Ledger};
+use step_count::Steps;
 
 static RECORDS: [(u32, Act); 10] = [
     (1000, Act::Start),
@@ -184,13 +187,17 @@ fn picked_of(row: Result<(u16, u32), PickRefused>) -> Result<Picked, PickRefused
 }
 
 /// Whether the ask is answered so.
-fn is_answered(store: &PlainStore, ask: &Ask) -> bool
-    requires { IsReached store.now.state }
+fn is_answered<L: Ledger>(store: &PlainStore, ask: &Ask, blank: Blank) -> bool
+    requires name { blank.name ≡ L.name }
+    requires parts { blank.parts ≡ L.parts }
+    requires part { 0 < L.parts }
+    requires reached { IsReached store.now.state }
 {
     if ask.4 == 0 {
         return false;
     }
     let first = at(Udp, ask.1, ask.2);
+    let mut steps = Steps::<L>::begin(blank);
     let picked = store.pick(
         &first,
         &PickAsk {
@@ -202,8 +209,23 @@ fn is_answered(store: &PlainStore, ask: &Ask) -> bool
             must: ask.6,
             here: true,
         },
+        &mut steps,
     );
     picked == picked_of(ask.7)
+}
+
+/// Moves on to a moment.
+fn reach<L: Ledger>(store: &mut PlainStore, m: Moment, blank: Blank)
+    requires name { blank.name ≡ L.name }
+    requires parts { blank.parts ≡ L.parts }
+    requires part { 0 < L.parts }
+    requires reached { IsReached store.old.state }
+    requires later { store.old.reached ≤ m }
+    ensures state { store.new.state ≡ store.old.state }
+    ensures reached { store.new.reached ≡ m }
+{
+    let mut steps = Steps::<L>::begin(blank);
+    store.reach(m, &mut steps);
 }
 
 /// The first ask that is answered otherwise.
@@ -217,9 +239,9 @@ fn first_other(store: &mut PlainStore, asks: &[Ask]) -> Option<usize>
         if m.get() < now.get() {
             return Some(i);
         }
-        store.reach(m);
+        reach::<Brand>(store, m, Blank::new(1));
         now = m;
-        if !is_answered(store, ask) {
+        if !is_answered::<Brand>(store, ask, Blank::new(1)) {
             return Some(i);
         }
     }
@@ -254,41 +276,59 @@ fn peer_told(lease: Option<PeerLease>) -> Option<u16> {
 }
 
 /// Whether the leases are found that cover and name these endpoints.
-fn finds_leases(store: &PlainStore) -> bool
-    requires { IsReached store.now.state }
+fn finds_leases<L: Ledger>(store: &PlainStore, blank: Blank) -> bool
+    requires name { blank.name ≡ L.name }
+    requires parts { blank.parts ≡ L.parts }
+    requires part { 0 < L.parts }
+    requires reached { IsReached store.now.state }
 {
-    let covered = map_told(store.covering(&at(Udp, 5, 5001)));
-    let uncovered = map_told(store.covering(&at(Udp, 5, 5002)));
+    let mut steps = Steps::<L>::begin(blank);
+    let covered = map_told(store.covering(&at(Udp, 5, 5001), &mut steps));
+    let uncovered = map_told(store.covering(&at(Udp, 5, 5002), &mut steps));
     let other = at(Udp, 6, 6000);
-    let named = peer_told(store.peering(&other, &remote(7), 443));
-    let unnamed = peer_told(store.peering(&other, &remote(8), 443));
+    let named = peer_told(store.peering(&other, &remote(7), 443, &mut steps));
+    let unnamed = peer_told(store.peering(&other, &remote(8), 443, &mut steps));
     (covered, uncovered, named, unnamed) == (Some(1024), None, Some(1026), None)
 }
 
 /// Whether the PEER leases are told and counted that name these endpoints.
-fn tells_names(store: &PlainStore) -> bool
-    requires { IsReached store.now.state }
+fn tells_names<L: Ledger>(store: &PlainStore, blank: Blank) -> bool
+    requires name { blank.name ≡ L.name }
+    requires parts { blank.parts ≡ L.parts }
+    requires part { 0 < L.parts }
+    requires reached { IsReached store.now.state }
 {
+    let mut steps = Steps::<L>::begin(blank);
     let (first, second) = (at(Udp, 5, 5000), at(Udp, 5, 5001));
-    let named = (store.named_port(&first), store.named_port(&second));
-    let counts = (store.peer_count(&first), store.peer_count(&second));
+    let named = (
+        store.named_port(&first, &mut steps),
+        store.named_port(&second, &mut steps),
+    );
+    let counts = (
+        store.peer_count(&first, &mut steps),
+        store.peer_count(&second, &mut steps),
+    );
     named == (Some(1024), None) && counts == (1, 0)
 }
 
 /// Whether the ports inside and the leases are told and counted.
-fn tells_leases(store: &PlainStore) -> bool
-    requires { IsReached store.now.state }
+fn tells_leases<L: Ledger>(store: &PlainStore, blank: Blank) -> bool
+    requires name { blank.name ≡ L.name }
+    requires parts { blank.parts ≡ L.parts }
+    requires part { 0 < L.parts }
+    requires reached { IsReached store.now.state }
 {
+    let mut steps = Steps::<L>::begin(blank);
     let first = at(Udp, 5, 5000);
-    let next = store.next_inside(&at(Udp, 5, 4000));
+    let next = store.next_inside(&at(Udp, 5, 4000), &mut steps);
     let inside = (
         next,
-        store.next_inside(&first),
-        store.next_inside(&at(Udp, 5, 5001)),
+        store.next_inside(&first, &mut steps),
+        store.next_inside(&at(Udp, 5, 5001), &mut steps),
     );
     let (live, over) = (moment(1139), moment(1140));
     let covered = (store.covered(&first, live), store.covered(&first, over));
-    let counts = (store.lease_count(), store.leases(over));
+    let counts = (store.lease_count(&mut steps), store.leases(over));
     inside == (Some(5000), Some(5001), None) && covered == (true, false) && counts == (5, 3)
 }
 
@@ -343,7 +383,9 @@ fn is_told(alloc: Global) -> Result<bool, Memory> {
 fn tells_state(alloc: Global, store: &PlainStore) -> Result<bool, Memory>
     requires { IsReached store.now.state }
 {
-    let finds = finds_leases(store) && tells_names(store) && tells_leases(store);
+    let finds = finds_leases::<Brand>(store, Blank::new(1))
+        && tells_names::<Brand>(store, Blank::new(1))
+        && tells_leases::<Brand>(store, Blank::new(1));
     Ok(finds && tells_the_rest(store) && tells_lists(alloc, store)? && tells_owners(alloc, store)?)
 }
 
@@ -361,11 +403,22 @@ fn admits_first(alloc: Global, store: &mut PlainStore, act: Act) -> Result<bool,
     store.admit_first(alloc, &kept)
 }
 
+/// How many leases are live at the moment reached.
+fn lease_count<L: Ledger>(store: &PlainStore, blank: Blank) -> u32
+    requires name { blank.name ≡ L.name }
+    requires parts { blank.parts ≡ L.parts }
+    requires part { 0 < L.parts }
+    requires reached { IsReached store.now.state }
+{
+    let mut steps = Steps::<L>::begin(blank);
+    store.lease_count(&mut steps)
+}
+
 /// Whether the store forgets its state, and admits a Start by the first format then, and no second
 /// record, which names the external address.
 fn forgets(alloc: Global, store: &mut PlainStore) -> Result<bool, Memory> {
     store.clear();
-    let none = store.lease_count() == 0 && store.last().get() == 0;
+    let none = lease_count::<Brand>(store, Blank::new(1)) == 0 && store.last().get() == 0;
     let begins = admits_first(alloc, store, Act::Start)?;
     let renumbers = admits_first(alloc, store, Act::Renumber(1))?;
     Ok(none && begins && !renumbers && store.base().get() == 5 && store.address() == None)
