@@ -37,22 +37,22 @@ written_first runs is written none = record {
 }
 
 module _ (runs : List (Run End)) (is : AreEnds runs) (from : ℕ) (written : List End) (so_far : IsWritten runs from written) where
-  pub written_all : IsNextRun runs from None → written ≡ listed (end_at runs) 0 131072
+  pub written_all : IsNextRun runs from 131072 None → written ≡ listed (end_at runs) 0 131072
   written_all none =
       sym (append-nil written)
-      ∙ ap (λ (xs : List End). written ++ xs) (sym (listed-empty (end_at runs) from (131072 - from) (λ i a b. ap (end_told i) (none_behind runs is from so_far.begins none i a))))
+      ∙ ap (λ (xs : List End). written ++ xs) (sym (listed-empty (end_at runs) from (131072 - from) (λ i a b. ap (end_told i) (none_behind runs is from so_far.begins 131072 none i a (omega (arith, b, so_far.low))))))
       ∙ so_far.all
 
-  module _ (r : Run End) (first : IsFirstFrom runs from r) where
+  module _ (r : Run End) (first : IsFirstFrom runs from 131072 r) where
     there : run_at runs r.first ≡ Some r
-    there = next_there runs is from so_far.begins r first
+    there = next_there runs is from so_far.begins 131072 r first
 
     low : r.first + r.count ≤ 131072
     low = run_low r (set_of runs is r.first r there)
 
     before : listed (end_at runs) from (r.first - from) ≡ []
     before = listed-empty (end_at runs) from (r.first - from) (λ i a b.
-        ap (end_told i) (none_before runs is from so_far.begins r first i a (omega (arith, b, first.from))))
+        ap (end_told i) (none_before runs is from so_far.begins 131072 r first i a (omega (arith, b, first.from))))
 
     own : listed (end_at runs) r.first r.count ≡ listed (run_ends r) r.first r.count
     own = listed-same (end_at runs) (run_ends r) r.first r.count (λ i a b. ap (end_told i) (first.there.whole i (in_by r.first r.count i a b)))
@@ -70,7 +70,7 @@ module _ (runs : List (Run End)) (is : AreEnds runs) (from : ℕ) (written : Lis
     pub written_more : (after : List End) → after ≡ written ++ listed (run_ends r) r.first r.count → IsWritten runs (r.first + r.count) after
     written_more after same = record {
       low = low;
-      begins = end_begins runs is from so_far.begins r first;
+      begins = end_begins runs is from so_far.begins 131072 r first;
       all = ap (λ (xs : List End). xs ++ listed (end_at runs) (r.first + r.count) (131072 - (r.first + r.count))) same
           ∙ append_assoc written (listed (run_ends r) r.first r.count) (listed (end_at runs) (r.first + r.count) (131072 - (r.first + r.count)))
           ∙ ap (λ (xs : List End). written ++ xs) (sym parted)

@@ -23,10 +23,12 @@ module _ (runs : List (Run End)) (is : AreEnds runs) (from : ℕ) (from_begins :
       absurd (omega (arith, first, less)) in
       grind (arith, no_less)
 
-  pub none_behind : IsNextRun runs from None → (at : ℕ) → from ≤ at → run_at runs at ≡ None
-  none_behind none at past = none_by (run_at runs at) (λ s e. absurd (omega (arith, begins_from at s e past, if-some (λ (q : Run End). q.first < from) (run_at runs at) s e (none at))))
+  pub none_behind : (to : ℕ) → IsNextRun runs from to None → (at : ℕ) → from ≤ at → at < to → run_at runs at ≡ None
+  none_behind to none at past before = none_by (run_at runs at) (λ s e.
+      let late = if-some (λ (q : Run End). from ≤ q.first → to ≤ q.first) (run_at runs at) s e (none at) in
+      absurd (omega (arith, late (begins_from at s e past), run_from runs is.apart at s e, before)))
 
-  module _ (r : Run End) (first : IsFirstFrom runs from r) where
+  module _ (to : ℕ) (r : Run End) (first : IsFirstFrom runs from to r) where
     pub none_before : (at : ℕ) → from ≤ at → at < r.first → run_at runs at ≡ None
     none_before at past before = none_by (run_at runs at) (λ s e.
         let least = if-some (λ (q : Run End). from ≤ q.first → r.first ≤ q.first) (run_at runs at) s e (first.least at) in
@@ -42,26 +44,26 @@ module _ (runs : List (Run End)) (is : AreEnds runs) (from : ℕ) (from_begins :
         step : (o : Option (Run End)) → run_at runs (r.first + r.count) ≡ o → IfSome o (λ s. s.first ≡ r.first + r.count)
         step None e = tt
         step (Some s) e =
-            let to = r.first + r.count in
-            let upper : s.first ≤ to = run_from runs is.apart to s e in
-            let no_less : s.first < to → ⊥ = λ less.
-            let near : r.first ≤ s.first = if-some (λ (q : Run End). from ≤ q.first → r.first ≤ q.first) (run_at runs to) s e (first.least to) (begins_from to s e (omega (arith, first.from))) in
+            let last = r.first + r.count in
+            let upper : s.first ≤ last = run_from runs is.apart last s e in
+            let no_less : s.first < last → ⊥ = λ less.
+            let near : r.first ≤ s.first = if-some (λ (q : Run End). from ≤ q.first → r.first ≤ q.first) (run_at runs last) s e (first.least last) (begins_from last s e (omega (arith, first.from))) in
             let whole : run_at runs s.first ≡ Some r = first.there.whole s.first (in_by r.first r.count s.first near less) in
-            let both : Some s ≡ Some r = sym (run_first runs is.apart to s e) ∙ whole in
+            let both : Some s ≡ Some r = sym (run_first runs is.apart last s e) ∙ whole in
             let same : s ≡ r = cc in
-            let has : has_place to r ≡ true = subst (λ (t : Run End). has_place to t ≡ true) same (run_has runs is.apart to s e) in
-            absurd (omega (arith, in_to r.first r.count to has)) in
+            let has : has_place last r ≡ true = subst (λ (t : Run End). has_place last t ≡ true) same (run_has runs is.apart last s e) in
+            absurd (omega (arith, in_to r.first r.count last has)) in
             grind (arith, upper, no_less)
 
-    module _ (to : ℕ) (to_begins : BeginsAt to runs) (inside : r.first < to) (new : List (Run End)) (dues : BTreeMap Due ⊤) (kept : AreKept new dues)
+    module _ (to_begins : BeginsAt to runs) (new : List (Run End)) (dues : BTreeMap Due ⊤) (kept : AreKept new dues)
         (left : (at : ℕ) → run_at new at ≡ but_from r.first (run_at runs at)) where
       -- the run doesn't go on over the last spot
       ends_before : r.first + r.count ≤ to
       ends_before =
           let no_more : to < r.first + r.count → ⊥ = λ more.
-          let has : has_place to r ≡ true = in_by r.first r.count to (omega (arith, inside)) more in
+          let has : has_place to r ≡ true = in_by r.first r.count to (omega (arith, first.before)) more in
           let begins : r.first ≡ to = if-some (λ (q : Run End). q.first ≡ to) (run_at runs to) r (run_whole runs is.apart r.first r next_there to has) to_begins in
-          absurd (omega (arith, begins, inside)) in
+          absurd (omega (arith, begins, first.before)) in
           grind (arith, no_more)
 
       out_test : (at : ℕ) → (has_place at r ≡ true → ⊥) → (q : Run End) → run_at runs at ≡ Some q → (b : Bool) → (q.first == r.first) ≡ b → cond b None (Some q) ≡ Some q

@@ -1,6 +1,6 @@
 -- Where ports stand, and the ports of runs.
 use Rattle.std.specs.Prelude.{◌⊎◌}
-use Rattle.std.proofs.Common.{◌≡◌, ℕ, ◌+◌, ◌-◌, ◌<◌, ◌≤◌, ◌^◌, ◌&&◌, ◌||◌, ◌==◌, nat_lt, Bool, true, false, List, Option, Some, None, IfSome, refl, sym, ap, ◌∙◌, subst, inl, inr, arith}
+use Rattle.std.proofs.Common.{◌≡◌, ℕ, ◌+◌, ◌-◌, ◌<◌, ◌≤◌, ◌&&◌, ◌||◌, ◌==◌, nat_lt, Bool, true, false, List, Option, Some, None, IfSome, refl, sym, ap, ◌∙◌, subst, inl, inr, arith}
 use Rattle.std.proofs.lemmas.Bool.{lt-ltb, le-ltb}
 use Rattle.std.proofs.lemmas.Bool.Decides.{nat_tests}
 use Rattle.pcp_base.specs.declared.leases.Protocol.{Protocol}
@@ -127,9 +127,6 @@ module _ (r : Run End) (set : IsSet r) where
 
   pub run_low : r.first + r.count ≤ 131072
   run_low = omega (arith, set.first, spot_up_to r.value.endpoint.protocol r.value.external r.count set.external)
-
-  pub run_small : r.first + r.count < 2 ^ 32
-  run_small = omega (arith, run_low)
 
   -- each end of the run stands at its spot
   pub along_at : (at : ℕ) → has_place at r ≡ true → IsAt at (end_along (at - r.first) r.value)

@@ -3,7 +3,7 @@
 ghost use Rattle.std.specs.Prelude.{◌≡◌, ◌++◌, Some, IfOk, OnOk};
 ghost use Rattle.end_table.specs.Kept.{AreEnds, IsSet, end_told, ends_of, listed};
 
-use crate::ends::{Ends, end_along};
+use crate::ends::{Ends, SPOTS, end_along};
 use pcp_base::{End, Memory};
 use port_spans::Run;
 use std::alloc::Global;
@@ -27,7 +27,7 @@ pub fn copy(ends: &Ends, alloc: Global) -> Result<Vec<End>, Memory>
 {
     let mut all = Vec::new(alloc);
     let mut from = 0;
-    while let Some(run) = ends.next_run(from) {
+    while let Some(run) = ends.next_run(from, SPOTS as u32) {
         push_run(&mut all, &run)?;
         from = run.first + run.count;
     }

@@ -69,12 +69,9 @@ fn take_next(ends: &mut Ends, dues: &mut Dues, from: u32, to: u32) -> bool
     ensures fewer { OnTrue result (btree_map_len dues.new < btree_map_len dues.old) }
     ensures gone { OnFalse result ((at : ℕ) → from ≤ at → at < to → run_at ends.new at ≡ None) }
 {
-    let Some(run) = ends.next_run(from) else {
+    let Some(run) = ends.next_run(from, to) else {
         return false;
     };
-    if run.first >= to {
-        return false;
-    }
     take(ends, dues, &run);
     true
 }

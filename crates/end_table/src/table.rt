@@ -21,7 +21,7 @@ use std::marker::Model;
 ///
 /// Ends of ports in a row that are put together are kept as one run, also in memory, until a part
 /// of them goes. Each call takes logarithmic time for each run that it parts, puts or takes out,
-/// however many ports it has; `copy` takes as much for each run, and writes each end.
+/// and looks at the numbers of its ports, or writes them; `copy` looks at all, and writes each end.
 #[derive(Drop)]
 pub struct EndTable {
     /// The ends, by runs.
@@ -43,14 +43,14 @@ impl Model for EndTable {
 }
 
 impl EndTable {
-    /// A table without an end.
-    pub fn new(alloc: Global) -> EndTable
-        ensures { result ≡ [] }
+    /// A table without an end. The one error is want of memory.
+    pub fn new(alloc: Global) -> Result<EndTable, Memory>
+        ensures { IfOk result (λ table. table ≡ []) }
     {
-        EndTable {
-            ends: Spans::new(alloc),
+        Ok(EndTable {
+            ends: Spans::new(alloc)?,
             dues: BTreeMap::new(alloc),
-        }
+        })
     }
 
     /// Forgets all ends. It takes no memory.

@@ -65,7 +65,7 @@ impl IndexedState {
                 maps: MapTable::new(alloc)?,
                 peers: PeerTable::new(alloc)?,
             },
-            ends: EndTable::new(alloc),
+            ends: EndTable::new(alloc)?,
             base: zero(),
             address: None,
             last: zero(),

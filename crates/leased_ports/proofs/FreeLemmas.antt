@@ -54,18 +54,14 @@ module _ (m from to : ℕ) (start runs : List (Run End)) (pool : Holdings) (wait
       let first : s.first ≡ from = if-some (λ (q : Run End). q.first ≡ from) (run_at runs from) s (run_whole runs apart at s own from has) f.from_begins in
       absurd (omega (arith, first, less))
 
-  pub freed_none : IsNextRun runs from None → (at : ℕ) → from ≤ at → at < to → run_at runs at ≡ None
+  pub freed_none : IsNextRun runs from to None → (at : ℕ) → from ≤ at → at < to → run_at runs at ≡ None
   freed_none none at past before = none_by (run_at runs at) (λ s e.
-      begins_in at s e past (if-some (λ (q : Run End). q.first < from) (run_at runs at) s e (none at)))
+      let late = if-some (λ (q : Run End). from ≤ q.first → to ≤ q.first) (run_at runs at) s e (none at) in
+      let no_less : s.first < from → ⊥ = begins_in at s e past in
+      let not_less : from ≤ s.first = grind (arith, no_less) in
+      absurd (omega (arith, late not_less, run_from runs f.in_step.scheduled.apart at s e, before)))
 
-  module _ (r : Run End) (first : IsFirstFrom runs from r) where
-    pub freed_past : to ≤ r.first → (at : ℕ) → from ≤ at → at < to → run_at runs at ≡ None
-    freed_past past at after before = none_by (run_at runs at) (λ s e.
-        let least = if-some (λ (q : Run End). from ≤ q.first → r.first ≤ q.first) (run_at runs at) s e (first.least at) in
-        let no_less : s.first < from → ⊥ = begins_in at s e after in
-        let not_less : from ≤ s.first = grind (arith, no_less) in
-        absurd (omega (arith, least not_less, run_from runs f.in_step.scheduled.apart at s e, before, past)))
-
+  module _ (r : Run End) (first : IsFirstFrom runs from to r) where
     pub next_there : run_at runs r.first ≡ Some r
     next_there = first.there.whole r.first first.there.has
 
@@ -75,7 +71,7 @@ module _ (m from to : ℕ) (start runs : List (Run End)) (pool : Holdings) (wait
     pub next_waits : contains_key waits r.first ≡ true
     next_waits = ap is_some (run_waits (held_at m) runs waits f.in_step.scheduled r.first r next_there)
 
-    module _ (inside : r.first < to) (new : List (Run End)) (later : Holdings) (next : FinMap nat_cmp ℕ) (apart : AreRuns new)
+    module _ (new : List (Run End)) (later : Holdings) (next : FinMap nat_cmp ℕ) (apart : AreRuns new)
         (left : (at : ℕ) → run_at new at ≡ but_from r.first (run_at runs at)) (gives : GivesUses pool r.value.endpoint.protocol r.value.external r.count Free later) (waits_are : Waits waits r.first None next) where
       block : IsBlock (held_at m) (held_at m) runs new pool later waits next r None
       block = taken_block (held_at m) (held_at m) runs new pool later waits next r f.in_step r.first next_there apart
@@ -85,9 +81,9 @@ module _ (m from to : ℕ) (start runs : List (Run End)) (pool : Holdings) (wait
       ends_before : r.first + r.count ≤ to
       ends_before =
           let no_more : to < r.first + r.count → ⊥ = λ more.
-          let has : has_place to r ≡ true = in_by r.first r.count to (omega (arith, inside)) more in
+          let has : has_place to r ≡ true = in_by r.first r.count to (omega (arith, first.before)) more in
           let begins : r.first ≡ to = if-some (λ (q : Run End). q.first ≡ to) (run_at runs to) r (run_whole runs f.in_step.scheduled.apart r.first r next_there to has) f.to_begins in
-          absurd (omega (arith, begins, inside)) in
+          absurd (omega (arith, begins, first.before)) in
           grind (arith, no_more)
 
       out_below : (at : ℕ) → at < from → has_place at r ≡ false

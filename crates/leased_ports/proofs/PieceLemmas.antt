@@ -20,12 +20,14 @@ module _ (runs : List (Run End)) (apart : AreRuns runs) (at : ℕ) (none : run_a
       let no : None ≡ Some s = sym none ∙ run_whole runs apart other s own at has in
       cc
 
-  pub gap_whole : IsNextRun runs at None → (other : ℕ) → at ≤ other → run_at runs other ≡ None
-  gap_whole next other past = none_by (run_at runs other) (λ s e.
-      let early = if-some (λ (q : Run End). q.first < at) (run_at runs other) s e (next other) in
-      begins_late other s e past (omega (arith, early)))
+  pub gap_whole : (to : ℕ) → IsNextRun runs at to None → (other : ℕ) → at ≤ other → other < to → run_at runs other ≡ None
+  gap_whole to next other past before = none_by (run_at runs other) (λ s e.
+      let far = if-some (λ (q : Run End). at ≤ q.first → to ≤ q.first) (run_at runs other) s e (next other) in
+      let no_less = begins_late other s e past in
+      let late : at ≤ s.first = grind (arith, no_less) in
+      absurd (omega (arith, far late, run_from runs apart other s e, before)))
 
-  module _ (r : Run End) (next : IsFirstFrom runs at r) where
+  module _ (to : ℕ) (r : Run End) (next : IsFirstFrom runs at to r) where
     pub gap_some : at < r.first
     gap_some =
         let other : at ≡ r.first → ⊥ = λ same. absurd (let no : None ≡ Some r = sym none ∙ ap (run_at runs) same ∙ next.there.whole r.first next.there.has in cc) in

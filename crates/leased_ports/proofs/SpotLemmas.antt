@@ -1,5 +1,5 @@
 -- Where ports stand, and the ports of runs.
-use Rattle.std.proofs.Common.{◌≡◌, ℕ, ◌+◌, ◌-◌, ◌<◌, ◌≤◌, ◌^◌, ◌&&◌, true, cond, List, Option, Some, None, IfSome, refl, sym, ap, ◌∙◌, subst, arith}
+use Rattle.std.proofs.Common.{◌≡◌, ℕ, ◌+◌, ◌-◌, ◌<◌, ◌≤◌, ◌&&◌, true, cond, List, Option, Some, None, IfSome, refl, sym, ap, ◌∙◌, subst, arith}
 use Rattle.std.proofs.lemmas.Bool.{lt-ltb, le-ltb}
 use Rattle.std.proofs.lemmas.Bool.Decides.{nat_tests}
 use Rattle.pcp_base.specs.declared.leases.Protocol.{Protocol}
@@ -110,8 +110,8 @@ module _ (r : Run End) (set : IsSet r) where
       low Tcp = omega (arith, set.within)
       low Udp = omega (arith, set.within)
 
-  pub run_small : r.first + r.count < 2 ^ 32
-  run_small = omega (arith, set.first, low r.value.endpoint.protocol)
+  pub run_low : r.first + r.count ≤ 131072
+  run_low = omega (arith, set.first, low r.value.endpoint.protocol)
     where
       low : (p : Protocol) → spot p r.value.external + r.count ≤ 131072
       low Tcp = omega (arith, set.within)

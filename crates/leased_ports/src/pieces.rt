@@ -1,6 +1,6 @@
 //! Ports in a row whose last ends are along one, or that have none.
 
-ghost use Rattle.std.specs.Prelude.{◌≡◌, ◌≤◌, ◌<◌, ◌+◌, ℕ, None, IfSome};
+ghost use Rattle.std.specs.Prelude.{◌≡◌, ◌≤◌, ◌<◌, ◌+◌, ◌^◌, ℕ, None, IfSome};
 ghost use Rattle.port_spans.specs.Runs.{AreRuns, run_at};
 ghost use Rattle.leased_ports.specs.Pieces.{IsPiece};
 ghost use Rattle.leased_ports.specs.Kept.{IsSet, end_by};
@@ -22,14 +22,15 @@ fn gap(ends: &Ends, at: u32, most: u32) -> u32
     requires apart { AreRuns ends.now }
     requires none { run_at ends.now at ≡ None }
     requires some { 1 ≤ most }
+    requires within { at + most < 2 ^ 32 }
     ensures some { 1 ≤ result }
     ensures few { result ≤ most }
     ensures none { (other : ℕ) → at ≤ other → other < at + result → run_at ends.now other ≡ None }
 {
-    let Some(run) = ends.next_run(at) else {
+    let Some(run) = ends.next_run(at, at + most) else {
         return most;
     };
-    most.min(run.first - at)
+    run.first - at
 }
 
 /// The ports from this one on, of `most`, that are of its run, or of none where it is of none.

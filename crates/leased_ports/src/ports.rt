@@ -196,7 +196,7 @@ impl LeasedPorts {
             high,
             quota,
             reached: 0,
-            ends: Spans::new(alloc),
+            ends: Spans::new(alloc)?,
             pool: Pool::new(alloc, low, high, quota)?,
             wheel: Wheel::new(alloc)?,
         })

@@ -82,12 +82,9 @@ fn take_next(
         AreFreeing reached from to start ends.new pool.new wheel.new }
     ensures freed { OnFalse result ((at : ℕ) → from ≤ at → at < to → run_at ends.new at ≡ None) }
 {
-    let Some(run) = ends.next_run(from) else {
+    let Some(run) = ends.next_run(from, to) else {
         return false;
     };
-    if run.first >= to {
-        return false;
-    }
     take_out(pool, wheel, ends, &run, reached < run.value.end);
     true
 }

@@ -1,2 +1,3 @@
 pub mod RunLemmas
 mod ChangeLemmas
+mod PartLemmas

@@ -1,35 +1,32 @@
--- How runs are kept: in an ordered map, by their first places (our own; for proofs alone).
-use Rattle.std.specs.Prelude.{◌≡◌, ℕ, ◌+◌, ◌<◌, ◌≤◌, ◌^◌, Option, Some, None, IsSome}
-use Rattle.std.specs.Ordering.{nat_cmp}
-use Rattle.std.specs.BTreeMap.{BTreeMap, IsOrdered, get}
+-- How runs are kept: in a slab, and for each place there is a number that names the run that has it
+-- (our own; for proofs alone).
+use Rattle.std.specs.Prelude.{◌≡◌, ℕ, zero, suc, ◌+◌, ◌≤◌, true, List, length, Option, Some, None, slice_index_or}
+use Rattle.slab.specs.Slab.{Slab, get}
 use Rattle.port_spans.specs.declared.runs.Run.{Run}
+use Rattle.port_spans.specs.declared.runs.TheConstants.{PLACES}
+use Rattle.port_spans.specs.Runs.{has_place}
+
+-- the number at a place, 0 behind all
+abbrev pub slot_at : List ℕ → ℕ → ℕ
+slot_at slots at = slice_index_or slots at 0
+
+-- the key that a number names
+abbrev pub key_of : ℕ → Option ℕ
+key_of zero = None
+key_of (suc key) = Some key
 
 module _ {V : Type 0} where
-  -- each run stands under its first place, has places, and ends before the next begins
-  pub record AreApart (runs : BTreeMap ℕ (Run V)) : Type 0 where
-    pub ordered : IsOrdered nat_cmp runs
-    pub keyed : (k : ℕ) (r : Run V) → get nat_cmp runs k ≡ Some r → r.first ≡ k
-    pub some : (k : ℕ) (r : Run V) → get nat_cmp runs k ≡ Some r → 1 ≤ r.count
-    pub small : (k : ℕ) (r : Run V) → get nat_cmp runs k ≡ Some r → r.first + r.count < 2 ^ 32
-    pub apart : (k l : ℕ) (r s : Run V) → get nat_cmp runs k ≡ Some r
-        → get nat_cmp runs l ≡ Some s → k < l → k + r.count ≤ l
+  -- the run that a number names
+  abbrev pub run_of : Slab (Run V) → ℕ → Option (Run V)
+  run_of runs zero = None
+  run_of runs (suc key) = get runs key
 
-  -- of the runs that begin at the place or before it this begins last
-  pub record IsLastUpTo (runs : BTreeMap ℕ (Run V)) (place : ℕ) (r : Run V) : Type 0 where
-    pub there : get nat_cmp runs r.first ≡ Some r
-    pub up_to : r.first ≤ place
-    pub greatest : (k : ℕ) → k ≤ place → IsSome (get nat_cmp runs k) → k ≤ r.first
-
-  abbrev pub IsLastRun : BTreeMap ℕ (Run V) → ℕ → Option (Run V) → Type 0
-  IsLastRun runs place None = (k : ℕ) → k ≤ place → get nat_cmp runs k ≡ None
-  IsLastRun runs place (Some r) = IsLastUpTo runs place r
-
-  -- of the runs that begin at the place or behind it this begins first
-  pub record IsFirstFrom (runs : BTreeMap ℕ (Run V)) (place : ℕ) (r : Run V) : Type 0 where
-    pub there : get nat_cmp runs r.first ≡ Some r
-    pub from : place ≤ r.first
-    pub least : (k : ℕ) → place ≤ k → IsSome (get nat_cmp runs k) → r.first ≤ k
-
-  abbrev pub IsFirstRun : BTreeMap ℕ (Run V) → ℕ → Option (Run V) → Type 0
-  IsFirstRun runs place None = (k : ℕ) → place ≤ k → get nat_cmp runs k ≡ None
-  IsFirstRun runs place (Some r) = IsFirstFrom runs place r
+  -- a place has the number of the run that has it, and each run has places, all below the last
+  pub record AreKept (slots : List ℕ) (runs : Slab (Run V)) : Type 0 where
+    pub places : length slots ≡ PLACES
+    pub named : (at key : ℕ) → slot_at slots at ≡ suc key
+        → (r : Run V) × (get runs key ≡ Some r) × (has_place at r ≡ true)
+    pub has : (at key : ℕ) (r : Run V) → get runs key ≡ Some r → has_place at r ≡ true
+        → slot_at slots at ≡ suc key
+    pub some : (key : ℕ) (r : Run V) → get runs key ≡ Some r → 1 ≤ r.count
+    pub small : (key : ℕ) (r : Run V) → get runs key ≡ Some r → r.first + r.count ≤ PLACES

@@ -21,16 +21,19 @@ module _ {V : Type 0} where
   abbrev pub AreRuns : List (Run V) → Type 0
   AreRuns runs = (at : ℕ) → IfSome (run_at runs at) (IsRunAt runs at)
 
-  -- it begins at the place or behind it, and no other that does so begins before it
-  pub record IsFirstFrom (runs : List (Run V)) (place : ℕ) (r : Run V) : Type 0 where
+  -- it begins at the place or behind it and before the end, and no other that begins from the place
+  -- on begins before it
+  pub record IsFirstFrom (runs : List (Run V)) (place end : ℕ) (r : Run V) : Type 0 where
     pub there : IsRunAt runs r.first r
     pub from : place ≤ r.first
+    pub before : r.first < end
     pub least : (at : ℕ) → IfSome (run_at runs at) (λ s. place ≤ s.first → r.first ≤ s.first)
 
-  -- the first run that begins at the place or behind it; None where none does
-  abbrev pub IsNextRun : List (Run V) → ℕ → Option (Run V) → Type 0
-  IsNextRun runs place None = (at : ℕ) → IfSome (run_at runs at) (λ s. s.first < place)
-  IsNextRun runs place (Some r) = IsFirstFrom runs place r
+  -- the first run that begins from the place on and before the end; None where none does
+  abbrev pub IsNextRun : List (Run V) → ℕ → ℕ → Option (Run V) → Type 0
+  IsNextRun runs place end None =
+      (at : ℕ) → IfSome (run_at runs at) (λ s. place ≤ s.first → end ≤ s.first)
+  IsNextRun runs place end (Some r) = IsFirstFrom runs place end r
 
   -- the part of a run before a place, or that from it on: the one that has the place `at`
   abbrev pub part_at : ℕ → ℕ → Run V → Run V

@@ -3,8 +3,9 @@
 #![tactic(auto)]
 
 mod runs;
+mod slots;
 mod spans;
 mod steps;
 
-pub use runs::Run;
+pub use runs::{PLACES, Run};
 pub use spans::Spans;

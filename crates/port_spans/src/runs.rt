@@ -1,5 +1,8 @@
 //! Runs of places.
 
+/// How many places there are: one for each port number of both protocols.
+pub const PLACES: usize = 131_072;
+
 /// Places in a row that have one value.
 #[derive(Clone, Copy)]
 pub struct Run<V> {

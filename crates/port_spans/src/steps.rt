@@ -1,79 +1,96 @@
-//! Runs in an ordered map, each under its first place.
+//! Runs that are found, come, change and go.
 
-ghost use Rattle.std.specs.Prelude.{◌≡◌, ◌≤◌, ◌<◌, ◌+◌, ◌^◌, ℕ, Some, None, IsSome, IfSome, IfNone, OnOk, OnErr, if◌then◌else◌};
+ghost use Rattle.std.specs.Prelude.{◌≡◌, ◌≤◌, ◌<◌, ◌+◌, ◌^◌, ℕ, true, Some, None, OnOk, OnErr, if◌then◌else◌};
 ghost use Rattle.std.specs.Option.{option_map};
-ghost use Rattle.std.specs.Ordering.{nat_cmp};
-ghost use Rattle.std.specs.BTreeMap.{IsOrdered, get, is_at, values};
+ghost use Rattle.slab.specs.Slab.{ContainsKey, Updates, get, values};
 ghost use Rattle.port_spans.specs.Runs as the;
-ghost use Rattle.port_spans.specs.Kept.{AreApart, IsLastRun, IsFirstRun};
+ghost use Rattle.port_spans.specs.Runs.{IsNextRun, but_from, has_place, part_at, with_value};
+ghost use Rattle.port_spans.specs.Kept.{AreKept, run_of, slot_at};
 
-use crate::runs::Run;
-use std::alloc::AllocError;
-use std::collections::BTreeMap;
-
-/// The last run that begins at a place or before it.
-fn last_run<V: Copy>(runs: &BTreeMap<u32, Run<V>>, place: u32) -> Option<Run<V>>
-    requires { AreApart runs.now }
-    ensures { IsLastRun runs.now place result }
-{
-    let Some((_, run)) = runs.range(..=place).next_back() else {
-        return None;
-    };
-    Some(*run)
-}
-
-/// The first run that begins at a place or behind it.
-pub(crate) fn first_run<V: Copy>(runs: &BTreeMap<u32, Run<V>>, place: u32) -> Option<Run<V>>
-    requires { AreApart runs.now }
-    ensures { IsFirstRun runs.now place result }
-{
-    let Some((_, run)) = runs.range(place..).next() else {
-        return None;
-    };
-    Some(*run)
-}
+use crate::runs::{PLACES, Run};
+use crate::slots::{fill, key_at, next_slot};
+use pcp_base::Memory;
+use slab::Slab;
 
 /// The run that has a place.
-pub(crate) fn run_at<V: Copy>(runs: &BTreeMap<u32, Run<V>>, place: u32) -> Option<Run<V>>
-    requires { AreApart runs.now }
+pub(crate) fn run_at<V: Copy>(slots: &[u32], runs: &Slab<Run<V>>, place: u32) -> Option<Run<V>>
+    requires { AreKept slots.now runs.now }
     ensures { result ≡ the.run_at (values runs.now) place }
 {
-    let Some(run) = last_run(runs, place) else {
+    let Some(key) = key_at(slots, place) else {
         return None;
     };
-    if place - run.first < run.count {
-        Some(run)
-    } else {
-        None
-    }
+    Some(runs[key])
 }
 
-/// Writes a run in the place of the one that begins there.
-pub(crate) fn overwrite<V: Copy>(runs: &mut BTreeMap<u32, Run<V>>, first: u32, run: Run<V>)
-    requires { IsSome (get nat_cmp runs.old first) }
-    ensures changed { (k : ℕ) → get nat_cmp runs.new k
-        ≡ (if is_at (nat_cmp first) k then Some run else get nat_cmp runs.old k) }
-    ensures ordered { IsOrdered nat_cmp runs.new }
+/// The first run that begins from a place on and before an end.
+pub(crate) fn first_run<V: Copy>(
+    slots: &[u32],
+    runs: &Slab<Run<V>>,
+    place: u32,
+    end: u32,
+) -> Option<Run<V>>
+    requires { AreKept slots.now runs.now }
+    ensures { IsNextRun (values runs.now) place end result }
 {
-    if let Some(place) = runs.get_mut(&first) {
-        *place = run;
+    for at in place..end.min(PLACES as u32) {
+        let Some(run) = run_at(slots, runs, at) else {
+            continue;
+        };
+        if run.first == at {
+            return Some(run);
+        }
+    }
+    None
+}
+
+/// Writes a run in the place of the one under a key.
+fn overwrite<V: Copy>(runs: &mut Slab<Run<V>>, key: usize, run: Run<V>)
+    requires { ContainsKey runs.old key }
+    ensures { Updates runs.old runs.new key (Some run) }
+{
+    if let Some(kept) = runs.get_mut(key) {
+        *kept = run;
     }
 }
 
-/// Parts a run at one of its places, which isn't its first.
-pub(crate) fn part<V: Copy>(
-    runs: &mut BTreeMap<u32, Run<V>>,
+/// Puts a run whose places have no value.
+pub(crate) fn put<V: Copy>(
+    slots: &mut [u32],
+    runs: &mut Slab<Run<V>>,
+    run: Run<V>,
+) -> Result<(), Memory>
+    requires kept { AreKept slots.old runs.old }
+    requires some { 1 ≤ run.count }
+    requires small { run.first + run.count ≤ PLACES }
+    requires free { (at : ℕ) → has_place at run ≡ true → the.run_at (values runs.old) at ≡ None }
+    ensures kept { AreKept slots.new runs.new }
+    ensures ok { OnOk result ((at : ℕ) → the.run_at (values runs.new) at
+        ≡ (if has_place at run then Some run else the.run_at (values runs.old) at)) }
+    ensures err { OnErr result (values runs.new ≡ values runs.old) }
+{
+    let slot = next_slot(runs)?;
+    runs.insert(run)?;
+    fill(slots, &run, slot);
+    Ok(())
+}
+
+/// Parts the run under a key at one of its places, which isn't its first.
+fn part<V: Copy>(
+    slots: &mut [u32],
+    runs: &mut Slab<Run<V>>,
+    key: usize,
     run: Run<V>,
     place: u32,
-) -> Result<(), AllocError>
-    requires apart { AreApart runs.old }
-    requires there { get nat_cmp runs.old run.first ≡ Some run }
+) -> Result<(), Memory>
+    requires kept { AreKept slots.old runs.old }
+    requires there { get runs.old key ≡ Some run }
     requires behind { run.first < place }
     requires within { place < run.first + run.count }
-    ensures apart { OnOk result (AreApart runs.new) }
-    ensures cut { OnOk result ((at : ℕ) → the.run_at (values runs.new) at
-        ≡ option_map (the.part_at place at) (the.run_at (values runs.old) at)) }
-    ensures err { OnErr result (runs.new.entries ≡ runs.old.entries) }
+    ensures kept { AreKept slots.new runs.new }
+    ensures ok { OnOk result ((at : ℕ) → the.run_at (values runs.new) at
+        ≡ option_map (part_at place at) (the.run_at (values runs.old) at)) }
+    ensures err { OnErr result (values runs.new ≡ values runs.old) }
 {
     let before = place - run.first;
     let rest = Run {
@@ -86,7 +103,70 @@ pub(crate) fn part<V: Copy>(
         count: before,
         value: run.value,
     };
-    runs.insert(place, rest)?;
-    overwrite(runs, run.first, start);
+    let slot = next_slot(runs)?;
+    runs.insert(rest)?;
+    overwrite(runs, key, start);
+    fill(slots, &rest, slot);
     Ok(())
+}
+
+/// Parts the run that has a place, so that one begins there.
+pub(crate) fn cut<V: Copy>(
+    slots: &mut [u32],
+    runs: &mut Slab<Run<V>>,
+    place: u32,
+) -> Result<(), Memory>
+    requires { AreKept slots.old runs.old }
+    ensures kept { AreKept slots.new runs.new }
+    ensures ok { OnOk result ((at : ℕ) → the.run_at (values runs.new) at
+        ≡ option_map (part_at place at) (the.run_at (values runs.old) at)) }
+    ensures err { OnErr result (values runs.new ≡ values runs.old) }
+{
+    let Some(key) = key_at(slots, place) else {
+        return Ok(());
+    };
+    let run = runs[key];
+    if run.first == place {
+        return Ok(());
+    }
+    part(slots, runs, key, run, place)
+}
+
+/// Gives the run that begins at a place another value, if one begins there.
+pub(crate) fn set_value<V: Copy>(slots: &[u32], runs: &mut Slab<Run<V>>, first: u32, value: V)
+    requires { AreKept slots.now runs.old }
+    ensures kept { AreKept slots.now runs.new }
+    ensures ok { (at : ℕ) → the.run_at (values runs.new) at
+        ≡ option_map (with_value first value) (the.run_at (values runs.old) at) }
+{
+    let Some(key) = key_at(slots, first) else {
+        return;
+    };
+    let run = runs[key];
+    if run.first == first {
+        let renewed = Run {
+            first: run.first,
+            count: run.count,
+            value,
+        };
+        overwrite(runs, key, renewed);
+    }
+}
+
+/// Takes out the run that begins at a place, if one begins there.
+pub(crate) fn remove<V: Copy>(slots: &mut [u32], runs: &mut Slab<Run<V>>, first: u32)
+    requires { AreKept slots.old runs.old }
+    ensures kept { AreKept slots.new runs.new }
+    ensures ok { (at : ℕ) → the.run_at (values runs.new) at
+        ≡ but_from first (the.run_at (values runs.old) at) }
+{
+    let Some(key) = key_at(slots, first) else {
+        return;
+    };
+    let run = runs[key];
+    if run.first != first {
+        return;
+    }
+    runs.remove(key);
+    fill(slots, &run, 0);
 }

@@ -1,12 +1,12 @@
 use Rattle.std.proofs.Common.{Some, cond, ap, ◌∙◌}
 use Rattle.std.specs.BTreeMap.{get, is_at}
 use Rattle.end_table.specs.Kept.{Due, due_cmp}
-use Rattle.end_table.proofs.SpotLemmas.{run_small}
+use Rattle.end_table.proofs.SpotLemmas.{run_low}
 use Rattle.end_table.proofs.DueLemmas.{come_kept, come_ends}
 use Rattle.end_table.proofs.steps.insert.Goals as goal
 
 pub insert-requires-2-clause-small : goal.insert-requires-2-clause-small
-insert-requires-2-clause-small c = run_small c.args.run.now c.requires.set
+insert-requires-2-clause-small c = run_low c.args.run.now c.requires.set
 
 pub returns-clause-kept : goal.returns-clause-kept
 returns-clause-kept c =

@@ -1,7 +1,7 @@
 use Rattle.std.proofs.Common.{ℕ, ◌==◌, Some, cond, ap, ◌∙◌}
 use Rattle.std.specs.FinMap.{get}
 use Rattle.leased_ports.specs.Kept.{held_at}
-use Rattle.leased_ports.proofs.SpotLemmas.{run_small, id_low}
+use Rattle.leased_ports.proofs.SpotLemmas.{run_low, id_low}
 use Rattle.leased_ports.proofs.StepLemmas.{none_from}
 use Rattle.leased_ports.proofs.BlockLemmas.{none_uses}
 use Rattle.leased_ports.proofs.AssignLemmas.{inserted}
@@ -17,7 +17,7 @@ pub put-requires-clause-few : goal.put-requires-clause-few
 put-requires-clause-few c = none_from (held_at c.args.reached) c.args.ends.now c.args.wheel.now c.requires.in_step.scheduled
 
 pub insert-requires-clause-small : goal.insert-requires-clause-small
-insert-requires-clause-small c = run_small c.args.run.now c.requires.set
+insert-requires-clause-small c = run_low c.args.run.now c.requires.set
 
 pub returns-clause-ok : goal.returns-clause-ok
 returns-clause-ok c =

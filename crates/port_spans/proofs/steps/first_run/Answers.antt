@@ -1,22 +1,16 @@
-use Rattle.std.proofs.Common.{ℕ, ◌≤◌, List, sym, ap, ◌∙◌, subst, IfSome}
-use Rattle.std.specs.Ordering.{nat_cmp}
-use Rattle.std.specs.List.{slice_get}
-use Rattle.std.specs.BTreeMap.{get}
-use Rattle.std.specs.BTreeMap.Range.{IsEntryInRange, IsLeBy}
-use Rattle.std.specs.declared.ops.Bound.TheVariants.{Included, Unbounded}
-use Rattle.std.proofs.lemmas.Map.Keys.{le_from_not_gt}
-use Rattle.port_spans.specs.declared.runs.Run.{Run}
-use Rattle.port_spans.proofs.RunLemmas.{not_above}
+use Rattle.std.proofs.Common.{◌≡◌, ◌<◌, sym, ◌∙◌, arith}
+use Rattle.port_spans.proofs.RunLemmas.{next_some, next_none, past_one}
 use Rattle.port_spans.proofs.steps.first_run.Goals as goal
+
+pub returns-then-run-at : goal.returns-then-run-at
+returns-then-run-at g c =
+    let at = c.loop-at.at in
+    let first : c.in-Some.run'.first ≡ at = grind (arith, c.if-run-at.true) in
+    let before : at < c.args.end = omega (arith, c.loop-at-test.true, c.min-at-end.ensures) in
+    next_some c.args.slots.now c.args.runs.now c.requires c.args.place c.args.end at c.in-Some.run' c.loop-at.invariant.1 c.loop-at.invariant.0 before (sym c.run_at.ensures ∙ c.in-Some.is) first
 
 pub returns : goal.returns
 returns g c =
-    let part = c.range.ensures.in_range tt in
-    let entry = subst (λ (l : List (ℕ × Run g.row.V.Denot)). IfSome (slice_get l 0) (IsEntryInRange nat_cmp (Included c.args.place) Unbounded c.args.runs.now)) c.in-Some.ensures.steps part.1 in
-    let first = c.requires.keyed _ _ entry.1 in
-    record {
-      there = ap (get nat_cmp c.args.runs.now) first ∙ entry.1;
-      from = subst (λ (k : ℕ). c.args.place ≤ k) (sym first) (le_from_not_gt _ _ entry.0.0);
-      least = λ k above some. subst (λ (n : ℕ). n ≤ k) (sym first) (le_from_not_gt _ _
-          (subst (λ (l : List (ℕ × Run g.row.V.Denot)). IfSome (slice_get l 0) (λ e. IsLeBy nat_cmp e.0 k)) c.in-Some.ensures.steps (part.2 k (not_above c.args.place k above, tt) some)));
-    }
+    let at = c.loop-at.at in
+    next_none c.args.slots.now c.args.runs.now c.requires c.args.place c.args.end at c.loop-at.invariant.1
+    (past_one at c.args.end (omega (arith, c.loop-at-test.false, c.min-at-end.ensures)))

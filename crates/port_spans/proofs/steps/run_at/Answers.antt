@@ -1,18 +1,12 @@
-use Rattle.std.proofs.Common.{◌-◌, ◌<◌, ◌≤◌, sym, arith}
-use Rattle.port_spans.proofs.RunLemmas.{none_up_to, last_has, last_ends}
+use Rattle.std.proofs.Common.{sym, ◌∙◌}
+use Rattle.port_spans.proofs.RunLemmas.{told_none, run_told, contains}
 use Rattle.port_spans.proofs.steps.run_at.Goals as goal
 
 pub returns-in_default : goal.returns-in_default
-returns-in_default g c = sym (none_up_to c.args.runs.now c.requires c.args.place c.in_default.ensures)
+returns-in_default g c = sym (told_none c.args.slots.now c.args.runs.now c.requires c.args.place (sym c.key_at.ensures ∙ c.in_default.is))
 
-pub returns-then-place-run : goal.returns-then-place-run
-returns-then-place-run g c =
-    let r = c.in-Some.run' in
-    let less : c.args.place - r.first < r.count = grind (arith, c.if-place-run.true) in
-    sym (last_has c.args.runs.now c.requires c.args.place r c.in-Some.ensures less)
+pub index-requires : goal.index-requires
+index-requires g c = contains c.args.slots.now c.args.runs.now c.requires c.args.place c.in-Some.key (sym c.key_at.ensures ∙ c.in-Some.is)
 
-pub returns-else-place-run : goal.returns-else-place-run
-returns-else-place-run g c =
-    let r = c.in-Some.run' in
-    let past : r.count ≤ c.args.place - r.first = grind (arith, c.if-place-run.false) in
-    sym (last_ends c.args.runs.now c.requires c.args.place r c.in-Some.ensures past)
+pub returns : goal.returns
+returns g c = sym (run_told c.args.slots.now c.args.runs.now c.requires c.args.place c.in-Some.key _ (sym c.key_at.ensures ∙ c.in-Some.is) c.index.ensures)
