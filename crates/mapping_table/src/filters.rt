@@ -46,7 +46,7 @@ pub(crate) fn whole_found(
     }
 }
 
-/// The same by one look more, of which there are as many levels at most as among so many leases.
+/// The same by one look more, into a map that has no more entries than there are leases.
 pub(crate) fn whole_by_look<L: Ledger>(
     filters: &BTreeMap<Place, Filters>,
     found: Option<&BareLease>,
