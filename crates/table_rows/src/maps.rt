@@ -1,6 +1,6 @@
 //! Calls of both bodies of a table of MAP leases, with answers that are worked out by hand.
 
-ghost use Rattle.std.specs.Prelude.{◌≡◌, OnOk};
+ghost use Rattle.std.specs.Prelude.{◌≡◌, ◌<◌, OnOk};
 
 use crate::making::{all_are_so, at, map_of, moment, remote};
 use crate::sound_maps::are_sound_with;
@@ -10,6 +10,9 @@ use mapping_table::plain::PlainMapTable;
 use pcp_base::Protocol::{Tcp, Udp};
 use pcp_base::{Endpoint, Filter, Filters, MapLease, Memory, Protocol};
 use std::alloc::Global;
+use std::marker::Brand;
+use std::sync::ledger::{Blank, Ledger};
+use step_count::Steps;
 
 /// A call, and the answer that is wanted. Leases are told by their first external ports.
 #[derive(Clone, Copy)]
@@ -24,7 +27,7 @@ enum Call {
     External(u16, Option<u16>),
     /// While all leases are live.
     Next(u8, u16, Option<u16>),
-    /// At a moment, of which the plain body doesn't tell it.
+    /// At the moment that was reached last.
     NextAt(u8, u16, u32, Option<u16>),
     Remove(u8, u16, Option<u16>),
     Live(u32, u32),
@@ -167,8 +170,8 @@ fn put_both(
     plain: &mut PlainMapTable,
     lease: &MapLease,
 ) -> Result<bool, Memory>
-    requires { table.old ≡ plain.old }
-    ensures { OnOk result (table.new ≡ plain.new) }
+    requires { table.old.leases ≡ plain.old.leases }
+    ensures { OnOk result (table.new.leases ≡ plain.new.leases) }
 {
     if !are_sound_with(alloc, plain.leases(), lease)? {
         return Ok(false);
@@ -185,8 +188,8 @@ fn is_removed(
     key: &Endpoint,
     wanted: Option<u16>,
 ) -> bool
-    requires { table.old ≡ plain.old }
-    ensures { table.new ≡ plain.new }
+    requires { table.old.leases ≡ plain.old.leases }
+    ensures { table.new.leases ≡ plain.new.leases }
 {
     let (removed, plainly) = (table.remove(key), plain.remove(key));
     (told(removed.as_ref()), told(plainly.as_ref())) == (wanted, wanted)
@@ -212,68 +215,90 @@ fn are_copied(
 }
 
 /// Whether both bodies tell this filter of the lease that covers the endpoint and owns the port.
-fn are_allowed(
+fn are_allowed<L: Ledger>(
     table: &MapTable,
     plain: &PlainMapTable,
     endpoint: &Endpoint,
     external: u16,
     wanted: Option<u16>,
+    steps: &mut Steps<L>,
 ) -> bool {
-    let (found, plainly) = (table.find(endpoint), plain.find(endpoint));
-    let owning = table.by_external(Udp, external);
+    let (found, plainly) = (table.find(endpoint, steps), plain.find(endpoint, steps));
+    let owning = table.by_external(Udp, external, steps);
     (allowed(found.as_ref()), allowed(plainly.as_ref())) == (wanted, wanted)
         && allowed(owning.as_ref()) == wanted
 }
 
 /// Whether a lease that is live at 0 covers the endpoint, by both bodies, where one is wanted.
-fn are_covered(
+fn are_covered<L: Ledger>(
     table: &MapTable,
     plain: &PlainMapTable,
     endpoint: &Endpoint,
     wanted: Option<u16>,
+    steps: &mut Steps<L>,
 ) -> bool {
-    let covered = table.covers(endpoint, moment(0));
-    (covered, plain.covers(endpoint, moment(0))) == (wanted.is_some(), wanted.is_some())
+    let covered = table.covers(endpoint, moment(0), steps);
+    (covered, plain.covers(endpoint, moment(0), steps)) == (wanted.is_some(), wanted.is_some())
+}
+
+/// Whether both bodies tell this port as the next one that is covered at a moment.
+fn are_next<L: Ledger>(
+    table: &MapTable,
+    plain: &PlainMapTable,
+    endpoint: &Endpoint,
+    m: u32,
+    wanted: Option<u16>,
+    steps: &mut Steps<L>,
+) -> bool {
+    let next = table.next_internal(endpoint, moment(m), steps);
+    (next, plain.next_internal(endpoint, moment(m), steps)) == (wanted, wanted)
 }
 
 /// Whether both bodies answer so a call that changes nothing and copies nothing.
-fn is_told(table: &MapTable, plain: &PlainMapTable, call: &Call) -> bool {
+fn is_told<L: Ledger>(
+    table: &MapTable,
+    plain: &PlainMapTable,
+    call: &Call,
+    steps: &mut Steps<L>,
+) -> bool {
     match *call {
         Find(host, port, wanted) => {
             let endpoint = at(Udp, host, port);
-            let (found, plainly) = (table.find(&endpoint), plain.find(&endpoint));
+            let (found, plainly) = (table.find(&endpoint, steps), plain.find(&endpoint, steps));
             (told(found.as_ref()), told(plainly.as_ref())) == (wanted, wanted)
-                && are_covered(table, plain, &endpoint, wanted)
+                && are_covered(table, plain, &endpoint, wanted, steps)
         }
         External(port, wanted) => {
-            let (found, plainly) = (table.by_external(Udp, port), plain.by_external(Udp, port));
+            let found = table.by_external(Udp, port, steps);
+            let plainly = plain.by_external(Udp, port, steps);
             (told(found.as_ref()), told(plainly.as_ref())) == (wanted, wanted)
         }
         Allowed(host, external, wanted) => {
-            are_allowed(table, plain, &at(Udp, host, 5000), external, wanted)
+            are_allowed(table, plain, &at(Udp, host, 5000), external, wanted, steps)
         }
         Next(host, port, wanted) => {
-            let endpoint = at(Udp, host, port);
-            let next = table.next_internal(&endpoint, moment(0));
-            (next, plain.next_internal(&endpoint, moment(0))) == (wanted, wanted)
+            are_next(table, plain, &at(Udp, host, port), 0, wanted, steps)
         }
         NextAt(host, port, m, wanted) => {
-            table.next_internal(&at(Udp, host, port), moment(m)) == wanted
+            are_next(table, plain, &at(Udp, host, port), m, wanted, steps)
         }
-        Live(m, wanted) => (table.live(moment(m)), plain.live(moment(m))) == (wanted, wanted),
+        Live(m, wanted) => {
+            (table.live(moment(m), steps), plain.live(moment(m), steps)) == (wanted, wanted)
+        }
         _ => false,
     }
 }
 
 /// Makes a call of both bodies. Whether both give the answer that is wanted.
-fn is_answered(
+fn is_answered<L: Ledger>(
     alloc: Global,
     table: &mut MapTable,
     plain: &mut PlainMapTable,
     call: &Call,
+    steps: &mut Steps<L>,
 ) -> Result<bool, Memory>
-    requires { table.old ≡ plain.old }
-    ensures { OnOk result (table.new ≡ plain.new) }
+    requires { table.old.leases ≡ plain.old.leases }
+    ensures { OnOk result (table.new.leases ≡ plain.new.leases) }
 {
     Ok(match *call {
         Put(protocol, host, internal, count, external, expiry) => {
@@ -289,69 +314,94 @@ fn is_answered(
             are_copied(alloc, table, plain, (first, second), wanted)?
         }
         Reach(m) => {
-            table.reach(moment(m));
-            plain.reach(moment(m));
+            table.reach(moment(m), steps);
+            plain.reach(moment(m), steps);
             true
         }
-        _ => is_told(table, plain, call),
+        _ => is_told(table, plain, call, steps),
     })
 }
 
 /// Whether the table forgets its leases.
-fn forgets(table: &mut MapTable) -> bool {
+fn forgets<L: Ledger>(table: &mut MapTable, steps: &mut Steps<L>) -> bool {
     table.clear();
-    table.find(&at(Tcp, 5, 5000)).is_none() && table.live(moment(0)) == 0
+    table.find(&at(Tcp, 5, 5000), steps).is_none() && table.live(moment(0), steps) == 0
 }
 
 /// Makes calls, one after the other, of bodies that hold the same, and clears the one then. The
 /// first that is answered otherwise.
-fn first_other(
+fn first_other<L: Ledger>(
     alloc: Global,
     table: &mut MapTable,
     plain: &mut PlainMapTable,
     calls: &[Call],
+    steps: &mut Steps<L>,
 ) -> Result<Option<usize>, Memory>
-    requires { table.old ≡ plain.old }
+    requires { table.old.leases ≡ plain.old.leases }
 {
     for (number, call) in calls.iter().enumerate() {
-        if !is_answered(alloc, table, plain, call)? {
+        if !is_answered(alloc, table, plain, call, steps)? {
             return Ok(Some(number));
         }
     }
-    if !forgets(table) {
+    if !forgets(table, steps) {
         return Ok(Some(calls.len()));
     }
     Ok(None)
 }
 
 /// The same of bodies without a lease.
-fn first_other_of_new(alloc: Global, calls: &[Call]) -> Result<Option<usize>, Memory> {
+fn first_other_of_new<L: Ledger>(
+    alloc: Global,
+    blank: Blank,
+    calls: &[Call],
+) -> Result<Option<usize>, Memory>
+    requires name { blank.name ≡ L.name }
+    requires parts { blank.parts ≡ L.parts }
+    requires some { 0 < L.parts }
+{
+    let mut steps = Steps::<L>::begin(blank);
     let mut plain = PlainMapTable::new(alloc)?;
     let mut table = MapTable::new(alloc)?;
-    first_other(alloc, &mut table, &mut plain, calls)
+    first_other(alloc, &mut table, &mut plain, calls, &mut steps)
 }
 
 #[test]
 fn leases_are_found_by_all_their_ports(rt: HostRuntime) {
-    all_are_so(&rt, first_other_of_new(rt.alloc(), &FOUND));
+    all_are_so(
+        &rt,
+        first_other_of_new::<Brand>(rt.alloc(), Blank::new(1), &FOUND),
+    );
 }
 
 #[test]
 fn a_renewal_keeps_its_place(rt: HostRuntime) {
-    all_are_so(&rt, first_other_of_new(rt.alloc(), &RENEWED));
+    all_are_so(
+        &rt,
+        first_other_of_new::<Brand>(rt.alloc(), Blank::new(1), &RENEWED),
+    );
 }
 
 #[test]
 fn ended_leases_leave_the_live_ones(rt: HostRuntime) {
-    all_are_so(&rt, first_other_of_new(rt.alloc(), &REACHED));
+    all_are_so(
+        &rt,
+        first_other_of_new::<Brand>(rt.alloc(), Blank::new(1), &REACHED),
+    );
 }
 
 #[test]
 fn live_leases_are_copied_in_order(rt: HostRuntime) {
-    all_are_so(&rt, first_other_of_new(rt.alloc(), &COPIED));
+    all_are_so(
+        &rt,
+        first_other_of_new::<Brand>(rt.alloc(), Blank::new(1), &COPIED),
+    );
 }
 
 #[test]
 fn filters_go_with_their_leases(rt: HostRuntime) {
-    all_are_so(&rt, first_other_of_new(rt.alloc(), &FILTERED));
+    all_are_so(
+        &rt,
+        first_other_of_new::<Brand>(rt.alloc(), Blank::new(1), &FILTERED),
+    );
 }

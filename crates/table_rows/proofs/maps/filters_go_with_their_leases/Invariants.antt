@@ -1,0 +1,4 @@
+use Rattle.table_rows.proofs.maps.filters_go_with_their_leases.Given as goal
+
+abbrev pub ghosts-first_other_of_new : goal.ghosts-first_other_of_new
+ghosts-first_other_of_new g a = record { name = a.blank.name; parts = a.blank.parts }
