@@ -1,4 +1,4 @@
--- What follows from knowing the pair that falls due first.
+-- What follows from knowing the pair that falls due first
 use Rattle.std.proofs.Common.{◌≡◌, ℕ, ◌<◌, ◌≤◌, Option, None, Some, IfSome, refl, arith}
 use Rattle.std.specs.Ordering.{nat_cmp}
 use Rattle.std.specs.FinMap.{FinMap, get}

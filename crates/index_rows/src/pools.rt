@@ -1,6 +1,6 @@
 //! The calls of both bodies of a pool, by the way of a port from its lease to its rest and back. What
 //! is picked where others are held and rest is compared in the tests of the ports that follow a state.
-ghost use Rattle.std.specs.Prelude.{◌≡◌, ◌<◌, ◌+◌, ◌≤◌};
+ghost use Rattle.std.specs.Prelude.{◌≡◌, ◌+◌, ◌<◌, ◌≤◌};
 ghost use Rattle.external_pool.specs.Calls.{ArePorts, IsAsk, MayHold};
 ghost use Rattle.external_pool.specs.Holdings.{AllFree, IsWhole};
 
@@ -41,7 +41,7 @@ fn ask_for(port: u16, internal: u16) -> PickAsk
 }
 
 /// Whether each body picks the port for an endpoint that wants no other.
-fn picks<L: Ledger>(
+fn picks_from<L: Ledger>(
     pool: &Pool,
     plain: &PlainPool,
     port: u16,
@@ -50,13 +50,18 @@ fn picks<L: Ledger>(
 ) -> (bool, bool)
     requires name { blank.name ≡ L.name }
     requires parts { blank.parts ≡ L.parts }
-    requires part { 0 < L.parts }
+    requires some { 0 < L.parts }
 {
-    let ask = ask_for(port, whom.port);
     let mut steps = Steps::<L>::begin(blank);
+    let ask = ask_for(port, whom.port);
     let found = pool.pick(&whom.address, whom.protocol, &ask, &mut steps);
     let expected = plain.pick(&whom.address, whom.protocol, &ask, &mut steps);
     (found.is_ok(), expected.is_ok())
+}
+
+/// The same of a caller that counts no steps.
+fn picks(pool: &Pool, plain: &PlainPool, port: u16, whom: &Endpoint) -> (bool, bool) {
+    picks_from::<Brand>(pool, plain, port, whom, Blank::new(1))
 }
 
 /// A port that may be held is held, released, at rest and awake, in both bodies.
@@ -74,12 +79,12 @@ fn hold_and_rest(
 {
     pool.hold(alloc, &last.address, last.protocol, port, 1)?;
     plain.hold(&last.address, last.protocol, port, 1)?;
-    assert!(rt; picks::<Brand>(pool, plain, port, last, Blank::new(1)) == (false, false));
+    assert!(rt; picks(pool, plain, port, last) == (false, false));
     pool.release(&last.address, last.protocol, port, 1);
     plain.release(&last.address, last.protocol, port, 1);
     pool.rest(alloc, port, last)?;
     plain.rest(port, last)?;
-    assert!(rt; picks::<Brand>(pool, plain, port, last, Blank::new(1)) == (true, true));
+    assert!(rt; picks(pool, plain, port, last) == (true, true));
     assert!(rt; pool.wake(last.protocol, port) && plain.wake(last.protocol, port));
     assert!(rt; !pool.wake(last.protocol, port) && !plain.wake(last.protocol, port));
     Ok(())
@@ -112,30 +117,36 @@ fn both_pools_hold_and_rest(rt: HostRuntime) -> Result<(), Memory> {
 type Openness = (bool, bool, bool);
 
 /// To whom the second of some ports is open, the first of which goes along with an endpoint.
-fn openness<L: Ledger>(pool: &Pool, start: u16, first: &Endpoint, blank: Blank) -> Openness
-    requires name { blank.name ≡ L.name }
-    requires parts { blank.parts ≡ L.parts }
-    requires part { 0 < L.parts }
-{
-    let mut steps = Steps::<L>::begin(blank);
+fn openness(pool: &Pool, start: u16, first: &Endpoint) -> Openness {
     let port = start.wrapping_add(1);
     let internal = first.port.wrapping_add(1);
     (
-        is_picked(pool, port, &first.address, internal, &mut steps),
-        is_picked(pool, port, &first.address, first.port, &mut steps),
-        is_picked(pool, port, &Address::v4(10, 0, 0, 9), internal, &mut steps),
+        is_picked(pool, port, &first.address, internal),
+        is_picked(pool, port, &first.address, first.port),
+        is_picked(pool, port, &Address::v4(10, 0, 0, 9), internal),
     )
 }
 
 /// Whether the UDP port is picked for an internal port that wants no other.
-fn is_picked<L: Ledger>(
+fn is_picked_from<L: Ledger>(
     pool: &Pool,
     port: u16,
     who: &Address,
     internal: u16,
-    steps: &mut Steps<L>,
-) -> bool {
-    pool.pick(who, Udp, &ask_for(port, internal), steps).is_ok()
+    blank: Blank,
+) -> bool
+    requires name { blank.name ≡ L.name }
+    requires parts { blank.parts ≡ L.parts }
+    requires some { 0 < L.parts }
+{
+    let mut steps = Steps::<L>::begin(blank);
+    pool.pick(who, Udp, &ask_for(port, internal), &mut steps)
+        .is_ok()
+}
+
+/// The same of a caller that counts no steps.
+fn is_picked(pool: &Pool, port: u16, who: &Address, internal: u16) -> bool {
+    is_picked_from::<Brand>(pool, port, who, internal, Blank::new(1))
 }
 
 /// Ports in a row that may be held are held, go to rest, awake, and rest and awake without a hold. To
@@ -153,15 +164,15 @@ fn rest_and_wake(
     requires internal { last.now.port + n ≤ 65536 }
 {
     pool.hold(alloc, &last.address, last.protocol, start, n)?;
-    let held = openness::<Brand>(pool, start, last, Blank::new(1));
+    let held = openness(pool, start, last);
     pool.retire(start, last, n);
-    let retired = openness::<Brand>(pool, start, last, Blank::new(1));
+    let retired = openness(pool, start, last);
     pool.wake_run(last.protocol, start, n);
-    let awake = openness::<Brand>(pool, start, last, Blank::new(1));
+    let awake = openness(pool, start, last);
     pool.rest_run(alloc, start, last, n)?;
-    let rests = openness::<Brand>(pool, start, last, Blank::new(1));
+    let rests = openness(pool, start, last);
     pool.wake_run(last.protocol, start, n);
-    let again = openness::<Brand>(pool, start, last, Blank::new(1));
+    let again = openness(pool, start, last);
     Ok([held, retired, awake, rests, again])
 }
 

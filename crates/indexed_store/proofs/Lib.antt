@@ -2,6 +2,7 @@ pub mod Views
 pub mod Uniques
 pub mod SortLemmas
 pub mod LookLemmas
+pub mod LevelLemmas
 pub mod RunLemmas
 pub mod MoveLemmas
 pub mod TouchLemmas

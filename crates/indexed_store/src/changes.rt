@@ -35,7 +35,7 @@ impl Leases {
         ensures steps { steps.new ≤ steps.old
             + table_steps self.old.table self.old.maps_reached self.old.peers_reached m }
     {
-        self.maps.reach(m);
+        self.maps.reach(m, steps);
         self.peers.reach(m, steps);
     }
 

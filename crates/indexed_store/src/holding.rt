@@ -50,7 +50,7 @@ impl Leases {
     fn map_expiry(&self, protocol: Protocol, port: u16) -> Option<u64>
         ensures { result ≡ option_map (λ l. l.expiry) (map_owning protocol port self.now.table.maps) }
     {
-        let Some(lease) = self.maps.by_external(protocol, port) else {
+        let Some(lease) = self.map_owning(protocol, port) else {
             return None;
         };
         Some(lease.expiry)

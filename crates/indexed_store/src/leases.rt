@@ -17,8 +17,8 @@ impl Model for Leases {
     ghost Value = { TabledLeases };
 
     ghost view = { λ t. record {
-      table = record { maps = t.maps; peers = t.peers.leases };
-      maps_reached = 0;
+      table = record { maps = t.maps.leases; peers = t.peers.leases };
+      maps_reached = t.maps.reached;
       peers_reached = t.peers.reached;
     } };
 }

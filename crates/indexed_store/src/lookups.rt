@@ -23,7 +23,7 @@ impl Leases {
         ensures lease { result ≡ covering self.now.table m endpoint.now }
         ensures steps { steps.new ≤ steps.old + 4 * levels (length self.now.table.maps) }
     {
-        let Some(lease) = self.maps.find(endpoint) else {
+        let Some(lease) = self.maps.find(endpoint, steps) else {
             return None;
         };
         if lease.is_live(m) { Some(lease) } else { None }
@@ -89,7 +89,7 @@ impl Leases {
         ensures steps { m ≡ self.now.maps_reached → m ≡ self.now.peers_reached →
             steps.new ≡ steps.old }
     {
-        self.maps.live(m) + self.peers.live(m, steps)
+        self.maps.live(m, steps) + self.peers.live(m, steps)
     }
 
     /// The next greater internal port, of the endpoint's address and protocol, that a lease covers or
@@ -107,7 +107,7 @@ impl Leases {
         ensures steps { steps.new ≤ steps.old + 4 * levels (length self.now.table.maps)
             + levels (length self.now.table.peers) }
     {
-        let mapped = self.maps.next_internal(endpoint, m);
+        let mapped = self.maps.next_internal(endpoint, m, steps);
         let Some(port) = lesser(mapped, self.peers.next_internal(endpoint, m, steps)) else {
             return None;
         };

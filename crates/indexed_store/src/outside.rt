@@ -47,7 +47,7 @@ impl Leases {
             (filter (λ l. lets l.filters remote.now remote_port)
             (filter (λ l. nat_lt m l.expiry) self.now.table.maps)) }
     {
-        let Some(lease) = self.maps.by_external(protocol, port) else {
+        let Some(lease) = self.map_owning(protocol, port) else {
             return None;
         };
         if lets_in(&lease, m, remote, remote_port) {

@@ -3,11 +3,12 @@ ghost use Rattle.std.specs.Prelude.{◌≡◌, ◌≤◌, ◌<◌, max, is_some}
 ghost use Rattle.pcp_base.specs.Sound.{Sound};
 ghost use Rattle.lease_store.specs.Lookups.{covering, peering, named_port, peer_count, lease_count};
 ghost use Rattle.leased_ports.specs.Leased.{at_moment};
+ghost use Rattle.mapping_table.specs.MapLists.{map_owning};
 
 use crate::leases::Leases;
 use crate::state::IndexedState;
 use leased_ports::LeasedPorts;
-use pcp_base::{Address, Endpoint, MapLease, Moment, PeerLease};
+use pcp_base::{Address, Endpoint, MapLease, Moment, PeerLease, Protocol};
 use std::marker::Brand;
 use std::sync::ledger::{Blank, Ledger};
 use step_count::Steps;
@@ -168,11 +169,44 @@ impl Leases {
         self.count_from::<Brand>(m, Blank::new(1))
     }
 
+    fn is_covered_from<L: Ledger>(&self, m: Moment, endpoint: &Endpoint, blank: Blank) -> bool
+        requires name { blank.name ≡ L.name }
+        requires parts { blank.parts ≡ L.parts }
+        requires some { 0 < L.parts }
+        requires sound { Sound self.now.table }
+        ensures { result ≡ is_some (covering self.now.table m endpoint.now) }
+    {
+        self.maps
+            .covers(endpoint, m, &mut Steps::<L>::begin(blank))
+    }
+
     /// Whether a live MAP lease covers the endpoint.
     pub(crate) fn is_covered(&self, m: Moment, endpoint: &Endpoint) -> bool
         requires { Sound self.now.table }
         ensures { result ≡ is_some (covering self.now.table m endpoint.now) }
     {
-        self.maps.covers(endpoint, m)
+        self.is_covered_from::<Brand>(m, endpoint, Blank::new(1))
+    }
+
+    fn map_owning_from<L: Ledger>(
+        &self,
+        protocol: Protocol,
+        port: u16,
+        blank: Blank,
+    ) -> Option<MapLease>
+        requires name { blank.name ≡ L.name }
+        requires parts { blank.parts ≡ L.parts }
+        requires some { 0 < L.parts }
+        ensures { result ≡ map_owning protocol port self.now.table.maps }
+    {
+        self.maps
+            .by_external(protocol, port, &mut Steps::<L>::begin(blank))
+    }
+
+    /// The MAP lease that owns the port, live or not.
+    pub(crate) fn map_owning(&self, protocol: Protocol, port: u16) -> Option<MapLease>
+        ensures { result ≡ map_owning protocol port self.now.table.maps }
+    {
+        self.map_owning_from::<Brand>(protocol, port, Blank::new(1))
     }
 }

@@ -25,7 +25,7 @@ one_le false b h = omega arith
 
 -- the numbers at which something waits that is due are some of those that pass
 due-counted : (m : ℕ) (waits : FinMap nat_cmp ℕ) (p : ℕ → Bool) → ((s : ℕ) → is_due m (get waits s) ≡ true → p s ≡ true) → (n : ℕ) → due_below m waits n ≤ count_below p n
-unfolding due_below, count_below
+unfolding due_below count_below
 due-counted m waits p h zero = omega arith
 due-counted m waits p h (suc n) =
     let rest = due-counted m waits p h n in

@@ -1,7 +1,7 @@
 //! Calls of the ports of an address, with answers that are worked out by hand: which are picked where
 //! others are held or rest.
 
-ghost use Rattle.std.specs.Prelude.{◌≡◌, ◌<◌, ◌≤◌, ◌+◌, OnOk};
+ghost use Rattle.std.specs.Prelude.{◌≡◌, ◌≤◌, ◌<◌, ◌+◌, OnOk};
 ghost use Rattle.std.specs.Bool.{OnTrue};
 ghost use Rattle.external_pool.specs.Calls.{IsAsk};
 ghost use Rattle.leased_ports.specs.Leased.{IsLastEnd, AreLastEnds};
@@ -11,7 +11,7 @@ use Call::{FreeRun, LastEnd, Pick, PieceOf, Put, PutRun, Reach};
 use PickRefused::{CannotProvide, NoPort, Quota};
 use Protocol::{Tcp, Udp};
 use Wish::{Any, Away, First, Must};
-use external_pool::{PickAsk, PickRefused};
+use external_pool::{PickAsk, PickRefused, Picked};
 use leased_ports::LeasedPorts;
 use pcp_base::{End, Endpoint, Memory, Moment, Protocol, REST_SECONDS};
 use std::alloc::Global;
@@ -354,21 +354,32 @@ fn is_piece(
     (piece.last, piece.count) == wanted
 }
 
+/// What is picked for a caller that counts no steps.
+fn pick_from<L: Ledger>(
+    ports: &LeasedPorts,
+    endpoint: &Endpoint,
+    ask: &PickAsk,
+    blank: Blank,
+) -> Result<Picked, PickRefused>
+    requires name { blank.name ≡ L.name }
+    requires parts { blank.parts ≡ L.parts }
+    requires some { 0 < L.parts }
+    requires ask { IsAsk ask.now }
+    requires internal { ask.now.internal ≡ endpoint.now.port }
+{
+    ports.pick(endpoint, ask, &mut Steps::<L>::begin(blank))
+}
+
 /// What is picked for the endpoint, with room for as many ports as are asked for.
-fn pick<L: Ledger>(
+fn pick(
     ports: &LeasedPorts,
     endpoint: &Endpoint,
     suggested: u16,
     asked: u32,
     wish: Wish,
-    blank: Blank,
 ) -> Result<(u16, u32), PickRefused>
-    requires name { blank.name ≡ L.name }
-    requires parts { blank.parts ≡ L.parts }
-    requires part { 0 < L.parts }
-    requires some { 1 ≤ asked }
+    requires { 1 ≤ asked }
 {
-    let mut steps = Steps::<L>::begin(blank);
     let ask = PickAsk {
         internal: endpoint.port,
         suggested,
@@ -382,20 +393,19 @@ fn pick<L: Ledger>(
         must: matches!(wish, Must | Away),
         here: !matches!(wish, Away),
     };
-    let picked = ports.pick(endpoint, &ask, &mut steps)?;
+    let picked = pick_from::<Brand>(ports, endpoint, &ask, Blank::new(1))?;
     Ok((picked.start, picked.count))
 }
 
-/// Moves on to a moment.
-fn reach<L: Ledger>(ports: &mut LeasedPorts, m: Moment, blank: Blank)
+/// Moves on for a caller that counts no steps.
+fn reach_from<L: Ledger>(ports: &mut LeasedPorts, m: Moment, blank: Blank)
     requires name { blank.name ≡ L.name }
     requires parts { blank.parts ≡ L.parts }
-    requires part { 0 < L.parts }
+    requires some { 0 < L.parts }
     requires later { ports.old.reached ≤ m }
     ensures { ports.new.reached ≡ m }
 {
-    let mut steps = Steps::<L>::begin(blank);
-    ports.reach(m, &mut steps);
+    ports.reach(m, &mut Steps::<L>::begin(blank));
 }
 
 /// Moves on to a moment. Whether it isn't below the one reached.
@@ -406,7 +416,7 @@ fn reaches(ports: &mut LeasedPorts, now: &mut u32, m: u32) -> bool
     if m < *now {
         return false;
     }
-    reach::<Brand>(ports, moment(m), Blank::new(1));
+    reach_from::<Brand>(ports, moment(m), Blank::new(1));
     *now = m;
     true
 }
@@ -443,8 +453,7 @@ fn is_answered(
         Reach(m) => reaches(ports, now, m),
         Pick(host, protocol, internal, suggested, asked, wish, wanted) => {
             let endpoint = at(protocol, host, internal);
-            asked >= 1
-                && pick::<Brand>(ports, &endpoint, suggested, asked, wish, Blank::new(1)) == wanted
+            asked >= 1 && pick(ports, &endpoint, suggested, asked, wish) == wanted
         }
         LastEnd(port, wanted) => ports.last_end(Udp, port) == end_of(Udp, port, wanted),
         PutRun(host, protocol, internal, external, n, end) => {
@@ -466,7 +475,7 @@ fn is_answered(
 /// Whether the ports are vacant when they were cleared.
 fn forgets(ports: &mut LeasedPorts, low: u16) -> bool {
     ports.clear();
-    pick::<Brand>(ports, &at(Udp, 1, 1), 0, 1, Any, Blank::new(1)) == Ok((low, 1))
+    pick(ports, &at(Udp, 1, 1), 0, 1, Any) == Ok((low, 1))
 }
 
 /// Makes calls, one after the other, of ports from `low` on, from the moment 0 on, and clears them

@@ -1,5 +1,5 @@
 //! A store that some records made, and what it tells at moments that come later.
-ghost use Rattle.std.specs.Prelude.{◌≡◌, ◌<◌, ◌≤◌, OnOk, IfOk, IfSome};
+ghost use Rattle.std.specs.Prelude.{◌≡◌, ◌<◌, OnOk, IfOk, IfSome};
 ghost use Rattle.pcp_base.specs.Reached.{IsReached, IsReachedFirst};
 ghost use Rattle.lease_store.specs.LeaseTerms.{AreTerms};
 
@@ -9,7 +9,7 @@ use PickRefused::{CannotProvide, Quota};
 use Protocol::{Tcp, Udp};
 use external_pool::{PickAsk, PickRefused, Picked};
 use lease_store::{LeaseStore, Terms};
-use pcp_base::{Address, Endpoint, External, MapLease, Memory, Moment, PeerLease, Protocol};
+use pcp_base::{Address, Endpoint, External, MapLease, Memory, PeerLease, Protocol};
 use plain_store::PlainStore;
 use std::alloc::Global;
 use std::marker::Brand;
@@ -187,17 +187,13 @@ fn picked_of(row: Result<(u16, u32), PickRefused>) -> Result<Picked, PickRefused
 }
 
 /// Whether the ask is answered so.
-fn is_answered<L: Ledger>(store: &PlainStore, ask: &Ask, blank: Blank) -> bool
-    requires name { blank.name ≡ L.name }
-    requires parts { blank.parts ≡ L.parts }
-    requires part { 0 < L.parts }
-    requires reached { IsReached store.now.state }
+fn is_answered<L: Ledger>(store: &PlainStore, ask: &Ask, steps: &mut Steps<L>) -> bool
+    requires { IsReached store.now.state }
 {
     if ask.4 == 0 {
         return false;
     }
     let first = at(Udp, ask.1, ask.2);
-    let mut steps = Steps::<L>::begin(blank);
     let picked = store.pick(
         &first,
         &PickAsk {
@@ -209,39 +205,29 @@ fn is_answered<L: Ledger>(store: &PlainStore, ask: &Ask, blank: Blank) -> bool
             must: ask.6,
             here: true,
         },
-        &mut steps,
+        steps,
     );
     picked == picked_of(ask.7)
 }
 
-/// Moves on to a moment.
-fn reach<L: Ledger>(store: &mut PlainStore, m: Moment, blank: Blank)
+/// The first ask that is answered otherwise.
+fn first_other<L: Ledger>(store: &mut PlainStore, asks: &[Ask], blank: Blank) -> Option<usize>
     requires name { blank.name ≡ L.name }
     requires parts { blank.parts ≡ L.parts }
-    requires part { 0 < L.parts }
-    requires reached { IsReached store.old.state }
-    requires later { store.old.reached ≤ m }
-    ensures state { store.new.state ≡ store.old.state }
-    ensures reached { store.new.reached ≡ m }
-{
-    let mut steps = Steps::<L>::begin(blank);
-    store.reach(m, &mut steps);
-}
-
-/// The first ask that is answered otherwise.
-fn first_other(store: &mut PlainStore, asks: &[Ask]) -> Option<usize>
+    requires some { 0 < L.parts }
     requires reached { IsReached store.old.state }
     requires moment { store.old.reached ≡ store.old.state.last }
 {
+    let mut steps = Steps::<L>::begin(blank);
     let mut now = store.last();
     for (i, ask) in asks.iter().enumerate() {
         let m = moment(ask.0);
         if m.get() < now.get() {
             return Some(i);
         }
-        reach::<Brand>(store, m, Blank::new(1));
+        store.reach(m, &mut steps);
         now = m;
-        if !is_answered::<Brand>(store, ask, Blank::new(1)) {
+        if !is_answered(store, ask, &mut steps) {
             return Some(i);
         }
     }
@@ -276,59 +262,44 @@ fn peer_told(lease: Option<PeerLease>) -> Option<u16> {
 }
 
 /// Whether the leases are found that cover and name these endpoints.
-fn finds_leases<L: Ledger>(store: &PlainStore, blank: Blank) -> bool
-    requires name { blank.name ≡ L.name }
-    requires parts { blank.parts ≡ L.parts }
-    requires part { 0 < L.parts }
-    requires reached { IsReached store.now.state }
+fn finds_leases<L: Ledger>(store: &PlainStore, steps: &mut Steps<L>) -> bool
+    requires { IsReached store.now.state }
 {
-    let mut steps = Steps::<L>::begin(blank);
-    let covered = map_told(store.covering(&at(Udp, 5, 5001), &mut steps));
-    let uncovered = map_told(store.covering(&at(Udp, 5, 5002), &mut steps));
+    let covered = map_told(store.covering(&at(Udp, 5, 5001), steps));
+    let uncovered = map_told(store.covering(&at(Udp, 5, 5002), steps));
     let other = at(Udp, 6, 6000);
-    let named = peer_told(store.peering(&other, &remote(7), 443, &mut steps));
-    let unnamed = peer_told(store.peering(&other, &remote(8), 443, &mut steps));
+    let named = peer_told(store.peering(&other, &remote(7), 443, steps));
+    let unnamed = peer_told(store.peering(&other, &remote(8), 443, steps));
     (covered, uncovered, named, unnamed) == (Some(1024), None, Some(1026), None)
 }
 
 /// Whether the PEER leases are told and counted that name these endpoints.
-fn tells_names<L: Ledger>(store: &PlainStore, blank: Blank) -> bool
-    requires name { blank.name ≡ L.name }
-    requires parts { blank.parts ≡ L.parts }
-    requires part { 0 < L.parts }
-    requires reached { IsReached store.now.state }
+fn tells_names<L: Ledger>(store: &PlainStore, steps: &mut Steps<L>) -> bool
+    requires { IsReached store.now.state }
 {
-    let mut steps = Steps::<L>::begin(blank);
     let (first, second) = (at(Udp, 5, 5000), at(Udp, 5, 5001));
-    let named = (
-        store.named_port(&first, &mut steps),
-        store.named_port(&second, &mut steps),
-    );
-    let counts = (
-        store.peer_count(&first, &mut steps),
-        store.peer_count(&second, &mut steps),
-    );
+    let named = store.named_port(&first, steps);
+    let named = (named, store.named_port(&second, steps));
+    let count = store.peer_count(&first, steps);
+    let counts = (count, store.peer_count(&second, steps));
     named == (Some(1024), None) && counts == (1, 0)
 }
 
 /// Whether the ports inside and the leases are told and counted.
-fn tells_leases<L: Ledger>(store: &PlainStore, blank: Blank) -> bool
-    requires name { blank.name ≡ L.name }
-    requires parts { blank.parts ≡ L.parts }
-    requires part { 0 < L.parts }
-    requires reached { IsReached store.now.state }
+fn tells_leases<L: Ledger>(store: &PlainStore, steps: &mut Steps<L>) -> bool
+    requires { IsReached store.now.state }
 {
-    let mut steps = Steps::<L>::begin(blank);
     let first = at(Udp, 5, 5000);
-    let next = store.next_inside(&at(Udp, 5, 4000), &mut steps);
+    let next = store.next_inside(&at(Udp, 5, 4000), steps);
+    let second = store.next_inside(&first, steps);
     let inside = (
         next,
-        store.next_inside(&first, &mut steps),
-        store.next_inside(&at(Udp, 5, 5001), &mut steps),
+        second,
+        store.next_inside(&at(Udp, 5, 5001), steps),
     );
     let (live, over) = (moment(1139), moment(1140));
     let covered = (store.covered(&first, live), store.covered(&first, over));
-    let counts = (store.lease_count(&mut steps), store.leases(over));
+    let counts = (store.lease_count(steps), store.leases(over));
     inside == (Some(5000), Some(5001), None) && covered == (true, false) && counts == (5, 3)
 }
 
@@ -380,12 +351,23 @@ fn is_told(alloc: Global) -> Result<bool, Memory> {
     tells_state(alloc, &store)
 }
 
+/// Whether the leases are found, told and counted, for a caller that counts no steps.
+fn finds_from<L: Ledger>(store: &PlainStore, blank: Blank) -> bool
+    requires name { blank.name ≡ L.name }
+    requires parts { blank.parts ≡ L.parts }
+    requires some { 0 < L.parts }
+    requires reached { IsReached store.now.state }
+{
+    let mut steps = Steps::<L>::begin(blank);
+    finds_leases(store, &mut steps)
+        && tells_names(store, &mut steps)
+        && tells_leases(store, &mut steps)
+}
+
 fn tells_state(alloc: Global, store: &PlainStore) -> Result<bool, Memory>
     requires { IsReached store.now.state }
 {
-    let finds = finds_leases::<Brand>(store, Blank::new(1))
-        && tells_names::<Brand>(store, Blank::new(1))
-        && tells_leases::<Brand>(store, Blank::new(1));
+    let finds = finds_from::<Brand>(store, Blank::new(1));
     Ok(finds && tells_the_rest(store) && tells_lists(alloc, store)? && tells_owners(alloc, store)?)
 }
 
@@ -403,22 +385,21 @@ fn admits_first(alloc: Global, store: &mut PlainStore, act: Act) -> Result<bool,
     store.admit_first(alloc, &kept)
 }
 
-/// How many leases are live at the moment reached.
-fn lease_count<L: Ledger>(store: &PlainStore, blank: Blank) -> u32
+/// Whether no lease is live, for a caller that counts no steps.
+fn is_empty_from<L: Ledger>(store: &PlainStore, blank: Blank) -> bool
     requires name { blank.name ≡ L.name }
     requires parts { blank.parts ≡ L.parts }
-    requires part { 0 < L.parts }
+    requires some { 0 < L.parts }
     requires reached { IsReached store.now.state }
 {
-    let mut steps = Steps::<L>::begin(blank);
-    store.lease_count(&mut steps)
+    store.lease_count(&mut Steps::<L>::begin(blank)) == 0
 }
 
 /// Whether the store forgets its state, and admits a Start by the first format then, and no second
 /// record, which names the external address.
 fn forgets(alloc: Global, store: &mut PlainStore) -> Result<bool, Memory> {
     store.clear();
-    let none = lease_count::<Brand>(store, Blank::new(1)) == 0 && store.last().get() == 0;
+    let none = is_empty_from::<Brand>(store, Blank::new(1)) && store.last().get() == 0;
     let begins = admits_first(alloc, store, Act::Start)?;
     let renumbers = admits_first(alloc, store, Act::Renumber(1))?;
     Ok(none && begins && !renumbers && store.base().get() == 5 && store.address() == None)
@@ -443,7 +424,7 @@ fn first_others(alloc: Global) -> Result<(Option<usize>, Option<usize>), Memory>
     };
     Ok((
         first_unseen(&store, &SIGHTS),
-        first_other(&mut store, &ASKS),
+        first_other::<Brand>(&mut store, &ASKS, Blank::new(1)),
     ))
 }
 

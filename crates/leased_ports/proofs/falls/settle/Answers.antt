@@ -13,7 +13,7 @@ pub loop-preserved : goal.loop-preserved
 loop-preserved g c = record {
   on = λ low high most h. c.fall.ensures.on low high most (c.loop.invariant.on low high most h);
   falling = c.fall.ensures.falling c.args.ends.now c.loop.invariant.falling;
-  paid = (let fewer = c.fall.ensures.fewer in let more = c.fall.ensures.more in let paid = c.loop.invariant.paid in omega (arith, fewer, more, paid));
+  paid = (let fewer = c.loop-test.ensures.fewer in let more = c.loop-test.ensures.more in let paid = c.loop.invariant.paid in omega (arith, fewer, more, paid));
 }
 
 pub returns-clause-on : goal.returns-clause-on

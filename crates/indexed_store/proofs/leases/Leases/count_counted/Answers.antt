@@ -10,6 +10,6 @@ pub returns-clause-count : goal.returns-clause-count
 returns-clause-count g c =
     let alive : MapLease → Bool = λ l. nat_lt c.args.m l.expiry in
     let awake : PeerLease → Bool = λ l. nat_lt c.args.m l.expiry in
-    let maps : c.live.result ≡ count_by alive c.args.self.now.table.maps = c.live.ensures ∙ ap (λ (t : Table). count_by alive t.maps) (table_of c.self.view_is) in
+    let maps : c.live.result ≡ count_by alive c.args.self.now.table.maps = c.live.ensures.live ∙ ap (λ (t : Table). count_by alive t.maps) (table_of c.self.view_is) in
     let peers : c.live-2.result ≡ count_by awake c.args.self.now.table.peers = c.live-2.ensures.live ∙ ap (λ (t : Table). count_by awake t.peers) (table_of c.self.view_is) in
     omega (arith, maps, peers, length-filter alive c.args.self.now.table.maps, length-filter awake c.args.self.now.table.peers)

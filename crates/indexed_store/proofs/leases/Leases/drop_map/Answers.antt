@@ -36,9 +36,9 @@ pub returns-clause-leaving : goal.returns-clause-leaving
 returns-clause-leaving c = λ start h.
     let m = c.args.m in let t = c.args.self.now.table in let l = c.in-Some.lease in
     let left = c.args.left.now.items in
-    let before : Table = record { maps = c.self.inside.maps; peers = c.self.inside.peers.leases } in
-    let gone = removed t before l _ c.remove.new.self (table_of c.self.view_is) c.first_endpoint.ensures
-    c.remove.ensures.removed in
+    let before : Table = record { maps = c.self.inside.maps.leases; peers = c.self.inside.peers.leases } in
+    let gone = removed t before l _ c.remove.new.self.leases (table_of c.self.view_is) c.first_endpoint.ensures
+    c.remove.ensures.removed.removed in
     let more = pushed left _ c.run_of_map.result (map_run l) c.in_ok-push.ensures.items
     c.run_of_map.ensures.value in
     let formed = subst IsOwnerRun c.run_of_map.ensures.value c.run_of_map.ensures.formed in
@@ -48,17 +48,17 @@ returns-clause-leaving c = λ start h.
 pub returns-clause-sound : goal.returns-clause-sound
 returns-clause-sound c =
     let t = c.args.self.now.table in let l = c.in-Some.lease in
-    let before : Table = record { maps = c.self.inside.maps; peers = c.self.inside.peers.leases } in
-    let gone = removed t before l _ c.remove.new.self (table_of c.self.view_is) c.first_endpoint.ensures
-    c.remove.ensures.removed in
+    let before : Table = record { maps = c.self.inside.maps.leases; peers = c.self.inside.peers.leases } in
+    let gone = removed t before l _ c.remove.new.self.leases (table_of c.self.view_is) c.first_endpoint.ensures
+    c.remove.ensures.removed.removed in
     subst Sound (sym gone)
     (Sound-filter_maps t (λ (x : MapLease). not (is_map_of (first_endpoint l) x)) c.requires)
 
 pub returns-clause-fewer : goal.returns-clause-fewer
 returns-clause-fewer c = λ _.
     let m = c.args.m in let t = c.args.self.now.table in let l = c.in-Some.lease in
-    let before : Table = record { maps = c.self.inside.maps; peers = c.self.inside.peers.leases } in
-    let gone = removed t before l _ c.remove.new.self (table_of c.self.view_is) c.first_endpoint.ensures
-    c.remove.ensures.removed in
+    let before : Table = record { maps = c.self.inside.maps.leases; peers = c.self.inside.peers.leases } in
+    let gone = removed t before l _ c.remove.new.self.leases (table_of c.self.view_is) c.first_endpoint.ensures
+    c.remove.ensures.removed.removed in
     subst (λ (x : Table). length x.maps < length t.maps) (sym gone)
     (fewer_maps m t c.requires l c.in-Some.ensures.among c.in-Some.ensures.dead)

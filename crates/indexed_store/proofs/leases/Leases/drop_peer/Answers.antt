@@ -33,7 +33,7 @@ pub returns-clause-leaving : goal.returns-clause-leaving
 returns-clause-leaving c = λ start h.
     let m = c.args.m in let t = c.args.self.now.table in let l = c.in-Some.lease in
     let left = c.args.left.now.items in
-    let before : Table = record { maps = c.self.inside.maps; peers = c.self.inside.peers.leases } in
+    let before : Table = record { maps = c.self.inside.maps.leases; peers = c.self.inside.peers.leases } in
     let gone = removed t before l c.remove.new.self.leases (table_of c.self.view_is) c.remove.ensures.removed.removed in
     let more = pushed left _ c.run_of_peer.result (peer_run l) c.in_ok-push.ensures.items
     c.run_of_peer.ensures.value in
@@ -44,7 +44,7 @@ returns-clause-leaving c = λ start h.
 pub returns-clause-sound : goal.returns-clause-sound
 returns-clause-sound c =
     let t = c.args.self.now.table in let l = c.in-Some.lease in
-    let before : Table = record { maps = c.self.inside.maps; peers = c.self.inside.peers.leases } in
+    let before : Table = record { maps = c.self.inside.maps.leases; peers = c.self.inside.peers.leases } in
     let gone = removed t before l c.remove.new.self.leases (table_of c.self.view_is) c.remove.ensures.removed.removed in
     subst Sound (sym gone) (Sound-filter_peers t
     (λ (x : PeerLease). not (is_peer_of l.endpoint l.remote l.remote_port x)) c.requires)
@@ -52,7 +52,7 @@ returns-clause-sound c =
 pub returns-clause-fewer : goal.returns-clause-fewer
 returns-clause-fewer c = λ _.
     let m = c.args.m in let t = c.args.self.now.table in let l = c.in-Some.lease in
-    let before : Table = record { maps = c.self.inside.maps; peers = c.self.inside.peers.leases } in
+    let before : Table = record { maps = c.self.inside.maps.leases; peers = c.self.inside.peers.leases } in
     let gone = removed t before l c.remove.new.self.leases (table_of c.self.view_is) c.remove.ensures.removed.removed in
     subst (λ (x : Table). length x.peers < length t.peers) (sym gone)
     (fewer_peers m t c.requires l c.in-Some.ensures.among c.in-Some.ensures.dead)

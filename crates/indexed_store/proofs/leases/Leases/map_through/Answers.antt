@@ -6,12 +6,11 @@ use Rattle.filter_rules.specs.Filters.{allows}
 use Rattle.pcp_base.specs.Owners.{owns}
 use Rattle.mapping_table.specs.MapLists.{map_owning}
 use Rattle.indexed_store.proofs.Uniques.{none-within, one-within, gone-within_both, one-owns}
-use Rattle.indexed_store.proofs.Views.{table_of}
 use Rattle.indexed_store.proofs.leases.Leases.map_through.Goals as goal
 
 pub returns-in_default : goal.returns-in_default
 returns-in_default c =
-    let found = c.in_default.ensures ∙ ap (λ (t : Table). map_owning c.args.protocol c.args.port t.maps) (table_of c.self.view_is) in
+    let found = c.in_default.ensures in
     let alive : MapLease → Bool = λ l. nat_lt c.args.m l.expiry in
     let lets : MapLease → Bool = λ l. allows l.filters c.args.remote.now c.args.remote_port in
     let ls = c.args.self.now.table.maps in
@@ -19,7 +18,7 @@ returns-in_default c =
 
 pub returns-then-lets_in : goal.returns-then-lets_in
 returns-then-lets_in c =
-    let found = c.in-Some.ensures ∙ ap (λ (t : Table). map_owning c.args.protocol c.args.port t.maps) (table_of c.self.view_is) in
+    let found = c.in-Some.ensures in
     let alive : MapLease → Bool = λ l. nat_lt c.args.m l.expiry in
     let lets : MapLease → Bool = λ l. allows l.filters c.args.remote.now c.args.remote_port in
     let ls = c.args.self.now.table.maps in let l = c.in-Some.lease in
@@ -28,7 +27,7 @@ returns-then-lets_in c =
 
 pub returns-else-lets_in : goal.returns-else-lets_in
 returns-else-lets_in c =
-    let found = c.in-Some.ensures ∙ ap (λ (t : Table). map_owning c.args.protocol c.args.port t.maps) (table_of c.self.view_is) in
+    let found = c.in-Some.ensures in
     let alive : MapLease → Bool = λ l. nat_lt c.args.m l.expiry in
     let lets : MapLease → Bool = λ l. allows l.filters c.args.remote.now c.args.remote_port in
     let l = c.in-Some.lease in

@@ -10,7 +10,8 @@ use Rattle.indexed_store.proofs.leases.Leases.next_inside_counted.Goals as goal
 pub returns-in_default-clause-next : goal.returns-in_default-clause-next
 returns-in_default-clause-next g c =
     let e = c.args.endpoint.now in let m = c.args.m in
-    let maps = subst (λ (t : Table). IsNextCovered e (filter (is_live_map m) t.maps) c.next_internal-mapped.result) (table_of c.self.view_is) ? in
+    let maps = subst (λ (t : Table). IsNextCovered e (filter (is_live_map m) t.maps) c.next_internal-mapped.result) (table_of c.self.view_is)
+    (c.next_internal-mapped.ensures.next (c.requires.maps ∙ ap (λ (v : TabledLeases). v.maps_reached) (sym c.self.view_is))) in
     let peers = subst (λ (t : Table). IsNextNamed e (filter (is_live_peer m) t.peers) c.next_internal.result) (table_of c.self.view_is)
     (c.next_internal.ensures.next (c.requires.peers ∙ ap (λ (v : TabledLeases). v.peers_reached) (sym c.self.view_is))) in
     next-known c.args.self.now.table m e c.next_internal-mapped.result c.next_internal.result None c.in_default.ensures tt maps peers
@@ -18,7 +19,8 @@ returns-in_default-clause-next g c =
 pub returns-clause-next : goal.returns-clause-next
 returns-clause-next g c =
     let e = c.args.endpoint.now in let m = c.args.m in
-    let maps = subst (λ (t : Table). IsNextCovered e (filter (is_live_map m) t.maps) c.next_internal-mapped.result) (table_of c.self.view_is) ? in
+    let maps = subst (λ (t : Table). IsNextCovered e (filter (is_live_map m) t.maps) c.next_internal-mapped.result) (table_of c.self.view_is)
+    (c.next_internal-mapped.ensures.next (c.requires.maps ∙ ap (λ (v : TabledLeases). v.maps_reached) (sym c.self.view_is))) in
     let peers = subst (λ (t : Table). IsNextNamed e (filter (is_live_peer m) t.peers) c.next_internal.result) (table_of c.self.view_is)
     (c.next_internal.ensures.next (c.requires.peers ∙ ap (λ (v : TabledLeases). v.peers_reached) (sym c.self.view_is))) in
     next-known c.args.self.now.table m e c.next_internal-mapped.result c.next_internal.result (Some c.in-Some.port) c.in-Some.ensures (omega arith) maps peers

@@ -3,10 +3,10 @@ use Rattle.pcp_base.specs.Tables.{Table}
 use Rattle.mapping_table.specs.MapLists.{map_covering, some_live_map}
 use Rattle.indexed_store.proofs.Uniques.{covered-is}
 use Rattle.indexed_store.proofs.Views.{table_of}
-use Rattle.indexed_store.proofs.leases.Leases.is_covered.Goals as goal
+use Rattle.indexed_store.proofs.leases.Leases.is_covered_from.Goals as goal
 
 pub returns : goal.returns
-returns c =
+returns g c =
     let e = c.args.endpoint.now in let m = c.args.m in
-    c.covers.ensures ∙ ap (λ (t : Table). some_live_map m (map_covering e t.maps)) (table_of c.self.view_is)
+    c.covers.ensures.covers ∙ ap (λ (t : Table). some_live_map m (map_covering e t.maps)) (table_of c.self.view_is)
     ∙ covered-is c.args.self.now.table m e c.requires (map_covering e c.args.self.now.table.maps) refl
