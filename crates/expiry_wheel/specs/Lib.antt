@@ -1,3 +1,4 @@
 pub mod Due
+pub mod Nodes
 pub mod Order
 pub mod Slots

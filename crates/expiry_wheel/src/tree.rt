@@ -6,14 +6,11 @@ ghost use Rattle.expiry_wheel.specs.Order.{IsNoLater, sooner};
 ghost use Rattle.expiry_wheel.specs.Slots.{IsTree, HasSlots, IsWayUp, beside, kept_at, leaves_of, of_both};
 
 use crate::MOST_PAIRS;
-use crate::pair::{Pair, is_same, sooner};
+use crate::pair::{Node, Pair};
 use std::alloc::{AllocError, Global};
 use std::marker::Model;
 use std::sync::ledger::Ledger;
 use step_count::Steps;
-
-/// What a slot or a node keeps.
-pub type Node = Option<Pair>;
 
 /// Slots, and above them the nodes.
 #[derive(Drop)]
@@ -62,9 +59,9 @@ fn of_both(i: usize, node: Node, other: Node) -> Node
     ensures { result ≡ of_both i node other }
 {
     if i % 2 == 0 {
-        sooner(node, other)
+        node.sooner(other)
     } else {
-        sooner(other, node)
+        other.sooner(node)
     }
 }
 
@@ -89,7 +86,7 @@ fn write<L: Ledger>(nodes: &mut [Node], leaf: usize, node: Node, steps: &mut Ste
         kept = of_both(i, kept, other);
         i /= 2;
         nodes[i] = kept;
-        if is_same(was, kept) {
+        if was.is_same(kept) {
             return;
         }
     }
@@ -102,7 +99,7 @@ fn fill(nodes: &mut [Node])
     ensures slots { leaves_of nodes.new ≡ leaves_of nodes.old }
 {
     for i in (1..nodes.len() / 2).rev() {
-        nodes[i] = sooner(nodes[2 * i], nodes[2 * i + 1]);
+        nodes[i] = nodes[2 * i].sooner(nodes[2 * i + 1]);
     }
 }
 
@@ -112,7 +109,7 @@ fn blank(nodes: &mut [Node])
     ensures free { (i : ℕ) → kept_at nodes.new i ≡ None }
 {
     for i in 0..nodes.len() {
-        nodes[i] = None;
+        nodes[i] = Node::free();
     }
 }
 
@@ -122,7 +119,7 @@ fn add_free(nodes: &mut Vec<Node>, count: usize) -> Result<(), AllocError>
     ensures { OnOk result
         (nodes.new.items ≡ nodes.old.items ++ replicate (count - vec_len nodes.old) None) }
 {
-    nodes.resize(count, None)
+    nodes.resize(count, Node::free())
 }
 
 /// The same slots and free ones, up to `slots`, with the nodes above them.
@@ -148,7 +145,7 @@ impl Tree {
     pub fn new(alloc: Global) -> Result<Tree, AllocError>
         ensures { IfOk result (λ tree. tree ≡ None ∷ []) }
     {
-        let nodes = vec![in alloc; None, None]?;
+        let nodes = vec![in alloc; Node::free(), Node::free()]?;
         Ok(Tree { nodes })
     }
 
@@ -182,31 +179,31 @@ impl Tree {
     }
 
     /// What a slot keeps. It is one step.
-    pub fn slot<L: Ledger>(&self, slot: usize, steps: &mut Steps<L>) -> Node
+    pub fn slot<L: Ledger>(&self, slot: usize, steps: &mut Steps<L>) -> Option<Pair>
         requires { slot < length self.now }
         ensures few { length self.now ≤ MOST_PAIRS }
         ensures value { result ≡ kept_at self.now slot }
         ensures step { steps.new ≡ steps.old + 1 }
     {
-        look(&self.nodes, self.nodes.len() / 2 + slot, steps)
+        look(&self.nodes, self.nodes.len() / 2 + slot, steps).pair()
     }
 
     /// Sets what a slot keeps.
-    pub fn set<L: Ledger>(&mut self, slot: usize, node: Node, steps: &mut Steps<L>)
+    pub fn set<L: Ledger>(&mut self, slot: usize, pair: Option<Pair>, steps: &mut Steps<L>)
         requires { slot < length self.old }
-        ensures value { self.new ≡ slice_set self.old slot node }
+        ensures value { self.new ≡ slice_set self.old slot pair }
         ensures steps { IsWayUp (length self.old + slot) steps.old steps.new }
     {
         let slots = self.nodes.len() / 2;
-        write(&mut self.nodes, slots + slot, node, steps);
+        write(&mut self.nodes, slots + slot, Node::of(pair), steps);
     }
 
     /// The pair that falls due first. It is one step.
-    pub fn soonest<L: Ledger>(&self, steps: &mut Steps<L>) -> Node
+    pub fn soonest<L: Ledger>(&self, steps: &mut Steps<L>) -> Option<Pair>
         ensures present { Contains self.now result }
         ensures first { (slot : ℕ) → IsNoLater result (kept_at self.now slot) }
         ensures step { steps.new ≡ steps.old + 1 }
     {
-        look(&self.nodes, 1, steps)
+        look(&self.nodes, 1, steps).pair()
     }
 }

@@ -12,7 +12,7 @@ ghost use Rattle.expiry_wheel.specs.Due.{IsNextDue};
 use crate::MOST_PAIRS;
 use crate::by_id::SlotsById;
 use crate::pair::Pair;
-use crate::tree::{Node, Tree};
+use crate::tree::Tree;
 use pcp_base::Memory;
 use std::alloc::{AllocError, Global};
 use std::marker::{Brand, Model};
@@ -22,7 +22,7 @@ use step_count::Steps;
 /// Ids with the moments at which they expire, at most `MOST_PAIRS` of them.
 ///
 /// It is seen as a finite map from ids to expiries: a list of pairs of an id and an expiry, ids
-/// distinct. In memory it has 48 octets for each slot, and as many slots as there were pairs at
+/// distinct. In memory it has 32 octets for each slot, and as many slots as there were pairs at
 /// most, rounded up to a power of 2; and at most 8 octets for each id up to the greatest one.
 #[derive(Drop)]
 pub struct Wheel {
@@ -79,7 +79,7 @@ fn slot_for(slots: &SlotsById, tree: &mut Tree, alloc: Global, id: u32) -> Resul
 }
 
 /// Sets what a slot keeps, for a caller that counts no steps.
-fn set_uncounted<L: Ledger>(tree: &mut Tree, slot: usize, node: Node, blank: Blank)
+fn set_uncounted<L: Ledger>(tree: &mut Tree, slot: usize, node: Option<Pair>, blank: Blank)
     requires name { blank.name ≡ L.name }
     requires parts { blank.parts ≡ L.parts }
     requires some { 0 < L.parts }

@@ -13,7 +13,7 @@ first_of_all : (nodes slots : List (Option Pair)) (root : Option Pair) → HasSl
 first_of_all nodes slots root has tree is seen slot = subst (λ (s : List (Option Pair)). IsNoLater root (kept_at s slot)) seen (subst (λ (a : Option Pair). IsNoLater a (kept_at (leaves_of nodes) slot)) (sym is) (root_first nodes has tree slot))
 
 pub returns-clause-present : goal.returns-clause-present
-returns-clause-present g c = present_in c.self.inside.nodes.items c.args.self.now c.look.result c.self.invariant.0 c.self.invariant.1 (c.look.ensures.value ∙ ap (λ (s : List (Option Pair)). kept_at s 1) c.deref.ensures.value) c.self.view_is
+returns-clause-present g c = present_in c.self.inside.nodes.items c.args.self.now c.pair.result c.self.invariant.0 c.self.invariant.1 (c.pair.ensures ∙ c.look.ensures.value ∙ ap (λ (s : List (Option Pair)). kept_at s 1) c.deref.ensures.value) c.self.view_is
 
 pub returns-clause-first : goal.returns-clause-first
-returns-clause-first g c = first_of_all c.self.inside.nodes.items c.args.self.now c.look.result c.self.invariant.0 c.self.invariant.1 (c.look.ensures.value ∙ ap (λ (s : List (Option Pair)). kept_at s 1) c.deref.ensures.value) c.self.view_is
+returns-clause-first g c = first_of_all c.self.inside.nodes.items c.args.self.now c.pair.result c.self.invariant.0 c.self.invariant.1 (c.pair.ensures ∙ c.look.ensures.value ∙ ap (λ (s : List (Option Pair)). kept_at s 1) c.deref.ensures.value) c.self.view_is

@@ -1,4 +1,4 @@
-use Rattle.std.proofs.Common.{◌≡◌, ℕ, List, Option, Some, None, cond, is_some, unwrap_or, sym, ap, ◌∙◌, ◌==◌}
+use Rattle.std.proofs.Common.{◌≡◌, ℕ, List, Option, Some, None, is_some, unwrap_or, sym, ap, ◌∙◌}
 use Rattle.std.specs.FinMap as map
 use Rattle.expiry_wheel.specs.declared.pair.Pair.{Pair}
 use Rattle.expiry_wheel.specs.Slots.{kept_at}
