@@ -1,10 +1,9 @@
 pub mod Order
 pub mod Maps
-pub mod Marks
+pub mod Moments
 pub mod Pairs
 pub mod Next
-pub mod Trees
-pub mod Root
-pub mod Slots
+pub mod Walks
+pub mod Writes
 pub mod Wheels
 mod PlainLemmas

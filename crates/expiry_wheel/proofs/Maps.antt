@@ -1,7 +1,7 @@
 -- Finite maps from numbers by what they have at each number.
-use Rattle.std.proofs.Common.{◌≡◌, ◌≢◌, ℕ, ◌+◌, ◌-◌, ◌<◌, ◌≤◌, Bool, true, false, cond, Option, None, Some, IfSome, IfNone, refl, sym, ap, ◌∙◌, arith, ◌==◌, ltb, ◌⊎◌, inl, inr}
+use Rattle.std.proofs.Common.{◌≡◌, ◌≢◌, ℕ, ◌<◌, ◌≤◌, Bool, true, false, cond, Option, None, Some, refl, sym, ap, ◌∙◌, arith, ◌==◌, ltb, ◌⊎◌, inl, inr}
 use Rattle.std.specs.Ordering.{nat_cmp, eq_by_cmp}
-use Rattle.std.specs.FinMap.{FinMap, get, insert, remove, len, contains_key, len-insert, len-remove, get-insert, get-remove, same_map, nat_cmp-IsAntisymmetric}
+use Rattle.std.specs.FinMap.{FinMap, get, insert, remove, get-insert, get-remove, same_map, nat_cmp-IsAntisymmetric}
 use Rattle.std.specs.Cmp.{nat_cmp_total}
 use Rattle.std.proofs.lemmas.Bool.{eq-eqb}
 use Rattle.std.proofs.lemmas.Grind.{common_steps}
@@ -46,20 +46,3 @@ none_removed m k none = one_removed m m k (λ q. elim (same_or_not q k) [
   | inl e ↦ ap (get m) e ∙ none ∙ sym (cond_same q k None (get m q) e)
   | inr ne ↦ sym (cond_other q k None (get m q) ne)
 ])
-
--- how many pairs there are after a change
-pub len_inserted : (m : FinMap nat_cmp ℕ) (k v : ℕ) → len (insert m k v) ≤ len m + 1
-len_inserted m k v = elim (contains_key m k) as (λ b. contains_key m k ≡ b → len (insert m k v) ≤ len m + 1) [
-  | true ↦ λ e. let is : len (insert m k v) ≡ len m = len-insert nat_cmp_total m k v ∙ ap (λ b. cond b (len m) (len m + 1)) e in omega arith
-  | false ↦ λ e. let is : len (insert m k v) ≡ len m + 1 = len-insert nat_cmp_total m k v ∙ ap (λ b. cond b (len m) (len m + 1)) e in omega arith
-] refl
-
-pub len_removed : (m : FinMap nat_cmp ℕ) (k : ℕ) → len (remove m k) ≤ len m
-len_removed m k = elim (contains_key m k) as (λ b. contains_key m k ≡ b → len (remove m k) ≤ len m) [
-  | true ↦ λ e. let is : len (remove m k) ≡ len m - 1 = len-remove nat_cmp_total m k ∙ ap (λ b. cond b (len m - 1) (len m)) e in omega arith
-  | false ↦ λ e. let is : len (remove m k) ≡ len m = len-remove nat_cmp_total m k ∙ ap (λ b. cond b (len m - 1) (len m)) e in omega arith
-] refl
-
-pub len_due : (m n : FinMap nat_cmp ℕ) (found : Option ℕ) → IfSome found (λ id. n ≡ remove m id) → IfNone found (n ≡ m) → len n ≤ len m
-len_due m n None some none = let same : len n ≡ len m = ap len none in omega arith
-len_due m n (Some id) some none = let same : len n ≡ len (remove m id) = ap len some in omega (arith, len_removed m id)

@@ -7,7 +7,7 @@ use Rattle.std.specs.FinMap.{find, get, get-from_entries}
 use Rattle.std.specs.Cmp.{nat_cmp_total}
 use Rattle.expiry_wheel.proofs.Maps.{eq_by_cmp-nat, same_or_not, cond_same, cond_other, both_none, one_inserted, one_removed}
 use Rattle.expiry_wheel.specs.declared.pair.Pair.{Pair}
-use Rattle.expiry_wheel.specs.Slots.{IdsDiffer, expiry_in, expiries_of}
+use Rattle.expiry_wheel.specs.Pairs.{IdsDiffer, expiry_in, expiries_of}
 
 pub find-pairs : (pairs : List Pair) (q : ℕ) → find nat_cmp q (map (λ (p : Pair). (p.id, p.expiry)) pairs) ≡ expiry_in pairs q
 find-pairs [] q = refl

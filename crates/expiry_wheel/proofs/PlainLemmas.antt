@@ -4,7 +4,7 @@ use Rattle.std.proofs.lemmas.Option.{slice_get-get_or}
 use Rattle.std.specs.Ordering.{nat_cmp}
 use Rattle.std.specs.FinMap.{FinMap, get}
 use Rattle.expiry_wheel.specs.declared.pair.Pair.{Pair}
-use Rattle.expiry_wheel.specs.Slots.{expiries_of, IdsDiffer}
+use Rattle.expiry_wheel.specs.Pairs.{expiries_of, IdsDiffer}
 use Rattle.expiry_wheel.specs.Order.{IsNoLater}
 use Rattle.expiry_wheel.proofs.Pairs.{get-expiries_of, expiry_in-at, at-expiry_in}
 use Rattle.expiry_wheel.proofs.Next.{IsSoonest}

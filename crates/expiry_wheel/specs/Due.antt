@@ -1,4 +1,4 @@
--- Which id falls due next (our own).
+-- Which id falls due next, and which is the first that is due (our own).
 use Rattle.std.specs.Prelude.{◌≡◌, ℕ, ◌≤◌, Some}
 use Rattle.std.specs.Ordering.{nat_cmp}
 use Rattle.std.specs.FinMap.{FinMap, get}
@@ -11,3 +11,11 @@ pub record IsNextDue (expiries : FinMap nat_cmp ℕ) (m id : ℕ) : Type 0 where
   pub due : expiry ≤ m
   pub least : (other e : ℕ) → get expiries other ≡ Some e → expiry ≤ e
   pub first : (other : ℕ) → get expiries other ≡ Some expiry → id ≤ other
+
+-- at the moment m: the least id from `from` on whose expiry is at most m
+pub record IsFirstDue (expiries : FinMap nat_cmp ℕ) (from m id : ℕ) : Type 0 where
+  pub expiry : ℕ
+  pub expires : get expiries id ≡ Some expiry
+  pub due : expiry ≤ m
+  pub from_on : from ≤ id
+  pub first : (other e : ℕ) → get expiries other ≡ Some e → e ≤ m → from ≤ other → id ≤ other

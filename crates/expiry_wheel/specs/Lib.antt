@@ -1,4 +1,6 @@
+pub mod Blocks
 pub mod Due
-pub mod Nodes
+pub mod Firsts
+pub mod Moments
 pub mod Order
-pub mod Slots
+pub mod Pairs

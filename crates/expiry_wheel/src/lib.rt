@@ -5,7 +5,6 @@
 //! `plain::PlainWheel` keeps the same contract by a list that is searched, to compare with.
 #![tactic(auto)]
 
-mod by_id;
 mod pair;
 pub mod plain;
 mod tree;
@@ -13,8 +12,8 @@ mod wheel;
 
 pub use wheel::Wheel;
 
-/// The most pairs that a wheel may keep.
-pub const MOST_PAIRS: usize = 262_144;
-
 /// Ids from this number on are refused, as for want of memory.
-pub const IDS: u32 = 1_048_576;
+pub const IDS: u32 = 131_072;
+
+/// The moment at which nothing expires: an expiry is less.
+pub const NEVER: u64 = u64::MAX;

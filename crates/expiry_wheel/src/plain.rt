@@ -1,12 +1,12 @@
 //! The plain body: a list that is searched. It stands beside the fast one to compare with.
 
-ghost use Rattle.std.specs.Prelude.{◌≡◌, ◌≢◌, ℕ, ◌<◌, ◌≤◌, slice_get, Contains, Some, IfSome, IfNone, IfOk, OnOk, OnErr};
+ghost use Rattle.std.specs.Prelude.{◌≡◌, ◌≢◌, ℕ, ◌<◌, ◌≤◌, slice_get, Contains, Some, IfSome, IfNone, IfOk, OnOk, OnErr, length};
 ghost use Rattle.std.specs.Bool.{OnTrue, OnFalse};
 ghost use Rattle.std.specs.FinMap as map;
-ghost use Rattle.expiry_wheel.specs.Due.{IsNextDue};
+ghost use Rattle.expiry_wheel.specs.Due.{IsFirstDue, IsNextDue};
 ghost use Rattle.expiry_wheel.specs.Order.{IsNoLater};
+ghost use Rattle.expiry_wheel.specs.Firsts.{AllFrom, HasDue, is_due_from, lesser, with_due};
 
-use crate::MOST_PAIRS;
 use crate::pair::{Pair, sooner};
 use pcp_base::Memory;
 use std::alloc::Global;
@@ -28,8 +28,8 @@ impl Model for PlainWheel {
 
     ghost coded = { map.code coded_ℕ coded_ℕ };
 
-    ghost use Rattle.expiry_wheel.specs.Slots.{expiries_of};
-    ghost use Rattle.expiry_wheel.specs.Slots.{IdsDiffer};
+    ghost use Rattle.expiry_wheel.specs.Pairs.{expiries_of};
+    ghost use Rattle.expiry_wheel.specs.Pairs.{IdsDiffer};
 
     ghost view = { λ a. expiries_of a.pairs.items };
 
@@ -62,6 +62,46 @@ fn soonest(pairs: &[Pair]) -> Option<Pair>
     best
 }
 
+/// Whether a pair has an id from `from` on and an expiry up to `m`.
+fn is_due_from(pair: Pair, from: u32, m: u64) -> bool
+    ensures { result ≡ is_due_from from m pair }
+{
+    from <= pair.id && pair.expiry <= m
+}
+
+/// The lesser of two ids, if there is one.
+fn lesser(best: Option<u32>, id: u32) -> u32
+    ensures { result ≡ lesser best id }
+{
+    match best {
+        Some(least) => if least < id { least } else { id },
+        None => id,
+    }
+}
+
+/// The lesser of an id and of that of a pair, if the pair is due.
+fn with_due(best: Option<u32>, pair: Pair, from: u32, m: u64) -> Option<u32>
+    ensures { result ≡ with_due from m best pair }
+{
+    if is_due_from(pair, from, m) {
+        Some(lesser(best, pair.id))
+    } else {
+        best
+    }
+}
+
+/// The least id from `from` on of a pair with an expiry up to `m`.
+fn first_due(pairs: &[Pair], from: u32, m: u64) -> Option<u32>
+    ensures found { IfSome result (λ id. HasDue pairs.now from m id) }
+    ensures first { AllFrom pairs.now from m result (length pairs.now) }
+{
+    let mut best = None;
+    for pair in pairs {
+        best = with_due(best, *pair, from, m);
+    }
+    best
+}
+
 impl PlainWheel {
     /// A wheel with no pair. The one error is want of memory.
     pub fn new(alloc: Global) -> Result<PlainWheel, Memory>
@@ -74,7 +114,6 @@ impl PlainWheel {
 
     /// Sets the expiry of an id. The one error is want of memory, which changes nothing.
     pub fn put(&mut self, _alloc: Global, id: u32, expiry: u64) -> Result<(), Memory>
-        requires { map.len (map.insert self.old id expiry) ≤ MOST_PAIRS }
         ensures ok { OnOk result (self.new ≡ map.insert self.old id expiry) }
         ensures err { OnErr result (self.new ≡ self.old) }
     {
@@ -137,6 +176,15 @@ impl PlainWheel {
             return None;
         }
         Some(next.id)
+    }
+
+    /// The least id from `from` on whose expiry is at most `m`, else `None`. It stays in the wheel.
+    pub fn first_due(&self, from: u32, m: u64) -> Option<u32>
+        ensures first { IfSome result (IsFirstDue self.now from m) }
+        ensures none { IfNone result ((id expiry : ℕ)
+            → map.get self.now id ≡ Some expiry → from ≤ id → m < expiry) }
+    {
+        first_due(&self.pairs, from, m)
     }
 
     /// Takes out the pair with the least expiry, then the least id, if that expiry is at most `m`.

@@ -1,51 +1,76 @@
-//! A tree over slots. Each of its nodes keeps the pair that falls due first among those of the slots
-//! below it.
+//! A tree over blocks of ids. Each of its nodes keeps the least moment of the ids below it.
+//!
+//! The nodes lie in one list, level by level: the root at 1, the children of the node at `i` at
+//! `2 * i` and `2 * i + 1`, and the nodes of blocks in its second half. Place 0 is not used.
 
-ghost use Rattle.std.specs.Prelude.{◌≡◌, ℕ, ◌+◌, ◌-◌, ◌*◌, ◌/◌, ◌<◌, ◌≤◌, ◌∷◌, ◌++◌, [], length, vec_len, replicate, slice_set, Contains, None, IfOk, OnOk};
-ghost use Rattle.expiry_wheel.specs.Order.{IsNoLater, sooner};
-ghost use Rattle.expiry_wheel.specs.Slots.{IsTree, HasSlots, IsWayUp, beside, kept_at, leaves_of, of_both};
+ghost use Rattle.std.specs.Prelude.{◌≡◌, ◌⊎◌, ℕ, min, ◌+◌, ◌-◌, ◌*◌, ◌/◌, ◌%◌, ◌==◌, ◌<◌, ◌≤◌, if◌then◌else◌, length, vec_len, slice_set, IfOk, IfSome, IfNone};
+ghost use Rattle.std.specs.Bool.{OnTrue, OnFalse};
+ghost use Rattle.expiry_wheel.specs.Moments.{kept_at, IsFirstIn};
+ghost use Rattle.expiry_wheel.specs.Blocks.{least_at, above, IsTree, IsInRow, IsFirstBelow, IsWheel, IsNextIn};
 
-use crate::MOST_PAIRS;
-use crate::pair::{Node, Pair};
+use crate::{IDS, NEVER};
 use std::alloc::{AllocError, Global};
-use std::marker::Model;
 use std::sync::ledger::Ledger;
 use step_count::Steps;
 
-/// Slots, and above them the nodes.
-#[derive(Drop)]
-pub struct Tree {
-    nodes: Vec<Node>,
-}
+/// How many ids a block has.
+pub const BLOCK: usize = 8;
 
-impl Model for Tree {
-    ghost use Rattle.std.specs.Prelude.{List, Option};
-    ghost use Rattle.expiry_wheel.specs.declared.pair.Pair.{Pair};
-    ghost use Rattle.expiry_wheel.specs.Slots.{IsTree, HasSlots, leaves_of};
+/// How many blocks there are.
+pub const BLOCKS: usize = 16_384;
 
-    ghost Value = { List (Option Pair) };
+/// How many levels there are from the root down to the blocks.
+pub const LEVELS: usize = 14;
 
-    ghost view = { λ t. leaves_of t.nodes.items };
-
-    ghost invariant = { λ t. HasSlots t.nodes.items × IsTree t.nodes.items };
-}
-
-/// Looks at a node, which is a step. Nothing else that counts steps reads one.
-fn look<L: Ledger>(nodes: &[Node], i: usize, steps: &mut Steps<L>) -> Node
-    requires { i < length nodes.now }
-    ensures value { result ≡ kept_at nodes.now i }
+/// Looks at a moment or at a node, which is a step. Nothing else that counts steps reads one.
+fn look<L: Ledger>(cells: &[u64], i: usize, steps: &mut Steps<L>) -> u64
+    requires { i < length cells.now }
+    ensures value { result ≡ kept_at cells.now i }
     ensures step { steps.new ≡ steps.old + 1 }
 {
     steps.tick();
-    nodes[i]
+    cells[i]
+}
+
+/// `count` moments or nodes, of which each is `NEVER`.
+pub fn blank(alloc: Global, count: usize) -> Result<Vec<u64>, AllocError>
+    ensures all { IfOk result (λ cells. vec_len cells ≡ count) }
+    ensures never { IfOk result (λ cells. (i : ℕ) → kept_at cells.items i ≡ NEVER) }
+{
+    let cells = vec![in alloc; NEVER; count]?;
+    Ok(cells)
+}
+
+/// Sets all to `NEVER`.
+pub fn wipe(cells: &mut [u64])
+    ensures len { length cells.new ≡ length cells.old }
+    ensures never { (i : ℕ) → kept_at cells.new i ≡ NEVER }
+{
+    for i in 0..cells.len() {
+        cells[i] = NEVER;
+    }
+}
+
+/// The least of the moments of a block, each of which is looked at.
+fn least_of<L: Ledger>(moments: &[u64], block: usize, steps: &mut Steps<L>) -> u64
+    requires ids { length moments.now ≡ IDS }
+    requires block { block < BLOCKS }
+    ensures least { result ≡ least_at moments.now (8 * block) 8 }
+    ensures cost { steps.new ≡ steps.old + 8 }
+{
+    let mut least = NEVER;
+    for i in 0..BLOCK {
+        least = least.min(look(moments, BLOCK * block + i, steps));
+    }
+    least
 }
 
 /// Looks at the node beside the one at `i`, below the same parent.
-fn look_beside<L: Ledger>(nodes: &[Node], i: usize, steps: &mut Steps<L>) -> Node
+fn look_beside<L: Ledger>(nodes: &[u64], i: usize, steps: &mut Steps<L>) -> u64
     requires inner { 1 < i }
     requires within { 2 * (i / 2) + 1 < length nodes.now }
-    ensures value { result ≡ kept_at nodes.now (beside i) }
-    ensures step { steps.new ≡ steps.old + 1 }
+    ensures value { result ≡ kept_at nodes.now (if i % 2 == 0 then i + 1 else i - 1) }
+    ensures cost { steps.new ≡ steps.old + 1 }
 {
     if i % 2 == 0 {
         look(nodes, i + 1, steps)
@@ -54,156 +79,229 @@ fn look_beside<L: Ledger>(nodes: &[Node], i: usize, steps: &mut Steps<L>) -> Nod
     }
 }
 
-/// What the parent keeps of a node at `i` and of the one beside it.
-fn of_both(i: usize, node: Node, other: Node) -> Node
-    ensures { result ≡ of_both i node other }
-{
-    if i % 2 == 0 {
-        node.sooner(other)
-    } else {
-        other.sooner(node)
-    }
-}
-
-/// Writes a leaf, and the nodes above it up to the first that stays as it was.
-fn write<L: Ledger>(nodes: &mut [Node], leaf: usize, node: Node, steps: &mut Steps<L>)
-    requires slots { HasSlots nodes.old }
+/// Writes the node of a block, and the nodes above it up to the first that stays as it was.
+fn write<L: Ledger>(nodes: &mut [u64], leaf: usize, least: u64, steps: &mut Steps<L>)
+    requires places { length nodes.old ≡ 2 * BLOCKS }
     requires tree { IsTree nodes.old }
-    requires leaf { length nodes.old / 2 ≤ leaf }
-    requires within { leaf < length nodes.old }
+    requires leaf { BLOCKS ≤ leaf }
+    requires within { leaf < 2 * BLOCKS }
+    ensures places { length nodes.new ≡ 2 * BLOCKS }
     ensures tree { IsTree nodes.new }
-    ensures slots { leaves_of nodes.new
-        ≡ slice_set (leaves_of nodes.old) (leaf - length nodes.old / 2) node }
-    ensures steps { IsWayUp leaf steps.old steps.new }
+    ensures own { kept_at nodes.new leaf ≡ least }
+    ensures others { (i : ℕ) → BLOCKS ≤ i → (i ≡ leaf → ⊥) → kept_at nodes.new i ≡ kept_at nodes.old i }
+    ensures cost { steps.new ≤ steps.old + 29 }
+    ensures looked { steps.old < steps.new }
 {
-    let mut was = look(nodes, leaf, steps);
-    let mut kept = node;
-    nodes[leaf] = node;
+    if look(nodes, leaf, steps) == least {
+        return;
+    }
+    nodes[leaf] = least;
     let mut i = leaf;
-    while i > 1 {
-        let other = look_beside(nodes, i, steps);
-        was = of_both(i, was, other);
-        kept = of_both(i, kept, other);
+    let mut kept = least;
+    for level in 0..LEVELS {
+        kept = kept.min(look_beside(nodes, i, steps));
         i /= 2;
-        nodes[i] = kept;
-        if was.is_same(kept) {
+        if look(nodes, i, steps) == kept {
             return;
         }
+        nodes[i] = kept;
     }
 }
 
-/// Writes the nodes above the leaves, from the lowest to the root.
-fn fill(nodes: &mut [Node])
-    requires { HasSlots nodes.old }
-    ensures tree { IsTree nodes.new }
-    ensures slots { leaves_of nodes.new ≡ leaves_of nodes.old }
+/// Sets the moment of an id.
+pub fn set<L: Ledger>(
+    moments: &mut Vec<u64>,
+    nodes: &mut Vec<u64>,
+    id: usize,
+    moment: u64,
+    steps: &mut Steps<L>,
+)
+    requires id { id < IDS }
+    requires wheel { IsWheel moments.old.items nodes.old.items }
+    ensures moments { moments.new.items ≡ slice_set moments.old.items id moment }
+    ensures wheel { IsWheel moments.new.items nodes.new.items }
+    ensures cost { steps.new ≤ steps.old + 37 }
+    ensures looked { steps.old < steps.new }
 {
-    for i in (1..nodes.len() / 2).rev() {
-        nodes[i] = nodes[2 * i].sooner(nodes[2 * i + 1]);
-    }
+    moments[id] = moment;
+    let least = least_of(moments, id / BLOCK, steps);
+    write(nodes, BLOCKS + id / BLOCK, least, steps);
 }
 
-/// Frees all nodes.
-fn blank(nodes: &mut [Node])
-    ensures len { length nodes.new ≡ length nodes.old }
-    ensures free { (i : ℕ) → kept_at nodes.new i ≡ None }
+/// The first id from `from` up to `to`, which isn't among them, whose moment is at most `m`.
+fn first_in<L: Ledger>(
+    moments: &[u64],
+    from: usize,
+    to: usize,
+    m: u64,
+    steps: &mut Steps<L>,
+) -> Option<usize>
+    requires ordered { from ≤ to }
+    requires within { to ≤ length moments.now }
+    ensures found { IfSome result (IsFirstIn moments.now from m) }
+    ensures below { IfSome result (λ id. id < to) }
+    ensures none { IfNone result ((id : ℕ) → from ≤ id → id < to → m < kept_at moments.now id) }
+    ensures cost { steps.new ≤ steps.old + (to - from) }
+    ensures looked { from < to → steps.old < steps.new }
 {
-    for i in 0..nodes.len() {
-        nodes[i] = Node::free();
+    for id in from..to {
+        if look(moments, id, steps) <= m {
+            return Some(id);
+        }
     }
+    None
 }
 
-/// Adds free nodes until there are `count`.
-fn add_free(nodes: &mut Vec<Node>, count: usize) -> Result<(), AllocError>
-    requires { vec_len nodes.old ≤ count }
-    ensures { OnOk result
-        (nodes.new.items ≡ nodes.old.items ++ replicate (count - vec_len nodes.old) None) }
+/// The first child of a node whose least moment is at most `m`, as the node's own is. It looks at
+/// the left one.
+fn first_child<L: Ledger>(nodes: &[u64], node: usize, m: u64, steps: &mut Steps<L>) -> usize
+    requires { 2 * node < length nodes.now }
+    ensures child { ((result ≡ 2 * node) × (kept_at nodes.now (2 * node) ≤ m))
+        ⊎ ((result ≡ 2 * node + 1) × (m < kept_at nodes.now (2 * node))) }
+    ensures cost { steps.new ≡ steps.old + 1 }
 {
-    nodes.resize(count, Node::free())
+    if look(nodes, 2 * node, steps) <= m {
+        2 * node
+    } else {
+        2 * node + 1
+    }
 }
 
-/// The same slots and free ones, up to `slots`, with the nodes above them.
-fn widened(alloc: Global, nodes: &[Node], slots: usize) -> Result<Vec<Node>, AllocError>
-    requires slots { HasSlots nodes.now }
-    requires more { length nodes.now / 2 ≤ slots }
-    requires few { slots ≤ MOST_PAIRS }
-    ensures len { IfOk result (λ wider. length wider.items ≡ 2 * slots) }
-    ensures tree { IfOk result (λ wider. IsTree wider.items) }
-    ensures unchanged { IfOk result (λ wider.
-        (slot : ℕ) → kept_at (leaves_of wider.items) slot ≡ kept_at (leaves_of nodes.now) slot) }
+/// The first block below a node whose least moment is at most `m`, as the node's own is. There are
+/// `levels` below the node.
+fn first_block<L: Ledger>(
+    nodes: &[u64],
+    node: usize,
+    levels: usize,
+    m: u64,
+    steps: &mut Steps<L>,
+) -> usize
+    requires places { length nodes.now ≡ 2 * BLOCKS }
+    requires tree { IsTree nodes.now }
+    requires levels { levels ≤ LEVELS }
+    requires row { IsInRow (LEVELS - levels) node }
+    requires due { kept_at nodes.now node ≤ m }
+    ensures first { IsFirstBelow nodes.now m levels node result }
+    ensures cost { steps.new ≡ steps.old + levels }
 {
-    let mut wider = Vec::with_capacity(alloc, 2 * slots)?;
-    add_free(&mut wider, slots)?;
-    wider.extend_from_slice(&nodes[nodes.len() / 2..])?;
-    add_free(&mut wider, 2 * slots)?;
-    fill(&mut wider);
-    Ok(wider)
+    let mut i = node;
+    let mut left = levels;
+    while left > 0 {
+        i = first_child(nodes, i, m, steps);
+        left -= 1;
+    }
+    i
 }
 
-impl Tree {
-    /// A tree of one slot, which is free.
-    pub fn new(alloc: Global) -> Result<Tree, AllocError>
-        ensures { IfOk result (λ tree. tree ≡ None ∷ []) }
-    {
-        let nodes = vec![in alloc; Node::free(), Node::free()]?;
-        Ok(Tree { nodes })
+/// Whether a node is the left one of two, and the least moment of the right one is at most `m`.
+fn is_right_due<L: Ledger>(nodes: &[u64], node: usize, m: u64, steps: &mut Steps<L>) -> bool
+    requires { 2 * (node / 2) + 1 < length nodes.now }
+    ensures left { OnTrue result (node % 2 ≡ 0) }
+    ensures due { OnTrue result (kept_at nodes.now (node + 1) ≤ m) }
+    ensures later { OnFalse result (node % 2 ≡ 0 → m < kept_at nodes.now (node + 1)) }
+    ensures cost { steps.new ≤ steps.old + 1 }
+    ensures counted { steps.old ≤ steps.new }
+{
+    if node % 2 == 1 {
+        return false;
     }
+    look(nodes, node + 1, steps) <= m
+}
 
-    /// How many slots there are.
-    pub fn len(&self) -> usize
-        ensures { result ≡ length self.now }
-    {
-        self.nodes.len() / 2
+/// The first block after this one whose least moment is at most `m`.
+fn next_block<L: Ledger>(nodes: &[u64], leaf: usize, m: u64, steps: &mut Steps<L>) -> Option<usize>
+    requires places { length nodes.now ≡ 2 * BLOCKS }
+    requires tree { IsTree nodes.now }
+    requires leaf { BLOCKS ≤ leaf }
+    requires within { leaf < 2 * BLOCKS }
+    ensures found { IfSome result (IsFirstIn nodes.now (leaf + 1) m) }
+    ensures within { IfSome result (λ block. block < 2 * BLOCKS) }
+    ensures none { IfNone result (
+        (block : ℕ) → leaf < block → block < 2 * BLOCKS → m < kept_at nodes.now block) }
+    ensures cost { steps.new ≤ steps.old + 27 }
+    ensures counted { steps.old ≤ steps.new }
+{
+    let mut node = leaf;
+    for level in 0..LEVELS {
+        if is_right_due(nodes, node, m, steps) {
+            return Some(first_block(nodes, node + 1, level, m, steps));
+        }
+        node /= 2;
     }
+    None
+}
 
-    /// Makes more slots, which are free, up to twice as many. What the slots keep stays, also where
-    /// memory is wanting.
-    pub fn grow(&mut self, alloc: Global) -> Result<(), AllocError>
-        requires { length self.old < MOST_PAIRS }
-        ensures more { OnOk result (length self.old < length self.new) }
-        ensures few { length self.new ≤ 2 * length self.old }
-        ensures unchanged { (slot : ℕ) → kept_at self.new slot ≡ kept_at self.old slot }
-    {
-        let slots = self.nodes.len() / 2;
-        let more = MOST_PAIRS.min(2 * slots);
-        self.nodes = widened(alloc, &self.nodes, more)?;
-        Ok(())
-    }
+/// The first id of a block whose moment is at most `m`.
+fn first_of<L: Ledger>(moments: &[u64], leaf: usize, m: u64, steps: &mut Steps<L>) -> Option<usize>
+    requires ids { length moments.now ≡ IDS }
+    requires leaf { BLOCKS ≤ leaf }
+    requires within { leaf < 2 * BLOCKS }
+    ensures found { IfSome result (IsFirstIn moments.now (8 * (leaf - BLOCKS)) m) }
+    ensures below { IfSome result (λ id. id < 8 * (leaf - BLOCKS) + 8) }
+    ensures none { IfNone result ((id : ℕ) → 8 * (leaf - BLOCKS) ≤ id
+        → id < 8 * (leaf - BLOCKS) + 8 → m < kept_at moments.now id) }
+    ensures cost { steps.new ≤ steps.old + 8 }
+    ensures looked { steps.old < steps.new }
+{
+    let first = BLOCK * (leaf - BLOCKS);
+    first_in(moments, first, first + BLOCK, m, steps)
+}
 
-    /// Frees all slots. There are as many as before.
-    pub fn clear(&mut self)
-        ensures len { length self.new ≡ length self.old }
-        ensures free { (slot : ℕ) → kept_at self.new slot ≡ None }
-    {
-        blank(&mut self.nodes);
+/// The least id whose moment is the least of all, if that one is at most `m`.
+///
+/// Where there is none the root tells it. Else it looks at the root, at one node of each level below
+/// it, and at moments of one block.
+pub fn next<L: Ledger>(
+    moments: &[u64],
+    nodes: &[u64],
+    m: u64,
+    steps: &mut Steps<L>,
+) -> Option<usize>
+    requires wheel { IsWheel moments.now nodes.now }
+    requires sometime { m < NEVER }
+    ensures next { IfSome result (IsNextIn moments.now m) }
+    ensures within { IfSome result (λ id. id < IDS) }
+    ensures none { IfNone result ((id : ℕ) → id < IDS → m < kept_at moments.now id) }
+    ensures root { IfNone result (steps.new ≡ steps.old + 1) }
+    ensures looked { IfSome result (λ _. steps.old + 16 ≤ steps.new) }
+    ensures cost { steps.new ≤ steps.old + 23 }
+{
+    let least = look(nodes, 1, steps);
+    if m < least {
+        return None;
     }
+    let leaf = first_block(nodes, 1, LEVELS, least, steps);
+    first_of(moments, leaf, least, steps)
+}
 
-    /// What a slot keeps. It is one step.
-    pub fn slot<L: Ledger>(&self, slot: usize, steps: &mut Steps<L>) -> Option<Pair>
-        requires { slot < length self.now }
-        ensures few { length self.now ≤ MOST_PAIRS }
-        ensures value { result ≡ kept_at self.now slot }
-        ensures step { steps.new ≡ steps.old + 1 }
-    {
-        look(&self.nodes, self.nodes.len() / 2 + slot, steps).pair()
+/// The first id from `from` on whose moment is at most `m`.
+///
+/// It looks at moments of the id's own block, then on the way up at one node of each level, on the
+/// way down at one of each, and at moments of one block more.
+pub fn first_from<L: Ledger>(
+    moments: &[u64],
+    nodes: &[u64],
+    from: usize,
+    m: u64,
+    steps: &mut Steps<L>,
+) -> Option<usize>
+    requires wheel { IsWheel moments.now nodes.now }
+    requires from { from < IDS }
+    requires sometime { m < NEVER }
+    ensures found { IfSome result (IsFirstIn moments.now from m) }
+    ensures within { IfSome result (λ id. id < IDS) }
+    ensures none { IfNone result (
+        (id : ℕ) → from ≤ id → id < IDS → m < kept_at moments.now id) }
+    ensures cost { steps.new ≤ steps.old + 43 }
+    ensures looked { steps.old < steps.new }
+{
+    let block = from / BLOCK;
+    let found = first_in(moments, from, BLOCK * block + BLOCK, m, steps);
+    if found.is_some() {
+        return found;
     }
-
-    /// Sets what a slot keeps.
-    pub fn set<L: Ledger>(&mut self, slot: usize, pair: Option<Pair>, steps: &mut Steps<L>)
-        requires { slot < length self.old }
-        ensures value { self.new ≡ slice_set self.old slot pair }
-        ensures steps { IsWayUp (length self.old + slot) steps.old steps.new }
-    {
-        let slots = self.nodes.len() / 2;
-        write(&mut self.nodes, slots + slot, Node::of(pair), steps);
-    }
-
-    /// The pair that falls due first. It is one step.
-    pub fn soonest<L: Ledger>(&self, steps: &mut Steps<L>) -> Option<Pair>
-        ensures present { Contains self.now result }
-        ensures first { (slot : ℕ) → IsNoLater result (kept_at self.now slot) }
-        ensures step { steps.new ≡ steps.old + 1 }
-    {
-        look(&self.nodes, 1, steps).pair()
-    }
+    let Some(leaf) = next_block(nodes, BLOCKS + block, m, steps) else {
+        return None;
+    };
+    first_of(moments, leaf, m, steps)
 }

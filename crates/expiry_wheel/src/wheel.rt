@@ -1,33 +1,32 @@
-//! The fast body: slots by their ids, and a tree over the slots.
+//! The fast body: a moment for each id, and a tree over blocks of them.
 //!
-//! It is no timing wheel: of two nodes side by side the one above keeps the pair that falls due
-//! first, so that the root keeps the next.
+//! It is no timing wheel: of two nodes side by side the one above keeps the lesser moment, so that
+//! the root keeps the next.
 
 ghost use Rattle.std.specs.Bool.{OnTrue, OnFalse};
-ghost use Rattle.std.specs.Prelude.{◌-◌, ◌≡◌, ℕ, ◌+◌, ◌<◌, ◌≤◌, ◌^◌, length, slice_set, unwrap_or, Some, None, IfSome, IfNone, IfOk, OnOk, OnErr};
+ghost use Rattle.std.specs.Prelude.{◌≡◌, ℕ, ◌+◌, ◌<◌, ◌≤◌, length, Some, IfSome, IfNone, IfOk, OnOk, OnErr};
 ghost use Rattle.std.specs.FinMap as map;
-ghost use Rattle.expiry_wheel.specs.Slots.{expiries_in, kept_at, IsCostOfFilling, IsCostOfTaking, IsFilled, IsWheel};
-ghost use Rattle.expiry_wheel.specs.Due.{IsNextDue};
+ghost use Rattle.expiry_wheel.specs.Moments.{kept_at, latest, told, written};
+ghost use Rattle.expiry_wheel.specs.Due.{IsFirstDue, IsNextDue};
 
-use crate::MOST_PAIRS;
-use crate::by_id::SlotsById;
-use crate::pair::Pair;
-use crate::tree::Tree;
+use crate::tree::{BLOCKS, first_from, set, wipe};
+use crate::{IDS, NEVER, tree};
 use pcp_base::Memory;
-use std::alloc::{AllocError, Global};
+use std::alloc::Global;
 use std::marker::{Brand, Model};
 use std::sync::ledger::{Blank, Ledger};
 use step_count::Steps;
 
-/// Ids with the moments at which they expire, at most `MOST_PAIRS` of them.
+/// Ids below `IDS` with the moments at which they expire.
 ///
 /// It is seen as a finite map from ids to expiries: a list of pairs of an id and an expiry, ids
-/// distinct. In memory it has 32 octets for each slot, and as many slots as there were pairs at
-/// most, rounded up to a power of 2; and at most 8 octets for each id up to the greatest one.
+/// distinct. In memory it has 1,048,576 octets of moments and 262,144 of nodes, whatever it keeps.
 #[derive(Drop)]
 pub struct Wheel {
-    slots: SlotsById,
-    tree: Tree,
+    /// When each id expires, `NEVER` where it isn't in the wheel.
+    moments: Vec<u64>,
+    /// The tree over blocks of ids.
+    nodes: Vec<u64>,
 }
 
 impl Model for Wheel {
@@ -40,104 +39,35 @@ impl Model for Wheel {
 
     ghost coded = { map.code coded_ℕ coded_ℕ };
 
-    ghost use Rattle.expiry_wheel.specs.Slots.{expiries_in, kept_at, IsWheel};
+    ghost use Rattle.expiry_wheel.specs.Moments.{expiries_by};
+    ghost use Rattle.expiry_wheel.specs.Blocks.{IsWheel};
 
-    ghost view = { λ w. expiries_in w.slots (kept_at w.tree) };
+    ghost view = { λ w. expiries_by w.moments.items };
 
-    ghost invariant = { λ w. IsWheel w.slots w.tree };
+    ghost invariant = { λ w. IsWheel w.moments.items w.nodes.items };
 }
 
-/// The first free slot, for which the tree grows if it has none.
-fn free_slot(tree: &mut Tree, alloc: Global, taken: usize) -> Result<u32, AllocError>
-    requires within { taken ≤ length tree.old }
-    requires few { taken < MOST_PAIRS }
-    ensures slot { IfOk result (λ slot. slot ≡ taken) }
-    ensures small { IfOk result (λ slot. slot + 1 < 2 ^ 32) }
-    ensures room { OnOk result (taken < length tree.new) }
-    ensures unchanged { (slot : ℕ) → kept_at tree.new slot ≡ kept_at tree.old slot }
+/// The last moment up to `m` at which an id may expire.
+fn latest(m: u64) -> u64
+    ensures latest { result ≡ latest m }
+    ensures sometime { result < NEVER }
 {
-    if taken == tree.len() {
-        tree.grow(alloc)?;
-    }
-    Ok(taken as u32)
+    if m == NEVER { NEVER - 1 } else { m }
 }
 
-/// The slot of an id: its own, or else the first free one.
-fn slot_for(slots: &SlotsById, tree: &mut Tree, alloc: Global, id: u32) -> Result<u32, AllocError>
-    requires wheel { IsWheel slots.now tree.old }
-    requires few { map.get slots.now id ≡ None → map.len slots.now < MOST_PAIRS }
-    ensures slot { IfOk result (λ slot.
-        slot ≡ unwrap_or (map.get slots.now id) (map.len slots.now)) }
-    ensures small { IfOk result (λ slot. slot + 1 < 2 ^ 32) }
-    ensures room { IfOk result (λ slot. slot < length tree.new) }
-    ensures unchanged { (slot : ℕ) → kept_at tree.new slot ≡ kept_at tree.old slot }
+/// The moment of an id.
+fn moment_of(moments: &[u64], id: usize) -> u64
+    requires { id < length moments.now }
+    ensures { result ≡ kept_at moments.now id }
 {
-    match slots.get(id) {
-        Some(slot) => Ok(slot),
-        None => free_slot(tree, alloc, slots.len()),
-    }
+    moments[id]
 }
 
-/// Sets what a slot keeps, for a caller that counts no steps.
-fn set_uncounted<L: Ledger>(tree: &mut Tree, slot: usize, node: Option<Pair>, blank: Blank)
-    requires name { blank.name ≡ L.name }
-    requires parts { blank.parts ≡ L.parts }
-    requires some { 0 < L.parts }
-    requires slot { slot < length tree.old }
-    ensures { tree.new ≡ slice_set tree.old slot node }
+/// The expiry that a moment stands for.
+fn told(moment: u64) -> Option<u64>
+    ensures { result ≡ told moment }
 {
-    let mut steps = Steps::<L>::begin(blank);
-    tree.set(slot, node, &mut steps);
-}
-
-/// Moves the pair of the last taken slot into a slot, and gives its id this one, unless they are
-/// the same.
-fn fill_gap<L: Ledger>(
-    slots: &mut SlotsById,
-    tree: &mut Tree,
-    slot: u32,
-    last: usize,
-    steps: &mut Steps<L>,
-)
-    requires wheel { IsWheel slots.old tree.old }
-    requires slot { slot < map.len slots.old }
-    requires last { last ≡ map.len slots.old - 1 }
-    ensures filled { IsFilled slots.old tree.old slot last slots.new tree.new }
-    ensures few { length tree.old ≤ MOST_PAIRS }
-    ensures steps { IsCostOfFilling (length tree.old) slot last steps.old steps.new }
-{
-    let Some(pair) = tree.slot(last, steps) else {
-        return;
-    };
-    if slot as usize == last {
-        return;
-    }
-    tree.set(slot as usize, Some(pair), steps);
-    slots.relocate(pair.id, slot);
-}
-
-/// Takes out the pair in a slot. The pair of the last taken slot moves there, so that the free ones
-/// stay last.
-fn vacate<L: Ledger>(
-    slots: &mut SlotsById,
-    tree: &mut Tree,
-    id: u32,
-    slot: u32,
-    steps: &mut Steps<L>,
-)
-    requires wheel { IsWheel slots.old tree.old }
-    requires slot { map.get slots.old id ≡ Some slot }
-    ensures wheel { IsWheel slots.new tree.new }
-    ensures removed { expiries_in slots.new (kept_at tree.new)
-        ≡ map.remove (expiries_in slots.old (kept_at tree.old)) id }
-    ensures few { length tree.old ≤ MOST_PAIRS }
-    ensures steps { IsCostOfTaking (length tree.old) slot (map.len slots.old - 1)
-        steps.old steps.new }
-{
-    let last = slots.len() - 1;
-    fill_gap(slots, tree, slot, last, steps);
-    tree.set(last, None, steps);
-    slots.remove(id);
+    if moment == NEVER { None } else { Some(moment) }
 }
 
 impl Wheel {
@@ -145,35 +75,80 @@ impl Wheel {
     pub fn new(alloc: Global) -> Result<Wheel, Memory>
         ensures { IfOk result (λ wheel. wheel ≡ map.empty) }
     {
-        Ok(Wheel {
-            slots: SlotsById::new(alloc),
-            tree: Tree::new(alloc)?,
-        })
+        let moments = tree::blank(alloc, IDS as usize)?;
+        let nodes = tree::blank(alloc, 2 * BLOCKS)?;
+        Ok(Wheel { moments, nodes })
     }
 
     /// Takes out all pairs. It takes no memory.
     pub fn clear(&mut self)
         ensures { self.new ≡ map.empty }
     {
-        self.slots.clear();
-        self.tree.clear();
+        wipe(&mut self.moments);
+        wipe(&mut self.nodes);
     }
 
-    /// Sets the expiry of an id. The one error is want of memory, which changes nothing. Ids from
-    /// `IDS` on are refused so.
-    pub fn put(&mut self, alloc: Global, id: u32, expiry: u64) -> Result<(), Memory>
-        requires { map.len (map.insert self.old id expiry) ≤ MOST_PAIRS }
+    /// Sets the moment of an id, and counts what is looked at.
+    fn set_counted<L: Ledger>(&mut self, id: u32, moment: u64, steps: &mut Steps<L>)
+        requires { id < IDS }
+        ensures set { self.new ≡ written self.old id moment }
+        ensures cost { steps.new ≤ steps.old + 37 }
+        ensures looked { steps.old < steps.new }
+    {
+        set(
+            &mut self.moments,
+            &mut self.nodes,
+            id as usize,
+            moment,
+            steps,
+        );
+    }
+
+    /// Sets the moment of an id for a caller that counts no steps.
+    fn set_uncounted<L: Ledger>(&mut self, id: u32, moment: u64, blank: Blank)
+        requires name { blank.name ≡ L.name }
+        requires parts { blank.parts ≡ L.parts }
+        requires some { 0 < L.parts }
+        requires id { id < IDS }
+        ensures { self.new ≡ written self.old id moment }
+    {
+        let mut steps = Steps::<L>::begin(blank);
+        self.set_counted(id, moment, &mut steps);
+    }
+
+    /// Sets the moment of an id.
+    fn set(&mut self, id: u32, moment: u64)
+        requires { id < IDS }
+        ensures { self.new ≡ written self.old id moment }
+    {
+        self.set_uncounted::<Brand>(id, moment, Blank::new(1));
+    }
+
+    /// When an id expires, None where the wheel hasn't got it.
+    fn find(&self, id: u32) -> Option<u64>
+        ensures found { result ≡ map.get self.now id }
+        ensures within { IfSome result (λ _. id < IDS) }
+    {
+        let moments = &self.moments;
+        if id >= IDS {
+            return None;
+        }
+        told(moment_of(moments, id as usize))
+    }
+
+    /// Sets the expiry of an id. It takes no memory. Ids from `IDS` on, and the expiry `NEVER`, are
+    /// refused as for want of memory, which changes nothing.
+    pub fn put(&mut self, _alloc: Global, id: u32, expiry: u64) -> Result<(), Memory>
         ensures ok { OnOk result (self.new ≡ map.insert self.old id expiry) }
         ensures err { OnErr result (self.new ≡ self.old) }
     {
-        let slot = slot_for(&self.slots, &mut self.tree, alloc, id)?;
-        self.slots.insert(id, slot)?;
-        set_uncounted::<Brand>(
-            &mut self.tree,
-            slot as usize,
-            Some(Pair { expiry, id }),
-            Blank::new(1),
-        );
+        if id >= IDS {
+            return Err(Memory);
+        }
+        if expiry == NEVER {
+            return Err(Memory);
+        }
+        self.set(id, expiry);
         Ok(())
     }
 
@@ -182,32 +157,10 @@ impl Wheel {
         ensures found { result ≡ map.contains_key self.old id }
         ensures removed { self.new ≡ map.remove self.old id }
     {
-        self.remove_uncounted::<Brand>(id, Blank::new(1))
-    }
-
-    /// Removes for a caller that counts no steps.
-    fn remove_uncounted<L: Ledger>(&mut self, id: u32, blank: Blank) -> bool
-        requires name { blank.name ≡ L.name }
-        requires parts { blank.parts ≡ L.parts }
-        requires some { 0 < L.parts }
-        ensures found { result ≡ map.contains_key self.old id }
-        ensures removed { self.new ≡ map.remove self.old id }
-    {
-        let mut steps = Steps::<L>::begin(blank);
-        self.take_out(id, &mut steps)
-    }
-
-    /// Removes, and counts the nodes that are looked at.
-    fn take_out<L: Ledger>(&mut self, id: u32, steps: &mut Steps<L>) -> bool
-        ensures found { result ≡ map.contains_key self.old id }
-        ensures removed { self.new ≡ map.remove self.old id }
-        ensures steps { steps.new ≤ steps.old + 39 }
-        ensures looked { OnTrue result (steps.old < steps.new) }
-    {
-        let Some(slot) = self.slots.get(id) else {
+        let Some(_expiry) = self.find(id) else {
             return false;
         };
-        vacate(&mut self.slots, &mut self.tree, id, slot, steps);
+        self.set(id, NEVER);
         true
     }
 
@@ -215,67 +168,82 @@ impl Wheel {
     pub fn expiry(&self, id: u32) -> Option<u64>
         ensures { result ≡ map.get self.now id }
     {
-        self.expiry_uncounted::<Brand>(id, Blank::new(1))
+        self.find(id)
     }
 
-    /// Tells an expiry for a caller that counts no steps.
-    fn expiry_uncounted<L: Ledger>(&self, id: u32, blank: Blank) -> Option<u64>
-        requires name { blank.name ≡ L.name }
-        requires parts { blank.parts ≡ L.parts }
-        requires some { 0 < L.parts }
-        ensures { result ≡ map.get self.now id }
-    {
-        let mut steps = Steps::<L>::begin(blank);
-        let Some(slot) = self.slots.get(id) else {
-            return None;
-        };
-        let Some(pair) = self.tree.slot(slot as usize, &mut steps) else {
-            return None;
-        };
-        Some(pair.expiry)
-    }
-
-    /// Gives an id that the wheel has another expiry; false where it hasn't got it. The pair stays in
-    /// its slot, so it takes no memory.
+    /// Gives an id that the wheel has another expiry; false where it hasn't got it. It takes no
+    /// memory.
     pub fn reschedule(&mut self, id: u32, expiry: u64) -> bool
+        requires { expiry < NEVER }
         ensures found { result ≡ map.contains_key self.old id }
         ensures moved { OnTrue result (self.new ≡ map.insert self.old id expiry) }
         ensures unchanged { OnFalse result (self.new ≡ self.old) }
     {
-        let Some(slot) = self.slots.get(id) else {
+        let Some(_expiry) = self.find(id) else {
             return false;
         };
-        set_uncounted::<Brand>(
-            &mut self.tree,
-            slot as usize,
-            Some(Pair { expiry, id }),
-            Blank::new(1),
-        );
+        self.set(id, expiry);
         true
     }
 
+    /// As `next_due`, with the bound on the id.
+    fn next<L: Ledger>(&self, m: u64, steps: &mut Steps<L>) -> Option<u32>
+        ensures next { IfSome result (IsNextDue self.now m) }
+        ensures within { IfSome result (λ id. id < IDS) }
+        ensures none { IfNone result (
+            (id expiry : ℕ) → map.get self.now id ≡ Some expiry → m < expiry) }
+        ensures root { IfNone result (steps.new ≡ steps.old + 1) }
+        ensures looked { IfSome result (λ _. steps.old + 16 ≤ steps.new) }
+        ensures cost { steps.new ≤ steps.old + 23 }
+    {
+        let Some(id) = tree::next(&self.moments, &self.nodes, latest(m), steps) else {
+            return None;
+        };
+        Some(id as u32)
+    }
+
     /// The id with the least expiry, then the least id, if that expiry is at most `m`, else `None`.
-    /// It stays in the wheel. A step is one node of the tree that is looked at: the root.
+    /// It stays in the wheel.
+    ///
+    /// A step is a node of the tree or a moment that is looked at. `None` takes one, and an id at
+    /// most 23: the root, a node of each of 14 levels below it, and the moments of a block.
     pub fn next_due<L: Ledger>(&self, m: u64, steps: &mut Steps<L>) -> Option<u32>
         ensures next { IfSome result (IsNextDue self.now m) }
         ensures none { IfNone result (
             (id expiry : ℕ) → map.get self.now id ≡ Some expiry → m < expiry) }
-        ensures root { steps.new ≡ steps.old + 1 }
+        ensures root { IfNone result (steps.new ≡ steps.old + 1) }
+        ensures steps { steps.new ≤ steps.old + 23 }
+        ensures looked { IfSome result (λ _. steps.old + 16 ≤ steps.new) }
     {
-        let Some(next) = self.tree.soonest(steps) else {
-            return None;
-        };
-        if m < next.expiry {
+        self.next(m, steps)
+    }
+
+    /// The least id from `from` on whose expiry is at most `m`, else `None`. It stays in the wheel.
+    ///
+    /// A step is a node of the tree or a moment that is looked at, and the call takes at most 43:
+    /// the moments of two blocks, and at most 27 nodes on the way up from the one and down to the
+    /// other.
+    pub fn first_due<L: Ledger>(&self, from: u32, m: u64, steps: &mut Steps<L>) -> Option<u32>
+        ensures first { IfSome result (IsFirstDue self.now from m) }
+        ensures none { IfNone result ((id expiry : ℕ)
+            → map.get self.now id ≡ Some expiry → from ≤ id → m < expiry) }
+        ensures steps { steps.new ≤ steps.old + 43 }
+        ensures looked { from < IDS → steps.old < steps.new }
+    {
+        let moments = &self.moments;
+        if from >= IDS {
             return None;
         }
-        Some(next.id)
+        let Some(id) = first_from(moments, &self.nodes, from as usize, latest(m), steps) else {
+            return None;
+        };
+        Some(id as u32)
     }
 
     /// Takes out the pair with the least expiry, then the least id, if that expiry is at most `m`.
     /// Else it answers `None`, and changes nothing.
     ///
-    /// A step is one node of the tree that is looked at, and the call takes at most 64. The slot of
-    /// an id stands in a list at the id's place; what is looked at there isn't counted.
+    /// A step is a node of the tree or a moment that is looked at, and the call takes at most 64.
     pub fn due<L: Ledger>(&mut self, m: u64, steps: &mut Steps<L>) -> Option<u32>
         ensures next { IfSome result (IsNextDue self.old m) }
         ensures taken { IfSome result (λ id. self.new ≡ map.remove self.old id) }
@@ -286,13 +254,10 @@ impl Wheel {
         ensures root { IfNone result (steps.new ≡ steps.old + 1) }
         ensures looked { IfSome result (λ _. steps.old + 2 ≤ steps.new) }
     {
-        let Some(next) = self.tree.soonest(steps) else {
+        let Some(id) = self.next(m, steps) else {
             return None;
         };
-        if m < next.expiry {
-            return None;
-        }
-        self.take_out(next.id, steps);
-        Some(next.id)
+        self.set_counted(id, NEVER, steps);
+        Some(id)
     }
 }

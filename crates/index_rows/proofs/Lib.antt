@@ -1,3 +1,2 @@
 pub mod OnePort
 pub mod RunUses
-pub mod Moves

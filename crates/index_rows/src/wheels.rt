@@ -1,10 +1,10 @@
-//! Calls of both bodies of a wheel, with answers that are worked out by hand, and a wheel that grows.
+//! Calls of both bodies of a wheel, with answers that are worked out by hand, and generated ones.
 
-ghost use Rattle.std.specs.Prelude.{◌≡◌, ◌+◌, ◌<◌, ◌≤◌, length};
-ghost use Rattle.std.specs.FinMap as map;
+ghost use Rattle.std.specs.Prelude.{◌≡◌, ◌<◌};
+ghost use Rattle.expiry_wheel.specs.declared.TheConstants.{NEVER};
 
 use expiry_wheel::plain::PlainWheel;
-use expiry_wheel::{IDS, MOST_PAIRS, Wheel};
+use expiry_wheel::{IDS, NEVER, Wheel};
 use pcp_base::Memory;
 use std::alloc::Global;
 use std::marker::Brand;
@@ -20,11 +20,12 @@ enum Call {
     Remove(u32, bool),
     Due(u64, Option<u32>),
     Expiry(u32, Option<u64>),
-    Move(u32, u64, bool),
+    Move(u32, u32, bool),
     Next(u64, Option<u32>),
+    First(u32, u64, Option<u32>),
 }
 
-static CALLS: [Call; 32] = [
+static CALLS: [Call; 34] = [
     // An empty wheel.
     Call::Due(u64::MAX, None),
     Call::Remove(7, false),
@@ -59,10 +60,12 @@ static CALLS: [Call; 32] = [
     Call::Remove(5, false),
     Call::Due(9, Some(6)),
     // The ends of both ranges.
-    Call::Put(IDS - 1, u64::MAX),
+    Call::Put(IDS - 1, NEVER - 1),
     Call::Put(0, 0),
     Call::Due(0, Some(0)),
-    Call::Due(u64::MAX, Some(IDS - 1)),
+    Call::Due(NEVER - 2, None),
+    Call::Due(NEVER, Some(IDS - 1)),
+    Call::Due(NEVER, None),
 ];
 
 static MOVES: [Call; 22] = [
@@ -93,6 +96,33 @@ static MOVES: [Call; 22] = [
     Call::Due(60, Some(3)),
 ];
 
+static FIRSTS: [Call; 20] = [
+    // An empty wheel.
+    Call::First(0, NEVER, None),
+    // One block, from before it, at each id, and after it.
+    Call::Put(18, 50),
+    Call::Put(20, 40),
+    Call::First(0, 49, Some(20)),
+    Call::First(0, 50, Some(18)),
+    Call::First(18, 50, Some(18)),
+    Call::First(19, 50, Some(20)),
+    Call::First(20, 39, None),
+    Call::First(21, 50, None),
+    Call::First(24, 50, None),
+    // Other blocks, near and far, and the ends of the range.
+    Call::Put(40, 30),
+    Call::Put(IDS - 1, 60),
+    Call::Put(0, 70),
+    Call::First(21, 50, Some(40)),
+    Call::First(41, 60, Some(IDS - 1)),
+    Call::First(IDS - 1, 60, Some(IDS - 1)),
+    Call::First(IDS, 60, None),
+    Call::First(0, 69, Some(18)),
+    Call::First(0, 70, Some(0)),
+    // All stay.
+    Call::Due(69, Some(40)),
+];
+
 /// Puts a pair into both.
 fn put_both(
     wheel: &mut Wheel,
@@ -100,22 +130,14 @@ fn put_both(
     alloc: Global,
     id: u32,
     expiry: u64,
-) -> Result<(), Memory>
-    requires wheel { map.len wheel.old < MOST_PAIRS }
-    requires plain { map.len plain.old < MOST_PAIRS }
-    ensures wheel { map.len wheel.new ≤ map.len wheel.old + 1 }
-    ensures plain { map.len plain.new ≤ map.len plain.old + 1 }
-{
+) -> Result<(), Memory> {
     wheel.put(alloc, id, expiry)?;
     plain.put(alloc, id, expiry)?;
     Ok(())
 }
 
 /// Removes an id from both, which are to answer alike.
-fn remove_both<R: Abort>(rt: &R, wheel: &mut Wheel, plain: &mut PlainWheel, id: u32) -> bool
-    ensures wheel { map.len wheel.new ≤ map.len wheel.old }
-    ensures plain { map.len plain.new ≤ map.len plain.old }
-{
+fn remove_both<R: Abort>(rt: &R, wheel: &mut Wheel, plain: &mut PlainWheel, id: u32) -> bool {
     let removed = wheel.remove(id);
     let expected = plain.remove(id);
     assert!(rt; removed == expected, "remove {id}");
@@ -129,10 +151,7 @@ fn due_both<L: Ledger, R: Abort>(
     plain: &mut PlainWheel,
     m: u64,
     steps: &mut Steps<L>,
-) -> Option<u32>
-    ensures wheel { map.len wheel.new ≤ map.len wheel.old }
-    ensures plain { map.len plain.new ≤ map.len plain.old }
-{
+) -> Option<u32> {
     let found = wheel.due(m, steps);
     let expected = plain.due(m);
     assert!(rt; found == expected, "due at {m}");
@@ -147,8 +166,7 @@ fn move_both<R: Abort>(
     id: u32,
     expiry: u64,
 ) -> bool
-    ensures wheel { map.len wheel.new ≤ map.len wheel.old + 1 }
-    ensures plain { map.len plain.new ≤ map.len plain.old + 1 }
+    requires { expiry < NEVER }
 {
     let moved = wheel.reschedule(id, expiry);
     let expected = plain.reschedule(id, expiry);
@@ -171,6 +189,17 @@ fn next_of<L: Ledger>(
     (wheel.next_due(m, steps), plain.next_due(m))
 }
 
+/// What both tell of the first id that is due.
+fn first_of<L: Ledger>(
+    wheel: &Wheel,
+    plain: &PlainWheel,
+    from: u32,
+    m: u64,
+    steps: &mut Steps<L>,
+) -> (Option<u32>, Option<u32>) {
+    (wheel.first_due(from, m, steps), plain.first_due(from, m))
+}
+
 /// One call on both.
 fn answer<L: Ledger, R: Abort>(
     rt: &R,
@@ -179,12 +208,7 @@ fn answer<L: Ledger, R: Abort>(
     plain: &mut PlainWheel,
     steps: &mut Steps<L>,
     call: Call,
-) -> Result<(), Fail>
-    requires wheel { map.len wheel.old < MOST_PAIRS }
-    requires plain { map.len plain.old < MOST_PAIRS }
-    ensures wheel { map.len wheel.new ≤ map.len wheel.old + 1 }
-    ensures plain { map.len plain.new ≤ map.len plain.old + 1 }
-{
+) -> Result<(), Fail> {
     match call {
         Call::Put(id, expiry) => {
             put_both(wheel, plain, alloc, id, expiry)?;
@@ -206,13 +230,18 @@ fn answer<L: Ledger, R: Abort>(
             Ok(())
         }
         Call::Move(id, expiry, want) => {
-            let moved = move_both(rt, wheel, plain, id, expiry);
+            let moved = move_both(rt, wheel, plain, id, u64::from(expiry));
             assert!(rt; moved == want, "move {id}");
             Ok(())
         }
         Call::Next(m, want) => {
             let found = next_of(wheel, plain, m, steps);
             assert!(rt; found == (want, want), "next at {m}");
+            Ok(())
+        }
+        Call::First(from, m, want) => {
+            let found = first_of(wheel, plain, from, m, steps);
+            assert!(rt; found == (want, want), "first from {from} at {m}");
             Ok(())
         }
     }
@@ -227,7 +256,6 @@ fn answer_all<L: Ledger, R: Abort>(
     requires name { blank.name ≡ L.name }
     requires parts { blank.parts ≡ L.parts }
     requires some { 0 < L.parts }
-    requires few { length calls.now ≤ 100 }
 {
     let mut wheel = Wheel::new(alloc)?;
     let mut plain = PlainWheel::new(alloc)?;
@@ -248,21 +276,67 @@ fn ids_are_moved_and_told(rt: HostRuntime) -> Result<(), Fail> {
     answer_all::<Brand, HostRuntime>(&rt, rt.alloc(), Blank::new(1), &MOVES)
 }
 
-/// Whether a wheel with no pair refuses one.
-fn refuses(wheel: &mut Wheel, alloc: Global, id: u32) -> bool
-    requires { map.len wheel.old < MOST_PAIRS }
-{
-    wheel.put(alloc, id, 1).is_err()
+#[test]
+fn the_first_from_an_id_is_found(rt: HostRuntime) -> Result<(), Fail> {
+    answer_all::<Brand, HostRuntime>(&rt, rt.alloc(), Blank::new(1), &FIRSTS)
 }
 
 #[test]
-fn ids_are_below_a_bound(rt: HostRuntime) -> Result<(), Fail> {
+fn ids_and_expiries_are_below_a_bound(rt: HostRuntime) -> Result<(), Fail> {
     let mut wheel = Wheel::new(rt.alloc())?;
-    assert!(rt; refuses(&mut wheel, rt.alloc(), IDS));
+    assert!(rt; wheel.put(rt.alloc(), IDS, 1).is_err());
+    assert!(rt; wheel.put(rt.alloc(), 1, NEVER).is_err());
     Ok(())
 }
 
-/// Puts many pairs into both, and takes them out again.
+/// Whether both tell the same first id that is due.
+fn agree<L: Ledger>(
+    wheel: &Wheel,
+    plain: &PlainWheel,
+    from: u32,
+    m: u64,
+    steps: &mut Steps<L>,
+) -> bool {
+    let (found, expected) = first_of(wheel, plain, from, m, steps);
+    found == expected
+}
+
+/// Changes both by a number below 1,000, and asks both.
+fn turn<L: Ledger, R: Abort>(
+    rt: &R,
+    alloc: Global,
+    wheel: &mut Wheel,
+    plain: &mut PlainWheel,
+    steps: &mut Steps<L>,
+    i: u32,
+) -> Result<(), Memory>
+    requires { i < 1000 }
+{
+    put_both(
+        wheel,
+        plain,
+        alloc,
+        i * 7 % 600 * 218,
+        u64::from(i * 317 % 211),
+    )?;
+    move_both(
+        rt,
+        wheel,
+        plain,
+        i * 11 % 600 * 218,
+        u64::from(i * 97 % 211),
+    );
+    if i % 5 == 0 {
+        remove_both(rt, wheel, plain, i * 13 % 600 * 218);
+    }
+    assert!(rt;
+        agree(wheel, plain, i * 131, u64::from(i * 53 % 211), steps),
+        "first in turn {i}"
+    );
+    Ok(())
+}
+
+/// Fills both by many calls, and takes all out again.
 fn fill_both<L: Ledger, R: Abort>(rt: &R, alloc: Global, blank: Blank) -> Result<(), Fail>
     requires name { blank.name ≡ L.name }
     requires parts { blank.parts ≡ L.parts }
@@ -272,13 +346,7 @@ fn fill_both<L: Ledger, R: Abort>(rt: &R, alloc: Global, blank: Blank) -> Result
     let mut plain = PlainWheel::new(alloc)?;
     let mut steps = Steps::<L>::begin(blank);
     for i in 0..1000u32 {
-        put_both(
-            &mut wheel,
-            &mut plain,
-            alloc,
-            i * 7 % 600,
-            u64::from(i * 317 % 211),
-        )?;
+        turn(rt, alloc, &mut wheel, &mut plain, &mut steps, i)?;
     }
     for _ in 0..600u32 {
         due_both(rt, &mut wheel, &mut plain, u64::MAX, &mut steps);

@@ -116,6 +116,3 @@ module _ (r : Run End) (set : IsSet r) where
       low : (p : Protocol) → spot p r.value.external + r.count ≤ 131072
       low Tcp = omega (arith, set.within)
       low Udp = omega (arith, set.within)
-
-  pub id_low : r.first < 262144
-  id_low = omega (arith, place_low r.first place_first)

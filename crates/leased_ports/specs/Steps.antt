@@ -33,10 +33,6 @@ abbrev pub Waits : FinMap nat_cmp ℕ → ℕ → Option ℕ → FinMap nat_cmp 
 Waits old id until new =
     (other : ℕ) → get new other ≡ (if other == id then until else get old other)
 
--- no id from there on waits
-abbrev pub NoneFrom : ℕ → FinMap nat_cmp ℕ → Type 0
-NoneFrom n waits = (id : ℕ) → n ≤ id → get waits id ≡ None
-
 -- no run goes on over a spot
 abbrev pub BeginsAt : ℕ → List (Run End) → Type 0
 BeginsAt at runs = IfSome (run_at runs at) (λ r. r.first ≡ at)

@@ -3,9 +3,9 @@
 ghost use Rattle.std.specs.Prelude.{◌≡◌, ◌<◌, ◌+◌, ℕ, true, Some, None, OnOk, IfSome, IfNone};
 ghost use Rattle.std.specs.FinMap as fin;
 ghost use Rattle.expiry_wheel.specs.Due.{IsNextDue};
-ghost use Rattle.expiry_wheel.specs.declared.TheConstants.{MOST_PAIRS};
+ghost use Rattle.expiry_wheel.specs.declared.TheConstants.{NEVER};
 ghost use Rattle.leased_ports.specs.Falling.{is_until};
-ghost use Rattle.leased_ports.specs.Steps.{Waits, NoneFrom};
+ghost use Rattle.leased_ports.specs.Steps.{Waits};
 
 use expiry_wheel::Wheel;
 use pcp_base::Memory;
@@ -15,8 +15,6 @@ use step_count::Steps;
 
 /// Sets when an id falls due.
 pub fn put(wheel: &mut Wheel, alloc: Global, id: u32, expiry: u64) -> Result<(), Memory>
-    requires id { id < MOST_PAIRS }
-    requires few { NoneFrom MOST_PAIRS wheel.old }
     ensures { OnOk result (Waits wheel.old id (Some expiry) wheel.new) }
 {
     wheel.put(alloc, id, expiry)?;
@@ -25,7 +23,8 @@ pub fn put(wheel: &mut Wheel, alloc: Global, id: u32, expiry: u64) -> Result<(),
 
 /// Sets when an id that waits falls due.
 pub fn reschedule(wheel: &mut Wheel, id: u32, expiry: u64)
-    requires { fin.contains_key wheel.old id ≡ true }
+    requires there { fin.contains_key wheel.old id ≡ true }
+    requires sometime { expiry < NEVER }
     ensures { Waits wheel.old id (Some expiry) wheel.new }
 {
     wheel.reschedule(id, expiry);

@@ -62,8 +62,14 @@ retire-requires-clause-internal g c =
     let r = c.in-Some-run_at.run' in
     (due_set c.args.m c.args.ends.now c.args.pool.now c.args.wheel.now c.requires c.in-Some.id c.in-Some.ensures.next r (sym c.run_at.ensures.run ∙ c.in-Some-run_at.is)).internal
 
-pub reschedule-requires : goal.reschedule-requires
-reschedule-requires g c = ap is_some c.in-Some.ensures.next.expires
+pub reschedule-requires-clause-sometime : goal.reschedule-requires-clause-sometime
+reschedule-requires-clause-sometime g c =
+    let r = c.in-Some-run_at.run' in
+    let set = due_set c.args.m c.args.ends.now c.args.pool.now c.args.wheel.now c.requires c.in-Some.id c.in-Some.ensures.next r (sym c.run_at.ensures.run ∙ c.in-Some-run_at.is) in
+    omega (arith, set.near)
+
+pub reschedule-requires-clause-there : goal.reschedule-requires-clause-there
+reschedule-requires-clause-there g c = ap is_some c.in-Some.ensures.next.expires
 
 pub returns-clause-fewer : goal.returns-clause-fewer
 returns-clause-fewer g c =

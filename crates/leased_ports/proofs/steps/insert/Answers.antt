@@ -1,20 +1,13 @@
 use Rattle.std.proofs.Common.{ℕ, ◌==◌, Some, cond, ap, ◌∙◌}
 use Rattle.std.specs.FinMap.{get}
 use Rattle.leased_ports.specs.Kept.{held_at}
-use Rattle.leased_ports.proofs.SpotLemmas.{run_low, id_low}
-use Rattle.leased_ports.proofs.StepLemmas.{none_from}
+use Rattle.leased_ports.proofs.SpotLemmas.{run_low}
 use Rattle.leased_ports.proofs.BlockLemmas.{none_uses}
 use Rattle.leased_ports.proofs.AssignLemmas.{inserted}
 use Rattle.leased_ports.proofs.steps.insert.Goals as goal
 
 pub use_ports-requires-clause-free : goal.use_ports-requires-clause-free
 use_ports-requires-clause-free c = none_uses (held_at c.args.reached) c.args.ends.now c.args.pool.now c.args.wheel.now c.requires.in_step c.args.run.now c.requires.set c.requires.free
-
-pub put-requires-clause-id : goal.put-requires-clause-id
-put-requires-clause-id c = id_low c.args.run.now c.requires.set
-
-pub put-requires-clause-few : goal.put-requires-clause-few
-put-requires-clause-few c = none_from (held_at c.args.reached) c.args.ends.now c.args.wheel.now c.requires.in_step.scheduled
 
 pub insert-requires-clause-small : goal.insert-requires-clause-small
 insert-requires-clause-small c = run_low c.args.run.now c.requires.set

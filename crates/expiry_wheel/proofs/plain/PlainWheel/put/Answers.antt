@@ -2,7 +2,7 @@ use Rattle.std.proofs.Common.{◌≡◌, ◌≢◌, ◌<◌, ℕ, Some, List, sl
 use Rattle.std.specs.FinMap as map
 use Rattle.std.proofs.lemmas.Option.{slice_get_within}
 use Rattle.expiry_wheel.specs.declared.pair.Pair.{Pair}
-use Rattle.expiry_wheel.specs.Slots.{expiries_of, IdsDiffer}
+use Rattle.expiry_wheel.specs.Pairs.{expiries_of, IdsDiffer}
 use Rattle.expiry_wheel.proofs.Pairs.{none_found, IdsDiffer-push, IdsDiffer-set, expiries-push, expiries-set}
 use Rattle.expiry_wheel.proofs.plain.PlainWheel.put.Goals as goal
 

@@ -1,7 +1,7 @@
 use Rattle.std.proofs.Common.{◌≡◌, ◌≢◌, ℕ, Some, List, slice_get, sym, ap, ◌∙◌, subst, is_some}
 use Rattle.std.specs.FinMap as map
 use Rattle.expiry_wheel.specs.declared.pair.Pair.{Pair}
-use Rattle.expiry_wheel.specs.Slots.{expiries_of, IdsDiffer}
+use Rattle.expiry_wheel.specs.Pairs.{expiries_of, IdsDiffer}
 use Rattle.expiry_wheel.proofs.Maps.{none_removed}
 use Rattle.expiry_wheel.proofs.Pairs.{present_at, absent_for, IdsDiffer-remove, expiries-remove}
 use Rattle.expiry_wheel.proofs.plain.PlainWheel.remove.Goals as goal
