@@ -21,4 +21,4 @@ look_steps s = 35 * levels (length s.table.maps + length s.table.peers) + 133
 
 -- what it takes to reach a moment, from another on
 abbrev pub reach_steps : State → ℕ → ℕ → ℕ
-reach_steps s from m = table_steps s.table from from m + 1 + 169 * ends_due s from m
+reach_steps s from m = table_steps s.table from from m + 23 + 175 * ends_due s from m

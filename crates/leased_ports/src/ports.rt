@@ -216,7 +216,7 @@ impl LeasedPorts {
     pub fn reach<L: Ledger>(&mut self, m: Moment, steps: &mut Steps<L>)
         requires { self.old.reached ≤ m }
         ensures moved { self.new ≡ at_moment m self.old }
-        ensures steps { steps.new ≤ steps.old + 1 + (1 + RUN_STEPS) * ports_due self.old m }
+        ensures steps { steps.new ≤ steps.old + 23 + (23 + RUN_STEPS) * ports_due self.old m }
     {
         let now = m.get();
         settle(

@@ -8,7 +8,7 @@ abbrev pub invariant-loop : goal.invariant-loop
 invariant-loop g l = record {
   on : (low high most : ℕ) → IsOn l.fn.pool low high most → IsOn l.pool low high most;
   falling : AreFalling l.m l.fn.ends l.ends l.pool l.wheel;
-  paid : l.steps + 169 * due_below l.m l.wheel 131072 ≤ l.fn.steps + 169 * due_below l.m l.fn.wheel 131072;
+  paid : l.steps + 175 * due_below l.m l.wheel 131072 ≤ l.fn.steps + 175 * due_below l.m l.fn.wheel 131072;
 }
 
 abbrev pub decreases-loop : goal.decreases-loop
