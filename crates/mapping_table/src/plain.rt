@@ -16,8 +16,8 @@ use std::marker::Model;
 use std::sync::ledger::Ledger;
 use step_count::Steps;
 
-/// MAP leases in the order granted, with the same clauses as `MapTable`. It has no ordered map, so it
-/// takes no steps.
+/// MAP leases in the order granted, with the same clauses as `MapTable`. It has no ordered map, so
+/// it takes no steps.
 #[derive(Drop)]
 pub struct PlainMapTable {
     leases: Vec<MapLease>,
@@ -206,7 +206,8 @@ impl PlainMapTable {
         _steps: &mut Steps<L>,
     ) -> Option<u16>
         ensures next { IsNextCovered endpoint.now (filter (is_live_map m) self.now.leases) result }
-        ensures skips { SkipsUncovered endpoint.now (filter (is_live_map m) self.now.leases) result }
+        ensures skips { SkipsUncovered endpoint.now
+            (filter (is_live_map m) self.now.leases) result }
         ensures steps { _steps.new ≡ _steps.old }
     {
         next_in(&self.leases, endpoint, m)

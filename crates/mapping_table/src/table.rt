@@ -112,7 +112,8 @@ impl MapTable {
         m: Moment,
         steps: &mut Steps<L>,
     ) -> Option<u16>
-        ensures skips { SkipsUncovered endpoint.now (filter (is_live_map m) self.now.leases) result }
+        ensures skips { SkipsUncovered endpoint.now
+            (filter (is_live_map m) self.now.leases) result }
         ensures next { m ≡ self.now.reached →
             IsNextCovered endpoint.now (filter (is_live_map m) self.now.leases) result }
         ensures steps { steps.new ≤ steps.old + 4 * levels (length self.now.leases) }
