@@ -3,12 +3,13 @@ use Rattle.std.proofs.Common.{◌≡◌, ℕ, ◌+◌, ◌-◌, ◌<◌, ◌≤�
 use Rattle.pcp_base.specs.declared.leases.End.{End}
 use Rattle.port_spans.specs.declared.runs.Run.{Run}
 use Rattle.port_spans.specs.Runs.{run_at, IsNextRun, IsFirstFrom}
-use Rattle.port_spans.specs.Along.{end_along}
+use Rattle.port_spans.specs.Along.{end_along, end_told, BeginsAt}
 use Rattle.port_spans.proofs.RunLemmas.{in_by}
-use Rattle.end_table.specs.Kept.{end_told, end_at, listed, AreEnds, BeginsAt}
-use Rattle.end_table.proofs.SpotLemmas.{some-if, run_from, run_low, set_of}
+use Rattle.end_table.specs.Kept.{end_at, listed, AreEnds}
+use Rattle.port_spans.proofs.SpotLemmas.{some-if, run_from, none_between}
+use Rattle.end_table.proofs.SpotLemmas.{run_low, set_of}
 use Rattle.end_table.proofs.ListLemmas.{listed-same, listed-empty, listed-split, listed-more}
-use Rattle.end_table.proofs.GoingLemmas.{none_behind, none_before, next_there, end_begins}
+use Rattle.end_table.proofs.GoingLemmas.{none_before, next_there, end_begins}
 
 -- the ends of a run's ports
 abbrev pub run_ends : Run End → ℕ → Option End
@@ -40,7 +41,7 @@ module _ (runs : List (Run End)) (is : AreEnds runs) (from : ℕ) (written : Lis
   pub written_all : IsNextRun runs from 131072 None → written ≡ listed (end_at runs) 0 131072
   written_all none =
       sym (append-nil written)
-      ∙ ap (λ (xs : List End). written ++ xs) (sym (listed-empty (end_at runs) from (131072 - from) (λ i a b. ap (end_told i) (none_behind runs is from so_far.begins 131072 none i a (omega (arith, b, so_far.low))))))
+      ∙ ap (λ (xs : List End). written ++ xs) (sym (listed-empty (end_at runs) from (131072 - from) (λ i a b. ap (end_told i) (none_between runs is.apart from so_far.begins 131072 none i a (omega (arith, b, so_far.low))))))
       ∙ so_far.all
 
   module _ (r : Run End) (first : IsFirstFrom runs from 131072 r) where

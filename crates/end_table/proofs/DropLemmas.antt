@@ -8,8 +8,9 @@ use Rattle.pcp_base.specs.Ends.{is_recent}
 use Rattle.ordered_index.proofs.EntryLaws.{none_some}
 use Rattle.port_spans.specs.declared.runs.Run.{Run}
 use Rattle.port_spans.specs.Runs.{run_at, but_from}
-use Rattle.end_table.specs.Kept.{Due, due_cmp, due_of, end_told, end_at, if_passing, is_late, AreKept}
-use Rattle.end_table.proofs.SpotLemmas.{same_begin}
+use Rattle.port_spans.specs.Along.{end_told}
+use Rattle.end_table.specs.Kept.{Due, due_cmp, due_of, end_at, if_passing, is_late, AreKept}
+use Rattle.port_spans.proofs.SpotLemmas.{same_begin}
 use Rattle.end_table.proofs.ListLemmas.{passing-true, passing-false}
 use Rattle.end_table.proofs.DueLemmas.{due_there, run_there, no_run}
 

@@ -11,8 +11,10 @@ use Rattle.ordered_index.proofs.OrderLaws.{not_gt_first, nat_not_gt, port_total,
 use Rattle.port_spans.specs.declared.runs.Run.{Run}
 use Rattle.port_spans.specs.Runs.{has_place, run_at, AreRuns, but_from}
 use Rattle.port_spans.proofs.RunLemmas.{same_or}
-use Rattle.end_table.specs.Kept.{Due, due_cmp, due_of, due_told, end_told, end_at, IsSet, AreKept}
-use Rattle.end_table.proofs.SpotLemmas.{place_first, run_first}
+use Rattle.port_spans.specs.Along.{end_told}
+use Rattle.end_table.specs.Kept.{Due, due_cmp, due_of, due_told, end_at, IsSet, AreKept}
+use Rattle.port_spans.proofs.SpotLemmas.{but_keeps, run_first}
+use Rattle.end_table.proofs.SpotLemmas.{place_first}
 use Rattle.std.specs.Ordering.{is_gt}
 
 -- an order by parts is one by the first
@@ -34,14 +36,6 @@ told_other d q h = cond-false (is_at (due_cmp (due_of q)) d) (Some tt) None (due
 
 pub told_own : (r : Run End) → due_told (due_of r) (Some r) ≡ Some tt
 told_own r = ap (λ (b : Bool). cond b (Some tt) None) (due_self (due_of r))
-
-pub but_keeps : (P : Run End → Type 0) (first : ℕ) (o : Option (Run End)) → IfSome o P → IfSome (but_from first o) P
-but_keeps P first None h = tt
-but_keeps P first (Some q) h = step (q.first == first)
-  where
-    step : (b : Bool) → IfSome (cond b None (Some q)) P
-    step true = tt
-    step false = h
 
 -- ---- a run and its moment
 

@@ -7,32 +7,19 @@ use Rattle.pcp_base.specs.declared.leases.End.{End}
 use Rattle.ordered_index.proofs.EntryLaws.{none_by}
 use Rattle.port_runs.specs.Ports.{is_in_run}
 use Rattle.port_spans.specs.declared.runs.Run.{Run}
-use Rattle.port_spans.specs.Runs.{has_place, run_at, but_from, IsNextRun, IsFirstFrom}
+use Rattle.port_spans.specs.Runs.{has_place, run_at, but_from, IsFirstFrom}
 use Rattle.port_spans.proofs.RunLemmas.{in_from, in_to, in_by}
-use Rattle.end_table.specs.Kept.{Due, end_told, end_at, AreEnds, AreKept, BeginsAt, AreGoing, AreFreed}
-use Rattle.end_table.proofs.SpotLemmas.{if-some, below_or_not, run_has, run_whole, run_from, run_to, run_first, same_begin}
-use Rattle.end_table.proofs.DueLemmas.{but_keeps}
+use Rattle.port_spans.specs.Along.{end_told, BeginsAt}
+use Rattle.end_table.specs.Kept.{Due, end_at, AreEnds, AreKept, AreGoing, AreFreed}
+use Rattle.port_spans.proofs.SpotLemmas.{if-some, run_has, run_from, run_first, same_begin, but_keeps, begins_from, ends_before}
+use Rattle.end_table.proofs.SpotLemmas.{below_or_not}
 
 module _ (runs : List (Run End)) (is : AreEnds runs) (from : ℕ) (from_begins : BeginsAt from runs) where
-  -- what has a place from there on begins there or behind
-  pub begins_from : (at : ℕ) (s : Run End) → run_at runs at ≡ Some s → from ≤ at → from ≤ s.first
-  begins_from at s own past =
-      let no_less : s.first < from → ⊥ = λ less.
-      let has : has_place from s ≡ true = in_by s.first s.count from (omega (arith, less)) (omega (arith, past, run_to runs is.apart at s own)) in
-      let first : s.first ≡ from = if-some (λ (q : Run End). q.first ≡ from) (run_at runs from) s (run_whole runs is.apart at s own from has) from_begins in
-      absurd (omega (arith, first, less)) in
-      grind (arith, no_less)
-
-  pub none_behind : (to : ℕ) → IsNextRun runs from to None → (at : ℕ) → from ≤ at → at < to → run_at runs at ≡ None
-  none_behind to none at past before = none_by (run_at runs at) (λ s e.
-      let late = if-some (λ (q : Run End). from ≤ q.first → to ≤ q.first) (run_at runs at) s e (none at) in
-      absurd (omega (arith, late (begins_from at s e past), run_from runs is.apart at s e, before)))
-
   module _ (to : ℕ) (r : Run End) (first : IsFirstFrom runs from to r) where
     pub none_before : (at : ℕ) → from ≤ at → at < r.first → run_at runs at ≡ None
     none_before at past before = none_by (run_at runs at) (λ s e.
         let least = if-some (λ (q : Run End). from ≤ q.first → r.first ≤ q.first) (run_at runs at) s e (first.least at) in
-        absurd (omega (arith, least (begins_from at s e past), run_from runs is.apart at s e, before)))
+        absurd (omega (arith, least (begins_from runs is.apart from from_begins at s e past), run_from runs is.apart at s e, before)))
 
     pub next_there : run_at runs r.first ≡ Some r
     next_there = first.there.whole r.first first.there.has
@@ -47,7 +34,7 @@ module _ (runs : List (Run End)) (is : AreEnds runs) (from : ℕ) (from_begins :
             let last = r.first + r.count in
             let upper : s.first ≤ last = run_from runs is.apart last s e in
             let no_less : s.first < last → ⊥ = λ less.
-            let near : r.first ≤ s.first = if-some (λ (q : Run End). from ≤ q.first → r.first ≤ q.first) (run_at runs last) s e (first.least last) (begins_from last s e (omega (arith, first.from))) in
+            let near : r.first ≤ s.first = if-some (λ (q : Run End). from ≤ q.first → r.first ≤ q.first) (run_at runs last) s e (first.least last) (begins_from runs is.apart from from_begins last s e (omega (arith, first.from))) in
             let whole : run_at runs s.first ≡ Some r = first.there.whole s.first (in_by r.first r.count s.first near less) in
             let both : Some s ≡ Some r = sym (run_first runs is.apart last s e) ∙ whole in
             let same : s ≡ r = cc in
@@ -57,14 +44,8 @@ module _ (runs : List (Run End)) (is : AreEnds runs) (from : ℕ) (from_begins :
 
     module _ (to_begins : BeginsAt to runs) (new : List (Run End)) (dues : BTreeMap Due ⊤) (kept : AreKept new dues)
         (left : (at : ℕ) → run_at new at ≡ but_from r.first (run_at runs at)) where
-      -- the run doesn't go on over the last spot
-      ends_before : r.first + r.count ≤ to
-      ends_before =
-          let no_more : to < r.first + r.count → ⊥ = λ more.
-          let has : has_place to r ≡ true = in_by r.first r.count to (omega (arith, first.before)) more in
-          let begins : r.first ≡ to = if-some (λ (q : Run End). q.first ≡ to) (run_at runs to) r (run_whole runs is.apart r.first r next_there to has) to_begins in
-          absurd (omega (arith, begins, first.before)) in
-          grind (arith, no_more)
+      to_end : r.first + r.count ≤ to
+      to_end = ends_before runs is.apart to to_begins r.first r next_there first.before
 
       out_test : (at : ℕ) → (has_place at r ≡ true → ⊥) → (q : Run End) → run_at runs at ≡ Some q → (b : Bool) → (q.first == r.first) ≡ b → cond b None (Some q) ≡ Some q
       out_test at out q e true t =
@@ -85,7 +66,7 @@ module _ (runs : List (Run End)) (is : AreEnds runs) (from : ℕ) (from_begins :
         from_begins = subst (λ (o : Option (Run End)). IfSome o (λ q. q.first ≡ from)) (sym (left from)) (but_keeps (λ (q : Run End). q.first ≡ from) r.first (run_at runs from) from_begins);
         to_begins = subst (λ (o : Option (Run End)). IfSome o (λ q. q.first ≡ to)) (sym (left to)) (but_keeps (λ (q : Run End). q.first ≡ to) r.first (run_at runs to) to_begins);
         below = λ at h. outside at (λ t. absurd (omega (arith, h, in_from r.first r.count at t, first.from)));
-        above = λ at h. outside at (λ t. absurd (omega (arith, h, in_to r.first r.count at t, ends_before)));
+        above = λ at h. outside at (λ t. absurd (omega (arith, h, in_to r.first r.count at t, to_end)));
       }
 
 -- none is gone yet

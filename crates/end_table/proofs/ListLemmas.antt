@@ -11,11 +11,12 @@ use Rattle.pcp_base.specs.Ends.{is_before, is_end_of, with_end}
 use Rattle.pcp_base.proofs.Same.{same_protocol-Decides}
 use Rattle.ordered_index.proofs.Entries.{false_by}
 use Rattle.port_runs.specs.Ports.{is_in_run}
-use Rattle.port_spans.specs.Along.{end_along}
+use Rattle.port_spans.specs.Along.{end_along, spot, spot_of}
 use Rattle.port_spans.proofs.RunLemmas.{same_or, in_from, in_to, in_by}
 use Rattle.end_table.specs.EndLists.{AreOrdered, end_among, is_end_in, with_last, with_lasts, without_ports}
-use Rattle.end_table.specs.Kept.{spot, spot_of, listed, if_passing}
-use Rattle.end_table.proofs.SpotLemmas.{if-some, some-if, below_or_not, spot_in, spot_low, spot_from, spot_more, IsAt, before_by, behind_by, own_by}
+use Rattle.end_table.specs.Kept.{listed, if_passing}
+use Rattle.port_spans.proofs.SpotLemmas.{if-some, some-if, spot_in, spot_low, spot_from, spot_more}
+use Rattle.end_table.proofs.SpotLemmas.{below_or_not, IsAt, before_by, behind_by, own_by}
 
 other_test : (a b : ℕ) → (a ≡ b → ⊥) → (a == b) ≡ false
 other_test a b h = false_by (a == b) (λ t. h (eqb-true a b t))

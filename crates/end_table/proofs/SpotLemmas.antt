@@ -1,27 +1,19 @@
 -- Where ports stand, and the ports of runs.
 use Rattle.std.specs.Prelude.{◌⊎◌}
-use Rattle.std.proofs.Common.{◌≡◌, ℕ, ◌+◌, ◌-◌, ◌<◌, ◌≤◌, ◌&&◌, ◌||◌, ◌==◌, nat_lt, Bool, true, false, List, Option, Some, None, IfSome, refl, sym, ap, ◌∙◌, subst, inl, inr, arith}
+use Rattle.std.proofs.Common.{◌≡◌, ℕ, ◌+◌, ◌-◌, ◌<◌, ◌≤◌, ◌&&◌, ◌||◌, ◌==◌, nat_lt, Bool, true, false, List, Option, Some, None, IfSome, refl, sym, ap, ◌∙◌, inl, inr, arith}
 use Rattle.std.proofs.lemmas.Bool.{lt-ltb, le-ltb}
 use Rattle.std.proofs.lemmas.Bool.Decides.{nat_tests}
 use Rattle.pcp_base.specs.declared.leases.Protocol.{Protocol}
 use Rattle.pcp_base.specs.declared.leases.Protocol.TheVariants.{Tcp, Udp}
 use Rattle.pcp_base.specs.declared.leases.End.{End}
 use Rattle.pcp_base.specs.Protocols.{protocol_number}
-use Rattle.pcp_base.specs.Tables.{same_protocol}
 use Rattle.pcp_base.specs.Ends.{is_before, is_end_of}
-use Rattle.port_runs.specs.Ports.{is_in_run}
 use Rattle.port_spans.specs.declared.runs.Run.{Run}
-use Rattle.port_spans.specs.Runs.{has_place, run_at, AreRuns, IsRunAt}
-use Rattle.port_spans.specs.Along.{end_along}
+use Rattle.port_spans.specs.Runs.{has_place, run_at}
+use Rattle.port_spans.specs.Along.{end_along, spot, spot_of, end_told}
 use Rattle.port_spans.proofs.RunLemmas.{in_from, in_to, in_by}
-use Rattle.end_table.specs.Kept.{spot, spot_of, end_told, end_at, IsSet, AreEnds}
-
-pub if-some : {X : Type 0} (P : X → Type 0) (o : Option X) (x : X) → o ≡ Some x → IfSome o P → P x
-if-some P o x e h = subst (λ o. IfSome o P) e h
-
-pub some-if : {X : Type 0} (P : X → Type 0) (o : Option X) → ((x : X) → o ≡ Some x → P x) → IfSome o P
-some-if P None f = tt
-some-if P (Some x) f = f x refl
+use Rattle.port_spans.proofs.SpotLemmas.{if-some, run_has, spot_more, spot_up_to}
+use Rattle.end_table.specs.Kept.{end_at, IsSet, AreEnds}
 
 -- a number is below another, or not
 pub below_or_not : (a b : ℕ) → (a < b) ⊎ (b ≤ a)
@@ -30,30 +22,6 @@ below_or_not a b = step (nat_lt a b) refl
     step : (c : Bool) → nat_lt a b ≡ c → (a < b) ⊎ (b ≤ a)
     step true e = inl (grind (arith, nat_tests, e))
     step false e = inr (grind (arith, nat_tests, e))
-
--- ---- spots
-
-pub spot_in : (p q : Protocol) (x n port : ℕ) → x + n ≤ 65536 → port < 65536 → is_in_run (spot p x) n (spot q port) ≡ (same_protocol p q && is_in_run x n port)
-spot_in Tcp Tcp x n port a b = refl
-spot_in Udp Udp x n port a b = grind (arith, nat_tests)
-spot_in Tcp Udp x n port a b = grind (arith, nat_tests, a)
-spot_in Udp Tcp x n port a b = grind (arith, nat_tests, b)
-
-pub spot_low : (p : Protocol) (n : ℕ) → n < 65536 → spot p n < 131072
-spot_low Tcp n h = omega (arith, h)
-spot_low Udp n h = omega (arith, h)
-
-pub spot_up_to : (p : Protocol) (x n : ℕ) → x + n ≤ 65536 → spot p x + n ≤ 131072
-spot_up_to Tcp x n h = omega (arith, h)
-spot_up_to Udp x n h = omega (arith, h)
-
-pub spot_from : (p : Protocol) (x port : ℕ) → x ≤ port → spot p port - spot p x ≡ port - x
-spot_from Tcp x port h = refl
-spot_from Udp x port h = omega (arith, h)
-
-pub spot_more : (p : Protocol) (x i : ℕ) → spot p x + i ≡ spot p (x + i)
-spot_more Tcp x i = refl
-spot_more Udp x i = omega arith
 
 -- the order of spots is that of ports
 before_step : (p q : Protocol) (m n : ℕ) → m < 65536 → n < 65536 → spot p m < spot q n → (nat_lt (protocol_number p) (protocol_number q) || (protocol_number p == protocol_number q && nat_lt m n)) ≡ true
@@ -88,35 +56,6 @@ behind_by i k e x own other h = behind_step e.endpoint.protocol x.endpoint.proto
 -- an end of a port stands at the port's spot
 pub own_by : (i : ℕ) (e : End) (q : Protocol) (port : ℕ) → IsAt i e → port < 65536 → is_end_of q port e ≡ (i == spot q port)
 own_by i e q port own low = own_step e.endpoint.protocol q e.external port own.low low ∙ ap (λ (k : ℕ). k == spot q port) own.spot
-
--- ---- runs
-
-module _ {V : Type 0} (runs : List (Run V)) (apart : AreRuns runs) (a : ℕ) (r : Run V) (there : run_at runs a ≡ Some r) where
-  run_is : IsRunAt runs a r
-  run_is = if-some (IsRunAt runs a) (run_at runs a) r there (apart a)
-
-  pub run_has : has_place a r ≡ true
-  run_has = run_is.has
-
-  pub run_whole : (at : ℕ) → has_place at r ≡ true → run_at runs at ≡ Some r
-  run_whole at h = run_is.whole at h
-
-  pub run_from : r.first ≤ a
-  run_from = in_from r.first r.count a run_is.has
-
-  pub run_to : a < r.first + r.count
-  run_to = in_to r.first r.count a run_is.has
-
-  pub run_first : run_at runs r.first ≡ Some r
-  run_first = run_is.whole r.first (in_by r.first r.count r.first (omega arith) (omega (arith, run_from, run_to)))
-
--- runs that begin at one place are one
-pub same_begin : {V : Type 0} (runs : List (Run V)) → AreRuns runs → (a b : ℕ) (q r : Run V) → run_at runs a ≡ Some q → run_at runs b ≡ Some r → q.first ≡ r.first → q ≡ r
-same_begin runs apart a b q r there own same =
-    let left = run_first runs apart a q there in
-    let right = run_first runs apart b r own in
-    let both : Some q ≡ Some r = sym left ∙ ap (run_at runs) same ∙ right in
-    cc
 
 pub set_of : (runs : List (Run End)) → AreEnds runs → (at : ℕ) (r : Run End) → run_at runs at ≡ Some r → IsSet r
 set_of runs is at r there = if-some IsSet (run_at runs at) r there (is.set at)

@@ -6,10 +6,11 @@ use Rattle.pcp_base.specs.Tables.{same_protocol}
 use Rattle.pcp_base.specs.Ends.{is_recent}
 use Rattle.port_runs.specs.Ports.{is_in_run}
 use Rattle.port_spans.specs.declared.runs.Run.{Run}
-use Rattle.port_spans.specs.Along.{end_along}
+use Rattle.port_spans.specs.Along.{end_along, spot}
 use Rattle.end_table.specs.EndLists.{AreOrdered, end_among, with_lasts, without_ports}
-use Rattle.end_table.specs.Kept.{spot, end_at, if_passing, ends_of, AreEnds}
-use Rattle.end_table.proofs.SpotLemmas.{ends_at, spot_up_to}
+use Rattle.end_table.specs.Kept.{end_at, if_passing, ends_of, AreEnds}
+use Rattle.port_spans.proofs.SpotLemmas.{spot_up_to}
+use Rattle.end_table.proofs.SpotLemmas.{ends_at}
 use Rattle.end_table.proofs.ListLemmas.{listed-same, listed-empty, listed-filter, listed-ordered, listed-lasts, found_along, along_from, listed-without, found_without, none_from}
 
 -- a table without a run

@@ -1,32 +1,18 @@
 -- How a table keeps its ends: runs of ports that were given theirs together, and beside them the
 -- moment of each run (our own; for proofs alone).
-use Rattle.std.specs.Prelude.{◌≡◌, ℕ, zero, suc, ◌+◌, ◌-◌, ◌<◌, ◌≤◌, nat_lt, Bool, true, false, List, [], ◌++◌, Option, Some, None, IfSome, option_to_list, ⊤, if◌then◌else◌}
+use Rattle.std.specs.Prelude.{◌≡◌, ℕ, zero, suc, ◌+◌, ◌<◌, ◌≤◌, nat_lt, Bool, true, false, List, [], ◌++◌, Option, Some, None, IfSome, option_to_list, ⊤, if◌then◌else◌}
 use Rattle.std.specs.Ordering.{nat_cmp, ordering_then}
 use Rattle.std.specs.declared.cmp.Ordering.{Ordering}
 use Rattle.std.specs.BTreeMap.{BTreeMap, IsOrdered, get, is_at}
 use Rattle.pcp_base.specs.declared.leases.TheConstants.{REST_SECONDS}
-use Rattle.pcp_base.specs.declared.leases.Protocol.{Protocol}
-use Rattle.pcp_base.specs.declared.leases.Protocol.TheVariants.{Tcp, Udp}
 use Rattle.pcp_base.specs.declared.leases.End.{End}
 use Rattle.port_runs.specs.Ports.{is_in_run}
 use Rattle.port_spans.specs.declared.runs.Run.{Run}
+use Rattle.port_spans.specs.declared.runs.TheConstants.{PLACES}
 use Rattle.port_spans.specs.Runs.{run_at, AreRuns}
-use Rattle.port_spans.specs.Along.{end_along}
-use Rattle.end_table.specs.declared.ends.TheConstants.{SPOTS}
+use Rattle.port_spans.specs.Along.{spot_of, end_told, BeginsAt}
 
--- where a port stands among those of both protocols
-abbrev pub spot : Protocol → ℕ → ℕ
-spot Tcp port = port
-spot Udp port = 65536 + port
-
-abbrev pub spot_of : End → ℕ
-spot_of e = spot e.endpoint.protocol e.external
-
--- the end at a spot of a run: its value is that of its first port
-abbrev pub end_told : ℕ → Option (Run End) → Option End
-end_told at None = None
-end_told at (Some r) = Some (end_along (at - r.first) r.value)
-
+-- the end at a spot
 abbrev pub end_at : List (Run End) → ℕ → Option End
 end_at runs at = end_told at (run_at runs at)
 
@@ -37,7 +23,7 @@ listed told at (suc n) = option_to_list (told at) ++ listed told (at + 1) n
 
 -- all ends, in the order of their spots
 abbrev pub ends_of : List (Run End) → List End
-ends_of runs = listed (end_at runs) 0 SPOTS
+ends_of runs = listed (end_at runs) 0 PLACES
 
 -- the end, where it passes
 abbrev pub if_passing : (End → Bool) → Option End → Option End
@@ -81,10 +67,6 @@ pub record AreKept (runs : List (Run End)) (dues : BTreeMap Due ⊤) : Type 0 wh
   pub ends : AreEnds runs
   pub ordered : IsOrdered due_cmp dues
   pub dues_are : (due : Due) → get due_cmp dues due ≡ due_told due (run_at runs due.1)
-
--- no run goes on over a spot
-abbrev pub BeginsAt : ℕ → List (Run End) → Type 0
-BeginsAt at runs = IfSome (run_at runs at) (λ r. r.first ≡ at)
 
 -- some runs between two spots are gone
 pub record AreGoing (from to : ℕ) (old new : List (Run End)) (dues : BTreeMap Due ⊤) : Type 0 where

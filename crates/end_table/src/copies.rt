@@ -1,11 +1,11 @@
 //! Copies of ends that are kept by runs.
 
 ghost use Rattle.std.specs.Prelude.{◌≡◌, ◌++◌, Some, IfOk, OnOk};
-ghost use Rattle.end_table.specs.Kept.{AreEnds, IsSet, end_told, ends_of, listed};
+ghost use Rattle.port_spans.specs.Along.{end_told};
+ghost use Rattle.end_table.specs.Kept.{AreEnds, IsSet, ends_of, listed};
 
-use crate::ends::{Ends, SPOTS, end_along};
 use pcp_base::{End, Memory};
-use port_spans::Run;
+use port_spans::{Ends, PLACES, Run, end_along};
 use std::alloc::Global;
 
 /// Adds the ends of a run.
@@ -27,7 +27,7 @@ pub fn copy(ends: &Ends, alloc: Global) -> Result<Vec<End>, Memory>
 {
     let mut all = Vec::new(alloc);
     let mut from = 0;
-    while let Some(run) = ends.next_run(from, SPOTS as u32) {
+    while let Some(run) = ends.next_run(from, PLACES as u32) {
         push_run(&mut all, &run)?;
         from = run.first + run.count;
     }

@@ -7,13 +7,11 @@ ghost use Rattle.pcp_base.specs.Ends.{is_recent};
 ghost use Rattle.port_runs.specs.Ports.{is_in_run};
 ghost use Rattle.port_spans.specs.Along as along;
 ghost use Rattle.end_table.specs.Kept.{AreKept, end_at, if_passing};
-ghost use Rattle.end_table.specs.Kept as the;
 
 use crate::dues::{Dues, earliest, may_rest};
-use crate::ends::{Ends, spot, spot_of};
 use crate::steps::{free, insert, take};
 use pcp_base::{End, Memory, Moment, Protocol};
-use port_spans::Run;
+use port_spans::{Ends, Run, spot, spot_of};
 
 /// Puts ends of ports in a row in the places of theirs: the first this one, and each behind it
 /// along it. Where memory is wanting, nothing is said.
@@ -24,8 +22,8 @@ pub fn put(ends: &mut Ends, dues: &mut Dues, first: &End, count: u32) -> Result<
     requires internal { first.now.endpoint.port + count ≤ 65536 }
     ensures kept { OnOk result (AreKept ends.new dues.new) }
     ensures ends { OnOk result ((at : ℕ) → end_at ends.new at
-        ≡ (if is_in_run (the.spot_of first.now) count at
-        then Some (along.end_along (at - the.spot_of first.now) first.now)
+        ≡ (if is_in_run (along.spot_of first.now) count at
+        then Some (along.end_along (at - along.spot_of first.now) first.now)
         else end_at ends.old at)) }
 {
     let run = Run {
@@ -49,7 +47,7 @@ pub fn remove(
     requires within { start + count ≤ 65536 }
     ensures kept { OnOk result (AreKept ends.new dues.new) }
     ensures ends { OnOk result ((at : ℕ) → end_at ends.new at
-        ≡ (if is_in_run (the.spot protocol start) count at then None else end_at ends.old at)) }
+        ≡ (if is_in_run (along.spot protocol start) count at then None else end_at ends.old at)) }
 {
     free(ends, dues, spot(protocol, start), count)
 }

@@ -4,7 +4,6 @@
 
 mod copies;
 mod dues;
-mod ends;
 mod kept;
 mod steps;
 mod table;

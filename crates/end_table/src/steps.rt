@@ -6,12 +6,12 @@ ghost use Rattle.std.specs.BTreeMap.{btree_map_len};
 ghost use Rattle.pcp_base.specs.declared.leases.End.{End};
 ghost use Rattle.port_spans.specs.declared.runs.Run.{Run};
 ghost use Rattle.port_spans.specs.Runs.{but_from, has_place, run_at};
-ghost use Rattle.end_table.specs.Kept.{IsSet, AreKept, AreGoing, AreFreed, BeginsAt, end_at, end_told};
+ghost use Rattle.port_spans.specs.Along.{BeginsAt, end_told};
+ghost use Rattle.end_table.specs.Kept.{IsSet, AreKept, AreGoing, AreFreed, end_at};
 
 use crate::dues::{Dues, due_of};
-use crate::ends::{Ends, end_along};
 use pcp_base::{End, Memory};
-use port_spans::Run;
+use port_spans::{Ends, Run, end_along};
 
 /// Takes out a run.
 pub fn take(ends: &mut Ends, dues: &mut Dues, run: &Run<End>)

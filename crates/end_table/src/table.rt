@@ -9,10 +9,9 @@ ghost use Rattle.end_table.specs.EndLists.{AreOrdered, end_among, with_lasts, wi
 
 use crate::copies::copy;
 use crate::dues::Dues;
-use crate::ends::Ends;
 use crate::kept::{drop_over, forget, put, remove};
 use pcp_base::{End, Memory, Moment, Protocol};
-use port_spans::Spans;
+use port_spans::{Ends, Spans};
 use std::alloc::Global;
 use std::collections::BTreeMap;
 use std::marker::Model;

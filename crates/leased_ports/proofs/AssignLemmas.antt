@@ -14,10 +14,11 @@ use Rattle.expiry_wheel.proofs.Maps.{below_or_not}
 use Rattle.external_pool.specs.Holdings.{Holdings}
 use Rattle.port_spans.specs.declared.runs.Run.{Run}
 use Rattle.port_spans.specs.Runs.{has_place, run_at, AreRuns, with_value}
-use Rattle.port_spans.specs.Along.{end_along}
-use Rattle.leased_ports.specs.Kept.{spot, end_told, end_by, held_at, use_by, until, IsSet, AreInStep, AreRecent}
+use Rattle.port_spans.specs.Along.{end_along, spot, end_told}
+use Rattle.leased_ports.specs.Kept.{end_by, held_at, use_by, until, IsSet, AreInStep, AreRecent}
 use Rattle.leased_ports.specs.Steps.{GivesUses, Waits, AreAssigned, AreFreed, last_along, no_last}
-use Rattle.leased_ports.proofs.SpotLemmas.{some-if, spot_in, run_of_low, run_of_high, place_off}
+use Rattle.port_spans.proofs.SpotLemmas.{some-if, spot_in}
+use Rattle.leased_ports.proofs.SpotLemmas.{run_of_low, run_of_high, place_off}
 use Rattle.leased_ports.proofs.BlockLemmas.{IsBlock, block_in_step, block_ends, inserted_block, renewed_block}
 use Rattle.leased_ports.proofs.UseLemmas.{gives-as}
 

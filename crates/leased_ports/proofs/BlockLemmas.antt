@@ -17,9 +17,11 @@ use Rattle.external_pool.specs.PortUses.{use_along}
 use Rattle.external_pool.specs.Holdings.{Holdings, use_of}
 use Rattle.port_spans.specs.declared.runs.Run.{Run}
 use Rattle.port_spans.specs.Runs.{has_place, run_at, AreRuns, but_from, with_value}
-use Rattle.leased_ports.specs.Kept.{spot, run_of, end_told, end_by, use_by, use_told, until, wait_told, IsSet, AreInStep}
+use Rattle.port_spans.specs.Along.{spot, end_told}
+use Rattle.leased_ports.specs.Kept.{run_of, end_by, use_by, use_told, until, wait_told, IsSet, AreInStep}
 use Rattle.leased_ports.specs.Steps.{GivesUses, AreUsedBy, Waits}
-use Rattle.leased_ports.proofs.SpotLemmas.{some-if, run_of_low, run_of_high, run_has, run_whole, same_begin, in_spots, place_first, place_off, place_of, port_low}
+use Rattle.port_spans.proofs.SpotLemmas.{some-if, run_has, run_whole, same_begin}
+use Rattle.leased_ports.proofs.SpotLemmas.{run_of_low, run_of_high, in_spots, place_first, place_off, place_of, port_low}
 
 -- the use of the first port of what is there
 abbrev pub use_first : (Run End → Bool) → Option (Run End) → Use

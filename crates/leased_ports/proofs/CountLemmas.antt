@@ -11,7 +11,8 @@ use Rattle.port_spans.specs.Runs.{run_at}
 use Rattle.pcp_base.specs.States.{State}
 use Rattle.leased_ports.specs.LastEnds.{last_end}
 use Rattle.leased_ports.specs.Leased.{Leased, leased, end_of, IsPortsOf}
-use Rattle.leased_ports.specs.Kept.{spot, held_at, end_told, end_by, ends_of, until, wait_told, AreScheduled}
+use Rattle.port_spans.specs.Along.{end_told, spot}
+use Rattle.leased_ports.specs.Kept.{held_at, end_by, ends_of, until, wait_told, AreScheduled}
 use Rattle.leased_ports.specs.Falling.{is_due, due_below}
 use Rattle.leased_ports.specs.Counts.{count_below, falls_due, ports_due, ends_due}
 use Rattle.leased_ports.proofs.ViewLemmas.{ends_of-place}

@@ -15,11 +15,12 @@ use Rattle.external_pool.specs.Holdings.{Holdings}
 use Rattle.port_spans.specs.declared.runs.Run.{Run}
 use Rattle.port_spans.specs.Runs.{has_place, run_at, AreRuns, but_from}
 use Rattle.leased_ports.specs.Leased.{while_recent}
-use Rattle.port_spans.specs.Along.{end_along}
-use Rattle.leased_ports.specs.Kept.{spot, held_at, end_told, use_by, use_told, wait_told, until, IsSet, AreInStep, AreRecent}
+use Rattle.port_spans.specs.Along.{end_along, spot, end_told}
+use Rattle.leased_ports.specs.Kept.{held_at, use_by, use_told, wait_told, until, IsSet, AreInStep, AreRecent}
 use Rattle.leased_ports.specs.Steps.{GivesUses, AreUsedBy, Waits}
 use Rattle.leased_ports.specs.Falling.{is_until, held_by, AreFalling, is_due, due_below}
-use Rattle.leased_ports.proofs.SpotLemmas.{if-some, some-if, place_low, run_has, run_whole}
+use Rattle.port_spans.proofs.SpotLemmas.{if-some, some-if, run_has, run_whole}
+use Rattle.leased_ports.proofs.SpotLemmas.{place_low}
 use Rattle.leased_ports.proofs.BlockLemmas.{IsBlock, run_uses, taken_block, resting_block, block_in_step, other_first}
 use Rattle.leased_ports.proofs.FreeLemmas.{run_waits}
 

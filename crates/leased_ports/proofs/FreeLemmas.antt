@@ -1,10 +1,9 @@
 -- Runs that are taken out one after the other.
-use Rattle.std.proofs.Common.{◌≡◌, ℕ, ◌+◌, ◌-◌, ◌<◌, ◌≤◌, ◌==◌, Bool, true, false, cond, List, Option, Some, None, is_some, IfSome, refl, sym, ap, ◌∙◌, subst, inl, inr, arith}
+use Rattle.std.proofs.Common.{◌≡◌, ℕ, ◌+◌, ◌-◌, ◌<◌, ◌≤◌, Bool, true, false, cond, List, Option, Some, None, is_some, IfSome, refl, sym, ap, ◌∙◌, subst, inl, inr, arith}
 use Rattle.std.specs.Ordering.{nat_cmp}
 use Rattle.std.specs.Cmp.{nat_cmp_total}
 use Rattle.std.specs.FinMap.{FinMap, get, contains_key, remove, len, empty_of_len, get-empty, len-remove}
 use Rattle.pcp_base.specs.declared.leases.End.{End}
-use Rattle.ordered_index.proofs.EntryLaws.{none_by}
 use Rattle.ordered_index.proofs.Entries.{false_by}
 use Rattle.port_runs.specs.Ports.{is_in_run}
 use Rattle.expiry_wheel.proofs.Maps.{same_or_not, below_or_not, cond_same, one_removed}
@@ -13,19 +12,12 @@ use Rattle.external_pool.specs.Holdings.{Holdings}
 use Rattle.port_spans.specs.declared.runs.Run.{Run}
 use Rattle.port_spans.specs.Runs.{has_place, run_at, AreRuns, but_from, IsNextRun, IsFirstFrom}
 use Rattle.port_spans.proofs.RunLemmas.{in_from, in_to, in_by}
-use Rattle.leased_ports.specs.Kept.{held_at, end_told, wait_told, until, IsSet, AreScheduled, AreInStep, AreRecent}
-use Rattle.leased_ports.specs.Steps.{GivesUses, Waits, BeginsAt, AreFreeing, AreFreed}
-use Rattle.leased_ports.proofs.SpotLemmas.{if-some, some-if, run_whole, run_from, run_to, run_first}
+use Rattle.port_spans.specs.Along.{end_told, BeginsAt}
+use Rattle.leased_ports.specs.Kept.{held_at, wait_told, until, IsSet, AreScheduled, AreInStep, AreRecent}
+use Rattle.leased_ports.specs.Steps.{GivesUses, Waits, AreFreeing, AreFreed}
+use Rattle.port_spans.proofs.SpotLemmas.{if-some, some-if, run_first, but_keeps, none_between, ends_before}
 use Rattle.leased_ports.proofs.BlockLemmas.{IsBlock, taken_block, block_in_step}
 use Rattle.leased_ports.proofs.PartLemmas.{recent_told}
-
-but_keeps : (P : Run End → Type 0) (first : ℕ) (o : Option (Run End)) → IfSome o P → IfSome (but_from first o) P
-but_keeps P first None h = tt
-but_keeps P first (Some q) h = step (q.first == first)
-  where
-    step : (b : Bool) → IfSome (cond b None (Some q)) P
-    step true = tt
-    step false = h
 
 -- an id that waited does so no longer
 pub fewer_waits : (waits next : FinMap nat_cmp ℕ) (id : ℕ) → contains_key waits id ≡ true → Waits waits id None next → len next < len waits
@@ -46,20 +38,8 @@ run_waits held runs waits is a r there =
     is.waiting r.first ∙ ap (wait_told held r.first) (run_first runs is.apart a r there) ∙ cond_same r.first r.first (Some (until (held r) r.value.end)) None refl
 
 module _ (m from to : ℕ) (start runs : List (Run End)) (pool : Holdings) (waits : FinMap nat_cmp ℕ) (f : AreFreeing m from to start runs pool waits) where
-  -- what has a place between begins there
-  begins_in : (at : ℕ) (s : Run End) → run_at runs at ≡ Some s → from ≤ at → s.first < from → ⊥
-  begins_in at s own past less =
-      let apart = f.in_step.scheduled.apart in
-      let has : has_place from s ≡ true = in_by s.first s.count from (omega (arith, less)) (omega (arith, past, run_to runs apart at s own)) in
-      let first : s.first ≡ from = if-some (λ (q : Run End). q.first ≡ from) (run_at runs from) s (run_whole runs apart at s own from has) f.from_begins in
-      absurd (omega (arith, first, less))
-
   pub freed_none : IsNextRun runs from to None → (at : ℕ) → from ≤ at → at < to → run_at runs at ≡ None
-  freed_none none at past before = none_by (run_at runs at) (λ s e.
-      let late = if-some (λ (q : Run End). from ≤ q.first → to ≤ q.first) (run_at runs at) s e (none at) in
-      let no_less : s.first < from → ⊥ = begins_in at s e past in
-      let not_less : from ≤ s.first = grind (arith, no_less) in
-      absurd (omega (arith, late not_less, run_from runs f.in_step.scheduled.apart at s e, before)))
+  freed_none = none_between runs f.in_step.scheduled.apart from f.from_begins to
 
   module _ (r : Run End) (first : IsFirstFrom runs from to r) where
     pub next_there : run_at runs r.first ≡ Some r
@@ -77,20 +57,14 @@ module _ (m from to : ℕ) (start runs : List (Run End)) (pool : Holdings) (wait
       block = taken_block (held_at m) (held_at m) runs new pool later waits next r f.in_step r.first next_there apart
           (λ at out. some-if (λ (q : Run End). held_at m q ≡ held_at m q) (run_at runs at) (λ q e. refl)) left gives waits_are
 
-      -- it doesn't go on over the last spot
-      ends_before : r.first + r.count ≤ to
-      ends_before =
-          let no_more : to < r.first + r.count → ⊥ = λ more.
-          let has : has_place to r ≡ true = in_by r.first r.count to (omega (arith, first.before)) more in
-          let begins : r.first ≡ to = if-some (λ (q : Run End). q.first ≡ to) (run_at runs to) r (run_whole runs f.in_step.scheduled.apart r.first r next_there to has) f.to_begins in
-          absurd (omega (arith, begins, first.before)) in
-          grind (arith, no_more)
+      to_end : r.first + r.count ≤ to
+      to_end = ends_before runs f.in_step.scheduled.apart to f.to_begins r.first r next_there first.before
 
       out_below : (at : ℕ) → at < from → has_place at r ≡ false
       out_below at h = false_by (has_place at r) (λ t. absurd (omega (arith, h, in_from r.first r.count at t, first.from)))
 
       out_above : (at : ℕ) → to ≤ at → has_place at r ≡ false
-      out_above at h = false_by (has_place at r) (λ t. absurd (omega (arith, h, in_to r.first r.count at t, ends_before)))
+      out_above at h = false_by (has_place at r) (λ t. absurd (omega (arith, h, in_to r.first r.count at t, to_end)))
 
       pub freeing_more : AreFreeing m from to start new later next
       freeing_more = record {

@@ -1,28 +1,21 @@
 -- A run that is parted, with a wheel that follows.
-use Rattle.std.proofs.Common.{◌≡◌, ℕ, ◌+◌, ◌-◌, ◌<◌, ◌≤◌, ◌&&◌, nat_lt, Bool, true, false, cond, List, Option, Some, None, IfSome, refl, sym, ap, ◌∙◌, subst, inl, inr, arith}
+use Rattle.std.proofs.Common.{◌≡◌, ℕ, ◌+◌, ◌-◌, ◌<◌, ◌≤◌, nat_lt, Bool, true, false, cond, List, Option, Some, None, IfSome, refl, sym, ap, ◌∙◌, subst, inl, inr, arith}
 use Rattle.std.specs.Option.{option_map}
 use Rattle.std.specs.Ordering.{nat_cmp}
 use Rattle.std.specs.FinMap.{FinMap, get}
-use Rattle.std.proofs.lemmas.Bool.{and_parts, and_from, lt-ltb, le-ltb, ltb-false}
+use Rattle.std.proofs.lemmas.Bool.{ltb-false}
 use Rattle.pcp_base.specs.declared.leases.End.{End}
-use Rattle.ordered_index.proofs.Entries.{false_by}
 use Rattle.expiry_wheel.proofs.Maps.{same_or_not, below_or_not, cond_same, cond_other}
 use Rattle.external_pool.specs.PortUses.{use_along}
 use Rattle.external_pool.specs.Holdings.{Holdings}
 use Rattle.port_spans.specs.declared.runs.Run.{Run}
 use Rattle.port_spans.specs.Runs.{has_place, run_at, AreRuns, part_at, with_value}
-use Rattle.port_spans.proofs.RunLemmas.{in_by}
-use Rattle.port_spans.specs.Along.{end_along}
-use Rattle.leased_ports.specs.Kept.{spot, end_told, held_at, is_held_at, use_by, use_told, until, wait_told, IsSet, AreScheduled, AreInStep, AreRecent}
-use Rattle.leased_ports.specs.Steps.{Waits, BeginsAt}
-use Rattle.leased_ports.proofs.SpotLemmas.{if-some, run_of_low, run_of_high, run_has, run_whole, run_from, run_to, spot_more}
-
-pub along_twice : (e : End) (i j k : ℕ) → i + j ≡ k → end_along j (end_along i e) ≡ end_along k e
-along_twice e i j k h =
-    let ports : e.endpoint.port + i + j ≡ e.endpoint.port + k = omega (arith, h) in
-    let externals : e.external + i + j ≡ e.external + k = omega (arith, h) in
-    ap (λ (n : ℕ). record { endpoint = record e.endpoint { port = n }; external = e.external + i + j; end = e.end }) ports
-    ∙ ap (λ (n : ℕ). record { endpoint = record e.endpoint { port = e.endpoint.port + k }; external = n; end = e.end }) externals
+use Rattle.port_spans.proofs.CutLemmas as cut_lemmas
+use Rattle.port_spans.specs.Along.{end_along, spot, end_told}
+use Rattle.leased_ports.specs.Kept.{held_at, is_held_at, use_by, use_told, until, wait_told, IsSet, AreScheduled, AreInStep, AreRecent}
+use Rattle.leased_ports.specs.Steps.{Waits}
+use Rattle.port_spans.proofs.SpotLemmas.{if-some, run_whole, run_to, spot_more}
+use Rattle.leased_ports.proofs.SpotLemmas.{run_of_low, run_of_high}
 
 -- a use by what is told alone
 use_step : (i : ℕ) (v : End) (b : Bool) → use_along i (use_by b (Some v)) ≡ use_by b (Some (end_along i v))
@@ -67,7 +60,7 @@ module _ (m : ℕ) (runs : List (Run End)) (waits : FinMap nat_cmp ℕ) (is : Ar
 
   module _ (inner : r.first ≡ p → ⊥) where
     pub behind : r.first < p
-    behind = grind (arith, run_from runs is.apart p r there, inner)
+    behind = cut_lemmas.behind runs is.apart p r there inner
 
     within : p < r.first + r.count
     within = run_to runs is.apart p r there
@@ -76,13 +69,10 @@ module _ (m : ℕ) (runs : List (Run End)) (waits : FinMap nat_cmp ℕ) (is : Ar
     last = end_along (p - r.first) r.value
 
     abbrev left : Run End
-    left = record { first = r.first; count = p - r.first; value = r.value }
+    left = cut_lemmas.left runs is.apart p r there inner
 
     abbrev right : Run End
-    right = record { first = p; count = r.first + r.count - p; value = last }
-
-    abbrev between_right : Run End
-    between_right = record { first = p; count = r.first + r.count - p; value = r.value }
+    right = cut_lemmas.right runs is.apart p r there inner
 
     left_set : IsSet left
     left_set = record {
@@ -108,38 +98,14 @@ module _ (m : ℕ) (runs : List (Run End)) (waits : FinMap nat_cmp ℕ) (is : Ar
 
     module _ (between new : List (Run End)) (cut : (at : ℕ) → run_at between at ≡ option_map (part_at p at) (run_at runs at))
         (changed : (at : ℕ) → run_at new at ≡ option_map (with_value p last) (run_at between at)) where
-      test : (nat_lt r.first p && has_place p r) ≡ true
-      test = and_from _ _ (lt-ltb r.first p behind) (run_has runs is.apart p r there)
-
-      own_step : (b : Bool) → with_value p last (cond b left between_right) ≡ cond b left right
-      own_step true = cond_other r.first p (record left { value = last }) left inner
-      own_step false = cond_same p p (record between_right { value = last }) between_right refl
-
       new_own : (at : ℕ) → has_place at r ≡ true → run_at new at ≡ Some (cond (nat_lt at p) left right)
-      new_own at h =
-          changed at ∙ ap (option_map (with_value p last)) (cut at ∙ ap (option_map (part_at p at)) (run_whole runs is.apart p r there at h))
-          ∙ ap (λ (t : Bool). Some (with_value p last (cond t (cond (nat_lt at p) left between_right) r))) test
-          ∙ ap Some (own_step (nat_lt at p))
-
-      -- what has another place isn't at this one
-      apart_from : (at : ℕ) (q : Run End) → run_at runs at ≡ Some q → has_place at r ≡ false → has_place p q ≡ true → ⊥
-      apart_from at q own out has =
-          let both : Some q ≡ Some r = sym (run_whole runs is.apart at q own p has) ∙ there in
-          let same : q ≡ r = cc in
-          let own_has : has_place at r ≡ true = subst (λ (t : Run End). has_place at t ≡ true) same (run_has runs is.apart at q own) in
-          absurd (let no : true ≡ false = sym own_has ∙ out in cc)
-
-      other_step : (at : ℕ) → has_place at r ≡ false → (o : Option (Run End)) → run_at runs at ≡ o → option_map (with_value p last) (option_map (part_at p at) o) ≡ o
-      other_step at out None e = refl
-      other_step at out (Some q) e =
-          let no_cut : (nat_lt q.first p && has_place p q) ≡ false = false_by (nat_lt q.first p && has_place p q) (λ t. apart_from at q e out (and_parts _ _ t).1) in
-          let from = run_from runs is.apart at q e in
-          let to = run_to runs is.apart at q e in
-          ap (λ (t : Bool). Some (with_value p last (cond t (cond (nat_lt at p) (record { first = q.first; count = p - q.first; value = q.value }) (record { first = p; count = q.first + q.count - p; value = q.value })) q))) no_cut
-          ∙ ap Some (cond_other q.first p (record q { value = last }) q (λ same. apart_from at q e out (in_by q.first q.count p (omega (arith, same)) (omega (arith, same, from, to)))))
+      new_own = cut_lemmas.new_own runs is.apart p r there inner between new cut changed
 
       new_other : (at : ℕ) → has_place at r ≡ false → run_at new at ≡ run_at runs at
-      new_other at out = changed at ∙ ap (option_map (with_value p last)) (cut at) ∙ other_step at out (run_at runs at) refl
+      new_other = cut_lemmas.new_other runs is.apart p r there inner between new cut changed
+
+      at_cut : run_at new p ≡ Some right
+      at_cut = cut_lemmas.at_cut runs is.apart p r there inner between new cut changed
 
       part_set : (b : Bool) → IsSet (cond b left right)
       part_set true = left_set
@@ -148,35 +114,6 @@ module _ (m : ℕ) (runs : List (Run End)) (waits : FinMap nat_cmp ℕ) (is : Ar
       set_at : (at : ℕ) (t : Bool) → has_place at r ≡ t → IfSome (run_at new at) IsSet
       set_at at true h = subst (λ (o : Option (Run End)). IfSome o IsSet) (sym (new_own at h)) (part_set (nat_lt at p))
       set_at at false h = subst (λ (o : Option (Run End)). IfSome o IsSet) (sym (new_other at h)) (is.set at)
-
-      told_step : (at : ℕ) (b : Bool) → nat_lt at p ≡ b → end_told at (Some (cond b left right)) ≡ Some (end_along (at - r.first) r.value)
-      told_step at true e = refl
-      told_step at false e =
-          let from : p ≤ at = ltb-false at p e in
-          ap Some (along_twice r.value (p - r.first) (at - p) (at - r.first) (omega (arith, from, behind)))
-
-      told_at : (at : ℕ) (t : Bool) → has_place at r ≡ t → end_told at (run_at new at) ≡ end_told at (run_at runs at)
-      told_at at true h = ap (end_told at) (new_own at h) ∙ told_step at (nat_lt at p) refl ∙ sym (ap (end_told at) (run_whole runs is.apart p r there at h))
-      told_at at false h = ap (end_told at) (new_other at h)
-
-      pub part_told : (at : ℕ) → end_told at (run_at new at) ≡ end_told at (run_at runs at)
-      part_told at = told_at at (has_place at r) refl
-
-      at_cut : run_at new p ≡ Some right
-      at_cut = new_own p (run_has runs is.apart p r there) ∙ ap (λ (b : Bool). Some (cond b left right)) (le-ltb p p (omega arith))
-
-      pub part_begins : BeginsAt p new
-      part_begins = subst (λ (o : Option (Run End)). IfSome o (λ q. q.first ≡ p)) (sym at_cut) refl
-
-      others_at : (other : ℕ) (t : Bool) → has_place other r ≡ t → BeginsAt other runs → BeginsAt other new
-      others_at other true h begins =
-          let first : r.first ≡ other = if-some (λ (q : Run End). q.first ≡ other) (run_at runs other) r (run_whole runs is.apart p r there other h) begins in
-          let before : nat_lt other p ≡ true = lt-ltb other p (omega (arith, first, behind)) in
-          subst (λ (o : Option (Run End)). IfSome o (λ q. q.first ≡ other)) (sym (new_own other h ∙ ap (λ (b : Bool). Some (cond b left right)) before)) first
-      others_at other false h begins = subst (λ (o : Option (Run End)). IfSome o (λ q. q.first ≡ other)) (sym (new_other other h)) begins
-
-      pub part_others : (other : ℕ) → BeginsAt other runs → BeginsAt other new
-      part_others other = others_at other (has_place other r) refl
 
       module _ (apart : AreRuns new) (next : FinMap nat_cmp ℕ) (waits_are : Waits waits p (Some (until (nat_lt m r.value.end) r.value.end)) next) where
         waiting_own : (at : ℕ) → has_place at r ≡ true → (at ≡ p → ⊥) → (b : Bool) → nat_lt at p ≡ b → wait_told (held_at m) at (Some r) ≡ wait_told (held_at m) at (Some (cond b left right))

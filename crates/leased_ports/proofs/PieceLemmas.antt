@@ -5,12 +5,12 @@ use Rattle.pcp_base.specs.declared.leases.End.{End}
 use Rattle.ordered_index.proofs.EntryLaws.{none_by}
 use Rattle.port_spans.specs.declared.runs.Run.{Run}
 use Rattle.port_spans.specs.Runs.{has_place, run_at, AreRuns, IsNextRun, IsFirstFrom}
-use Rattle.port_spans.specs.Along.{end_along}
+use Rattle.port_spans.specs.Along.{end_along, spot, end_told}
 use Rattle.port_spans.proofs.RunLemmas.{in_by}
 use Rattle.leased_ports.specs.Pieces.{IsPiece}
-use Rattle.leased_ports.specs.Kept.{spot, end_told, end_by, IsSet}
-use Rattle.leased_ports.proofs.SpotLemmas.{if-some, run_of_low, run_whole, run_from, run_to, spot_more}
-use Rattle.leased_ports.proofs.PartLemmas.{along_twice}
+use Rattle.leased_ports.specs.Kept.{end_by, IsSet}
+use Rattle.port_spans.proofs.SpotLemmas.{if-some, run_whole, run_from, run_to, spot_more, along_twice}
+use Rattle.leased_ports.proofs.SpotLemmas.{run_of_low}
 
 module _ (runs : List (Run End)) (apart : AreRuns runs) (at : ℕ) (none : run_at runs at ≡ None) where
   -- what has a place behind the spot begins behind it

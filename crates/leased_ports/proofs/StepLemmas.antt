@@ -12,7 +12,8 @@ use Rattle.port_spans.specs.Runs.{run_at}
 use Rattle.leased_ports.specs.Leased.{end_in, no_ends}
 use Rattle.leased_ports.specs.Kept.{AreScheduled, IsSet, wait_told}
 use Rattle.leased_ports.specs.Steps.{Waits}
-use Rattle.leased_ports.proofs.SpotLemmas.{if-some, run_has, place_low}
+use Rattle.port_spans.proofs.SpotLemmas.{if-some, run_has}
+use Rattle.leased_ports.proofs.SpotLemmas.{place_low}
 
 pub waits-inserted : (old new : FinMap nat_cmp ℕ) (id expiry : ℕ) → new ≡ insert old id expiry → Waits old id (Some expiry) new
 waits-inserted old new id expiry e other = ap (λ (m : FinMap nat_cmp ℕ). get m other) e ∙ get-inserted old id expiry other

@@ -32,8 +32,8 @@ use Rattle.port_spans.specs.declared.runs.Run.{Run}
 use Rattle.port_spans.specs.Runs.{run_at}
 use Rattle.port_spans.proofs.RunLemmas.{in_by}
 use Rattle.leased_ports.specs.Leased.{Leased, leased, place, end_in, no_ends, while_recent, with_last_end, with_last_ends, without_last_ends, IsPortsOf, IsOnTerms}
-use Rattle.port_spans.specs.Along.{end_along}
-use Rattle.leased_ports.specs.Kept.{spot, run_of, end_told, end_by, ends_of, is_held_at, held_at, use_by, use_told, IsOn, IsKept}
+use Rattle.port_spans.specs.Along.{end_along, spot, end_told}
+use Rattle.leased_ports.specs.Kept.{run_of, end_by, ends_of, is_held_at, held_at, use_by, use_told, IsOn, IsKept}
 use Rattle.leased_ports.specs.Laws.{IsPoolOnTerms}
 use Rattle.leased_ports.specs.Steps.{AreAssigned, last_along, no_last}
 use Rattle.leased_ports.proofs.PoolLemmas.{pool-state}

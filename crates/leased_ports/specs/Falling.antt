@@ -7,7 +7,8 @@ use Rattle.external_pool.specs.Holdings.{Holdings}
 use Rattle.port_spans.specs.declared.runs.Run.{Run}
 use Rattle.port_spans.specs.Runs.{run_at}
 use Rattle.leased_ports.specs.Leased.{while_recent}
-use Rattle.leased_ports.specs.Kept.{AreInStep, end_told}
+use Rattle.port_spans.specs.Along.{end_told}
+use Rattle.leased_ports.specs.Kept.{AreInStep}
 
 -- whether it waits until that moment
 abbrev pub is_until : ℕ → Option ℕ → Bool

@@ -14,24 +14,11 @@ use Rattle.external_pool.specs.PortUses.{use_along}
 use Rattle.external_pool.specs.Holdings.{Holdings, IsWhole, use_of}
 use Rattle.port_spans.specs.declared.runs.Run.{Run}
 use Rattle.port_spans.specs.Runs.{run_at, AreRuns}
-use Rattle.port_spans.specs.Along.{end_along}
-
--- where a port stands among those of both protocols
-abbrev pub spot : Protocol → ℕ → ℕ
-spot Tcp port = port
-spot Udp port = 65536 + port
-
-abbrev pub spot_of : End → ℕ
-spot_of e = spot e.endpoint.protocol e.external
+use Rattle.port_spans.specs.Along.{spot, spot_of, end_told}
 
 -- the run that has a port
 abbrev pub run_of : List (Run End) → Protocol → ℕ → Option (Run End)
 run_of runs protocol port = if nat_lt port 65536 then run_at runs (spot protocol port) else None
-
--- the last end at a spot of a run: its value is that of its first port
-abbrev pub end_told : ℕ → Option (Run End) → Option End
-end_told at None = None
-end_told at (Some r) = Some (end_along (at - r.first) r.value)
 
 -- the last end of a port
 abbrev pub end_by : List (Run End) → Protocol → ℕ → Option End

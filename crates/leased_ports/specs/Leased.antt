@@ -9,7 +9,7 @@ use Rattle.pcp_base.specs.States.{State}
 use Rattle.lease_store.specs.declared.terms.Terms.{Terms}
 use Rattle.port_spans.specs.Along.{end_along}
 use Rattle.leased_ports.specs.LastEnds.{last_end}
-use Rattle.leased_ports.specs.declared.ends.TheConstants.{PLACES}
+use Rattle.port_spans.specs.declared.runs.TheConstants.{PLACES}
 
 pub record Leased : Type 0 where
   -- the range of ports that are given, and how many an address may own

@@ -1,5 +1,5 @@
 -- What one step does to runs, to a pool and to a wheel (our own; for proofs alone).
-use Rattle.std.specs.Prelude.{◌≡◌, ℕ, ◌-◌, ◌<◌, ◌≤◌, ◌&&◌, ◌==◌, true, false, List, Option, Some, None, IfSome, if◌then◌else◌}
+use Rattle.std.specs.Prelude.{◌≡◌, ℕ, ◌-◌, ◌<◌, ◌≤◌, ◌&&◌, ◌==◌, true, false, List, Option, Some, None, if◌then◌else◌}
 use Rattle.std.specs.Ordering.{nat_cmp}
 use Rattle.std.specs.FinMap.{FinMap, get}
 use Rattle.pcp_base.specs.declared.leases.Protocol.{Protocol}
@@ -11,8 +11,8 @@ use Rattle.external_pool.specs.PortUses.{use_along}
 use Rattle.external_pool.specs.Holdings.{Holdings, IsWhole, use_of}
 use Rattle.port_spans.specs.declared.runs.Run.{Run}
 use Rattle.port_spans.specs.Runs.{run_at}
-use Rattle.port_spans.specs.Along.{end_along}
-use Rattle.leased_ports.specs.Kept.{IsOn, AreInStep, AreRecent, end_by, end_told, held_at, spot_of}
+use Rattle.port_spans.specs.Along.{end_along, end_told, spot_of, BeginsAt}
+use Rattle.leased_ports.specs.Kept.{IsOn, AreInStep, AreRecent, end_by, held_at}
 
 -- The n ports from one on are used so: that one so, those behind it along it. Nothing else changes.
 pub record GivesUses (old : Holdings) (protocol : Protocol) (port n : ℕ) (value : Use)
@@ -32,10 +32,6 @@ AreUsedBy pool r value = (q : ℕ) → is_in_run r.value.external r.count q ≡ 
 abbrev pub Waits : FinMap nat_cmp ℕ → ℕ → Option ℕ → FinMap nat_cmp ℕ → Type 0
 Waits old id until new =
     (other : ℕ) → get new other ≡ (if other == id then until else get old other)
-
--- no run goes on over a spot
-abbrev pub BeginsAt : ℕ → List (Run End) → Type 0
-BeginsAt at runs = IfSome (run_at runs at) (λ r. r.first ≡ at)
 
 -- n spots from one on are of no run any more, and at the others the last ends stay; pool and wheel
 -- are those of the runs then

@@ -7,17 +7,18 @@ ghost use Rattle.pcp_base.specs.declared.leases.End.{End};
 ghost use Rattle.port_spans.specs.declared.runs.Run.{Run};
 ghost use Rattle.port_spans.specs.Runs.{run_at};
 ghost use Rattle.leased_ports.specs.Leased.{while_recent};
-ghost use Rattle.leased_ports.specs.Kept.{IsOn, AreInStep, AreRecent, end_told, held_at};
+ghost use Rattle.port_spans.specs.Along.{end_told};
+ghost use Rattle.leased_ports.specs.Kept.{IsOn, AreInStep, AreRecent, held_at};
 ghost use Rattle.leased_ports.specs.Falling.{AreFalling, due_below, held_by};
-ghost use Rattle.leased_ports.specs.declared.ends.TheConstants.{PLACES};
 ghost use Rattle.leased_ports.specs.declared.falls.TheConstants.{RUN_STEPS};
+ghost use Rattle.port_spans.specs.declared.runs.TheConstants.{PLACES};
 
-use crate::ends::Ends;
 use crate::schedule::{next_due, reschedule, waits_until};
 use crate::steps::take_out;
 use expiry_wheel::Wheel;
 use external_pool::Pool;
 use pcp_base::REST_SECONDS;
+use port_spans::Ends;
 use std::sync::ledger::Ledger;
 use step_count::Steps;
 

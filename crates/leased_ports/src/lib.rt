@@ -2,7 +2,6 @@
 //! held and for whom, which rest, and until when.
 #![tactic(auto)]
 
-mod ends;
 mod falls;
 pub mod laws;
 mod pieces;

@@ -5,8 +5,8 @@ ghost use Rattle.port_spans.specs.Runs.{AreRuns, run_at};
 ghost use Rattle.leased_ports.specs.Pieces.{IsPiece};
 ghost use Rattle.leased_ports.specs.Kept.{IsSet, end_by};
 
-use crate::ends::{Ends, end_along, spot};
 use pcp_base::{End, Protocol};
+use port_spans::{Ends, end_along, spot};
 
 /// Ports in a row: the last ends of all are along that of the first, or none has one.
 #[derive(Clone, Copy)]

@@ -22,14 +22,13 @@ ghost use Rattle.leased_ports.specs.Pieces.{IsPiece};
 ghost use Rattle.leased_ports.specs.Kept.{IsOn, IsSet, AreInStep, AreRecent, end_by, held_at};
 ghost use Rattle.leased_ports.specs.Steps.{AreAssigned, IsOwnRun, last_along, no_last};
 
-use crate::ends::{Ends, end_along, spot, spot_of};
 use crate::falls::settle;
 use crate::pieces::{Piece, piece_at};
 use crate::steps::{free, insert, renew};
 use expiry_wheel::Wheel;
 use external_pool::{PickAsk, PickRefused, Picked, Pool};
 use pcp_base::{End, Endpoint, Memory, Moment, Protocol};
-use port_spans::{Run, Spans};
+use port_spans::{Ends, Run, Spans, end_along, spot, spot_of};
 use std::alloc::Global;
 use std::marker::Model;
 use std::sync::ledger::Ledger;
@@ -54,7 +53,7 @@ pub struct LeasedPorts {
 impl Model for LeasedPorts {
     ghost use Rattle.leased_ports.specs.Leased.{Leased, leased};
     ghost use Rattle.leased_ports.specs.Kept.{IsKept, ends_of};
-    ghost use Rattle.leased_ports.specs.declared.ends.TheConstants.{PLACES};
+    ghost use Rattle.port_spans.specs.declared.runs.TheConstants.{PLACES};
 
     ghost Value = { Leased };
 

@@ -1,17 +1,26 @@
 //! When runs fall due.
 
-ghost use Rattle.std.specs.Prelude.{◌≡◌, ◌<◌, ◌≤◌, ◌+◌, ℕ, true, Some, None, OnOk, IfSome, IfNone};
+ghost use Rattle.std.specs.Prelude.{◌≡◌, ◌<◌, ◌≤◌, ◌+◌, ◌^◌, ℕ, true, Some, None, OnOk, IfSome, IfNone};
 ghost use Rattle.std.specs.FinMap as fin;
 ghost use Rattle.expiry_wheel.specs.Due.{IsNextDue};
 ghost use Rattle.expiry_wheel.specs.declared.TheConstants.{NEVER};
 ghost use Rattle.leased_ports.specs.Falling.{is_until};
+ghost use Rattle.leased_ports.specs.Kept.{until};
 ghost use Rattle.leased_ports.specs.Steps.{Waits};
 
 use expiry_wheel::Wheel;
-use pcp_base::Memory;
+use pcp_base::{Memory, REST_SECONDS};
 use std::alloc::Global;
 use std::sync::ledger::Ledger;
 use step_count::Steps;
+
+/// When a run of that end falls due next: at its end, if it is held, and else after its rest.
+pub fn due_after(end: u64, held: bool) -> u64
+    requires { end < 2 ^ 41 }
+    ensures { result ≡ until held end }
+{
+    if held { end } else { end + REST_SECONDS }
+}
 
 /// Sets when an id falls due.
 pub fn put(wheel: &mut Wheel, alloc: Global, id: u32, expiry: u64) -> Result<(), Memory>

@@ -8,16 +8,16 @@ ghost use Rattle.pcp_base.specs.declared.leases.End.{End};
 ghost use Rattle.port_spans.specs.declared.runs.Run.{Run};
 ghost use Rattle.port_spans.specs.Runs.{AreRuns, but_from, has_place, run_at};
 ghost use Rattle.external_pool.specs.declared.uses.Use.TheVariants.{Free};
-ghost use Rattle.leased_ports.specs.Kept.{IsOn, IsSet, AreScheduled, AreInStep, AreRecent, end_told, held_at, use_by};
-ghost use Rattle.leased_ports.specs.Steps.{GivesUses, AreUsedBy, Waits, BeginsAt, AreAssigned, AreFreed, AreFreeing, last_along};
+ghost use Rattle.port_spans.specs.Along.{end_told, BeginsAt};
+ghost use Rattle.leased_ports.specs.Kept.{IsOn, IsSet, AreScheduled, AreInStep, AreRecent, held_at, use_by};
+ghost use Rattle.leased_ports.specs.Steps.{GivesUses, AreUsedBy, Waits, AreAssigned, AreFreed, AreFreeing, last_along};
 
-use crate::ends::{Ends, due_after, end_along};
-use crate::schedule;
+use crate::schedule::{self, due_after};
 use crate::uses::{change_use, free_ports, use_ports};
 use expiry_wheel::Wheel;
 use external_pool::Pool;
 use pcp_base::{End, Memory};
-use port_spans::Run;
+use port_spans::{Ends, Run, end_along};
 use std::alloc::Global;
 
 /// Takes out a run: its ports are free then.

@@ -1,6 +1,6 @@
 -- Runs after a change: a run that comes, that is parted, that has another value, that goes.
 use Rattle.std.specs.Prelude.{◌⊎◌}
-use Rattle.std.proofs.Common.{◌≡◌, ◌≢◌, ℕ, suc, ◌+◌, ◌-◌, ◌<◌, ◌≤◌, ◌==◌, ◌&&◌, nat_lt, Bool, true, false, cond, List, length, Option, Some, None, IfSome, refl, sym, ap, ◌∙◌, subst, inl, inr, arith}
+use Rattle.std.proofs.Common.{◌≡◌, ◌≢◌, ℕ, suc, ◌+◌, ◌-◌, ◌<◌, ◌≤◌, ◌==◌, ◌&&◌, nat_lt, Bool, true, false, cond, List, length, Option, Some, None, refl, sym, ap, ◌∙◌, subst, inl, inr, arith}
 use Rattle.std.specs.Option.{option_map}
 use Rattle.std.proofs.lemmas.Bool.{eqb-true, eq-eqb, and_parts}
 use Rattle.std.proofs.lemmas.Bool.Decides.{nat_tests}
@@ -8,8 +8,9 @@ use Rattle.ordered_index.proofs.EntryLaws.{none_some, some_one}
 use Rattle.ordered_index.proofs.Entries.{false_by}
 use Rattle.slab.specs.Slab.{Slab, Updates, get, values}
 use Rattle.port_spans.specs.declared.runs.Run.{Run}
-use Rattle.port_spans.specs.Runs.{has_place, run_at, part_at, with_value, but_from, AreRuns, IsRunAt}
+use Rattle.port_spans.specs.Runs.{has_place, run_at, part_at, with_value, but_from, AreRuns}
 use Rattle.port_spans.specs.Kept.{AreKept, slot_at}
+use Rattle.port_spans.proofs.SpotLemmas.{run_first, run_whole}
 use Rattle.port_spans.proofs.RunLemmas.{same_or, in_from, in_to, in_by, one_key, run_back, run_found, run_none, has_first}
 
 pub less_test : (a b : ℕ) → a < b → nat_lt a b ≡ true
@@ -34,20 +35,12 @@ one_less a b same = omega (arith, same)
 -- ---- calls that change nothing
 
 module _ {V : Type 0} (runs : List (Run V)) (apart : AreRuns runs) where
-  run_is : (at : ℕ) (q : Run V) → run_at runs at ≡ Some q → IsRunAt runs at q
-  run_is at q e = subst (λ (o : Option (Run V)). IfSome o (IsRunAt runs at)) e (apart at)
-
-  own_first : (at : ℕ) (q : Run V) → run_at runs at ≡ Some q → run_at runs q.first ≡ Some q
-  own_first at q e =
-      let i = run_is at q e in
-      i.whole q.first (in_by q.first q.count q.first (omega arith) (omega (arith, in_from q.first q.count at i.has, in_to q.first q.count at i.has)))
-
   -- where no run begins
   module _ (first : ℕ) (none : (q : Run V) → run_at runs first ≡ Some q → q.first ≢ first) where
     other_test : (at : ℕ) (q : Run V) → run_at runs at ≡ Some q → (q.first == first) ≡ false
     other_test at q e = false_by (q.first == first) (λ t.
         let same = eqb-true q.first first t in
-        none q (ap (run_at runs) (sym same) ∙ own_first at q e) same)
+        none q (ap (run_at runs) (sym same) ∙ run_first runs apart at q e) same)
 
     unset_step : (value : V) (at : ℕ) (o : Option (Run V)) → run_at runs at ≡ o → o ≡ option_map (with_value first value) o
     unset_step value at None e = refl
@@ -69,7 +62,7 @@ module _ {V : Type 0} (runs : List (Run V)) (apart : AreRuns runs) where
     uncut_step at None e = refl
     uncut_step at (Some q) e =
         let test : (nat_lt q.first place && has_place place q) ≡ false = false_by (nat_lt q.first place && has_place place q)
-        (λ t. let p = and_parts _ _ t in none q ((run_is at q e).whole place p.1) (less_from q.first place p.0)) in
+        (λ t. let p = and_parts _ _ t in none q (run_whole runs apart at q e place p.1) (less_from q.first place p.0)) in
         ap Some (sym (ap (λ t. cond t (cond (nat_lt at place) (record { first = q.first; count = place - q.first; value = q.value }) (record { first = place; count = q.first + q.count - place; value = q.value })) q) test))
 
     pub uncut : (at : ℕ) → run_at runs at ≡ option_map (part_at place at) (run_at runs at)

@@ -16,11 +16,6 @@ key_of zero = None
 key_of (suc key) = Some key
 
 module _ {V : Type 0} where
-  -- the run that a number names
-  abbrev pub run_of : Slab (Run V) → ℕ → Option (Run V)
-  run_of runs zero = None
-  run_of runs (suc key) = get runs key
-
   -- a place has the number of the run that has it, and each run has places, all below the last
   pub record AreKept (slots : List ℕ) (runs : Slab (Run V)) : Type 0 where
     pub places : length slots ≡ PLACES

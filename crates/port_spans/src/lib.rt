@@ -2,10 +2,12 @@
 //! are one entry.
 #![tactic(auto)]
 
+mod ends;
 mod runs;
 mod slots;
 mod spans;
 mod steps;
 
+pub use ends::{Ends, end_along, spot, spot_of};
 pub use runs::{PLACES, Run};
 pub use spans::Spans;

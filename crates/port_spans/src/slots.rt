@@ -1,7 +1,6 @@
 //! Numbers of places, each of which names the run that has the place.
 
-ghost use Rattle.std.specs.Prelude.{◌≡◌, ◌≤◌, ◌<◌, ◌+◌, ◌^◌, ℕ, IfOk, length, replicate, if◌then◌else◌};
-ghost use Rattle.slab.specs.Slab.{get};
+ghost use Rattle.std.specs.Prelude.{◌≡◌, ◌≤◌, ◌+◌, ℕ, IfOk, length, replicate, if◌then◌else◌};
 ghost use Rattle.port_spans.specs.Runs.{has_place};
 ghost use Rattle.port_spans.specs.Kept.{key_of, slot_at};
 

@@ -16,9 +16,9 @@ use std::marker::Model;
 /// Values of the places from 0 to 131,071.
 ///
 /// It is seen as a list of runs, of which no two have a place in common; a place that no run has is
-/// without a value. It takes 524,288 octets, and for each run those of a `Run<V>` and 8 more (48 for
-/// an end of ports), with slack up to twice as many. A look-up is one look into an array by place
-/// and one at the run.
+/// without a value. It takes 524,288 octets, and for each run those of a `Run<V>` and 8 more, which
+/// are 48 where the value is an end; with slack up to twice as many. A look-up is one look into an
+/// array by place and one at the run.
 #[derive(Drop)]
 pub struct Spans<V> {
     /// For each place one more than the key of its run, and 0 where it has none.
@@ -95,7 +95,8 @@ impl<V: Copy> Spans<V> {
         requires free { (at : ℕ) → has_place at run ≡ true → the.run_at self.old at ≡ None }
         ensures runs { AreRuns self.new }
         ensures ok { OnOk result ((at : ℕ) →
-            the.run_at self.new at ≡ (if has_place at run then Some run else the.run_at self.old at)) }
+            the.run_at self.new at
+            ≡ (if has_place at run then Some run else the.run_at self.old at)) }
         ensures err { OnErr result (self.new ≡ self.old) }
     {
         put(&mut self.slots, &mut self.runs, run)

@@ -5,7 +5,7 @@ ghost use Rattle.std.specs.Option.{option_map};
 ghost use Rattle.slab.specs.Slab.{ContainsKey, Updates, get, values};
 ghost use Rattle.port_spans.specs.Runs as the;
 ghost use Rattle.port_spans.specs.Runs.{IsNextRun, but_from, has_place, part_at, with_value};
-ghost use Rattle.port_spans.specs.Kept.{AreKept, run_of, slot_at};
+ghost use Rattle.port_spans.specs.Kept.{AreKept};
 
 use crate::runs::{PLACES, Run};
 use crate::slots::{fill, key_at, next_slot};

@@ -1,11 +1,11 @@
 use Rattle.std.proofs.Common.{◌≡◌, ℕ, ◌-◌, Some, sym, ap, ◌∙◌, subst, arith}
 use Rattle.pcp_base.specs.declared.leases.End.{End}
 use Rattle.port_spans.specs.Runs.{run_at}
-use Rattle.port_spans.specs.Along.{end_along}
+use Rattle.port_spans.specs.Along.{end_along, spot}
 use Rattle.port_spans.proofs.RunLemmas.{in_from, in_to}
 use Rattle.leased_ports.specs.Pieces.{IsPiece}
-use Rattle.leased_ports.specs.Kept.{spot, end_by, IsSet}
-use Rattle.leased_ports.proofs.SpotLemmas.{if-some}
+use Rattle.leased_ports.specs.Kept.{end_by, IsSet}
+use Rattle.port_spans.proofs.SpotLemmas.{if-some}
 use Rattle.leased_ports.proofs.PieceLemmas.{piece_gap, piece_run}
 use Rattle.leased_ports.proofs.pieces.piece_at.Goals as goal
 

@@ -1,9 +1,10 @@
 use Rattle.std.proofs.Common.{◌≡◌, ℕ, ◌-◌, ◌<◌, Some, None, sym, ap, ◌∙◌, arith}
 use Rattle.port_spans.specs.Runs.{run_at}
 use Rattle.port_spans.proofs.RunLemmas.{in_from, in_to}
-use Rattle.port_spans.specs.Along.{end_along}
-use Rattle.leased_ports.specs.Kept.{spot, end_told, IsSet}
-use Rattle.leased_ports.proofs.SpotLemmas.{if-some, run_of_low}
+use Rattle.port_spans.specs.Along.{end_along, spot, end_told}
+use Rattle.leased_ports.specs.Kept.{IsSet}
+use Rattle.port_spans.proofs.SpotLemmas.{if-some}
+use Rattle.leased_ports.proofs.SpotLemmas.{run_of_low}
 use Rattle.leased_ports.proofs.ports.end_at.Goals as goal
 
 pub returns-in_default : goal.returns-in_default

@@ -3,7 +3,7 @@ use Rattle.std.specs.FinMap.{get}
 use Rattle.leased_ports.specs.Kept.{held_at, until, IsSet}
 use Rattle.port_spans.specs.Runs.{run_at}
 use Rattle.expiry_wheel.specs.declared.TheConstants.{NEVER}
-use Rattle.leased_ports.proofs.SpotLemmas.{if-some}
+use Rattle.port_spans.proofs.SpotLemmas.{if-some}
 use Rattle.leased_ports.proofs.BlockLemmas.{run_uses}
 use Rattle.leased_ports.proofs.FreeLemmas.{run_waits}
 use Rattle.leased_ports.proofs.AssignLemmas.{renewed_assigned}
