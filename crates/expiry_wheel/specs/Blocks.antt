@@ -4,8 +4,8 @@ use Rattle.expiry_wheel.specs.declared.TheConstants.{NEVER, IDS}
 use Rattle.expiry_wheel.specs.declared.tree.TheConstants.{BLOCKS}
 use Rattle.expiry_wheel.specs.Moments.{kept_at, IsFirstIn}
 
--- the root is at 1, the children of the node at i are at 2 * i and 2 * i + 1, and the second half of
--- the nodes are the blocks
+-- the root is at 1, the children of the node at i are at 2 * i and 2 * i + 1, and the second half
+-- of the nodes are the blocks
 
 -- the least of n moments from a place on
 unfoldable pub least_at : List ℕ → ℕ → ℕ → ℕ
@@ -38,7 +38,8 @@ IsInRow d i = (row d ≤ i) × (i < 2 * row d)
 -- than m stands
 abbrev pub IsClear : List ℕ → ℕ → ℕ → ℕ → ℕ → Type 0
 IsClear nodes m from k node =
-    (block : ℕ) → from ≤ block → BLOCKS ≤ block → block < 2 * BLOCKS → above k block < node → m < kept_at nodes block
+    (block : ℕ) → from ≤ block → BLOCKS ≤ block → block < 2 * BLOCKS → above k block < node →
+    m < kept_at nodes block
 
 -- a block below a node, k levels above the blocks: at most m stands there, and more at each other
 -- that is below the node and left of it

@@ -30,4 +30,5 @@ IsUpTo (Some a) id = a ≤ id
 -- no id of the first n pairs that is due is less
 abbrev pub AllFrom : List Pair → ℕ → ℕ → Option ℕ → ℕ → Type 0
 AllFrom pairs from m best n =
-    (k : ℕ) (p : Pair) → k < n → slice_get pairs k ≡ Some p → is_due_from from m p ≡ true → IsUpTo best p.id
+    (k : ℕ) (p : Pair) → k < n → slice_get pairs k ≡ Some p → is_due_from from m p ≡ true →
+    IsUpTo best p.id

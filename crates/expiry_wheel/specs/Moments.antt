@@ -24,7 +24,8 @@ expiries_by moments = expiries_from 0 moments
 
 -- the id gets the expiry that the moment stands for, or loses its own
 abbrev pub written : FinMap nat_cmp ℕ → ℕ → ℕ → FinMap nat_cmp ℕ
-written expiries id moment = (if moment == NEVER then remove expiries id else insert expiries id moment)
+written expiries id moment =
+    (if moment == NEVER then remove expiries id else insert expiries id moment)
 
 -- what stands at a place; past the end, NEVER
 abbrev pub kept_at : List ℕ → ℕ → ℕ

@@ -1,7 +1,7 @@
 //! Ids with the moments at which they expire, and which of them falls due next.
 //!
-//! `Wheel` is seen as a finite map from ids to expiries: a list of pairs of an id and an expiry, ids
-//! distinct.
+//! `Wheel` is seen as a finite map from ids to expiries: a list of pairs of an id and an expiry,
+//! ids distinct.
 //! `plain::PlainWheel` keeps the same contract by a list that is searched, to compare with.
 #![tactic(auto)]
 

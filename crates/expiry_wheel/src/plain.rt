@@ -149,7 +149,8 @@ impl PlainWheel {
         Some(self.pairs[i].expiry)
     }
 
-    /// Gives an id that the wheel has another expiry; false where it hasn't got it. It takes no memory.
+    /// Gives an id that the wheel has another expiry; false where it hasn't got it. It takes no
+    /// memory.
     pub fn reschedule(&mut self, id: u32, expiry: u64) -> bool
         ensures found { result ≡ map.contains_key self.old id }
         ensures moved { OnTrue result (self.new ≡ map.insert self.old id expiry) }

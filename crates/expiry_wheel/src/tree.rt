@@ -88,7 +88,8 @@ fn write<L: Ledger>(nodes: &mut [u64], leaf: usize, least: u64, steps: &mut Step
     ensures places { length nodes.new ≡ 2 * BLOCKS }
     ensures tree { IsTree nodes.new }
     ensures own { kept_at nodes.new leaf ≡ least }
-    ensures others { (i : ℕ) → BLOCKS ≤ i → (i ≡ leaf → ⊥) → kept_at nodes.new i ≡ kept_at nodes.old i }
+    ensures others { (i : ℕ) → BLOCKS ≤ i → (i ≡ leaf → ⊥) →
+        kept_at nodes.new i ≡ kept_at nodes.old i }
     ensures cost { steps.new ≤ steps.old + 29 }
     ensures looked { steps.old < steps.new }
 {
@@ -249,8 +250,8 @@ fn first_of<L: Ledger>(moments: &[u64], leaf: usize, m: u64, steps: &mut Steps<L
 
 /// The least id whose moment is the least of all, if that one is at most `m`.
 ///
-/// Where there is none the root tells it. Else it looks at the root, at one node of each level below
-/// it, and at moments of one block.
+/// Where there is none the root tells it. Else it looks at the root, at one node of each level
+/// below it, and at moments of one block.
 pub fn next<L: Ledger>(
     moments: &[u64],
     nodes: &[u64],

@@ -1,19 +1,12 @@
 -- What waits, and the value of what is kept.
-use Rattle.std.specs.Prelude.{◌≡◌, refl, ℕ, zero, suc, ◌-◌, ◌<◌, ◌≤◌, Bool, true, false, List, length, replicate, Option, Some, None}
+use Rattle.std.specs.Prelude.{◌≡◌, refl, ℕ, zero, suc, length, replicate, Some, None}
 use Rattle.std.specs.Ordering.{nat_cmp}
-use Rattle.std.specs.Cmp.{nat_cmp_total}
-use Rattle.std.specs.FinMap.{FinMap, get, contains_key, insert, remove, len, empty, get-empty, len-empty, len-remove, same_map, nat_cmp-IsAntisymmetric}
-use Rattle.std.proofs.Common.{inl, inr, sym, ap, ◌∙◌, arith, cond}
+use Rattle.std.specs.FinMap.{FinMap, get, insert, remove}
+use Rattle.std.proofs.Common.{ap, ◌∙◌}
 use Rattle.std.proofs.lemmas.List.{length-replicate}
-use Rattle.pcp_base.specs.declared.leases.End.{End}
-use Rattle.expiry_wheel.proofs.Maps.{same_or_not, cond_same, cond_other, get-inserted, get-removed}
-use Rattle.port_spans.specs.declared.runs.Run.{Run}
-use Rattle.port_spans.specs.Runs.{run_at}
+use Rattle.expiry_wheel.proofs.Maps.{get-inserted, get-removed}
 use Rattle.leased_ports.specs.Leased.{end_in, no_ends}
-use Rattle.leased_ports.specs.Kept.{AreScheduled, IsSet, wait_told}
 use Rattle.leased_ports.specs.Steps.{Waits}
-use Rattle.port_spans.proofs.SpotLemmas.{if-some, run_has}
-use Rattle.leased_ports.proofs.SpotLemmas.{place_low}
 
 pub waits-inserted : (old new : FinMap nat_cmp ℕ) (id expiry : ℕ) → new ≡ insert old id expiry → Waits old id (Some expiry) new
 waits-inserted old new id expiry e other = ap (λ (m : FinMap nat_cmp ℕ). get m other) e ∙ get-inserted old id expiry other
