@@ -5,4 +5,5 @@ mod PartLemmas
 mod GoingLemmas
 mod DropLemmas
 mod CopyLemmas
+mod RecordLemmas
 mod TableLemmas

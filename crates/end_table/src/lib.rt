@@ -5,6 +5,7 @@
 mod copies;
 mod dues;
 mod kept;
+mod records;
 mod steps;
 mod table;
 

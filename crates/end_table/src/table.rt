@@ -1,8 +1,9 @@
 //! The table of ends.
-ghost use Rattle.std.specs.Prelude.{◌≡◌, ◌≤◌, ◌+◌, ◌-◌, ◌&&◌, ℕ, [], filter, Some, None, IfOk, OnOk, OnErr, if◌then◌else◌};
+ghost use Rattle.std.specs.Prelude.{◌≡◌, ◌≤◌, ◌+◌, ◌-◌, ◌&&◌, ◌++◌, ℕ, [], filter, map, Some, None, IfOk, OnOk, OnErr, if◌then◌else◌};
 ghost use Rattle.pcp_base.specs.declared.leases.Protocol.{Protocol};
 ghost use Rattle.pcp_base.specs.Tables.{same_protocol};
 ghost use Rattle.pcp_base.specs.Ends.{is_recent};
+ghost use Rattle.pcp_base.specs.Snapshots.{end_record};
 ghost use Rattle.port_runs.specs.Ports.{is_in_run};
 ghost use Rattle.port_spans.specs.Along.{end_along};
 ghost use Rattle.end_table.specs.EndLists.{AreOrdered, end_among, with_lasts, without_ports};
@@ -10,7 +11,8 @@ ghost use Rattle.end_table.specs.EndLists.{AreOrdered, end_among, with_lasts, wi
 use crate::copies::copy;
 use crate::dues::Dues;
 use crate::kept::{drop_over, forget, put, remove};
-use pcp_base::{End, Memory, Moment, Protocol};
+use crate::records::append_records;
+use pcp_base::{End, Memory, Moment, Protocol, Record};
 use port_spans::{Ends, Spans};
 use std::alloc::Global;
 use std::collections::BTreeMap;
@@ -20,7 +22,8 @@ use std::marker::Model;
 ///
 /// Ends of ports in a row that are put together are kept as one run, also in memory, until a part
 /// of them goes. Each call takes logarithmic time for each run that it parts, puts or takes out,
-/// and looks at the numbers of its ports, or writes them; `copy` looks at all, and writes each end.
+/// and looks at the numbers of its ports, or writes them; `copy` and `add_records` look at all, and
+/// write each end.
 #[derive(Drop)]
 pub struct EndTable {
     /// The ends, by runs.
@@ -115,5 +118,12 @@ impl EndTable {
         ensures { IfOk result (λ v. v.items ≡ self.now) }
     {
         copy(&self.ends, alloc)
+    }
+
+    /// Appends a record at `m` for each end, in their order. The one error is want of memory.
+    pub fn add_records(&self, m: Moment, out: &mut Vec<Record>) -> Result<(), Memory>
+        ensures { OnOk result (out.new.items ≡ out.old.items ++ map (end_record m) self.now) }
+    {
+        append_records(&self.ends, m, out)
     }
 }

@@ -1,8 +1,9 @@
 //! The state that records made, in tables.
-ghost use Rattle.std.specs.Prelude.{◌≡◌, ◌≤◌, ◌+◌, ◌||◌, max, IfOk, if◌then◌else◌};
+ghost use Rattle.std.specs.Prelude.{◌≡◌, ◌≤◌, ◌+◌, ◌++◌, ◌||◌, max, IfOk, OnOk, if◌then◌else◌};
 ghost use Rattle.indexed_store.specs.Tabled.{no_state};
 ghost use Rattle.indexed_store.specs.Looks.{table_steps};
 ghost use Rattle.pcp_base.specs.Apply as the;
+ghost use Rattle.lease_store.specs.HeldRecords.{held_records};
 
 use crate::facts::{address_after, base_after, is_start};
 use crate::leases::Leases;
@@ -94,6 +95,15 @@ impl IndexedState {
             + table_steps self.old.state.table self.old.maps_reached self.old.peers_reached m }
     {
         self.leases.reach(m, steps);
+    }
+
+    /// Appends a record at the last moment for each end and each lease.
+    pub(crate) fn add_records(&self, out: &mut Vec<Record>) -> Result<(), Memory>
+        ensures { OnOk result (out.new.items ≡ out.old.items ++ held_records self.now.state) }
+    {
+        self.ends.add_records(self.last, out)?;
+        self.leases.maps.add_records(self.last, out)?;
+        self.leases.peers.add_records(self.last, out)
     }
 
     /// Notes what a record makes of the base, the address and the last moment.

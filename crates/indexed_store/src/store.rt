@@ -328,6 +328,10 @@ impl LeaseStore for IndexedStore {
         self.state.ends.copy(alloc)
     }
 
+    fn add_records(&self, out: &mut Vec<Record>) -> Result<(), Memory> {
+        self.state.add_records(out)
+    }
+
     fn base(&self) -> Moment {
         self.state.base
     }

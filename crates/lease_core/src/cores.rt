@@ -1,5 +1,5 @@
 //! The leases of an external address, and what is decided on them.
-ghost use Rattle.std.specs.Prelude.{◌≡◌, ◌≤◌, Ok, true, false, is_some, OnOk, IfOk};
+ghost use Rattle.std.specs.Prelude.{◌≡◌, ◌++◌, ◌≤◌, Ok, true, false, is_some, OnOk, IfOk};
 ghost use Rattle.pcp_base.specs.Asks.{IsWellFormedAsk};
 ghost use Rattle.pcp_base.specs.Tables.{live};
 ghost use Rattle.pcp_base.specs.States.{empty_state};
@@ -8,6 +8,7 @@ ghost use Rattle.pcp_base.specs.Fits.{Fits, FitsFirst};
 ghost use Rattle.pcp_base.specs.Reached.{IsReached};
 ghost use Rattle.filter_rules.specs.Lookups.{look};
 ghost use Rattle.lease_store.specs.declared.terms.Terms.{Terms};
+ghost use Rattle.lease_store.specs.HeldRecords.{held_records};
 ghost use Rattle.lease_store.specs.Lookups.{covering, lease_count};
 ghost use Rattle.lease_store.specs.OwnerOrder.{owners_in_order};
 ghost use Rattle.lease_core.specs.Decide.{decide as decided};
@@ -133,6 +134,15 @@ impl<S: LeaseStore> LeaseCore<S> {
         ensures { IfOk result (λ v. v.items ≡ (S.state self.now).ends) }
     {
         self.store.ends(alloc)
+    }
+
+    /// Appends a record at the last moment for each end and each lease of the state, in the order in
+    /// which a snapshot has them. The one error is want of memory.
+    pub fn add_records(&self, out: &mut Vec<Record>) -> Result<(), Memory>
+        requires { IsReached (S.state self.now) }
+        ensures { OnOk result (out.new.items ≡ out.old.items ++ held_records (S.state self.now)) }
+    {
+        self.store.add_records(out)
     }
 
     /// The base of the state, 0 before a Start.

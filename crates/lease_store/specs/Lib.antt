@@ -1,3 +1,4 @@
+pub mod HeldRecords
 pub mod LeaseTerms
 pub mod Lookups
 pub mod OwnerOrder

@@ -1,5 +1,5 @@
 //! The state that records made, as decisions ask for it.
-ghost use Rattle.std.specs.Prelude.{◌≡◌, ℕ, ◌≤◌, ◌+◌, Ok, true, false, is_some, OnOk, IfOk};
+ghost use Rattle.std.specs.Prelude.{◌≡◌, ◌++◌, ℕ, ◌≤◌, ◌+◌, Ok, true, false, is_some, OnOk, IfOk};
 ghost use Rattle.pcp_base.specs.Tables.{live};
 ghost use Rattle.pcp_base.specs.States.{State, empty_state};
 ghost use Rattle.pcp_base.specs.Apply.{apply, apply_first};
@@ -9,6 +9,7 @@ ghost use Rattle.external_pool.specs.Calls.{IsAsk};
 ghost use Rattle.filter_rules.specs.Lookups.{look};
 ghost use Rattle.lease_store.specs.declared.terms.Terms.{Terms};
 ghost use Rattle.lease_store.specs.LeaseTerms.{AreTerms};
+ghost use Rattle.lease_store.specs.HeldRecords.{held_records};
 ghost use Rattle.lease_store.specs.Lookups.{covering, peering, named_port, peer_count, lease_count, next_inside};
 ghost use Rattle.lease_store.specs.OwnerOrder.{owners_in_order};
 ghost use Rattle.lease_store.specs.Picks.{pick_answer};
@@ -215,6 +216,12 @@ pub trait LeaseStore {
     fn ends(&self, alloc: Global) -> Result<Vec<End>, Memory>
         requires { IsReached (state self.now) }
         ensures { IfOk result (λ v. v.items ≡ (state self.now).ends) };
+
+    /// Appends a record at the last moment for each end and each lease of the state, in the order in
+    /// which a snapshot has them. The one error is want of memory.
+    fn add_records(&self, out: &mut Vec<Record>) -> Result<(), Memory>
+        requires { IsReached (state self.now) }
+        ensures { OnOk result (out.new.items ≡ out.old.items ++ held_records (state self.now)) };
 
     /// The base of the state, 0 before a Start.
     fn base(&self) -> Moment

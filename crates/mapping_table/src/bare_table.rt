@@ -1,24 +1,24 @@
 //! Leases without their filters, by numbers that grow, and ordered maps to the numbers beside them.
 
-ghost use Rattle.std.specs.Prelude.{◌≡◌, ◌≤◌, ◌+◌, ◌*◌, map, filter, count_by, length, max, IfOk};
-ghost use Rattle.std.specs.List.{filter_map};
+ghost use Rattle.std.specs.Prelude.{◌≡◌, ◌≤◌, ◌+◌, ◌*◌, ◌++◌, map, filter, take, count_by, length, max, IfOk, OnOk};
 ghost use Rattle.std.specs.Option.{option_copied};
 ghost use Rattle.std.specs.BTreeMap.{get, values};
 ghost use Rattle.step_count.specs.Levels.{levels};
+ghost use Rattle.pcp_base.specs.Snapshots.{map_record};
 ghost use Rattle.mapping_table.specs.MapTables.{no_maps, ended_between};
-ghost use Rattle.mapping_table.specs.MapLists.{is_live_map, some_live_map, map_covering, map_owning, IsDeadMap, IsNextCovered, SkipsUncovered, AreSoundMaps, with_map, PutsMap, RemovesMap};
+ghost use Rattle.mapping_table.specs.MapLists.{is_live_map, some_live_map, map_covering, map_owning, IsDeadMap, IsNextCovered, SkipsUncovered, AreSoundMaps, with_map, PutsMap, RemovesMap, CopiesLiveMaps};
 ghost use Rattle.ordered_index.specs.Orders.{place_cmp};
-ghost use Rattle.mapping_table.specs.Kept.{AreKeptMaps, SievesMaps, AreSievedMaps, filters_at, whole, live_whole};
+ghost use Rattle.mapping_table.specs.Kept.{AreKeptMaps, SievesMaps, AreSievedMaps, filters_at, whole};
 
 use crate::bare::BareLease;
 use crate::changes::{append, replace};
-use crate::filters::live_whole;
+use crate::filters::{live_whole, whole};
 use crate::looks::{lease_at, look};
 use crate::passing::{begin, first_live, pass};
 use ordered_index::{
     LiveKeys, Numbered, Place, Port, Sieve, is_beside, last_up_to, place_of, port_at, port_in,
 };
-use pcp_base::{Endpoint, Filters, MapLease, Memory, Moment, Protocol};
+use pcp_base::{Change, Endpoint, Filters, MapLease, Memory, Moment, Protocol, Record};
 use std::alloc::{AllocError, Global};
 use std::collections::BTreeMap;
 use std::marker::Model;
@@ -52,20 +52,43 @@ impl Model for BareTable {
     ghost invariant = { λ t. AreReachedMaps t.kept t.sets t.sieve t.live };
 }
 
-/// The leases that are live at `m`, in the order of their numbers, with their filters.
-fn live_of(
-    alloc: Global,
+/// Appends the leases that are live at `m`, in the order of their numbers, with their filters. Where
+/// memory is wanting, some of them may stand behind the old ones.
+fn append_live(
     leases: &BTreeMap<u64, BareLease>,
     filters: &BTreeMap<Place, Filters>,
     m: Moment,
-) -> Result<Vec<MapLease>, AllocError>
-    ensures { IfOk result (λ v. v.items
-        ≡ filter_map (live_whole m (filters_at filters.now)) (values leases.now)) }
+    out: &mut Vec<MapLease>,
+) -> Result<(), AllocError>
+    ensures ok { OnOk result (out.new.items ≡ out.old.items
+        ++ filter (is_live_map m) (map (whole (filters_at filters.now)) (values leases.now))) }
+    ensures old { take (length out.old.items) out.new.items ≡ out.old.items }
 {
-    leases
-        .values()
-        .filter_map(|lease| live_whole(filters, lease, m))
-        .collect(alloc)
+    out.extend(
+        leases
+            .values()
+            .filter_map(|lease| live_whole(filters, lease, m)),
+    )
+}
+
+/// Appends a record at `m` for each lease, in the order of their numbers, with its filters.
+fn append_records(
+    leases: &BTreeMap<u64, BareLease>,
+    filters: &BTreeMap<Place, Filters>,
+    m: Moment,
+    out: &mut Vec<Record>,
+) -> Result<(), AllocError>
+    ensures { OnOk result (out.new.items ≡ out.old.items
+        ++ map (map_record m) (map (whole (filters_at filters.now)) (values leases.now))) }
+{
+    out.reserve_exact(leases.len())?;
+    for lease in leases.values() {
+        out.push(Record {
+            moment: m,
+            change: Change::Map(whole(filters, lease)),
+        })?;
+    }
+    Ok(())
 }
 
 /// The number at the place. The ordered map is asked only where the sieve doesn't tell that there
@@ -355,17 +378,38 @@ impl BareTable {
         self.kept.leases.get(&number)
     }
 
-    /// The leases that are live at `m`, in the order granted, with their filters. The one error is
-    /// want of memory.
+    /// Appends the leases that are live at `m`, in the order granted, with their filters. The one
+    /// error is want of memory, which changes nothing.
     pub(crate) fn copy_live(
         &self,
-        alloc: Global,
         filters: &BTreeMap<Place, Filters>,
         m: Moment,
-    ) -> Result<Vec<MapLease>, AllocError>
-        ensures { IfOk result (λ v. v.items
-            ≡ filter (is_live_map m) (map (whole (filters_at filters.now)) self.now.leases)) }
+        out: &mut Vec<MapLease>,
+    ) -> Result<(), Memory>
+        ensures { CopiesLiveMaps (map (whole (filters_at filters.now)) self.now.leases) m
+            out.old.items result out.new.items }
     {
-        live_of(alloc, &self.kept.leases, filters, m)
+        out.reserve(self.live.keys.len())?;
+        let before = out.len();
+        let Err(refused) = append_live(&self.kept.leases, filters, m, out) else {
+            return Ok(());
+        };
+        out.truncate(before);
+        Err(refused.into())
+    }
+
+    /// Appends a record at `m` for each lease, in the order granted, with its filters. The one error
+    /// is want of memory.
+    pub(crate) fn add_records(
+        &self,
+        filters: &BTreeMap<Place, Filters>,
+        m: Moment,
+        out: &mut Vec<Record>,
+    ) -> Result<(), Memory>
+        ensures { OnOk result (out.new.items ≡ out.old.items
+            ++ map (map_record m) (map (whole (filters_at filters.now)) self.now.leases)) }
+    {
+        append_records(&self.kept.leases, filters, m, out)?;
+        Ok(())
     }
 }

@@ -1,7 +1,8 @@
 //! The fast body: leases in ordered maps, and the filters of those that have any beside them.
 
-ghost use Rattle.std.specs.Prelude.{◌≡◌, ◌≤◌, ◌+◌, ◌*◌, filter, count_by, length, max, IfOk};
+ghost use Rattle.std.specs.Prelude.{◌≡◌, ◌≤◌, ◌+◌, ◌*◌, ◌++◌, filter, map, count_by, length, max, IfOk, OnOk};
 ghost use Rattle.step_count.specs.Levels.{levels};
+ghost use Rattle.pcp_base.specs.Snapshots.{map_record};
 ghost use Rattle.mapping_table.specs.MapTables.{no_maps, ended_between};
 ghost use Rattle.mapping_table.specs.MapLists.{is_live_map, some_live_map, map_covering, map_owning, IsDeadMap, IsNextCovered, SkipsUncovered, AreSoundMaps, with_map, PutsMap, RemovesMap, CopiesLiveMaps};
 
@@ -9,7 +10,7 @@ use crate::bare::BareLease;
 use crate::bare_table::BareTable;
 use crate::filters::{leave_room, make_room, whole, whole_by_look, whole_found, write};
 use ordered_index::{Place, place_of};
-use pcp_base::{Endpoint, Filters, MapLease, Memory, Moment, Protocol};
+use pcp_base::{Endpoint, Filters, MapLease, Memory, Moment, Protocol, Record};
 use std::alloc::Global;
 use std::collections::BTreeMap;
 use std::marker::Model;
@@ -172,11 +173,21 @@ impl MapTable {
 
     /// Appends the leases that are live at `m`, in the order granted. The one error is want of
     /// memory, which changes nothing.
-    pub fn copy_live(&self, alloc: Global, m: Moment, out: &mut Vec<MapLease>) -> Result<(), Memory>
+    pub fn copy_live(
+        &self,
+        _alloc: Global,
+        m: Moment,
+        out: &mut Vec<MapLease>,
+    ) -> Result<(), Memory>
         ensures { CopiesLiveMaps self.now.leases m out.old.items result out.new.items }
     {
-        let mut live = self.leases.copy_live(alloc, &self.filters, m)?;
-        out.append(&mut live)?;
-        Ok(())
+        self.leases.copy_live(&self.filters, m, out)
+    }
+
+    /// Appends a record at `m` for each lease, in the order granted. The one error is want of memory.
+    pub fn add_records(&self, m: Moment, out: &mut Vec<Record>) -> Result<(), Memory>
+        ensures { OnOk result (out.new.items ≡ out.old.items ++ map (map_record m) self.now.leases) }
+    {
+        self.leases.add_records(&self.filters, m, out)
     }
 }

@@ -1,12 +1,13 @@
 //! The fast body: leases by numbers that grow, and ordered maps to the numbers beside them.
 
-ghost use Rattle.std.specs.Prelude.{◌≡◌, ◌≤◌, ◌+◌, ◌*◌, find, filter, count_by, length, max, not, IfOk, Some};
+ghost use Rattle.std.specs.Prelude.{◌≡◌, ◌≤◌, ◌+◌, ◌*◌, ◌++◌, find, filter, map, take, count_by, length, max, not, IfOk, OnOk, Some};
 ghost use Rattle.std.specs.Option.{option_copied};
 ghost use Rattle.std.specs.BTreeMap.{get, values};
 ghost use Rattle.std.specs.Ordering.{nat_cmp};
 ghost use Rattle.step_count.specs.Levels.{levels};
 ghost use Rattle.pcp_base.specs.declared.leases.PeerLease.{PeerLease};
 ghost use Rattle.pcp_base.specs.declared.leases.TheConstants.{MOST_PEERS};
+ghost use Rattle.pcp_base.specs.Snapshots.{peer_record};
 ghost use Rattle.peer_table.specs.PeerTables.{no_peers, ended_between};
 ghost use Rattle.peer_table.specs.PeerLists.{is_live_peer, peer_with_key, peer_opening, IsDeadPeer, IsPortUse, IsLastExpiry, IsNextNamed, IsNextOwned, SkipsUnnamed, AreSoundPeers, with_peer, PutsPeer, RemovesPeer, CopiesLivePeers};
 ghost use Rattle.peer_table.specs.Kept.{key_cmp, AreKeptPeers, some_live};
@@ -22,7 +23,7 @@ use crate::passing::{begin, first_live_key, pass};
 use crate::ports::last_expiry;
 use crate::uses::PortUse;
 use ordered_index::{LiveKeys, Numbered, first_from};
-use pcp_base::{Address, Endpoint, Memory, Moment, PeerLease, Protocol};
+use pcp_base::{Address, Change, Endpoint, Memory, Moment, PeerLease, Protocol, Record};
 use std::alloc::{AllocError, Global};
 use std::collections::BTreeMap;
 use std::marker::Model;
@@ -54,19 +55,37 @@ impl Model for PeerTable {
     ghost invariant = { λ t. AreReachedPeers t.kept t.live };
 }
 
-/// The leases that are live at `m`, in the order of their numbers.
-fn live_of(
-    alloc: Global,
+/// Appends the leases that are live at `m`, in the order of their numbers. Where memory is wanting,
+/// some of them may stand behind the old ones.
+fn append_live(
     leases: &BTreeMap<u64, PeerLease>,
     m: Moment,
-) -> Result<Vec<PeerLease>, AllocError>
-    ensures { IfOk result (λ v. v.items ≡ filter (is_live_peer m) (values leases.now)) }
+    out: &mut Vec<PeerLease>,
+) -> Result<(), AllocError>
+    ensures ok { OnOk result (out.new.items
+        ≡ out.old.items ++ filter (is_live_peer m) (values leases.now)) }
+    ensures old { take (length out.old.items) out.new.items ≡ out.old.items }
 {
-    leases
-        .values()
-        .copied()
-        .filter(|lease| lease.is_live(m))
-        .collect(alloc)
+    out.extend(leases.values().copied().filter(|lease| lease.is_live(m)))
+}
+
+/// Appends a record at `m` for each lease, in the order of their numbers.
+fn append_records(
+    leases: &BTreeMap<u64, PeerLease>,
+    m: Moment,
+    out: &mut Vec<Record>,
+) -> Result<(), AllocError>
+    ensures { OnOk result (out.new.items
+        ≡ out.old.items ++ map (peer_record m) (values leases.now)) }
+{
+    out.reserve_exact(leases.len())?;
+    for lease in leases.values() {
+        out.push(Record {
+            moment: m,
+            change: Change::Peer(*lease),
+        })?;
+    }
+    Ok(())
 }
 
 /// Puts a lease in the place of the one with its key, or at the end.
@@ -287,14 +306,27 @@ impl PeerTable {
     /// memory, which changes nothing.
     pub fn copy_live(
         &self,
-        alloc: Global,
+        _alloc: Global,
         m: Moment,
         out: &mut Vec<PeerLease>,
     ) -> Result<(), Memory>
         ensures { CopiesLivePeers self.now.leases m out.old.items result out.new.items }
     {
-        let mut live = live_of(alloc, &self.kept.leases, m)?;
-        out.append(&mut live)?;
+        let leases = &self.kept.leases;
+        out.reserve(self.live.keys.len())?;
+        let before = out.len();
+        let Err(refused) = append_live(leases, m, out) else {
+            return Ok(());
+        };
+        out.truncate(before);
+        Err(refused.into())
+    }
+
+    /// Appends a record at `m` for each lease, in the order granted. The one error is want of memory.
+    pub fn add_records(&self, m: Moment, out: &mut Vec<Record>) -> Result<(), Memory>
+        ensures { OnOk result (out.new.items ≡ out.old.items ++ map (peer_record m) self.now.leases) }
+    {
+        append_records(&self.kept.leases, m, out)?;
         Ok(())
     }
 }

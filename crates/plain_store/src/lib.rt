@@ -8,6 +8,7 @@ mod lookups;
 mod order;
 mod owned;
 mod picks;
+mod records;
 mod rests;
 mod store;
 

@@ -6,6 +6,7 @@ ghost use Rattle.lease_store.specs.LeaseTerms.{AreTerms};
 
 use crate::lookups;
 use crate::order::{live_maps, live_peers, owners_in_order};
+use crate::records::{add_end_records, add_map_records, add_peer_records};
 use external_pool::{PickAsk, PickRefused, Picked};
 use lease_store::{LeaseStore, Terms};
 use pcp_base::{
@@ -182,6 +183,13 @@ impl LeaseStore for PlainStore {
 
     fn ends(&self, alloc: Global) -> Result<Vec<End>, Memory> {
         Ok(Vec::from_slice(alloc, self.replay.ends())?)
+    }
+
+    fn add_records(&self, out: &mut Vec<Record>) -> Result<(), Memory> {
+        let m = self.replay.last();
+        add_end_records(self.replay.ends(), m, out)?;
+        add_map_records(self.replay.maps(), m, out)?;
+        add_peer_records(self.replay.peers(), m, out)
     }
 
     fn base(&self) -> Moment {

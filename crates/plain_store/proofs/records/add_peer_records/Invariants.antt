@@ -1,0 +1,6 @@
+use Rattle.std.proofs.Common.{◌≡◌, ◌++◌, map, take}
+use Rattle.pcp_base.specs.Snapshots.{peer_record}
+use Rattle.plain_store.proofs.records.add_peer_records.Given as goal
+
+abbrev pub invariant-loop-lease : goal.invariant-loop-lease
+invariant-loop-lease l = l.out.items ≡ l.fn.out.items ++ map (peer_record l.m) (take l.lease-index l.peers)

@@ -1,6 +1,0 @@
-use Rattle.std.proofs.Common.{◌≡◌, ◌++◌, map, take}
-use Rattle.pcp_base.specs.Snapshots.{peer_record}
-use Rattle.shard_book.proofs.snapshots.put_peers.Given as goal
-
-abbrev pub invariant-loop-lease : goal.invariant-loop-lease
-invariant-loop-lease l = l.out.items ≡ l.fn.out.items ++ map (peer_record l.m) (take l.lease-index l.leases)
