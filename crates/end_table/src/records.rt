@@ -2,11 +2,11 @@
 
 ghost use Rattle.std.specs.Prelude.{◌≡◌, ◌++◌, map, Some, OnOk};
 ghost use Rattle.pcp_base.specs.Snapshots.{end_record};
-ghost use Rattle.end_table.specs.Kept.{AreEnds, IsSet, end_told, ends_of, listed};
+ghost use Rattle.port_spans.specs.Along.{end_told};
+ghost use Rattle.end_table.specs.Kept.{AreEnds, IsSet, ends_of, listed};
 
-use crate::ends::{Ends, SPOTS, end_along};
 use pcp_base::{Change, End, Memory, Moment, Record};
-use port_spans::Run;
+use port_spans::{Ends, PLACES, Run, end_along};
 
 /// Appends a record at `m` for each end of a run.
 fn append_run(out: &mut Vec<Record>, m: Moment, run: &Run<End>) -> Result<(), Memory>
@@ -30,7 +30,7 @@ pub fn append_records(ends: &Ends, m: Moment, out: &mut Vec<Record>) -> Result<(
     ensures { OnOk result (out.new.items ≡ out.old.items ++ map (end_record m) (ends_of ends.now)) }
 {
     let mut from = 0;
-    while let Some(run) = ends.next_run(from, SPOTS as u32) {
+    while let Some(run) = ends.next_run(from, PLACES as u32) {
         append_run(out, m, &run)?;
         from = run.first + run.count;
     }
