@@ -1,4 +1,4 @@
--- Ends that are written down run by run.
+-- Ends that are written down run by run
 use Rattle.std.proofs.Common.{◌≡◌, ℕ, ◌+◌, ◌-◌, ◌<◌, ◌≤◌, List, [], ◌∷◌, ◌++◌, Option, Some, None, append_assoc, append-nil, sym, ap, ◌∙◌, arith}
 use Rattle.pcp_base.specs.declared.leases.End.{End}
 use Rattle.port_spans.specs.declared.runs.Run.{Run}

@@ -1,6 +1,8 @@
 -- Small steps of ports and tables.
 use Rattle.std.proofs.Common.{◌≡◌, ℕ, zero, suc, true, false, cond, Bool, List, [], ◌∷◌, ◌++◌, map, flat_map, filter, find, Some, None, Result, Ok, Err, OnOk, OnErr, refl, sym, ap, ◌∙◌, subst, append-nil}
+use Rattle.std.specs.Prelude.{◌≤◌, max}
 use Rattle.std.specs.List.{AllByRecursion}
+use Rattle.std.proofs.Math.Nat.{max-eq_right}
 use Rattle.std.proofs.lemmas.Bool.{cond-false}
 use Rattle.pcp_base.specs.declared.addresses.Address.{Address}
 use Rattle.pcp_base.specs.declared.leases.Protocol.{Protocol}
@@ -106,4 +108,4 @@ module _ (t : Table) (sound : Sound t) where
 
 -- a later moment is the later one
 pub later_is : (x from m : ℕ) → x ≡ from → from ≤ m → max x m ≡ m
-later_is x from m is later = omega (arith, is, later)
+later_is x from m is later = max-eq_right (subst (λ n. n ≤ m) (sym is) later)

@@ -82,8 +82,8 @@ fn move_leases(leases: &mut Leases, kept: &Record, alloc: Global) -> Result<Move
     ensures formed { IfOk result (λ moved. IfSome moved.touched IsOwnerRun) }
     ensures runs { IfOk result (λ moved.
         AreMoved kept.now.moment leases.old.table kept.now.change moved.runs.items) }
-    ensures maps_reached { leases.new.maps_reached ≡ leases.old.maps_reached }
-    ensures peers_reached { leases.new.peers_reached ≡ leases.old.peers_reached }
+    ensures maps_reached { leases.new.maps_reached ≤ leases.old.maps_reached }
+    ensures peers_reached { leases.new.peers_reached ≤ leases.old.peers_reached }
 {
     let mut runs = leases.drop_dead(alloc, kept.moment)?;
     let touched = leases.change(alloc, kept.moment, &kept.change)?;
@@ -181,8 +181,8 @@ fn change(
     ensures applied { OnOk result (state.new.state ≡ by_apply.apply state.old.state kept.now) }
     ensures ports { OnOk result (IsPortsOf ports.new (by_apply.apply state.old.state kept.now)) }
     ensures reached { OnOk result (ports.new.reached ≡ kept.now.moment) }
-    ensures maps_reached { state.new.maps_reached ≡ state.old.maps_reached }
-    ensures peers_reached { state.new.peers_reached ≡ state.old.peers_reached }
+    ensures maps_reached { state.new.maps_reached ≤ state.old.maps_reached }
+    ensures peers_reached { state.new.peers_reached ≤ state.old.peers_reached }
 {
     states_are_sound();
     let moved = move_leases(&mut state.leases, kept, alloc)?;

@@ -111,8 +111,8 @@ impl Leases {
         requires after { Sound (table_changed change.now self.old.table) }
         ensures table { OnOk result (self.new.table ≡ table_changed change.now self.old.table) }
         ensures touched { IfOk result (λ run. run ≡ touched_run change.now self.old.table) }
-        ensures maps_reached { self.new.maps_reached ≡ self.old.maps_reached }
-        ensures peers_reached { self.new.peers_reached ≡ self.old.peers_reached }
+        ensures maps_reached { self.new.maps_reached ≤ self.old.maps_reached }
+        ensures peers_reached { self.new.peers_reached ≤ self.old.peers_reached }
         ensures formed { IfOk result (λ run. IfSome run IsOwnerRun) }
     {
         match change {

@@ -90,8 +90,8 @@ fn drop_dead(
     ensures reached { OnOk result (ports.new.reached ≡ m) }
     ensures ports { OnOk result ((s : State) → IsReachedFirst s → s.table ≡ leases.old.table
         → IsPortsOf ports.old s → AreEndsOf (live leases.old.table m) ports.new) }
-    ensures maps_reached { leases.new.maps_reached ≡ leases.old.maps_reached }
-    ensures peers_reached { leases.new.peers_reached ≡ leases.old.peers_reached }
+    ensures maps_reached { leases.new.maps_reached ≤ leases.old.maps_reached }
+    ensures peers_reached { leases.new.peers_reached ≤ leases.old.peers_reached }
 {
     let left = leases.drop_dead(alloc, m)?;
     hold_all(ports, alloc, leases, m, &left)
@@ -117,8 +117,8 @@ fn make_change(
     ensures reached { OnOk result (ports.new.reached ≡ kept.now.moment) }
     ensures ports { OnOk result
         (AreEndsOf (table_changed kept.now.change leases.old.table) ports.new) }
-    ensures maps_reached { leases.new.maps_reached ≡ leases.old.maps_reached }
-    ensures peers_reached { leases.new.peers_reached ≡ leases.old.peers_reached }
+    ensures maps_reached { leases.new.maps_reached ≤ leases.old.maps_reached }
+    ensures peers_reached { leases.new.peers_reached ≤ leases.old.peers_reached }
 {
     let touched = leases.change(alloc, kept.moment, &kept.change)?;
     hold_touched(ports, alloc, leases, kept.moment, touched, Unowned::IsFree)
@@ -140,8 +140,8 @@ fn change(
     ensures applied { OnOk result (state.new.state ≡ by_apply.apply_first state.old.state kept.now) }
     ensures ports { OnOk result (IsPortsOf ports.new (by_apply.apply_first state.old.state kept.now)) }
     ensures reached { OnOk result (ports.new.reached ≡ kept.now.moment) }
-    ensures maps_reached { state.new.maps_reached ≡ state.old.maps_reached }
-    ensures peers_reached { state.new.peers_reached ≡ state.old.peers_reached }
+    ensures maps_reached { state.new.maps_reached ≤ state.old.maps_reached }
+    ensures peers_reached { state.new.peers_reached ≤ state.old.peers_reached }
 {
     first_states_are_sound();
     ports_follow_states();

@@ -70,7 +70,7 @@ impl Leases {
 /// hold all of them until `from`: those before the next one that a PEER lease owns, or that one.
 fn hold_along(peers: &PeerTable, run: &OwnerRun, from: u64) -> Hold
     requires { IsOwnerRun run.now }
-    ensures { IsHold from peers.now run.now result }
+    ensures { IsHold from peers.now.leases run.now result }
 {
     let first = &run.first;
     let Some(next) = peers.next_owned(first.protocol, first.external) else {

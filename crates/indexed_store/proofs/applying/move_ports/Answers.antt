@@ -17,11 +17,11 @@ use Rattle.indexed_store.proofs.applying.move_ports.Goals as goal
 
 pub returns-in_err-hold_rest-clause-terms : goal.returns-in_err-hold_rest-clause-terms
 returns-in_err-hold_rest-clause-terms c = λ terms h.
-    c.hold_rest.ensures.terms terms (subst (λ (v : Leased). IsOnTerms v terms) (sym c.reach.ensures) (on_later c.args.ports.now c.args.kept.now.moment terms h))
+    c.hold_rest.ensures.terms terms (subst (λ (v : Leased). IsOnTerms v terms) (sym c.reach_ports.ensures) (on_later c.args.ports.now c.args.kept.now.moment terms h))
 
 pub returns-clause-terms : goal.returns-clause-terms
 returns-clause-terms c = λ terms h.
-    c.hold_touched.ensures.terms terms (c.hold_rest.ensures.terms terms (subst (λ (v : Leased). IsOnTerms v terms) (sym c.reach.ensures) (on_later c.args.ports.now c.args.kept.now.moment terms h)))
+    c.hold_touched.ensures.terms terms (c.hold_rest.ensures.terms terms (subst (λ (v : Leased). IsOnTerms v terms) (sym c.reach_ports.ensures) (on_later c.args.ports.now c.args.kept.now.moment terms h)))
 
 pub returns-clause-ports : goal.returns-clause-ports
 returns-clause-ports c = both_ok c.hold_touched.result _ _ _ (λ held moment s reached fits keeps ports table is.
@@ -33,5 +33,5 @@ returns-clause-ports c = both_ok c.hold_touched.result _ _ _ (λ held moment s r
     ∙ ap (λ (t : Table). option_or (option_map (λ (o : Owner). end_at (held_until r.moment t protocol port) o) (find (is_port protocol port) (owners_if c.args.touched))) (end_of rested protocol port)) table
     ∙ ap (λ (os : List Owner). option_or (option_map (λ (o : Owner). end_at (held_until r.moment (table_2 s r) protocol port) o) (find (is_port protocol port) os)) (end_of rested protocol port)) own
     ∙ ap (λ (e : Option End). option_or (option_map (λ (o : Owner). end_at (held_until r.moment (table_2 s r) protocol port) o) (find (is_port protocol port) (touched r.change (table_1 s r)))) e)
-    (c.in_ok-hold_rest.ensures.ports protocol port ∙ ap (end_by_rest r.change protocol port) (ap (λ (x : Leased). end_of x protocol port) c.reach.ensures ∙ then.same protocol port))))
+    (c.in_ok-hold_rest.ensures.ports protocol port ∙ ap (end_by_rest r.change protocol port) (ap (λ (x : Leased). end_of x protocol port) c.reach_ports.ensures ∙ then.same protocol port))))
     c.hold_touched.ensures.ports c.hold_touched.ensures.reached

@@ -16,7 +16,7 @@ pub drop_dead-requires-clause-near : goal.drop_dead-requires-clause-near
 drop_dead-requires-clause-near c = subst (λ (x : State). AreNear x.table) (sym (state_of c.state.view_is)) (near c.args.state.now.state c.requires.sound.reached)
 
 pub drop_dead-requires-clause-reached : goal.drop_dead-requires-clause-reached
-drop_dead-requires-clause-reached c = ap (λ (v : Leased). v.reached) c.reach.ensures
+drop_dead-requires-clause-reached c = ap (λ (v : Leased). v.reached) c.reach_ports.ensures
 
 pub make_change-requires-clause-allowed : goal.make_change-requires-clause-allowed
 make_change-requires-clause-allowed c =
@@ -44,7 +44,7 @@ make_change-requires-clause-live c =
 pub make_change-requires-clause-ports : goal.make_change-requires-clause-ports
 make_change-requires-clause-ports c =
     let s = c.args.state.now.state in let r = c.args.kept.now in
-    let then = subst (λ (v : Leased). IsPortsOf v s) (sym c.reach.ensures)
+    let then = subst (λ (v : Leased). IsPortsOf v s) (sym c.reach_ports.ensures)
     (c.ports_follow_states.ensures.later c.args.ports.now s r.moment c.requires.sound.reached.sound c.requires.later c.requires.ports) in
     subst (λ (t : Table). AreEndsOf t c.drop_dead.new.ports) (sym c.in_ok-drop_dead.ensures.table)
     (c.in_ok-drop_dead.ensures.ports s c.requires.sound (ap (λ (x : State). x.table) (sym (state_of c.state.view_is))) then)
@@ -75,12 +75,12 @@ returns-clause-ports c =
 
 pub returns-clause-terms : goal.returns-clause-terms
 returns-clause-terms c = λ terms h.
-    c.make_change.ensures.terms terms (c.drop_dead.ensures.terms terms (subst (λ (v : Leased). IsOnTerms v terms) (sym c.reach.ensures) (on_later c.args.ports.now c.args.kept.now.moment terms h)))
+    c.make_change.ensures.terms terms (c.drop_dead.ensures.terms terms (subst (λ (v : Leased). IsOnTerms v terms) (sym c.reach_ports.ensures) (on_later c.args.ports.now c.args.kept.now.moment terms h)))
 
 pub returns-in_err-drop_dead-clause-terms : goal.returns-in_err-drop_dead-clause-terms
 returns-in_err-drop_dead-clause-terms c = λ terms h.
-    c.drop_dead.ensures.terms terms (subst (λ (v : Leased). IsOnTerms v terms) (sym c.reach.ensures) (on_later c.args.ports.now c.args.kept.now.moment terms h))
+    c.drop_dead.ensures.terms terms (subst (λ (v : Leased). IsOnTerms v terms) (sym c.reach_ports.ensures) (on_later c.args.ports.now c.args.kept.now.moment terms h))
 
 pub returns-in_err-make_change-clause-terms : goal.returns-in_err-make_change-clause-terms
 returns-in_err-make_change-clause-terms c = λ terms h.
-    c.make_change.ensures.terms terms (c.drop_dead.ensures.terms terms (subst (λ (v : Leased). IsOnTerms v terms) (sym c.reach.ensures) (on_later c.args.ports.now c.args.kept.now.moment terms h)))
+    c.make_change.ensures.terms terms (c.drop_dead.ensures.terms terms (subst (λ (v : Leased). IsOnTerms v terms) (sym c.reach_ports.ensures) (on_later c.args.ports.now c.args.kept.now.moment terms h)))

@@ -9,4 +9,4 @@ pub returns : goal.returns
 returns g c =
     let e = c.args.endpoint.now in let m = c.args.m in
     c.covers.ensures.covers ∙ ap (λ (t : Table). some_live_map m (map_covering e t.maps)) (table_of c.self.view_is)
-    ∙ covered-is c.args.self.now.table m e c.requires (map_covering e c.args.self.now.table.maps) refl
+    ∙ covered-is c.args.self.now.table m e c.requires.sound (map_covering e c.args.self.now.table.maps) refl

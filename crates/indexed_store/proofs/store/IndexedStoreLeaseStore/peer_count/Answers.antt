@@ -1,10 +1,12 @@
-use Rattle.std.proofs.Common.{◌≡◌, ◌≤◌, ◌+◌, ◌*◌, length, ap, arith}
+use Rattle.std.proofs.Common.{◌≡◌, ap, ◌∙◌, arith}
 use Rattle.lease_store.specs.Stores.{Stored}
-use Rattle.pcp_base.specs.States.{State}
-use Rattle.indexed_store.proofs.LevelLemmas.{few-maps}
+use Rattle.indexed_store.specs.Tabled.{TabledState}
+use Rattle.indexed_store.proofs.LevelLemmas.{peers-levels}
 use Rattle.indexed_store.proofs.store.IndexedStoreLeaseStore.peer_count.Goals as goal
 
 pub returns-clause-steps : goal.returns-clause-steps
 returns-clause-steps g c =
-    let few = c.self.invariant.sound in
-    ?
+    let same : c.self-inside.inside.leases.table ≡ c.args.self.now.state.table = ap (λ (x : TabledState). x.state.table) c.self-inside.view_is ∙ ap (λ (x : Stored). x.state.table) c.self.view_is in
+    let peers = peers-levels c.levels_grow.ensures c.self-inside.inside.leases.table c.args.self.now.state.table same c.requires.sound.table in
+    let steps = c.peer_count_counted.ensures.steps in
+    omega (arith, peers, steps)
