@@ -176,8 +176,7 @@ impl Leases {
         requires sound { Sound self.now.table }
         ensures { result ≡ is_some (covering self.now.table m endpoint.now) }
     {
-        self.maps
-            .covers(endpoint, m, &mut Steps::<L>::begin(blank))
+        self.maps.covers(endpoint, m, &mut Steps::<L>::begin(blank))
     }
 
     /// Whether a live MAP lease covers the endpoint.

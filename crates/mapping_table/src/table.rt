@@ -186,7 +186,8 @@ impl MapTable {
 
     /// Appends a record at `m` for each lease, in the order granted. The one error is want of memory.
     pub fn add_records(&self, m: Moment, out: &mut Vec<Record>) -> Result<(), Memory>
-        ensures { OnOk result (out.new.items ≡ out.old.items ++ map (map_record m) self.now.leases) }
+        ensures { OnOk result (out.new.items
+            ≡ out.old.items ++ map (map_record m) self.now.leases) }
     {
         self.leases.add_records(&self.filters, m, out)
     }

@@ -324,7 +324,8 @@ impl PeerTable {
 
     /// Appends a record at `m` for each lease, in the order granted. The one error is want of memory.
     pub fn add_records(&self, m: Moment, out: &mut Vec<Record>) -> Result<(), Memory>
-        ensures { OnOk result (out.new.items ≡ out.old.items ++ map (peer_record m) self.now.leases) }
+        ensures { OnOk result (out.new.items
+            ≡ out.old.items ++ map (peer_record m) self.now.leases) }
     {
         append_records(&self.kept.leases, m, out)?;
         Ok(())

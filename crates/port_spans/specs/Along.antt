@@ -1,4 +1,4 @@
--- Where ports of both protocols stand, and the ends of ports in a row that were given theirs together
+-- Where ports of both protocols stand, and the ends of ports in a row that got theirs together
 -- (our own).
 use Rattle.std.specs.Prelude.{◌≡◌, ℕ, ◌+◌, ◌-◌, List, Option, Some, None, IfSome}
 use Rattle.pcp_base.specs.declared.leases.Protocol.{Protocol}

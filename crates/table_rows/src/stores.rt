@@ -292,11 +292,7 @@ fn tells_leases<L: Ledger>(store: &PlainStore, steps: &mut Steps<L>) -> bool
     let first = at(Udp, 5, 5000);
     let next = store.next_inside(&at(Udp, 5, 4000), steps);
     let second = store.next_inside(&first, steps);
-    let inside = (
-        next,
-        second,
-        store.next_inside(&at(Udp, 5, 5001), steps),
-    );
+    let inside = (next, second, store.next_inside(&at(Udp, 5, 5001), steps));
     let (live, over) = (moment(1139), moment(1140));
     let covered = (store.covered(&first, live), store.covered(&first, over));
     let counts = (store.lease_count(steps), store.leases(over));
