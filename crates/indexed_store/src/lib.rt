@@ -4,6 +4,7 @@
 
 mod applying;
 mod changes;
+mod counted;
 mod dropping;
 mod facts;
 mod first;

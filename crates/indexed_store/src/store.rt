@@ -238,9 +238,7 @@ impl LeaseStore for IndexedStore {
 
     fn covering<L: Ledger>(&self, endpoint: &Endpoint, steps: &mut Steps<L>) -> Option<MapLease> {
         levels_grow();
-        self.state
-            .leases
-            .covering_counted(self.reached, endpoint, steps)
+        self.state.covering(self.reached, endpoint, steps)
     }
 
     fn peering<L: Ledger>(
@@ -252,29 +250,22 @@ impl LeaseStore for IndexedStore {
     ) -> Option<PeerLease> {
         levels_grow();
         self.state
-            .leases
-            .peering_counted(self.reached, endpoint, remote, remote_port, steps)
+            .peering(self.reached, endpoint, remote, remote_port, steps)
     }
 
     fn named_port<L: Ledger>(&self, endpoint: &Endpoint, steps: &mut Steps<L>) -> Option<u16> {
         levels_grow();
-        self.state
-            .leases
-            .named_port_counted(self.reached, endpoint, steps)
+        self.state.named_port(self.reached, endpoint, steps)
     }
 
     fn peer_count<L: Ledger>(&self, endpoint: &Endpoint, steps: &mut Steps<L>) -> u32 {
         levels_grow();
-        self.state
-            .leases
-            .peer_count_counted(self.reached, endpoint, steps)
+        self.state.peer_count(self.reached, endpoint, steps)
     }
 
     fn next_inside<L: Ledger>(&self, endpoint: &Endpoint, steps: &mut Steps<L>) -> Option<u16> {
         levels_grow();
-        self.state
-            .leases
-            .next_inside_counted(self.reached, endpoint, steps)
+        self.state.next_inside(self.reached, endpoint, steps)
     }
 
     fn lease_count<L: Ledger>(&self, steps: &mut Steps<L>) -> u32 {

@@ -65,4 +65,4 @@ returns-clause-applied c =
       last = r.moment;
       started = is_start r.change || x.started;
     } in
-    c.note.ensures ∙ ap (noted c.move_leases.new.leases.table c.move_ends.new.ends) (state_of c.state.view_is) ∙ ap (λ (t : Table). noted t c.move_ends.new.ends s) table ∙ ap (λ (es : List End). noted (table_2 s r) es s) ends
+    c.note.ensures.state ∙ ap (noted c.move_leases.new.leases.table c.move_ends.new.ends) (state_of c.state.view_is) ∙ ap (λ (t : Table). noted t c.move_ends.new.ends s) table ∙ ap (λ (es : List End). noted (table_2 s r) es s) ends

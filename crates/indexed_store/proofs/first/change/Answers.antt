@@ -64,7 +64,7 @@ returns-clause-applied c =
       last = r.moment;
       started = is_start r.change || x.started;
     } in
-    c.note.ensures ∙ ap (λ (x : State). noted c.make_change.new.leases.table x.ends x) (state_of c.state.view_is) ∙ ap (λ (t : Table). noted t s.ends s) table ∙ ap (λ (es : List End). noted (apply_first s r).table es s) ends
+    c.note.ensures.state ∙ ap (λ (x : State). noted c.make_change.new.leases.table x.ends x) (state_of c.state.view_is) ∙ ap (λ (t : Table). noted t s.ends s) table ∙ ap (λ (es : List End). noted (apply_first s r).table es s) ends
 
 pub returns-clause-ports : goal.returns-clause-ports
 returns-clause-ports c =

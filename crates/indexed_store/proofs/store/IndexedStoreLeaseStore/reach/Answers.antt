@@ -32,7 +32,7 @@ returns-clause-steps g c =
     let tables : table_steps s.table c.self.inside.state.maps_reached c.self.inside.state.peers_reached m ≡ table_steps s.table r r m =
     ap (λ x. table_steps s.table x c.self.inside.state.peers_reached m) inv.maps_now ∙ ap (λ x. table_steps s.table r x m) inv.peers_now in
     let due : ports_due v m ≡ ends_due s r m = due-ends v s m inv.ports ∙ ap (λ x. ends_due s x m) inv.now in
-    let whole : table_steps s.table r r m + 1 + 169 * ends_due s r m ≡ reach_steps c.args.self.now.state c.args.self.now.reached m =
+    let whole : table_steps s.table r r m + 23 + 175 * ends_due s r m ≡ reach_steps c.args.self.now.state c.args.self.now.reached m =
     ap (λ (x : Stored). reach_steps x.state x.reached m) c.self.view_is in
     let first = c.reach.ensures.steps in let second = c.reach-2.ensures.steps in
     omega (arith, tables, due, whole, first, second)
