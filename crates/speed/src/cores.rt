@@ -29,7 +29,7 @@ fn timed<C: CpuClock>(
     rounds: u32,
 ) -> anyhow::Result<Timed> {
     if let Some(order) = order_of(name) {
-        return decided(clock, alloc, indexed(alloc)?, order, leases, rounds);
+        return decided(clock, alloc, indexed(alloc, 512)?, order, leases, rounds);
     }
     if name != "judge" {
         bail!("{name:?} is not one of the names");

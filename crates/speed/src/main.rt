@@ -3,13 +3,16 @@
 #![tactic(auto)]
 
 mod cores;
+mod costs;
 mod datagrams;
 mod device;
 mod judging;
 mod lanes;
+mod patterns;
 mod requests;
 mod serving;
 mod timing;
+mod wishes;
 
 use std::process::ExitCode;
 
@@ -17,6 +20,7 @@ const USAGE: &str = "usage: speed core [times] NAME LEASES ROUNDS ..
        speed datagrams NAME .. COUNT
        speed device PATH RECORDS OCTETS
        speed lanes [times] LOOKUPS RENEWALS
+       speed patterns [times] ROUNDS
 
 core       Decisions on a core: NAME is core, chance or judge. After the word
            times the nanoseconds of a decision are told.
@@ -25,6 +29,9 @@ datagrams  Requests that are judged and replied to: NAME is plain, options or
 device     The device calls of records that are appended to a journal.
 lanes      Lookups in a lane, alone and beside a thread that publishes renewals.
            After the word times their nanoseconds are told.
+patterns   Requests beside much that has ended, falls due or belongs to one lease.
+           After the word times their nanoseconds are told, and the ratios of
+           these to a plain request and to a renewal.
 ";
 
 /// Makes the calls that the words ask for. Whether the first word is one of those known.
@@ -36,6 +43,7 @@ fn run(rt: &HostRuntime, words: &[String]) -> anyhow::Result<bool> {
         "core" => cores::run(rt, rest)?,
         "datagrams" => datagrams::run(rt, rest)?,
         "device" => device::run(rt, rest)?,
+        "patterns" => patterns::run(rt, rest)?,
         _ => return Ok(false),
     }
     Ok(true)

@@ -1,6 +1,7 @@
 //! Rounds of requests, of which what is decided is applied.
 ghost use Rattle.std.specs.Prelude.{◌≡◌, ◌≤◌, ◌<◌, IfSome, IfOk, OnOk};
 ghost use Rattle.pcp_base.specs.Apply.{apply};
+ghost use Rattle.pcp_base.specs.Asks.{IsWellFormedAsk};
 ghost use Rattle.pcp_base.specs.Configs.{IsConfig, IsExternal};
 ghost use Rattle.pcp_base.specs.Fits.{Fits};
 ghost use Rattle.lease_store.specs.LeaseTerms.{AreTerms};
@@ -12,8 +13,8 @@ use anyhow::{Context, bail};
 use lease_core::{Core, LeaseCore, decisions_fit};
 use lease_store::LeaseStore;
 use pcp_base::{
-    Address, Answer, Change, Config, External, Externals, Memory, Moment, Prefixes, Record, Replay,
-    Subscribers, states_are_sound,
+    Address, Answer, Ask, Change, Config, External, Externals, Memory, Moment, Prefixes, Record,
+    Replay, Subscribers, states_are_sound,
 };
 use std::alloc::Global;
 use std::time::CpuClock;
@@ -29,15 +30,16 @@ fn external() -> External
     }
 }
 
-/// A configuration of this external address, with a quota of 512 ports and lifetimes from 120 to
+/// A configuration of this external address, with this quota of ports and lifetimes from 120 to
 /// 86,400 seconds. A core pairs nothing, so there is no subscriber.
-fn config(alloc: Global, external: &External) -> anyhow::Result<Config>
-    requires { IsExternal external.now }
+fn config(alloc: Global, external: &External, quota: u32) -> anyhow::Result<Config>
+    requires external { IsExternal external.now }
+    requires quota { (0 < quota) × (quota ≤ 65535) }
     ensures { IfOk result IsConfig }
 {
     let externals = Vec::from_array(alloc, [*external])?;
     Ok(Config {
-        quota: 512,
+        quota,
         lifetime_min: 120,
         lifetime_max: 86_400,
         third_party: Prefixes::of(Vec::new(alloc)),
@@ -46,16 +48,18 @@ fn config(alloc: Global, external: &External) -> anyhow::Result<Config>
     })
 }
 
-/// A core.
-pub fn indexed(alloc: Global) -> anyhow::Result<Core>
+/// A core on which a host may own `quota` ports.
+pub fn indexed(alloc: Global, quota: u32) -> anyhow::Result<Core>
+    requires { (0 < quota) × (quota ≤ 65535) }
     ensures { IfOk result (λ core. AreTerms core.terms) }
 {
     let external = external();
-    Ok(Core::new(alloc, &external, &config(alloc, &external)?)?)
+    let config = config(alloc, &external, quota)?;
+    Ok(Core::new(alloc, &external, &config)?)
 }
 
 /// The moment of these seconds.
-fn moment(seconds: u64) -> anyhow::Result<Moment>
+pub(crate) fn moment(seconds: u64) -> anyhow::Result<Moment>
     ensures { IfOk result (λ m. m ≡ seconds) }
 {
     Moment::of(seconds).context("no moment")
@@ -86,7 +90,7 @@ fn admit<S: LeaseStore>(
 }
 
 /// Begins anew with a Start and the external address at 1000.
-fn start<S: LeaseStore>(alloc: Global, core: &mut LeaseCore<S>) -> anyhow::Result<()>
+pub(crate) fn start<S: LeaseStore>(alloc: Global, core: &mut LeaseCore<S>) -> anyhow::Result<()>
     requires { AreTerms (S.terms core.old) }
     ensures may { OnOk result (MayServe (S.state core.new) (S.terms core.new)) }
     ensures reached { OnOk result (S.reached core.new ≡ 1000) }
@@ -125,8 +129,28 @@ fn told(answer: &Answer) -> u64 {
     }
 }
 
-/// Answers a request of an endpoint for so many seconds at `m`, applies what is kept of it, and adds
-/// what is told to the checksum.
+/// What is answered to a request at `m`, after what is kept of it was applied.
+pub(crate) fn answer<S: LeaseStore>(
+    alloc: Global,
+    core: &mut LeaseCore<S>,
+    ask: &Ask,
+    m: Moment,
+) -> Result<Answer, Memory>
+    requires may { MayServe (S.state core.old) (S.terms core.old) }
+    requires later { S.reached core.old ≤ m }
+    requires ask { IsWellFormedAsk ask.now }
+    ensures may { OnOk result (MayServe (S.state core.new) (S.terms core.new)) }
+    ensures reached { OnOk result (S.reached core.new ≡ m) }
+{
+    decisions_fit();
+    let _last = core.last();
+    let decided = core.decide(alloc, ask, m)?;
+    keep(alloc, core, decided.kept, m)?;
+    Ok(decided.answer)
+}
+
+/// Answers a request of an endpoint for so many seconds at `m`, and adds what is told to the
+/// checksum.
 fn serve<S: LeaseStore>(
     alloc: Global,
     core: &mut LeaseCore<S>,
@@ -140,11 +164,8 @@ fn serve<S: LeaseStore>(
     ensures may { OnOk result (MayServe (S.state core.new) (S.terms core.new)) }
     ensures reached { OnOk result (S.reached core.new ≡ m) }
 {
-    decisions_fit();
-    let _last = core.last();
-    let decided = core.decide(alloc, &map_ask(alloc, number, lifetime), m)?;
-    keep(alloc, core, decided.kept, m)?;
-    *sum = 31u64.wrapping_mul(*sum).wrapping_add(told(&decided.answer));
+    let answer = answer(alloc, core, &map_ask(alloc, number, lifetime), m)?;
+    *sum = 31u64.wrapping_mul(*sum).wrapping_add(told(&answer));
     Ok(())
 }
 
