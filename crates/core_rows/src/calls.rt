@@ -122,6 +122,24 @@ fn has_owner_and_end<S: LeaseStore>(
     Ok(owners.as_slice() == [owner].as_slice() && ends.as_slice() == [end].as_slice())
 }
 
+/// The end and then both leases are kept by a record each.
+fn has_records<S: LeaseStore>(alloc: Global, core: &LeaseCore<S>) -> Result<bool, Memory>
+    requires { MayServe (S.state core.now) (S.terms core.now) }
+{
+    let granted = moment(1010);
+    let kept = [
+        Change::Rest(endpoint(6000), 1025, 1020),
+        Change::Map(map_lease(granted)),
+        Change::Peer(peer_lease(granted)),
+    ];
+    let mut records = Vec::new(alloc);
+    core.add_records(&mut records)?;
+    Ok(
+        records.iter().all(|record| record.moment.get() == 1020)
+            && records.iter().map(|record| record.change).eq(kept),
+    )
+}
+
 /// Whether a core has these after the steps.
 fn is_served<S: LeaseStore + Drop>(
     alloc: Global,
@@ -134,6 +152,7 @@ fn is_served<S: LeaseStore + Drop>(
     Ok(
         has_leases(alloc, &core, m)?
             && has_owner_and_end(alloc, &core, m)?
+            && has_records(alloc, &core)?
             && core.covered(&endpoint(5000), m)
             && !core.covered(&endpoint(6000), m),
     )

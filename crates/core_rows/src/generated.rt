@@ -11,7 +11,7 @@ use Told::{Gone, Leased, LeasedSet, Refused};
 use Wish::{AllOrNothing, Filters, Nothing, Peer, Set};
 use lease_core::LeaseCore;
 use lease_store::LeaseStore;
-use pcp_base::{End, Endpoint, MapLease, Memory, Moment, Owner, PeerLease, Protocol};
+use pcp_base::{End, Endpoint, MapLease, Memory, Moment, Owner, PeerLease, Protocol, Record};
 use std::alloc::Global;
 use std::test::Fail;
 
@@ -182,6 +182,7 @@ struct Run {
     turns: Vec<Turn>,
     leases: Leases,
     ports: Ports,
+    records: Vec<Record>,
 }
 
 fn leases_of<S: LeaseStore>(alloc: Global, core: &LeaseCore<S>) -> Result<Leases, Memory>
@@ -204,6 +205,14 @@ fn ports_of<S: LeaseStore>(alloc: Global, core: &LeaseCore<S>) -> Result<Ports, 
     })
 }
 
+fn records_of<S: LeaseStore>(alloc: Global, core: &LeaseCore<S>) -> Result<Vec<Record>, Memory>
+    requires { MayServe (S.state core.now) (S.terms core.now) }
+{
+    let mut records = Vec::new(alloc);
+    core.add_records(&mut records)?;
+    Ok(records)
+}
+
 fn run_on<S: LeaseStore + Drop>(
     alloc: Global,
     made: Result<LeaseCore<S>, Fail>,
@@ -217,6 +226,7 @@ fn run_on<S: LeaseStore + Drop>(
         turns: turns_of(alloc, &mut core, seed, count)?,
         leases: leases_of(alloc, &core)?,
         ports: ports_of(alloc, &core)?,
+        records: records_of(alloc, &core)?,
     })
 }
 
@@ -250,7 +260,9 @@ fn have_same_ports(ports: &Ports, others: &Ports) -> bool {
 
 /// Whether the runs leave the same.
 fn leave_same(run: &Run, other: &Run) -> bool {
-    have_same_leases(&run.leases, &other.leases) && have_same_ports(&run.ports, &other.ports)
+    have_same_leases(&run.leases, &other.leases)
+        && have_same_ports(&run.ports, &other.ports)
+        && run.records.as_slice() == other.records.as_slice()
 }
 
 /// How many turns are answered so.
