@@ -314,6 +314,15 @@ fn tells_lists(alloc: Global, store: &PlainStore) -> Result<bool, Memory>
     )
 }
 
+/// Whether the end and the leases are kept by a record each, at the last moment.
+fn tells_records(alloc: Global, store: &PlainStore) -> Result<bool, Memory>
+    requires { IsReached store.now.state }
+{
+    let mut records = Vec::new(alloc);
+    store.add_records(&mut records)?;
+    Ok(records.len() == 6 && records.iter().all(|record| record.moment.get() == 1055))
+}
+
 /// Whether the owned ports stand in their order.
 fn tells_owners(alloc: Global, store: &PlainStore) -> Result<bool, Memory>
     requires { IsReached store.now.state }
@@ -364,7 +373,8 @@ fn tells_state(alloc: Global, store: &PlainStore) -> Result<bool, Memory>
     requires { IsReached store.now.state }
 {
     let finds = finds_from::<Brand>(store, Blank::new(1));
-    Ok(finds && tells_the_rest(store) && tells_lists(alloc, store)? && tells_owners(alloc, store)?)
+    let lists = tells_lists(alloc, store)? && tells_records(alloc, store)?;
+    Ok(finds && lists && tells_the_rest(store) && tells_owners(alloc, store)?)
 }
 
 #[test]
