@@ -2,11 +2,14 @@ pub mod MapKeeping
 pub mod Sets
 pub mod Sieving
 pub mod Nexts
+pub mod Dead
 pub mod Lookups
 pub mod Separates
 pub mod Sounds
 pub mod SoundTables
+pub mod Rooms
 pub mod Wholes
-mod Views
-mod Spending
 pub mod Bares
+pub mod Meetings
+pub mod OneMore
+pub mod Nearest

@@ -1,9 +1,8 @@
 -- Leases with the filters that are kept apart from them.
-use Rattle.std.proofs.Common.{◌≡◌, ℕ, ◌&&◌, nat_lt, Bool, true, false, cond, not, List, [], ◌∷◌, map, length, find, filter, count_by, Option, Some, None, refl, sym, ap, ◌∙◌, subst}
-use Rattle.std.specs.Prelude.{nat_le}
-use Rattle.std.specs.List.{AllByRecursion, filter_map, cons_option}
+use Rattle.std.proofs.Common.{◌≡◌, ℕ, Bool, true, false, cond, not, List, [], ◌∷◌, map, length, find, filter, count_by, Option, Some, None, refl, sym, ap, ◌∙◌, subst}
+use Rattle.std.specs.List.{AllByRecursion, filter_map, cons_option, list_any}
 use Rattle.std.specs.Option.{option_map}
-use Rattle.std.specs.BTreeMap.{BTreeMap, get, is_at}
+use Rattle.std.specs.BTreeMap.{BTreeMap, is_at}
 use Rattle.std.proofs.lemmas.List.{length-map}
 use Rattle.std.proofs.lemmas.List.Sums.{length-filter}
 use Rattle.step_count.specs.Levels.{levels}
@@ -19,17 +18,11 @@ use Rattle.ordered_index.specs.Orders.{Place, place_of, place_cmp, place_total}
 use Rattle.ordered_index.proofs.Entries.{false_by}
 use Rattle.ordered_index.proofs.EntryLaws.{key-self}
 use Rattle.ordered_index.proofs.OrderLaws.{at_exact, place_exact}
-use Rattle.mapping_table.specs.Kept.{place_of_lease, with_filters, bare, listed, filters_at, whole, live_whole, WritesFilters}
-use Rattle.mapping_table.specs.MapTables.{ended_between}
-use Rattle.mapping_table.specs.MapLists.{is_live_map, some_live_map, is_covered, with_map, IsDeadMap, IsNextCovered, SkipsUncovered, AreSeparate}
+use Rattle.mapping_table.specs.Kept.{place_of_lease, with_filters, bare, filters_at, whole, live_whole, WritesFilters}
+use Rattle.mapping_table.specs.MapLists.{is_live_map, some_live_map, is_covered, with_map, IsDeadMap, IsNextCovered, AreSeparate}
 use Rattle.mapping_table.proofs.MapKeeping.{map_tells}
+use Rattle.mapping_table.proofs.Rooms.{told_written}
 use Rattle.mapping_table.proofs.Separates.{cover_apart}
-
--- room without filters changes none
-pub blank_at : (kept : BTreeMap Place (List Filter)) (k : Place) → filters_at kept k ≡ [] → (o : Option (List Filter)) → listed o ≡ [] → (q : Place) (b : Bool) → is_at (place_cmp k) q ≡ b →
-    listed (cond b o (get place_cmp kept q)) ≡ filters_at kept q
-blank_at kept k blank o none q true at = none ∙ sym blank ∙ ap (filters_at kept) (at_exact place_exact k q at)
-blank_at kept k blank o none q false at = refl
 
 -- where the same filters are kept
 pub whole_same : (old new : Place → List Filter) → ((q : Place) → new q ≡ old q) → (ls : List MapLease) → map (whole new) ls ≡ map (whole old) ls
@@ -81,21 +74,19 @@ module _ (kept : Place → List Filter) where
     covered_whole : (e : Endpoint) (q : ℕ) → is_covered e (map (whole kept) ls) q ≡ is_covered e ls q
     covered_whole e q = any-map (λ l. covers l (record { address = e.address; protocol = e.protocol; port = q })) (whole kept) ls
 
-    pub skips_whole : (e : Endpoint) (r : Option ℕ) → SkipsUncovered e ls r → SkipsUncovered e (map (whole kept) ls) r
-    skips_whole e None h = record { above = tt; between = tt; none = λ q above. covered_whole e q ∙ h.none q above }
-    skips_whole e (Some port) h = record { above = h.above; between = λ q above below. covered_whole e q ∙ h.between q above below; none = tt }
-
-    pub next_whole : (e : Endpoint) (r : Option ℕ) → IsNextCovered e ls r → IsNextCovered e (map (whole kept) ls) r
-    next_whole e None h = record { above = tt; covered = tt; least = tt; none = λ q above. covered_whole e q ∙ h.none q above }
-    next_whole e (Some port) h = record {
+    pub next_whole : (e : Endpoint) (end : ℕ) (r : Option ℕ) → IsNextCovered e end ls r → IsNextCovered e end (map (whole kept) ls) r
+    next_whole e end None h = record { above = tt; below = tt; covered = tt; least = tt; none = λ q above below. covered_whole e q ∙ h.none q above below }
+    next_whole e end (Some port) h = record {
       above = h.above;
+      below = h.below;
       covered = covered_whole e port ∙ h.covered;
-      least = λ q above there. h.least q above (sym (covered_whole e q) ∙ there);
+      least = λ q above below there. h.least q above below (sym (covered_whole e q) ∙ there);
       none = tt;
     }
 
-    pub ended_whole : (before m : ℕ) → ended_between before m (map (whole kept) ls) ≡ ended_between before m ls
-    ended_whole before m = count_whole (λ l. nat_lt before l.expiry && nat_le l.expiry m) (λ fs l. refl) ls
+    -- whether one has ended
+    pub ended_whole : (m : ℕ) → list_any (λ l. not (is_live_map m l)) (map (whole kept) ls) ≡ list_any (λ l. not (is_live_map m l)) ls
+    ended_whole m = any-map (λ l. not (is_live_map m l)) (whole kept) ls
 
     pub levels_whole : levels (length (map (whole kept) ls)) ≡ levels (length ls)
     levels_whole = ap levels (length-map ls (whole kept))
@@ -111,14 +102,14 @@ module _ (kept : Place → List Filter) where
 -- filters are written at the place of an endpoint
 module _ (e : Endpoint) (k : Place) (k_is : k ≡ place_of e) (filters : List Filter) (old new : BTreeMap Place (List Filter)) (writes : WritesFilters old k filters new) where
   written : filters_at new (place_of e) ≡ filters
-  written = writes (place_of e) ∙ ap (λ b. cond b filters (filters_at old (place_of e))) (ap (λ (p : Place). is_at (place_cmp p) (place_of e)) k_is ∙ key-self place_total (place_of e))
+  written = told_written k filters old new writes (place_of e) ∙ ap (λ b. cond b filters (filters_at old (place_of e))) (ap (λ (p : Place). is_at (place_cmp p) (place_of e)) k_is ∙ key-self place_total (place_of e))
 
   other_at : (y : MapLease) → is_map_of e y ≡ false → filters_at new (place_of_lease y) ≡ filters_at old (place_of_lease y)
   other_at y other =
       let apart : is_at (place_cmp k) (place_of_lease y) ≡ false = false_by (is_at (place_cmp k) (place_of_lease y)) (λ at.
       let same : place_of_lease y ≡ place_of e = sym (at_exact place_exact k (place_of_lease y) at) ∙ k_is in
       let both : true ≡ false = sym ((map_tells e).from y same) ∙ other in cc) in
-      writes (place_of_lease y) ∙ ap (λ b. cond b filters (filters_at old (place_of_lease y))) apart
+      told_written k filters old new writes (place_of_lease y) ∙ ap (λ b. cond b filters (filters_at old (place_of_lease y))) apart
 
   others_same : (ls : List MapLease) → AllByRecursion (λ y. is_map_of e y ≡ false) ls → map (whole (filters_at new)) ls ≡ map (whole (filters_at old)) ls
   others_same [] all = refl

@@ -1,17 +1,18 @@
 -- How a table keeps its leases (our own; for proofs alone).
-use Rattle.std.specs.Prelude.{◌≡◌, ℕ, ◌<◌, ◌≤◌, ◌==◌, nat_lt, Bool, true, false, List, [], length, Contains, count_by, slice_index, Option, Some, None, IsSome, IfSome, IfNone, if◌then◌else◌}
+use Rattle.std.specs.Prelude.{◌≡◌, ℕ, ◌+◌, ◌<◌, ◌≤◌, ◌==◌, nat_lt, Bool, true, false, List, [], ◌∷◌, length, Contains, count_by, slice_index, Option, Some, None, IsSome, IfSome, IfNone, if◌then◌else◌}
 use Rattle.std.specs.Ordering.{is_gt}
+use Rattle.std.specs.declared.cmp.Ordering.{Ordering}
 use Rattle.std.specs.BTreeMap.{BTreeMap, get, is_at, values}
 use Rattle.pcp_base.specs.declared.leases.Filter.{Filter}
+use Rattle.pcp_base.specs.declared.leases.Endpoint.{Endpoint}
 use Rattle.pcp_base.specs.declared.leases.MapLease.{MapLease}
-use Rattle.pcp_base.specs.Tables.{first_endpoint}
-use Rattle.ordered_index.specs.declared.live.LiveKeys.{LiveKeys}
+use Rattle.pcp_base.specs.Protocols.{protocol_number}
+use Rattle.pcp_base.specs.Tables.{first_endpoint, is_map_of}
 use Rattle.ordered_index.specs.declared.numbered.Numbered.{Numbered}
-use Rattle.ordered_index.specs.Live.{AreLive}
 use Rattle.ordered_index.specs.Kept.{Keying, IsKept}
 use Rattle.ordered_index.specs.Orders.{Place, port_at, place_of, port_cmp, place_cmp}
 use Rattle.ordered_index.specs.Sieves.{slot_of, no_places}
-use Rattle.mapping_table.specs.MapLists.{AreSoundMaps, is_live_map}
+use Rattle.mapping_table.specs.MapLists.{AreSoundMaps, is_live_map, overlaps}
 
 abbrev pub place_of_lease : MapLease → Place
 place_of_lease l = place_of (first_endpoint l)
@@ -63,29 +64,23 @@ pub record AreSievedMaps (it : Numbered MapLease Place (ℕ × ℕ)) (sets : ℕ
   pub counted : AreCountedMaps it sets
   pub sieved : SievesMaps sieve (values it.leases)
 
--- all that, and the keys of the leases that are live behind the moment reached
-pub record AreReachedMaps (it : Numbered MapLease Place (ℕ × ℕ)) (sets : ℕ) (sieve : List ℕ)
-    (keys : LiveKeys Place) : Type 0 where
-  pub sieved : AreSievedMaps it sets sieve
-  pub live : AreLive map_keying (values it.leases) keys
-  pub begun : 1 ≤ keys.from
+-- each lease that passes the test, of the endpoint's address and protocol, begins from a second
+-- port on where it begins from a first one on
+abbrev pub NoneBegins : (MapLease → Bool) → Endpoint → (from end : ℕ) → List MapLease → Type 0
+NoneBegins test e from end ls = (l : MapLease) → Contains ls l → test l ≡ true
+    → l.address ≡ e.address → l.protocol ≡ e.protocol → from ≤ l.internal → end ≤ l.internal
 
--- a place from which on the leases that are live at m are, if there is one at all
-pub record IsFirstLive (m : ℕ) (ls : List MapLease) (k : Place) (result : Option Place)
-    : Type 0 where
-  pub from : IfSome result (λ first. is_gt (place_cmp k first) ≡ false)
-  pub least : IfSome result (λ first. (l : MapLease) → Contains ls l → is_live_map m l ≡ true
-      → is_gt (place_cmp k (place_of_lease l)) ≡ false
-      → is_gt (place_cmp first (place_of_lease l)) ≡ false)
-  pub none : IfNone result ((l : MapLease) → Contains ls l → is_live_map m l ≡ true
-      → is_gt (place_cmp k (place_of_lease l)) ≡ true)
-
--- a lease that is live at m has its first endpoint at the place
-pub record HasLive (m : ℕ) (ls : List MapLease) (k : Place) : Type 0 where
-  pub lease : MapLease
-  pub stands : Contains ls lease
-  pub alive : is_live_map m lease ≡ true
-  pub key : place_of_lease lease ≡ k
+-- of the leases that pass the test, of the endpoint's address and protocol, the one that begins
+-- first from a port on and before the end, None where none does
+pub record BeginsFirst (test : MapLease → Bool) (e : Endpoint) (from end : ℕ) (ls : List MapLease)
+    (result : Option MapLease) : Type 0 where
+  pub among : IfSome result (λ l. Contains ls l)
+  pub passes : IfSome result (λ l. test l ≡ true)
+  pub address : IfSome result (λ l. l.address ≡ e.address)
+  pub protocol : IfSome result (λ l. l.protocol ≡ e.protocol)
+  pub inside : IfSome result (λ l. (from ≤ l.internal) × (l.internal < end))
+  pub first : IfSome result (λ l. NoneBegins test e from l.internal ls)
+  pub none : IfNone result (NoneBegins test e from end ls)
 
 -- the lease with these filters
 abbrev pub with_filters : List Filter → MapLease → MapLease
@@ -112,9 +107,27 @@ whole kept l = with_filters (kept (place_of_lease l)) l
 unfoldable pub live_whole : ℕ → (Place → List Filter) → MapLease → Option MapLease
 live_whole m kept l = if is_live_map m l then Some (whole kept l) else None
 
--- at each place the same filters
+-- what is kept of these filters, nothing where they are none
+abbrev pub kept_filters : List Filter → Option (List Filter)
+kept_filters [] = None
+kept_filters (f ∷ fs) = Some (f ∷ fs)
+
+-- what is kept, with an entry for filters that are wanted, where there is none
+abbrev pub with_room : List Filter → Option (List Filter) → Option (List Filter)
+with_room [] kept = kept
+with_room (f ∷ fs) None = Some []
+with_room (f ∷ fs) (Some kept) = Some kept
+
+-- at each place the same
 abbrev pub HasSameFilters : (old new : BTreeMap Place (List Filter)) → Type 0
-HasSameFilters old new = (q : Place) → filters_at new q ≡ filters_at old q
+HasSameFilters old new = (q : Place) → get place_cmp new q ≡ get place_cmp old q
+
+-- an entry at the place, where filters are wanted, and at each other one the same
+abbrev pub MakesRoom : (old : BTreeMap Place (List Filter)) → Place → List Filter
+    → (new : BTreeMap Place (List Filter)) → Type 0
+MakesRoom old k filters new = (q : Place) → get place_cmp new q
+    ≡ (if is_at (place_cmp k) q then with_room filters (get place_cmp old q)
+    else get place_cmp old q)
 
 -- filters can be written at the place without memory, if there are any to write
 abbrev pub HasRoomAt : BTreeMap Place (List Filter) → Place → List Filter → Type 0
@@ -123,5 +136,53 @@ HasRoomAt kept k filters = 0 < length filters → IsSome (get place_cmp kept k)
 -- these filters at the place, and at each other one the same
 abbrev pub WritesFilters : (old : BTreeMap Place (List Filter)) → Place → List Filter
     → (new : BTreeMap Place (List Filter)) → Type 0
-WritesFilters old k filters new = (q : Place) → filters_at new q
-    ≡ (if is_at (place_cmp k) q then filters else filters_at old q)
+WritesFilters old k filters new = (q : Place) → get place_cmp new q
+    ≡ (if is_at (place_cmp k) q then kept_filters filters else get place_cmp old q)
+
+-- filters are kept where a lease has its first endpoint, and some at each place that has an entry
+pub record AreOwnFilters (kept : BTreeMap Place (List Filter)) (ls : List MapLease) : Type 0 where
+  pub owned : (k : Place) → ((l : MapLease) → Contains ls l → place_of_lease l ≡ k → ⊥)
+      → get place_cmp kept k ≡ None
+  pub some : (k : Place) → get place_cmp kept k ≡ kept_filters (filters_at kept k)
+
+-- sound leases, and the filters of those that have any
+pub record AreWholeMaps (ls : List MapLease) (kept : BTreeMap Place (List Filter)) : Type 0 where
+  pub sound : AreSoundMaps ls
+  pub filters : AreOwnFilters kept ls
+
+-- of the ports 1 to 65535, those up to the last are those before the end
+abbrev pub IsLastBefore : (end last : ℕ) → Type 0
+IsLastBefore end last = (port : ℕ) → 0 < port → port ≤ 65535
+    → (port < end → port ≤ last) × (port ≤ last → port < end)
+
+-- the place of the lease's last endpoint, if that has a port below 65536
+pub record IsLastPlace (l : MapLease) (k : Place) : Type 0 where
+  pub address : k.0 ≡ l.address.0
+  pub protocol : k.1.0 ≡ protocol_number l.protocol
+  pub port : IsLastBefore (l.internal + l.count) k.1.1
+
+-- the lease's last external port, if that is below 65536
+pub record IsLastPort (l : MapLease) (p : ℕ × ℕ) : Type 0 where
+  pub protocol : p.0 ≡ protocol_number l.protocol
+  pub port : IsLastBefore (l.external + l.count) p.1
+
+-- the lease with the last key up to this one, None where all keys are past it
+pub record IsNearest {K : Type 0} (cmp : K → K → Ordering) (key : MapLease → K) (k : K)
+    (ls : List MapLease) (result : Option MapLease) : Type 0 where
+  pub among : IfSome result (λ l. Contains ls l)
+  pub up_to : IfSome result (λ l. is_gt (cmp (key l) k) ≡ false)
+  pub greatest : IfSome result (λ l. (x : MapLease) → Contains ls x → is_gt (cmp (key x) k) ≡ false
+      → is_gt (cmp (key x) (key l)) ≡ false)
+  pub none : IfNone result ((x : MapLease) → Contains ls x → is_gt (cmp (key x) k) ≡ true)
+
+-- the key of what was looked up, where this lease overlaps it
+abbrev pub overlapped_key : MapLease → Option MapLease → Option Endpoint
+overlapped_key l None = None
+overlapped_key l (Some x) = if overlaps l x then Some (first_endpoint x) else None
+
+-- one of the leases, which this one overlaps where it meets one with another key at all
+pub record TellsMet (meet : MapLease → MapLease → Bool) (l : MapLease) (ls : List MapLease)
+    (result : Option MapLease) : Type 0 where
+  pub among : IfSome result (λ x. Contains ls x)
+  pub tells : (x : MapLease) → Contains ls x → is_map_of (first_endpoint l) x ≡ false
+      → meet l x ≡ true → IsSome (overlapped_key l result)

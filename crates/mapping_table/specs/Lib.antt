@@ -1,4 +1,3 @@
 pub mod MapLists
-pub mod MapTables
 pub mod Kept
 pub mod Laws

@@ -1,6 +1,6 @@
 -- What is asked of a list of MAP leases, in the order granted, and what it must keep to (our own; a
 -- MAP lease is a mapping of RFC 6887, section 11).
-use Rattle.std.specs.Prelude.{◌≡◌, ℕ, ◌+◌, ◌<◌, ◌≤◌, ◌&&◌, nat_lt, not, Bool, false, List, ◌++◌, length, filter, find, Contains, IsTrue, Option, Some, None, IfSome, IfNone, Result, OnOk, OnErr}
+use Rattle.std.specs.Prelude.{◌≡◌, ℕ, ◌+◌, ◌<◌, ◌≤◌, ◌&&◌, ◌||◌, nat_lt, not, Bool, false, List, ◌++◌, length, filter, find, Contains, IsTrue, Option, Some, None, IfSome, IfNone, Result, OnOk, OnErr}
 use Rattle.std.specs.List.{AllByRecursion, list_any}
 use Rattle.pcp_base.specs.declared.leases.TheConstants.{MOST_LEASES}
 use Rattle.pcp_base.specs.declared.leases.Protocol.{Protocol}
@@ -45,32 +45,47 @@ abbrev pub is_covered : Endpoint → List MapLease → ℕ → Bool
 is_covered e ls port =
     list_any (λ l. covers l (record { address = e.address; protocol = e.protocol; port = port })) ls
 
--- the least covered port above the endpoint's, None exactly where there is none
-pub record IsNextCovered (e : Endpoint) (ls : List MapLease) (result : Option ℕ) : Type 0 where
+-- the least covered port above the endpoint's and below the end, None exactly where there is none
+pub record IsNextCovered (e : Endpoint) (end : ℕ) (ls : List MapLease) (result : Option ℕ)
+    : Type 0 where
   pub above : IfSome result (λ port. e.port < port)
+  pub below : IfSome result (λ port. port < end)
   pub covered : IfSome result (λ port. IsTrue (is_covered e ls port))
-  pub least : IfSome result (λ port.
-      (other : ℕ) → e.port < other → IsTrue (is_covered e ls other) → port ≤ other)
-  pub none : IfNone result ((other : ℕ) → e.port < other → is_covered e ls other ≡ false)
-
--- a port above the endpoint's, up to which no port above the endpoint's is covered, if there is one
--- at all; None only where no port above the endpoint's is covered
-pub record SkipsUncovered (e : Endpoint) (ls : List MapLease) (result : Option ℕ) : Type 0 where
-  pub above : IfSome result (λ port. e.port < port)
-  pub between : IfSome result (λ port.
-      (other : ℕ) → e.port < other → other < port → is_covered e ls other ≡ false)
-  pub none : IfNone result ((other : ℕ) → e.port < other → is_covered e ls other ≡ false)
+  pub least : IfSome result (λ port. (other : ℕ) → e.port < other → other < end
+      → IsTrue (is_covered e ls other) → port ≤ other)
+  pub none : IfNone result ((other : ℕ) → e.port < other → other < end
+      → is_covered e ls other ≡ false)
 
 -- whether the n ports from a on and the k ports from b on have one in common
 abbrev pub runs_meet : (a n b k : ℕ) → Bool
 runs_meet a n b k = nat_lt a (b + k) && nat_lt b (a + n)
 
+-- whether an endpoint is covered by both leases
+abbrev pub meet_inside : MapLease → MapLease → Bool
+meet_inside a b = same_address a.address b.address && same_protocol a.protocol b.protocol
+    && runs_meet a.internal a.count b.internal b.count
+
+-- whether an external port is owned by both leases
+abbrev pub meet_outside : MapLease → MapLease → Bool
+meet_outside a b = same_protocol a.protocol b.protocol
+    && runs_meet a.external a.count b.external b.count
+
 -- no endpoint is covered by both leases, and no external port is owned by both
 pub record AreSeparate (a b : MapLease) : Type 0 where
-  pub inside : (same_address a.address b.address && same_protocol a.protocol b.protocol
-      && runs_meet a.internal a.count b.internal b.count) ≡ false
-  pub outside : (same_protocol a.protocol b.protocol
-      && runs_meet a.external a.count b.external b.count) ≡ false
+  pub inside : meet_inside a b ≡ false
+  pub outside : meet_outside a b ≡ false
+
+-- whether the other lease has another key than this one and isn't separate from it
+abbrev pub overlaps : MapLease → MapLease → Bool
+overlaps l other = not (is_map_of (first_endpoint l) other)
+    && (meet_inside l other || meet_outside l other)
+
+-- the key of one of the leases that this one overlaps, None exactly where it overlaps none
+pub record IsOverlapped (l : MapLease) (ls : List MapLease) (result : Option Endpoint)
+    : Type 0 where
+  pub among : IfSome result (λ key.
+      IsTrue (list_any (λ other. is_map_of key other && overlaps l other) ls))
+  pub none : IfNone result (list_any (overlaps l) ls ≡ false)
 
 -- the MAP leases of a sound table
 pub record AreSoundMaps (ls : List MapLease) : Type 0 where

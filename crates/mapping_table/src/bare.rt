@@ -1,10 +1,12 @@
 //! Leases without their filters: most leases have none, and room for them takes three quarters of a
 //! lease's octets.
 
-ghost use Rattle.std.specs.Prelude.{◌≡◌, nat_lt};
+ghost use Rattle.std.specs.Prelude.{◌≡◌, ◌+◌, ◌-◌, ◌<◌, ◌==◌, nat_lt};
 ghost use Rattle.pcp_base.specs.Owners.{owns};
-ghost use Rattle.pcp_base.specs.Tables.{covers};
-ghost use Rattle.mapping_table.specs.Kept.{bare, with_filters, place_of_lease, port_of_lease, sets_of};
+ghost use Rattle.pcp_base.specs.Tables.{covers, first_endpoint, is_map_of};
+ghost use Rattle.mapping_table.specs.MapLists.{runs_meet, meet_inside, meet_outside, overlaps};
+ghost use Rattle.ordered_index.specs.Orders.{port_at};
+ghost use Rattle.mapping_table.specs.Kept.{bare, with_filters, place_of_lease, port_of_lease, sets_of, IsLastBefore, IsLastPlace, IsLastPort};
 
 use ordered_index::{Place, Port, place_of, port_at};
 use pcp_base::{Address, Endpoint, Filters, MapLease, Moment, Nonce, Protocol};
@@ -51,6 +53,24 @@ impl Model for BareLease {
       granted = l.granted;
       expiry = l.expiry;
     } };
+}
+
+/// The last of `count` ports from the first one on, where that is at most 65535.
+fn last_of(first: u16, count: u16) -> u16
+    ensures { IsLastBefore (first + count) result }
+{
+    let end = u32::from(first) + u32::from(count);
+    if end > u32::from(u16::MAX) {
+        return u16::MAX;
+    }
+    (end as u16).saturating_sub(1)
+}
+
+/// Whether the `n` ports from `a` on and the `k` ports from `b` on have one in common.
+fn runs_meet(a: u16, n: u16, b: u16, k: u16) -> bool
+    ensures { result ≡ runs_meet a n b k }
+{
+    u32::from(a) < u32::from(b) + u32::from(k) && u32::from(b) < u32::from(a) + u32::from(n)
 }
 
 impl BareLease {
@@ -105,6 +125,62 @@ impl BareLease {
         port_at(self.protocol, self.external)
     }
 
+    /// The first endpoint, which is the key.
+    pub(crate) fn first_endpoint(&self) -> Endpoint
+        ensures { result ≡ first_endpoint self.now }
+    {
+        Endpoint {
+            address: self.address,
+            protocol: self.protocol,
+            port: self.internal,
+        }
+    }
+
+    pub(crate) fn protocol(&self) -> Protocol
+        ensures { result ≡ self.now.protocol }
+    {
+        self.protocol
+    }
+
+    /// The first internal port.
+    pub(crate) fn internal(&self) -> u16
+        ensures { result ≡ self.now.internal }
+    {
+        self.internal
+    }
+
+    pub(crate) fn external(&self) -> u16
+        ensures { result ≡ self.now.external }
+    {
+        self.external
+    }
+
+    /// The place of the last endpoint.
+    pub(crate) fn last_place(&self) -> Place
+        ensures { IsLastPlace self.now result }
+    {
+        place_of(&Endpoint {
+            address: self.address,
+            protocol: self.protocol,
+            port: last_of(self.internal, self.count),
+        })
+    }
+
+    /// The last external port.
+    pub(crate) fn last_port(&self) -> Port
+        ensures { IsLastPort self.now result }
+    {
+        port_at(self.protocol, last_of(self.external, self.count))
+    }
+
+    /// The port before the first external one.
+    pub(crate) fn port_before(&self) -> Port
+        requires { 0 < self.now.external }
+        ensures { result ≡ port_at self.now.protocol (self.now.external - 1) }
+    {
+        port_at(self.protocol, self.external - 1)
+    }
+
     /// It is live at each moment below this one, in seconds.
     pub(crate) fn expiry(&self) -> u64
         ensures { result ≡ self.now.expiry }
@@ -117,6 +193,44 @@ impl BareLease {
         ensures { result ≡ sets_of self.now }
     {
         u32::from(self.count > 1)
+    }
+
+    /// Whether it has a single port.
+    pub(crate) fn is_single(&self) -> bool
+        ensures { result ≡ (self.now.count == 1) }
+    {
+        self.count == 1
+    }
+
+    /// Whether its key is that of the other.
+    pub(crate) fn has_key_of(&self, other: &BareLease) -> bool
+        ensures { result ≡ is_map_of (first_endpoint other.now) self.now }
+    {
+        self.first_endpoint() == other.first_endpoint()
+    }
+
+    /// Whether both cover an endpoint.
+    fn meets_inside(&self, other: &BareLease) -> bool
+        ensures { result ≡ meet_inside self.now other.now }
+    {
+        self.address == other.address
+            && self.protocol == other.protocol
+            && runs_meet(self.internal, self.count, other.internal, other.count)
+    }
+
+    /// Whether both own an external port.
+    fn meets_outside(&self, other: &BareLease) -> bool
+        ensures { result ≡ meet_outside self.now other.now }
+    {
+        self.protocol == other.protocol
+            && runs_meet(self.external, self.count, other.external, other.count)
+    }
+
+    /// Whether the other has another key and isn't separate from it.
+    pub(crate) fn overlaps(&self, other: &BareLease) -> bool
+        ensures { result ≡ overlaps self.now other.now }
+    {
+        !other.has_key_of(self) && (self.meets_inside(other) || self.meets_outside(other))
     }
 
     /// Whether the endpoint's port is one of the internal ports.

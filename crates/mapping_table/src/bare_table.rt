@@ -1,32 +1,30 @@
 //! Leases without their filters, by numbers that grow, and ordered maps to the numbers beside them.
 
-ghost use Rattle.std.specs.Prelude.{◌≡◌, ◌≤◌, ◌+◌, ◌*◌, ◌++◌, map, filter, take, count_by, length, max, IfOk, OnOk};
+ghost use Rattle.std.specs.Prelude.{◌≡◌, ◌≤◌, ◌<◌, ◌+◌, ◌-◌, ◌*◌, ◌++◌, [], not, map, filter, take, count_by, length, IfOk, OnOk};
+ghost use Rattle.std.specs.List.{list_any};
 ghost use Rattle.std.specs.Option.{option_copied};
 ghost use Rattle.std.specs.BTreeMap.{get, values};
 ghost use Rattle.step_count.specs.Levels.{levels};
 ghost use Rattle.pcp_base.specs.Snapshots.{map_record};
-ghost use Rattle.mapping_table.specs.MapTables.{no_maps, ended_between};
-ghost use Rattle.mapping_table.specs.MapLists.{is_live_map, some_live_map, map_covering, map_owning, IsDeadMap, IsNextCovered, SkipsUncovered, AreSoundMaps, with_map, PutsMap, RemovesMap, CopiesLiveMaps};
+ghost use Rattle.mapping_table.specs.MapLists.{is_live_map, some_live_map, map_covering, map_owning, IsDeadMap, IsNextCovered, AreSoundMaps, IsOverlapped, with_map, PutsMap, RemovesMap, CopiesLiveMaps};
 ghost use Rattle.ordered_index.specs.Orders.{place_cmp};
 ghost use Rattle.mapping_table.specs.Kept.{AreKeptMaps, SievesMaps, AreSievedMaps, filters_at, whole};
 
 use crate::bare::BareLease;
+use crate::begins::first_live;
 use crate::changes::{append, replace};
 use crate::filters::{live_whole, whole};
 use crate::looks::{lease_at, look};
-use crate::passing::{begin, first_live, pass};
-use ordered_index::{
-    LiveKeys, Numbered, Place, Port, Sieve, is_beside, last_up_to, place_of, port_at, port_in,
-};
+use crate::overlaps::{overlapped_key, overlapping_set};
+use ordered_index::{Numbered, Place, Port, Sieve, last_up_to, place_of, port_at};
 use pcp_base::{Change, Endpoint, Filters, MapLease, Memory, Moment, Protocol, Record};
 use std::alloc::{AllocError, Global};
 use std::collections::BTreeMap;
 use std::marker::Model;
 use std::sync::ledger::Ledger;
-use step_count::{Steps, levels};
+use step_count::Steps;
 
-/// MAP leases without their filters, seen as a list in the order granted, and the moment that was
-/// reached last.
+/// MAP leases without their filters, seen as a list in the order granted.
 #[derive(Drop)]
 pub(crate) struct BareTable {
     /// The leases, by their first endpoints and by their first external ports.
@@ -35,25 +33,23 @@ pub(crate) struct BareTable {
     sets: u32,
     /// How many of their first endpoints fall on each number. Most look-ups that miss end here.
     sieve: Sieve,
-    /// The first endpoints of those that haven't ended by the moment that was reached last.
-    live: LiveKeys<Place>,
 }
 
 impl Model for BareTable {
-    ghost use Rattle.std.specs.Prelude.{◌-◌};
+    ghost use Rattle.std.specs.Prelude.{List};
     ghost use Rattle.std.specs.BTreeMap.{values};
-    ghost use Rattle.mapping_table.specs.MapTables.{MapTableView};
-    ghost use Rattle.mapping_table.specs.Kept.{AreReachedMaps};
+    ghost use Rattle.pcp_base.specs.declared.leases.MapLease.{MapLease};
+    ghost use Rattle.mapping_table.specs.Kept.{AreSievedMaps};
 
-    ghost Value = { MapTableView };
+    ghost Value = { List MapLease };
 
-    ghost view = { λ t. record { leases = values t.kept.leases; reached = t.live.from - 1 } };
+    ghost view = { λ t. values t.kept.leases };
 
-    ghost invariant = { λ t. AreReachedMaps t.kept t.sets t.sieve t.live };
+    ghost invariant = { λ t. AreSievedMaps t.kept t.sets t.sieve };
 }
 
-/// Appends the leases that are live at `m`, in the order of their numbers, with their filters. Where
-/// memory is wanting, some of them may stand behind the old ones.
+/// Appends the leases that are live at `m`, in the order of their numbers, with their filters.
+/// Where memory is wanting, some of them may stand behind the old ones.
 fn append_live(
     leases: &BTreeMap<u64, BareLease>,
     filters: &BTreeMap<Place, Filters>,
@@ -71,22 +67,24 @@ fn append_live(
     )
 }
 
-/// Appends a record at `m` for each lease, in the order of their numbers, with its filters.
+/// Appends a record at `m` for each lease that is live then, in the order of their numbers, with
+/// its filters.
 fn append_records(
     leases: &BTreeMap<u64, BareLease>,
     filters: &BTreeMap<Place, Filters>,
     m: Moment,
     out: &mut Vec<Record>,
 ) -> Result<(), AllocError>
-    ensures { OnOk result (out.new.items ≡ out.old.items
-        ++ map (map_record m) (map (whole (filters_at filters.now)) (values leases.now))) }
+    ensures { OnOk result (out.new.items ≡ out.old.items ++ map (map_record m)
+        (filter (is_live_map m) (map (whole (filters_at filters.now)) (values leases.now)))) }
 {
-    out.reserve_exact(leases.len())?;
     for lease in leases.values() {
-        out.push(Record {
-            moment: m,
-            change: Change::Map(whole(filters, lease)),
-        })?;
+        if lease.is_live(m) {
+            out.push(Record {
+                moment: m,
+                change: Change::Map(whole(filters, lease)),
+            })?;
+        }
     }
     Ok(())
 }
@@ -135,32 +133,27 @@ fn put_kept(
 impl BareTable {
     /// A table without a lease. The one error is want of memory.
     pub(crate) fn new(alloc: Global) -> Result<BareTable, Memory>
-        ensures { IfOk result (λ table. table ≡ no_maps) }
+        ensures { IfOk result (λ table. table ≡ []) }
     {
-        let mut live = LiveKeys::new(alloc);
-        begin(&mut live);
         Ok(BareTable {
             kept: Numbered::new(alloc),
             sets: 0,
             sieve: Sieve::new(alloc)?,
-            live,
         })
     }
 
-    /// Forgets all leases, and begins at the moment 0. It takes no memory.
+    /// Forgets all leases. It takes no memory.
     pub(crate) fn clear(&mut self)
-        ensures { self.new ≡ no_maps }
+        ensures { self.new ≡ [] }
     {
         self.kept.clear();
         self.sets = 0;
         self.sieve.clear();
-        self.live.clear();
-        begin(&mut self.live);
     }
 
     /// How many leases there are.
     pub(crate) fn len(&self) -> usize
-        ensures { result ≡ length self.now.leases }
+        ensures { result ≡ length self.now }
     {
         self.kept.leases.len()
     }
@@ -171,8 +164,8 @@ impl BareTable {
         endpoint: &Endpoint,
         steps: &mut Steps<L>,
     ) -> Option<&BareLease>
-        ensures lease { option_copied result ≡ map_covering endpoint.now self.now.leases }
-        ensures steps { steps.new ≤ steps.old + 3 * levels (length self.now.leases) }
+        ensures lease { option_copied result ≡ map_covering endpoint.now self.now }
+        ensures steps { steps.new ≤ steps.old + 3 * levels (length self.now) }
     {
         let kept = &self.kept;
         look(kept, steps);
@@ -192,8 +185,8 @@ impl BareTable {
         m: Moment,
         steps: &mut Steps<L>,
     ) -> bool
-        ensures covers { result ≡ some_live_map m (map_covering endpoint.now self.now.leases) }
-        ensures steps { steps.new ≤ steps.old + 3 * levels (length self.now.leases) }
+        ensures covers { result ≡ some_live_map m (map_covering endpoint.now self.now) }
+        ensures steps { steps.new ≤ steps.old + 3 * levels (length self.now) }
     {
         is_live_at(self.find(endpoint, steps), m)
     }
@@ -204,8 +197,8 @@ impl BareTable {
         endpoint: &Endpoint,
         steps: &mut Steps<L>,
     ) -> Option<&BareLease>
-        ensures lease { option_copied result ≡ map_covering endpoint.now self.now.leases }
-        ensures steps { steps.new ≤ steps.old + 2 * levels (length self.now.leases) }
+        ensures lease { option_copied result ≡ map_covering endpoint.now self.now }
+        ensures steps { steps.new ≤ steps.old + 2 * levels (length self.now) }
     {
         let kept = &self.kept;
         look(kept, steps);
@@ -229,8 +222,8 @@ impl BareTable {
         port: u16,
         steps: &mut Steps<L>,
     ) -> Option<&BareLease>
-        ensures lease { option_copied result ≡ map_owning protocol port self.now.leases }
-        ensures steps { steps.new ≤ steps.old + 3 * levels (length self.now.leases) }
+        ensures lease { option_copied result ≡ map_owning protocol port self.now }
+        ensures steps { steps.new ≤ steps.old + 3 * levels (length self.now) }
     {
         let kept = &self.kept;
         look(kept, steps);
@@ -250,8 +243,8 @@ impl BareTable {
         port: u16,
         steps: &mut Steps<L>,
     ) -> Option<&BareLease>
-        ensures lease { option_copied result ≡ map_owning protocol port self.now.leases }
-        ensures steps { steps.new ≤ steps.old + 2 * levels (length self.now.leases) }
+        ensures lease { option_copied result ≡ map_owning protocol port self.now }
+        ensures steps { steps.new ≤ steps.old + 2 * levels (length self.now) }
     {
         let kept = &self.kept;
         look(kept, steps);
@@ -268,37 +261,66 @@ impl BareTable {
         }
     }
 
-    /// How many leases are live at `m`. At the moment that was reached last it looks at none, and
-    /// else at those that have ended alone.
-    pub(crate) fn live<L: Ledger>(&self, m: Moment, steps: &mut Steps<L>) -> u32
-        ensures live { result ≡ count_by (is_live_map m) self.now.leases }
-        ensures steps { m ≡ self.now.reached → steps.new ≡ steps.old }
+    /// The first endpoint of a lease that this one of a single port overlaps: of the lease that
+    /// covers its endpoint, or of the one that owns its external port.
+    fn overlapping_single<L: Ledger>(
+        &self,
+        lease: &BareLease,
+        steps: &mut Steps<L>,
+    ) -> Option<Endpoint>
+        requires single { lease.now.count ≡ 1 }
+        requires sound { AreSoundMaps self.now }
+        ensures overlapped { IsOverlapped lease.now self.now result }
+        ensures steps { steps.new ≤ steps.old + 6 * levels (length self.now) }
     {
-        if self.live.from == m.get() + 1 {
-            return self.live.keys.len() as u32;
-        }
-        let ended = self.kept.ended(m);
-        steps.take(levels(self.kept.leases.len()) + ended as u64);
-        (self.kept.leases.len() - ended) as u32
+        let Some(key) = overlapped_key(lease, self.find(&lease.first_endpoint(), steps)) else {
+            let owner = self.by_external(lease.protocol(), lease.external(), steps);
+            return overlapped_key(lease, owner);
+        };
+        Some(key)
     }
 
-    /// An internal port above the endpoint's, up to which none above the endpoint's is covered by a
-    /// lease of its address and protocol that is live at `m`. At the moment that was reached last
-    /// that is the least one that is covered so.
+    /// The first endpoint of a lease that this one overlaps.
+    pub(crate) fn overlapping<L: Ledger>(
+        &self,
+        lease: &BareLease,
+        steps: &mut Steps<L>,
+    ) -> Option<Endpoint>
+        ensures overlapped { IsOverlapped lease.now self.now result }
+        ensures steps { steps.new ≤ steps.old + 6 * levels (length self.now) }
+    {
+        let kept = &self.kept;
+        if lease.is_single() {
+            return self.overlapping_single(lease, steps);
+        }
+        overlapping_set(kept, lease, steps)
+    }
+
+    /// How many leases are live at `m`. It looks at those that have ended alone.
+    pub(crate) fn live(&self, m: Moment) -> u32
+        ensures { result ≡ count_by (is_live_map m) self.now }
+    {
+        (self.kept.leases.len() - self.kept.ended(m)) as u32
+    }
+
+    /// The least internal port above the endpoint's and below the end, of its address and protocol,
+    /// that a lease covers which is live at `m`. The leases on the way are looked at one by one.
     pub(crate) fn next_internal<L: Ledger>(
         &self,
         endpoint: &Endpoint,
+        end: u32,
         m: Moment,
         steps: &mut Steps<L>,
     ) -> Option<u16>
-        ensures skips { SkipsUncovered endpoint.now
-            (filter (is_live_map m) self.now.leases) result }
-        ensures next { m ≡ self.now.reached →
-            IsNextCovered endpoint.now (filter (is_live_map m) self.now.leases) result }
-        ensures steps { steps.new ≤ steps.old + 4 * levels (length self.now.leases) }
+        requires below { endpoint.now.port < end }
+        requires within { end ≤ 65536 }
+        ensures next { IsNextCovered endpoint.now end (filter (is_live_map m) self.now) result }
+        ensures steps { steps.new ≤ steps.old
+            + (2 * (end - endpoint.now.port) + 1) * levels (length self.now) }
     {
         let kept = &self.kept;
-        if endpoint.port == u16::MAX {
+        let next = u32::from(endpoint.port) + 1;
+        if next == end {
             return None;
         }
         let above = Endpoint {
@@ -308,38 +330,24 @@ impl BareTable {
         if self.covers(&above, m, steps) {
             return Some(above.port);
         }
-        let Some(first) = first_live(kept, &self.live, place_of(&above), m, steps) else {
+        let Some(lease) = first_live(kept, endpoint, next, end, m, steps) else {
             return None;
         };
-        if is_beside(first, endpoint) {
-            Some(port_in(first))
-        } else {
-            None
-        }
+        Some(lease.internal())
     }
 
     /// Puts a lease in the place of the one with its key, or at the end. The one error is want of
     /// memory, which changes nothing.
     pub(crate) fn put(&mut self, lease: BareLease) -> Result<(), Memory>
-        requires { AreSoundMaps (with_map lease self.old.leases) }
-        ensures put { PutsMap self.old.leases lease result self.new.leases }
-        ensures reached { self.new.reached ≡ self.old.reached }
+        requires { AreSoundMaps (with_map lease self.old) }
+        ensures { PutsMap self.old lease result self.new }
     {
-        let place = lease.place();
-        let expiry = lease.expiry();
-        let anew = self.live.enter(place, expiry)?;
-        let Err(refused) = put_kept(&mut self.kept, &mut self.sieve, &mut self.sets, lease) else {
-            self.live.settle(place, expiry);
-            return Ok(());
-        };
-        self.live.undo(place, anew);
-        Err(refused)
+        put_kept(&mut self.kept, &mut self.sieve, &mut self.sets, lease)
     }
 
     /// Takes out the lease with this first endpoint.
     pub(crate) fn remove(&mut self, key: &Endpoint) -> Option<BareLease>
-        ensures removed { RemovesMap self.old.leases key.now result self.new.leases }
-        ensures reached { self.new.reached ≡ self.old.reached }
+        ensures { RemovesMap self.old key.now result self.new }
     {
         let place = place_of(key);
         let Some(number) = number_at(&self.sieve, &self.kept, &place) else {
@@ -352,25 +360,21 @@ impl BareTable {
             .forget(number, place, lease.port(), lease.expiry());
         self.sets -= lease.sets();
         self.sieve.take(&place);
-        self.live.leave(place);
         Some(lease)
     }
 
-    /// Lets the leases that have ended by `m` leave the keys of those that are live, each once. All
-    /// leases stay. It takes no memory.
-    pub(crate) fn reach<L: Ledger>(&mut self, m: Moment, steps: &mut Steps<L>)
-        ensures leases { self.new.leases ≡ self.old.leases }
-        ensures reached { self.new.reached ≡ max self.old.reached m }
-        ensures steps { steps.new ≤ steps.old
-            + (1 + 3 * ended_between self.old.reached m self.old.leases)
-            * levels (length self.old.leases) }
+    /// Whether a lease isn't live at `m`, by one look.
+    pub(crate) fn has_ended<L: Ledger>(&self, m: Moment, steps: &mut Steps<L>) -> bool
+        ensures ended { result ≡ list_any (λ l. not (is_live_map m l)) self.now }
+        ensures steps { steps.new ≤ steps.old + levels (length self.now) }
     {
-        pass(&self.kept, &mut self.live, m, steps);
+        look(&self.kept, steps);
+        self.one_ended(m).is_some()
     }
 
     /// One of the leases that aren't live at `m` and expired first. It looks at that one alone.
     pub(crate) fn one_ended(&self, m: Moment) -> Option<&BareLease>
-        ensures { IsDeadMap m self.now.leases (option_copied result) }
+        ensures { IsDeadMap m self.now (option_copied result) }
     {
         let Some(number) = self.kept.one_ended(m) else {
             return None;
@@ -386,10 +390,10 @@ impl BareTable {
         m: Moment,
         out: &mut Vec<MapLease>,
     ) -> Result<(), Memory>
-        ensures { CopiesLiveMaps (map (whole (filters_at filters.now)) self.now.leases) m
-            out.old.items result out.new.items }
+        ensures { CopiesLiveMaps (map (whole (filters_at filters.now)) self.now) m out.old.items
+            result out.new.items }
     {
-        out.reserve(self.live.keys.len())?;
+        out.reserve(self.live(m) as usize)?;
         let before = out.len();
         let Err(refused) = append_live(&self.kept.leases, filters, m, out) else {
             return Ok(());
@@ -398,17 +402,18 @@ impl BareTable {
         Err(refused.into())
     }
 
-    /// Appends a record at `m` for each lease, in the order granted, with its filters. The one error
-    /// is want of memory.
+    /// Appends a record at `m` for each lease that is live then, in the order granted, with its
+    /// filters. The one error is want of memory.
     pub(crate) fn add_records(
         &self,
         filters: &BTreeMap<Place, Filters>,
         m: Moment,
         out: &mut Vec<Record>,
     ) -> Result<(), Memory>
-        ensures { OnOk result (out.new.items ≡ out.old.items
-            ++ map (map_record m) (map (whole (filters_at filters.now)) self.now.leases)) }
+        ensures { OnOk result (out.new.items ≡ out.old.items ++ map (map_record m)
+            (filter (is_live_map m) (map (whole (filters_at filters.now)) self.now))) }
     {
+        out.reserve(self.live(m) as usize)?;
         append_records(&self.kept.leases, filters, m, out)?;
         Ok(())
     }

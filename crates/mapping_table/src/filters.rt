@@ -1,9 +1,9 @@
 //! The filters of leases, by the places of their first endpoints.
 
-ghost use Rattle.std.specs.Prelude.{◌≡◌, ◌≤◌, ◌+◌, OnOk};
+ghost use Rattle.std.specs.Prelude.{◌≡◌, ◌≤◌, ◌+◌, OnOk, OnErr};
 ghost use Rattle.std.specs.Option.{option_copied, option_map};
 ghost use Rattle.step_count.specs.Levels.{levels};
-ghost use Rattle.mapping_table.specs.Kept.{filters_at, place_of_lease, whole, live_whole, HasRoomAt, HasSameFilters, WritesFilters};
+ghost use Rattle.mapping_table.specs.Kept.{filters_at, place_of_lease, whole, live_whole, HasSameFilters, MakesRoom, HasRoomAt, WritesFilters};
 
 use crate::bare::BareLease;
 use ordered_index::Place;
@@ -80,14 +80,15 @@ pub(crate) fn live_whole(
     }
 }
 
-/// Makes room for filters at a place, which changes none. The one error is want of memory.
+/// Makes room for filters at a place, which changes none. The one error is want of memory, which
+/// changes nothing.
 pub(crate) fn make_room(
     filters: &mut BTreeMap<Place, Filters>,
     place: Place,
     wanted: &Filters,
 ) -> Result<(), AllocError>
-    ensures same { HasSameFilters filters.old filters.new }
-    ensures room { OnOk result (HasRoomAt filters.new place wanted.now) }
+    ensures ok { OnOk result (MakesRoom filters.old place wanted.now filters.new) }
+    ensures err { OnErr result (HasSameFilters filters.old filters.new) }
 {
     if wanted.items().is_empty() || filters.contains_key(&place) {
         return Ok(());
@@ -112,7 +113,7 @@ pub(crate) fn write(filters: &mut BTreeMap<Place, Filters>, place: Place, wanted
 
 /// Takes out room that nothing was written to, which changes no filters.
 pub(crate) fn leave_room(filters: &mut BTreeMap<Place, Filters>, place: Place)
-    ensures { HasSameFilters filters.old filters.new }
+    ensures { WritesFilters filters.old place (filters_at filters.old place) filters.new }
 {
     let Some(found) = filters.get(&place) else {
         return;

@@ -3,11 +3,12 @@
 
 mod bare;
 mod bare_table;
+mod begins;
 mod changes;
 mod filters;
 pub mod laws;
 mod looks;
-mod passing;
+mod overlaps;
 pub mod plain;
 mod table;
 

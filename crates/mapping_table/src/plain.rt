@@ -1,12 +1,11 @@
 //! The plain body: a list that is searched, and nothing beside it.
 
-ghost use Rattle.std.specs.Prelude.{◌≡◌, [], ◌∷◌, max, filter, find, count_by, position, not, IfOk, OnOk, OnErr};
+ghost use Rattle.std.specs.Prelude.{◌≡◌, [], ◌∷◌, ◌<◌, ◌≤◌, filter, find, count_by, position, not, IfOk, OnOk, OnErr};
 ghost use Rattle.std.specs.Option.{option_copied};
-ghost use Rattle.std.specs.List.{AllByRecursion};
+ghost use Rattle.std.specs.List.{AllByRecursion, list_any};
 ghost use Rattle.pcp_base.specs.Owners.{owns};
 ghost use Rattle.pcp_base.specs.Tables.{is_map_of, IsMapLease};
-ghost use Rattle.mapping_table.specs.MapTables.{no_maps};
-ghost use Rattle.mapping_table.specs.MapLists.{is_live_map, some_live_map, map_covering, map_owning, map_with_key, IsNextCovered, SkipsUncovered, AreSoundMaps, with_map, PutsMap, RemovesMap, CopiesLiveMaps};
+ghost use Rattle.mapping_table.specs.MapLists.{is_live_map, some_live_map, map_covering, map_owning, map_with_key, IsNextCovered, AreSoundMaps, IsOverlapped, overlaps, with_map, PutsMap, RemovesMap, CopiesLiveMaps};
 
 use crate::bare::BareLease;
 use ordered_index::lesser;
@@ -21,16 +20,16 @@ use step_count::Steps;
 #[derive(Drop)]
 pub struct PlainMapTable {
     leases: Vec<MapLease>,
-    reached: u64,
 }
 
 impl Model for PlainMapTable {
-    ghost use Rattle.mapping_table.specs.MapTables.{MapTableView};
+    ghost use Rattle.std.specs.Prelude.{List};
+    ghost use Rattle.pcp_base.specs.declared.leases.MapLease.{MapLease};
     ghost use Rattle.mapping_table.specs.MapLists.{AreSoundMaps};
 
-    ghost Value = { MapTableView };
+    ghost Value = { List MapLease };
 
-    ghost view = { λ t. record { leases = t.leases.items; reached = t.reached } };
+    ghost view = { λ t. t.leases.items };
 
     ghost invariant = { λ t. AreSoundMaps t.leases.items };
 }
@@ -47,6 +46,20 @@ fn owns(lease: &MapLease, protocol: Protocol, port: u16) -> bool
     ensures { result ≡ owns protocol port lease.now }
 {
     BareLease::of(lease).owns(protocol, port)
+}
+
+/// Whether the other lease has another key and isn't separate from it.
+fn overlaps(lease: &MapLease, other: &MapLease) -> bool
+    ensures { result ≡ overlaps lease.now other.now }
+{
+    BareLease::of(lease).overlaps(&BareLease::of(other))
+}
+
+/// The first of the leases that the lease overlaps.
+fn overlapped_by<'a>(leases: &'a [MapLease], lease: &MapLease) -> Option<&'a MapLease>
+    ensures { option_copied result ≡ find (overlaps lease.now) leases.now }
+{
+    leases.iter().find(|other| overlaps(lease, other))
 }
 
 /// The lease with this key.
@@ -107,10 +120,10 @@ fn live_of(alloc: Global, leases: &[MapLease], m: Moment) -> Result<Vec<MapLease
         .collect(alloc)
 }
 
-/// The least port above the endpoint's that the lease covers.
-fn next_of(lease: &MapLease, endpoint: &Endpoint) -> Option<u16>
+/// The least port above the endpoint's and below the end that the lease covers.
+fn next_of(lease: &MapLease, endpoint: &Endpoint, end: u32) -> Option<u16>
     requires { IsMapLease lease.now }
-    ensures { IsNextCovered endpoint.now (lease.now ∷ []) result }
+    ensures { IsNextCovered endpoint.now end (lease.now ∷ []) result }
 {
     let last = u32::from(lease.internal) + u32::from(lease.count) - 1;
     if lease.address != endpoint.address
@@ -119,55 +132,49 @@ fn next_of(lease: &MapLease, endpoint: &Endpoint) -> Option<u16>
     {
         return None;
     }
-    if lease.internal > endpoint.port {
-        return Some(lease.internal);
+    let next = lease.internal.max(endpoint.port + 1);
+    if u32::from(next) < end {
+        Some(next)
+    } else {
+        None
     }
-    Some(endpoint.port + 1)
 }
 
-/// The least port above the endpoint's that a lease covers which is live at `m`.
-fn next_in(leases: &[MapLease], endpoint: &Endpoint, m: Moment) -> Option<u16>
+/// The least port above the endpoint's and below the end that a lease covers which is live at `m`.
+fn next_in(leases: &[MapLease], endpoint: &Endpoint, end: u32, m: Moment) -> Option<u16>
     requires { AllByRecursion IsMapLease leases.now }
-    ensures { IsNextCovered endpoint.now (filter (is_live_map m) leases.now) result }
+    ensures { IsNextCovered endpoint.now end (filter (is_live_map m) leases.now) result }
 {
     let [first, rest @ ..] = leases else {
         return None;
     };
-    let next = next_in(rest, endpoint, m);
+    let next = next_in(rest, endpoint, end, m);
     if !first.is_live(m) {
         return next;
     }
-    lesser(next_of(first, endpoint), next)
-}
-
-/// The later of both moments, in seconds.
-fn later(reached: u64, m: Moment) -> u64
-    ensures { result ≡ max reached m }
-{
-    reached.max(m.get())
+    lesser(next_of(first, endpoint, end), next)
 }
 
 impl PlainMapTable {
     /// A table without a lease. The one error is want of memory.
     pub fn new(alloc: Global) -> Result<PlainMapTable, Memory>
-        ensures { IfOk result (λ table. table ≡ no_maps) }
+        ensures { IfOk result (λ table. table ≡ []) }
     {
         Ok(PlainMapTable {
             leases: Vec::new(alloc),
-            reached: 0,
         })
     }
 
     /// The leases, in the order granted.
     pub fn leases(&self) -> &[MapLease]
-        ensures { result.now ≡ self.now.leases }
+        ensures { result.now ≡ self.now }
     {
         &self.leases
     }
 
     /// The lease that covers the endpoint.
     pub fn find<L: Ledger>(&self, endpoint: &Endpoint, _steps: &mut Steps<L>) -> Option<MapLease>
-        ensures lease { result ≡ map_covering endpoint.now self.now.leases }
+        ensures lease { result ≡ map_covering endpoint.now self.now }
         ensures steps { _steps.new ≡ _steps.old }
     {
         lease_covering(&self.leases, endpoint).copied()
@@ -175,7 +182,7 @@ impl PlainMapTable {
 
     /// Whether a lease that is live at `m` covers the endpoint.
     pub fn covers<L: Ledger>(&self, endpoint: &Endpoint, m: Moment, _steps: &mut Steps<L>) -> bool
-        ensures covers { result ≡ some_live_map m (map_covering endpoint.now self.now.leases) }
+        ensures covers { result ≡ some_live_map m (map_covering endpoint.now self.now) }
         ensures steps { _steps.new ≡ _steps.old }
     {
         match self.find(endpoint, _steps) {
@@ -191,43 +198,50 @@ impl PlainMapTable {
         port: u16,
         _steps: &mut Steps<L>,
     ) -> Option<MapLease>
-        ensures lease { result ≡ map_owning protocol port self.now.leases }
+        ensures lease { result ≡ map_owning protocol port self.now }
         ensures steps { _steps.new ≡ _steps.old }
     {
         lease_owning(&self.leases, protocol, port).copied()
     }
 
-    /// The least internal port above the endpoint's that a lease of its address and protocol covers
-    /// which is live at `m`.
+    /// The first endpoint of one of the leases that this one overlaps, live or not: those that have
+    /// another first endpoint, and cover an endpoint or own an external port that it has too.
+    pub fn overlapping<L: Ledger>(
+        &self,
+        lease: &MapLease,
+        _steps: &mut Steps<L>,
+    ) -> Option<Endpoint>
+        ensures overlapped { IsOverlapped lease.now self.now result }
+        ensures steps { _steps.new ≡ _steps.old }
+    {
+        let Some(other) = overlapped_by(&self.leases, lease) else {
+            return None;
+        };
+        Some(other.first_endpoint())
+    }
+
+    /// The least internal port above the endpoint's and below `end`, of its address and protocol,
+    /// that a lease covers which is live at `m`.
     pub fn next_internal<L: Ledger>(
         &self,
         endpoint: &Endpoint,
+        end: u32,
         m: Moment,
         _steps: &mut Steps<L>,
     ) -> Option<u16>
-        ensures next { IsNextCovered endpoint.now (filter (is_live_map m) self.now.leases) result }
-        ensures skips { SkipsUncovered endpoint.now
-            (filter (is_live_map m) self.now.leases) result }
+        requires below { endpoint.now.port < end }
+        requires within { end ≤ 65536 }
+        ensures next { IsNextCovered endpoint.now end (filter (is_live_map m) self.now) result }
         ensures steps { _steps.new ≡ _steps.old }
     {
-        next_in(&self.leases, endpoint, m)
-    }
-
-    /// Lets a moment pass. All leases stay.
-    pub fn reach<L: Ledger>(&mut self, m: Moment, _steps: &mut Steps<L>)
-        ensures leases { self.new.leases ≡ self.old.leases }
-        ensures reached { self.new.reached ≡ max self.old.reached m }
-        ensures steps { _steps.new ≡ _steps.old }
-    {
-        self.reached = later(self.reached, m);
+        next_in(&self.leases, endpoint, end, m)
     }
 
     /// Puts a lease in the place of the one with its key, or at the end. The one error is want of
     /// memory, which changes nothing.
     pub fn put(&mut self, _alloc: Global, lease: MapLease) -> Result<(), Memory>
-        requires { AreSoundMaps (with_map lease self.old.leases) }
-        ensures put { PutsMap self.old.leases lease result self.new.leases }
-        ensures reached { self.new.reached ≡ self.old.reached }
+        requires { AreSoundMaps (with_map lease self.old) }
+        ensures { PutsMap self.old lease result self.new }
     {
         put_into(&mut self.leases, lease)?;
         Ok(())
@@ -235,8 +249,7 @@ impl PlainMapTable {
 
     /// Takes out the lease with this first endpoint.
     pub fn remove(&mut self, key: &Endpoint) -> Option<MapLease>
-        ensures removed { RemovesMap self.old.leases key.now result self.new.leases }
-        ensures reached { self.new.reached ≡ self.old.reached }
+        ensures { RemovesMap self.old key.now result self.new }
     {
         let found = lease_with(&self.leases, key).copied();
         drop_from(&mut self.leases, key);
@@ -244,17 +257,24 @@ impl PlainMapTable {
     }
 
     /// How many leases are live at `m`.
-    pub fn live<L: Ledger>(&self, m: Moment, _steps: &mut Steps<L>) -> u32
-        ensures live { result ≡ count_by (is_live_map m) self.now.leases }
-        ensures steps { _steps.new ≡ _steps.old }
+    pub fn live(&self, m: Moment) -> u32
+        ensures { result ≡ count_by (is_live_map m) self.now }
     {
         self.leases.iter().filter(|lease| lease.is_live(m)).count() as u32
+    }
+
+    /// Whether a lease isn't live at `m`.
+    pub fn has_ended<L: Ledger>(&self, m: Moment, _steps: &mut Steps<L>) -> bool
+        ensures ended { result ≡ list_any (λ l. not (is_live_map m l)) self.now }
+        ensures steps { _steps.new ≡ _steps.old }
+    {
+        self.leases.iter().any(|lease| !lease.is_live(m))
     }
 
     /// Appends the leases that are live at `m`, in the order granted. The one error is want of
     /// memory, which changes nothing.
     pub fn copy_live(&self, alloc: Global, m: Moment, out: &mut Vec<MapLease>) -> Result<(), Memory>
-        ensures { CopiesLiveMaps self.now.leases m out.old.items result out.new.items }
+        ensures { CopiesLiveMaps self.now m out.old.items result out.new.items }
     {
         let mut live = live_of(alloc, &self.leases, m)?;
         out.append(&mut live)?;

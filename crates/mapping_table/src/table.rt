@@ -1,10 +1,10 @@
 //! The fast body: leases in ordered maps, and the filters of those that have any beside them.
 
-ghost use Rattle.std.specs.Prelude.{◌≡◌, ◌≤◌, ◌+◌, ◌*◌, ◌++◌, filter, map, count_by, length, max, IfOk, OnOk};
+ghost use Rattle.std.specs.Prelude.{◌≡◌, ◌≤◌, ◌<◌, ◌+◌, ◌-◌, ◌*◌, ◌++◌, [], not, filter, map, count_by, length, IfOk, OnOk};
+ghost use Rattle.std.specs.List.{list_any};
 ghost use Rattle.step_count.specs.Levels.{levels};
 ghost use Rattle.pcp_base.specs.Snapshots.{map_record};
-ghost use Rattle.mapping_table.specs.MapTables.{no_maps, ended_between};
-ghost use Rattle.mapping_table.specs.MapLists.{is_live_map, some_live_map, map_covering, map_owning, IsDeadMap, IsNextCovered, SkipsUncovered, AreSoundMaps, with_map, PutsMap, RemovesMap, CopiesLiveMaps};
+ghost use Rattle.mapping_table.specs.MapLists.{is_live_map, some_live_map, map_covering, map_owning, IsDeadMap, IsNextCovered, AreSoundMaps, IsOverlapped, with_map, PutsMap, RemovesMap, CopiesLiveMaps};
 
 use crate::bare::BareLease;
 use crate::bare_table::BareTable;
@@ -17,7 +17,8 @@ use std::marker::Model;
 use std::sync::ledger::Ledger;
 use step_count::Steps;
 
-/// MAP leases, seen as a list in the order granted, and the moment that was reached last.
+/// MAP leases, seen as a list in the order granted. Those that have ended stay until they are taken
+/// out.
 ///
 /// A step is a look at a level of one of its ordered maps, of which each has at most as many levels
 /// as its number of leases has binary digits.
@@ -30,25 +31,21 @@ pub struct MapTable {
 }
 
 impl Model for MapTable {
-    ghost use Rattle.std.specs.Prelude.{map};
-    ghost use Rattle.mapping_table.specs.MapLists.{AreSoundMaps};
-    ghost use Rattle.mapping_table.specs.MapTables.{MapTableView};
-    ghost use Rattle.mapping_table.specs.Kept.{filters_at, whole};
+    ghost use Rattle.std.specs.Prelude.{List, map};
+    ghost use Rattle.pcp_base.specs.declared.leases.MapLease.{MapLease};
+    ghost use Rattle.mapping_table.specs.Kept.{filters_at, whole, AreWholeMaps};
 
-    ghost Value = { MapTableView };
+    ghost Value = { List MapLease };
 
-    ghost view = { λ t. record {
-      leases = map (whole (filters_at t.filters)) t.leases.leases;
-      reached = t.leases.reached;
-    } };
+    ghost view = { λ t. map (whole (filters_at t.filters)) t.leases };
 
-    ghost invariant = { λ t. AreSoundMaps t.leases.leases };
+    ghost invariant = { λ t. AreWholeMaps t.leases t.filters };
 }
 
 impl MapTable {
     /// A table without a lease. The one error is want of memory.
     pub fn new(alloc: Global) -> Result<MapTable, Memory>
-        ensures { IfOk result (λ table. table ≡ no_maps) }
+        ensures { IfOk result (λ table. table ≡ []) }
     {
         Ok(MapTable {
             leases: BareTable::new(alloc)?,
@@ -56,18 +53,25 @@ impl MapTable {
         })
     }
 
-    /// Forgets all leases, and begins at the moment 0. It takes no memory.
+    /// Forgets all leases. It takes no memory.
     pub fn clear(&mut self)
-        ensures { self.new ≡ no_maps }
+        ensures { self.new ≡ [] }
     {
         self.leases.clear();
         self.filters.clear();
     }
 
+    /// How many leases there are, live or not.
+    pub fn len(&self) -> usize
+        ensures { result ≡ length self.now }
+    {
+        self.leases.len()
+    }
+
     /// The lease that covers the endpoint.
     pub fn find<L: Ledger>(&self, endpoint: &Endpoint, steps: &mut Steps<L>) -> Option<MapLease>
-        ensures lease { result ≡ map_covering endpoint.now self.now.leases }
-        ensures steps { steps.new ≤ steps.old + 4 * levels (length self.now.leases) }
+        ensures lease { result ≡ map_covering endpoint.now self.now }
+        ensures steps { steps.new ≤ steps.old + 4 * levels (length self.now) }
     {
         let found = self.leases.find(endpoint, steps);
         whole_by_look(&self.filters, found, self.leases.len(), steps)
@@ -75,8 +79,8 @@ impl MapTable {
 
     /// Whether a lease that is live at `m` covers the endpoint. It looks at no filters.
     pub fn covers<L: Ledger>(&self, endpoint: &Endpoint, m: Moment, steps: &mut Steps<L>) -> bool
-        ensures covers { result ≡ some_live_map m (map_covering endpoint.now self.now.leases) }
-        ensures steps { steps.new ≤ steps.old + 3 * levels (length self.now.leases) }
+        ensures covers { result ≡ some_live_map m (map_covering endpoint.now self.now) }
+        ensures steps { steps.new ≤ steps.old + 3 * levels (length self.now) }
     {
         self.leases.covers(endpoint, m, steps)
     }
@@ -88,46 +92,53 @@ impl MapTable {
         port: u16,
         steps: &mut Steps<L>,
     ) -> Option<MapLease>
-        ensures lease { result ≡ map_owning protocol port self.now.leases }
-        ensures steps { steps.new ≤ steps.old + 4 * levels (length self.now.leases) }
+        ensures lease { result ≡ map_owning protocol port self.now }
+        ensures steps { steps.new ≤ steps.old + 4 * levels (length self.now) }
     {
         let found = self.leases.by_external(protocol, port, steps);
         whole_by_look(&self.filters, found, self.leases.len(), steps)
     }
 
-    /// How many leases are live at `m`. At the moment that was reached last it looks at none, and
-    /// else at those that have ended alone.
-    pub fn live<L: Ledger>(&self, m: Moment, steps: &mut Steps<L>) -> u32
-        ensures live { result ≡ count_by (is_live_map m) self.now.leases }
-        ensures steps { m ≡ self.now.reached → steps.new ≡ steps.old }
+    /// The first endpoint of one of the leases that this one overlaps, live or not: those that have
+    /// another first endpoint, and cover an endpoint or own an external port that it has too. It
+    /// looks at three leases at most, however many ports they have.
+    pub fn overlapping<L: Ledger>(&self, lease: &MapLease, steps: &mut Steps<L>) -> Option<Endpoint>
+        ensures overlapped { IsOverlapped lease.now self.now result }
+        ensures steps { steps.new ≤ steps.old + 6 * levels (length self.now) }
     {
-        self.leases.live(m, steps)
+        self.leases.overlapping(&BareLease::of(lease), steps)
     }
 
-    /// An internal port above the endpoint's, up to which none above the endpoint's is covered by a
-    /// lease of its address and protocol that is live at `m`. At the moment that was reached last
-    /// that is the least one that is covered so.
+    /// How many leases are live at `m`. It looks at those that have ended alone.
+    pub fn live(&self, m: Moment) -> u32
+        ensures { result ≡ count_by (is_live_map m) self.now }
+    {
+        self.leases.live(m)
+    }
+
+    /// The least internal port above the endpoint's and below `end`, of its address and protocol,
+    /// that a lease covers which is live at `m`. It looks at each lease that begins on the way.
     pub fn next_internal<L: Ledger>(
         &self,
         endpoint: &Endpoint,
+        end: u32,
         m: Moment,
         steps: &mut Steps<L>,
     ) -> Option<u16>
-        ensures skips { SkipsUncovered endpoint.now
-            (filter (is_live_map m) self.now.leases) result }
-        ensures next { m ≡ self.now.reached →
-            IsNextCovered endpoint.now (filter (is_live_map m) self.now.leases) result }
-        ensures steps { steps.new ≤ steps.old + 4 * levels (length self.now.leases) }
+        requires below { endpoint.now.port < end }
+        requires within { end ≤ 65536 }
+        ensures next { IsNextCovered endpoint.now end (filter (is_live_map m) self.now) result }
+        ensures steps { steps.new ≤ steps.old
+            + (2 * (end - endpoint.now.port) + 1) * levels (length self.now) }
     {
-        self.leases.next_internal(endpoint, m, steps)
+        self.leases.next_internal(endpoint, end, m, steps)
     }
 
     /// Puts a lease in the place of the one with its key, or at the end. The one error is want of
     /// memory, which changes nothing.
     pub fn put(&mut self, _alloc: Global, lease: MapLease) -> Result<(), Memory>
-        requires { AreSoundMaps (with_map lease self.old.leases) }
-        ensures put { PutsMap self.old.leases lease result self.new.leases }
-        ensures reached { self.new.reached ≡ self.old.reached }
+        requires { AreSoundMaps (with_map lease self.old) }
+        ensures { PutsMap self.old lease result self.new }
     {
         let place = place_of(&lease.first_endpoint());
         make_room(&mut self.filters, place, &lease.filters)?;
@@ -141,8 +152,7 @@ impl MapTable {
 
     /// Takes out the lease with this first endpoint.
     pub fn remove(&mut self, key: &Endpoint) -> Option<MapLease>
-        ensures removed { RemovesMap self.old.leases key.now result self.new.leases }
-        ensures reached { self.new.reached ≡ self.old.reached }
+        ensures { RemovesMap self.old key.now result self.new }
     {
         let Some(bare) = self.leases.remove(key) else {
             return None;
@@ -152,21 +162,17 @@ impl MapTable {
         Some(lease)
     }
 
-    /// Lets the leases that have ended by `m` leave the keys of those that are live, each once. All
-    /// leases stay. It takes no memory.
-    pub fn reach<L: Ledger>(&mut self, m: Moment, steps: &mut Steps<L>)
-        ensures leases { self.new.leases ≡ self.old.leases }
-        ensures reached { self.new.reached ≡ max self.old.reached m }
-        ensures steps { steps.new ≤ steps.old
-            + (1 + 3 * ended_between self.old.reached m self.old.leases)
-            * levels (length self.old.leases) }
+    /// Whether a lease isn't live at `m`, by one look.
+    pub fn has_ended<L: Ledger>(&self, m: Moment, steps: &mut Steps<L>) -> bool
+        ensures ended { result ≡ list_any (λ l. not (is_live_map m l)) self.now }
+        ensures steps { steps.new ≤ steps.old + levels (length self.now) }
     {
-        self.leases.reach(m, steps);
+        self.leases.has_ended(m, steps)
     }
 
     /// One of the leases that aren't live at `m` and expired first. It looks at that one alone.
     pub fn one_ended(&self, m: Moment) -> Option<MapLease>
-        ensures { IsDeadMap m self.now.leases result }
+        ensures { IsDeadMap m self.now result }
     {
         whole_found(&self.filters, self.leases.one_ended(m))
     }
@@ -179,15 +185,16 @@ impl MapTable {
         m: Moment,
         out: &mut Vec<MapLease>,
     ) -> Result<(), Memory>
-        ensures { CopiesLiveMaps self.now.leases m out.old.items result out.new.items }
+        ensures { CopiesLiveMaps self.now m out.old.items result out.new.items }
     {
         self.leases.copy_live(&self.filters, m, out)
     }
 
-    /// Appends a record at `m` for each lease, in the order granted. The one error is want of memory.
+    /// Appends a record at `m` for each lease that is live then, in the order granted. The one
+    /// error is want of memory.
     pub fn add_records(&self, m: Moment, out: &mut Vec<Record>) -> Result<(), Memory>
         ensures { OnOk result (out.new.items
-            ≡ out.old.items ++ map (map_record m) self.now.leases) }
+            ≡ out.old.items ++ map (map_record m) (filter (is_live_map m) self.now)) }
     {
         self.leases.add_records(&self.filters, m, out)
     }

@@ -1,11 +1,13 @@
 -- What the first item that passes a test tells of all that pass it.
-use Rattle.std.proofs.Common.{rules, arith, ◌≡◌, ℕ, ◌+◌, ◌&&◌, ◌==◌, Bool, true, false, cond, List, [], ◌∷◌, Some, None, refl, ap, sym, ◌∙◌, count_by, find}
+use Rattle.std.proofs.Common.{rules, arith, ◌≡◌, ℕ, ◌+◌, ◌&&◌, ◌==◌, not, Bool, true, false, cond, List, [], ◌∷◌, Option, Some, None, refl, ap, sym, ◌∙◌, count_by, find}
 use Rattle.std.specs.List.{list_any}
-use Rattle.std.proofs.lemmas.Bool.{or_left, or_right, and_from}
+use Rattle.std.proofs.lemmas.Bool.{or_left, or_right, and_from, and_parts}
 use Rattle.std.proofs.lemmas.List.Sums.{sum_by-cons}
 use Rattle.pcp_base.specs.declared.leases.Endpoint.{Endpoint}
 use Rattle.pcp_base.specs.declared.leases.PeerLease.{PeerLease}
-use Rattle.peer_table.specs.PeerLists.{is_live_of}
+use Rattle.pcp_base.specs.Tables.{names}
+use Rattle.pcp_base.proofs.Members.{Contains-from_IsIn, find-some}
+use Rattle.peer_table.specs.PeerLists.{is_live_peer, is_live_of, is_ended_peer, is_ended_of, IsEndedOf}
 
 none_step : {X : Type 0} (p : X → Bool) (x : X) (xs : List X) (b : Bool) → p x ≡ b → (find p xs ≡ None → count_by p xs ≡ 0) → cond b (Some x) (find p xs) ≡ None → count_by p (x ∷ xs) ≡ 0
 none_step p x xs true e rest h = absurd (cc)
@@ -40,3 +42,14 @@ pub port_use-found : (e : Endpoint) (m : ℕ) (ls : List PeerLease) (l : PeerLea
 port_use-found e m ls l h =
     found_among (is_live_of e m) (λ x. is_live_of e m x && x.external == l.external) l ls
     (λ passes. and_from _ _ passes (same_number l.external)) h
+
+pub is_false : (b : Bool) → not b ≡ true → b ≡ false
+is_false true h = sym h
+is_false false h = refl
+
+-- a lease of the endpoint that has ended, by a search
+pub ended_told : (e : Endpoint) (m : ℕ) (ls : List PeerLease) (r : Option PeerLease) → r ≡ find (is_ended_of e m) ls → IsEndedOf e m ls r
+ended_told e m ls None is = record { among = tt; names = tt; dead = tt; none = none_counted (is_ended_of e m) ls (sym is) }
+ended_told e m ls (Some l) is =
+    let f = find-some (is_ended_of e m) ls l (sym is) in let both = and_parts (names l e) (is_ended_peer m l) f.1 in
+    record { among = Contains-from_IsIn ls l f.0; names = both.0; dead = is_false (is_live_peer m l) both.1; none = tt }

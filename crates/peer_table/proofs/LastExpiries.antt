@@ -130,7 +130,7 @@ module _ (protocol : Protocol) (port : ℕ) (lo hi : Opening) (low : IsOpeningBo
       (ap (λ (p : ℕ × ℕ). port_cmp p (port_in hi)) (low.port_is ∙ sym high.port_is) ∙ tied_itself port_total (port_in hi)) low.side_is high.side_is
 
   -- the openings between the bounds are those of leases that own the port
-  owning_within : (l : PeerLease) → range_contains opening_cmp (Included lo) (Excluded hi) (opening_of_lease l) ≡ is_port protocol port (peer_owner l)
+  pub owning_within : (l : PeerLease) → range_contains opening_cmp (Included lo) (Excluded hi) (opening_of_lease l) ≡ is_port protocol port (peer_owner l)
   owning_within l = within_openings (opening_of_lease l) refl ∙ same_tests (is_at (port_cmp (port_at protocol port)) (port_at l.endpoint.protocol l.external)) (is_port protocol port (peer_owner l))
       (λ t. let same = at_exact port_exact (port_at protocol port) (port_at l.endpoint.protocol l.external) t in
       and_from _ _ ((same_protocol-Decides l.endpoint.protocol protocol).1 (protocol_of_number l.endpoint.protocol protocol (sym (ap (λ (z : ℕ × ℕ). z.0) same)))) (eq-eqb l.external port (sym (ap (λ (z : ℕ × ℕ). z.1) same))))

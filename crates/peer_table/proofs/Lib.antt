@@ -7,5 +7,6 @@ pub mod PortUses
 pub mod SoundTables
 pub mod LastExpiries
 pub mod NextOwned
-mod Views
 mod Spending
+pub mod Fellows
+pub mod OneMore

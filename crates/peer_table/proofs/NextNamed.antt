@@ -1,188 +1,201 @@
 -- The least named port above an endpoint's, by the keys.
-use Rattle.std.proofs.Common.{◌≡◌, ℕ, ◌+◌, ◌<◌, ◌&&◌, inl, inr, not, nat_lt, Bool, true, false, List, Contains, filter, Option, Some, None, IsSome, IfSome, IfNone, refl, sym, ap, ◌∙◌, subst, arith}
-use Rattle.std.specs.Prelude.{⊤, is_some}
+use Rattle.std.proofs.Common.{◌≡◌, ℕ, ◌<◌, ◌≤◌, inl, inr, Bool, true, false, List, filter, Some, None, IsSome, refl, sym, ap, ◌∙◌, subst, arith}
+use Rattle.std.specs.Prelude.{is_some}
+use Rattle.std.specs.List.{list_any}
 use Rattle.std.specs.Ordering.{is_gt}
 use Rattle.std.specs.declared.cmp.Ordering.TheVariants.{Less}
-use Rattle.std.specs.BTreeMap.{BTreeMap, get, is_at, values}
-use Rattle.std.proofs.lemmas.Bool.{and_parts, lt-ltb, cases_lt}
+use Rattle.std.specs.BTreeMap.{get, values}
+use Rattle.std.proofs.lemmas.Bool.{and_parts, and_from, cases_lt}
 use Rattle.std.proofs.lemmas.Cmp.{tied_itself}
 use Rattle.pcp_base.specs.declared.leases.Endpoint.{Endpoint}
 use Rattle.pcp_base.specs.declared.leases.PeerLease.{PeerLease}
 use Rattle.pcp_base.specs.Protocols.{protocol_number}
 use Rattle.pcp_base.specs.Tables.{names}
-use Rattle.pcp_base.proofs.Members.{IsIn, IsIn-from_Contains, Contains-from_IsIn, IsIn-filter, filter-IsIn, any-some, some-any}
+use Rattle.pcp_base.proofs.Members.{IsIn, IsIn-from_Contains, IsIn-filter, filter-IsIn, any-some, some-any}
 use Rattle.pcp_base.proofs.Same.{same_endpoint-Decides}
 use Rattle.ordered_index.specs.declared.numbered.Numbered.{Numbered}
 use Rattle.ordered_index.specs.Orders.{Place, place_of, place_cmp, IsFirst}
 use Rattle.ordered_index.proofs.Endings.{one-among}
-use Rattle.ordered_index.proofs.Entries.{entry_at, false_by, some_of}
+use Rattle.ordered_index.proofs.Entries.{entry_at, false_by, some_of, same_tests}
 use Rattle.ordered_index.proofs.Keeping.{key-to, key-from}
-use Rattle.ordered_index.specs.declared.live.LiveKeys.{LiveKeys}
-use Rattle.ordered_index.specs.Live.{AreLive, lasts}
-use Rattle.ordered_index.proofs.EntryLaws.{count-some, some-counted, key-self}
-use Rattle.ordered_index.proofs.Mirrorings.{at-entry}
-use Rattle.ordered_index.proofs.Lives.{not_early, value-entry}
-use Rattle.ordered_index.proofs.OrderLaws.{at_exact, place_of-one, place_total, places_between, places_less, less_places}
-use Rattle.peer_table.specs.PeerLists.{is_live_peer, is_named, IsNextNamed, SkipsUnnamed}
-use Rattle.peer_table.specs.Kept.{PeerKey, Opening, place_in, key_cmp, key_of_lease, peer_keying, AreKeptPeers, IsBound, IsFirstLive, HasLive}
-use Rattle.peer_table.proofs.PeerKeeping.{peer_laws, key_total, key_exact}
+use Rattle.ordered_index.proofs.Lives.{value-entry}
+use Rattle.ordered_index.proofs.OrderLaws.{place_of-one, place_total, places_between, places_less, less_places}
+use Rattle.peer_table.specs.PeerLists.{is_live_peer, is_live_of, is_named, IsNextNamed}
+use Rattle.peer_table.specs.Kept.{PeerKey, Opening, place_in, key_cmp, key_of_lease, peer_keying, AreKeptPeers, IsBound}
+use Rattle.peer_table.proofs.PeerKeeping.{peer_laws}
 use Rattle.peer_table.proofs.PeerKeys.{places_up, up_places, past_bound}
 
 -- the endpoint with another port
-abbrev with_port : Endpoint → ℕ → Endpoint
+abbrev pub with_port : Endpoint → ℕ → Endpoint
 with_port e port = record { address = e.address; protocol = e.protocol; port = port }
 
-not_false : (b : Bool) → b ≡ false → (b ≡ true → ⊥)
-not_false b h t = let no : true ≡ false = sym t ∙ h in cc
+clash : (b : Bool) → b ≡ true → b ≡ false → ⊥
+clash b t h = let no : true ≡ false = sym t ∙ h in cc
 
--- up to the least named port none is named
-pub skips-next : (e : Endpoint) (ls : List PeerLease) (r : Option ℕ) → IsNextNamed e ls r → SkipsUnnamed e ls r
-skips-next e ls None h = record { above = tt; between = tt; none = h.none }
-skips-next e ls (Some port) h = record {
-  above = h.above;
-  between = λ q above below. false_by (is_named e ls q) (λ t. let low = h.least q above t in omega (arith, below, low));
-  none = tt;
-}
+-- ---- the first key behind the endpoint's
 
-module _ (m : ℕ) (ls : List PeerLease) (k : PeerKey) {V : Type 0} (keys : BTreeMap PeerKey V)
-    (has : (l : PeerLease) → IsIn l ls → is_live_peer m l ≡ true → IsSome (get key_cmp keys (key_of_lease l)))
-    (of : (f : PeerKey) → IsSome (get key_cmp keys f) → (l : PeerLease) × IsIn l ls × (key_of_lease l ≡ f)) where
-  above_none : IsFirst key_cmp keys k None → (l : PeerLease) → Contains ls l → is_live_peer m l ≡ true → (b : Bool) → is_gt (key_cmp k (key_of_lease l)) ≡ b → b ≡ true
-  above_none first l i alive true t = refl
-  above_none first l i alive false t =
-      let none = first (key_of_lease l) t in
-      let some = has l (IsIn-from_Contains ls l i) alive in
-      absurd (let no : false ≡ true = sym (ap is_some none) ∙ some in cc)
+module _ (it : Numbered PeerLease PeerKey Opening) (h : AreKeptPeers it) (e : Endpoint) (start : PeerKey) (bound : IsBound e 2 start) (end : ℕ) where
+  abbrev ls : List PeerLease
+  ls = values it.leases
 
-  -- the first key, where each live lease has one, and each key a lease
-  pub first-live : (r : Option PeerKey) → IsFirst key_cmp keys k r → IsFirstLive m ls k r
-  first-live None first = record { from = tt; side = tt; least = tt; none = λ l i alive. above_none first l i alive (is_gt (key_cmp k (key_of_lease l))) refl }
-  first-live (Some f) first = record {
-    from = first.from;
-    side = ap (λ (q : PeerKey). q.3) (sym (of f first.found).2);
-    least = λ l i alive from. first.least (key_of_lease l) from (has l (IsIn-from_Contains ls l i) alive);
-    none = tt;
-  }
+  -- each lease has a key
+  has_key : (l : PeerLease) → IsIn l ls → IsSome (get key_cmp it.keys (key_of_lease l))
+  has_key l i =
+      let x = value-entry it.leases.entries l i in
+      subst IsSome (sym (key-to peer_keying peer_laws it h.kept x.0 l (entry_at it.leases h.kept.ordered x.0 l x.1))) refl
 
-module _ (m : ℕ) (ls : List PeerLease) (live : LiveKeys PeerKey) (h : AreLive peer_keying ls live) (from : live.from ≡ m + 1) where
-  key-alive : (k : PeerKey) → IsSome (get key_cmp live.keys k) → HasLive m ls k
-  key-alive k there =
-      let u = some_of (get key_cmp live.keys k) there in
-      let some = count-some (λ (z : PeerKey × ⊤). is_at (key_cmp k) z.0) live.keys.entries (k, u.0) (at-entry key_total key_exact live.keys h.ordered k u.0 u.1) (key-self key_total k) in
-      let y = some-counted (λ x. lasts peer_keying live.from x && is_at (key_cmp k) (key_of_lease x)) ls (subst (λ n. 0 < n) (h.keys (λ q. is_at (key_cmp k) q)) some) in
-      let both = and_parts _ _ y.2 in
-      let late : not (nat_lt y.0.expiry (m + 1)) ≡ true = ap (λ (n : ℕ). not (nat_lt y.0.expiry n)) (sym from) ∙ both.0 in
-      record {
-        lease = y.0;
-        stands = Contains-from_IsIn ls y.0 y.1;
-        alive = lt-ltb m y.0.expiry (not_early y.0.expiry m late);
-        key = sym (at_exact key_exact k (key_of_lease y.0) both.1);
-      }
-
-  -- the first key is that of a live lease
-  pub first-alive : (k : PeerKey) (r : Option PeerKey) → IsFirst key_cmp live.keys k r → IfSome r (HasLive m ls)
-  first-alive k None first = tt
-  first-alive k (Some f) first = key-alive f first.found
-
-module _ (it : Numbered PeerLease PeerKey Opening) (h : AreKeptPeers it) where
-  pub kept-has : (m : ℕ) (l : PeerLease) → IsIn l (values it.leases) → is_live_peer m l ≡ true → IsSome (get key_cmp it.keys (key_of_lease l))
-  kept-has m l i alive =
-      let e = value-entry it.leases.entries l i in
-      subst IsSome (sym (key-to peer_keying peer_laws it h.kept e.0 l (entry_at it.leases h.kept.ordered e.0 l e.1))) refl
-
-  pub kept-from : (f : PeerKey) → IsSome (get key_cmp it.keys f) → (l : PeerLease) × IsIn l (values it.leases) × (key_of_lease l ≡ f)
-  kept-from f some =
+  -- and each key is that of a lease
+  of_key : (f : PeerKey) → IsSome (get key_cmp it.keys f) → (l : PeerLease) × IsIn l ls × (key_of_lease l ≡ f)
+  of_key f some =
       let number = some_of (get key_cmp it.keys f) some in
       let y = key-from peer_keying peer_laws it h.kept f number.0 number.1 in
-      (y.0, IsIn-from_Contains (values it.leases) y.0 (one-among peer_keying peer_laws it h.kept 0 number.0 y.0 y.1), y.2)
+      (y.0, IsIn-from_Contains ls y.0 (one-among peer_keying peer_laws it h.kept 0 number.0 y.0 y.1), y.2)
 
-module _ (m : ℕ) (ls : List PeerLease) (e : Endpoint) (start : PeerKey) (bound : IsBound e 2 start) where
-  -- a live lease that names a port
+  -- a lease that names a port
   record Naming (q : ℕ) : Type 0 where
     lease : PeerLease
-    stands : Contains ls lease
-    alive : is_live_peer m lease ≡ true
+    stands : IsIn lease ls
     is : lease.endpoint ≡ with_port e q
 
-  abbrev live : List PeerLease
-  live = filter (is_live_peer m) ls
-
-  naming : (q : ℕ) → is_named e live q ≡ true → Naming q
+  naming : (q : ℕ) → is_named e ls q ≡ true → Naming q
   naming q t =
-      let r = any-some (λ l. names l (with_port e q)) live t in
-      let f = IsIn-filter (is_live_peer m) ls r.0 r.1 in
-      record { lease = r.0; stands = Contains-from_IsIn ls r.0 f.0; alive = f.1; is = (same_endpoint-Decides r.0.endpoint (with_port e q)).0 r.2 }
+      let r = any-some (λ l. names l (with_port e q)) ls t in
+      record { lease = r.0; stands = r.1; is = (same_endpoint-Decides r.0.endpoint (with_port e q)).0 r.2 }
 
   from_above : (q : ℕ) → e.port < q → (r : Naming q) → is_gt (key_cmp start (key_of_lease r.lease)) ≡ false
   from_above q above r =
       let less : place_cmp (place_of e) (place_of (with_port e q)) ≡ Less = places_less (place_of e) (place_of (with_port e q)) refl refl above in
       up_places start (key_of_lease r.lease) (ap (λ (p : Place). place_cmp p (place_of r.lease.endpoint)) bound.place ∙ ap (λ (x : Endpoint). place_cmp (place_of e) (place_of x)) r.is ∙ less)
 
-  pub skips_all : IsFirstLive m ls start None → SkipsUnnamed e live None
-  skips_all first = record {
-    above = tt;
-    between = tt;
-    none = λ q above. false_by (is_named e live q) (λ t.
-        let r = naming q t in
-        not_false _ (from_above q above r) (first.none r.lease r.stands r.alive));
-  }
+  -- where no port above is named but from the end on
+  nowhere : ((q : ℕ) → e.port < q → q < end → Naming q → ⊥) → IsNextNamed e end ls None
+  nowhere none = record { above = tt; below = tt; named = tt; least = tt; none = λ q above before. false_by (is_named e ls q) (λ t. none q above before (naming q t)) }
 
-  module _ (f : PeerKey) (first : IsFirstLive m ls start (Some f)) where
+  pub named_nowhere : IsFirst key_cmp it.keys start None → IsNextNamed e end ls None
+  named_nowhere first = nowhere (λ q above before r.
+      let no : false ≡ true = sym (ap is_some (first (key_of_lease r.lease) (from_above q above r))) ∙ has_key r.lease r.stands in
+      cc)
+
+  module _ (f : PeerKey) (first : IsFirst key_cmp it.keys start (Some f)) where
     -- the first key's place isn't behind that of a lease that names a later port
-    before : (q : ℕ) → e.port < q → (r : Naming q) → is_gt (place_cmp (place_in f) (place_of (with_port e q))) ≡ false
-    before q above r =
-        let up : is_gt (place_cmp (place_in f) (place_of r.lease.endpoint)) ≡ false = places_up f (key_of_lease r.lease) (first.least r.lease r.stands r.alive (from_above q above r)) in
+    before_named : (q : ℕ) → e.port < q → (r : Naming q) → is_gt (place_cmp (place_in f) (place_of (with_port e q))) ≡ false
+    before_named q above r =
+        let up : is_gt (place_cmp (place_in f) (place_of r.lease.endpoint)) ≡ false = places_up f (key_of_lease r.lease) (first.least (key_of_lease r.lease) (from_above q above r) (has_key r.lease r.stands)) in
         ap (λ (x : Endpoint). is_gt (place_cmp (place_in f) (place_of x))) (sym r.is) ∙ up
 
     from_start : is_gt (place_cmp (place_of e) (place_in f)) ≡ false
     from_start = ap (λ (p : Place). is_gt (place_cmp p (place_in f))) (sym bound.place) ∙ places_up start f first.from
 
-    pub skips_first : (r : Option ℕ) → IfSome r (λ port. (f.0 ≡ e.address.0) × (f.1 ≡ protocol_number e.protocol) × (port ≡ f.2)) →
-        IfNone r ((f.0 ≡ e.address.0) × (f.1 ≡ protocol_number e.protocol) → ⊥) → SkipsUnnamed e live r
-    skips_first None some none = record {
+    -- where the first key isn't of the endpoint's address and protocol
+    pub named_elsewhere : ((f.0 ≡ e.address.0) × (f.1 ≡ protocol_number e.protocol) → ⊥) → IsNextNamed e end ls None
+    named_elsewhere other = nowhere (λ q above before r.
+        let between = places_between (place_of e) (place_in f) (place_of (with_port e q)) refl refl from_start (before_named q above r) in
+        other (between.0, between.1))
+
+    module _ (port : ℕ) (some : (f.0 ≡ e.address.0) × (f.1 ≡ protocol_number e.protocol) × (port ≡ f.2)) where
+      up_to : (q : ℕ) → e.port < q → Naming q → port ≤ q
+      up_to q above r =
+          let p = place_of (with_port e q) in
+          let stays : is_gt (place_cmp p p) ≡ false = ap is_gt (tied_itself place_total p) in
+          let between = places_between (place_in f) p p some.0 some.1 (before_named q above r) stays in
+          let low = between.2 in let same = some.2 in omega (arith, low, same)
+
+      -- where it names the end or a later port
+      pub named_behind : end ≤ port → IsNextNamed e end ls None
+      named_behind late = nowhere (λ q above before r. let low = up_to q above r in omega (arith, low, before, late))
+
+      first_lease : (l : PeerLease) × IsIn l ls × (key_of_lease l ≡ f)
+      first_lease = of_key f first.found
+
+      pub named_first : port < end → IsNextNamed e end ls (Some port)
+      named_first early =
+          let l = first_lease in
+          let side : f.3 ≡ 1 = ap (λ (q : PeerKey). q.3) (sym l.2) in
+          let later : place_cmp (place_of e) (place_in f) ≡ Less = ap (λ (p : Place). place_cmp p (place_in f)) (sym bound.place) ∙ past_bound start f bound.side_is side first.from in
+          let up : e.port < f.2 = less_places (place_of e) (place_in f) (sym some.0) (sym some.1) later in
+          let place : place_of l.0.endpoint ≡ place_of (with_port e port) =
+          ap place_in l.2 ∙ ap (λ (x : List ℕ). (x, (f.1, f.2))) some.0 ∙ ap (λ (x : ℕ). (e.address.0, (x, f.2))) some.1 ∙ ap (λ (x : ℕ). (e.address.0, (protocol_number e.protocol, x))) (sym some.2) in
+          record {
+            above = (let same = some.2 in omega (arith, up, same));
+            below = early;
+            named = some-any (λ x. names x (with_port e port)) ls l.0 l.1 ((same_endpoint-Decides l.0.endpoint (with_port e port)).1 (place_of-one l.0.endpoint (with_port e port) place));
+            least = λ q above t. up_to q above (naming q t);
+            none = tt;
+          }
+
+-- ---- from one port to the next
+
+module _ (e : Endpoint) (end m : ℕ) (ls : List PeerLease) where
+  abbrev alive : List PeerLease
+  alive = filter (is_live_peer m) ls
+
+  -- up to the port no live lease names one above the endpoint's
+  pub record HavePassed (at : Endpoint) : Type 0 where
+    pub beside : at ≡ with_port e at.port
+    pub from : e.port ≤ at.port
+    pub unnamed : (q : ℕ) → e.port < q → q ≤ at.port → is_named e alive q ≡ false
+
+  pub passed_none : HavePassed e
+  passed_none = record { beside = refl; from = omega arith; unnamed = λ q above low. absurd (omega (arith, above, low)) }
+
+  -- what a live lease names is named
+  live_named : (q : ℕ) → is_named e alive q ≡ true → is_named e ls q ≡ true
+  live_named q t =
+      let r = any-some (λ l. names l (with_port e q)) alive t in
+      some-any (λ l. names l (with_port e q)) ls r.0 (IsIn-filter (is_live_peer m) ls r.0 r.1).0 r.2
+
+  live_of_port : (q : ℕ) → list_any (is_live_of (with_port e q) m) ls ≡ is_named e alive q
+  live_of_port q = same_tests (list_any (is_live_of (with_port e q) m) ls) (is_named e alive q)
+      (λ t. let r = any-some (is_live_of (with_port e q) m) ls t in let both = and_parts _ _ r.2 in
+      some-any (λ l. names l (with_port e q)) alive r.0 (filter-IsIn (is_live_peer m) ls r.0 r.1 both.1) both.0)
+      (λ t. let r = any-some (λ l. names l (with_port e q)) alive t in let i = IsIn-filter (is_live_peer m) ls r.0 r.1 in
+      some-any (is_live_of (with_port e q) m) ls r.0 i.0 (and_from _ _ r.2 i.1))
+
+  module _ (at : Endpoint) (h : HavePassed at) where
+    at_port : (q : ℕ) → is_named at ls q ≡ is_named e ls q
+    at_port q = ap (λ (x : Endpoint). is_named x ls q) h.beside
+
+    live_at : (port : ℕ) → list_any (is_live_of (with_port at port) m) ls ≡ is_named e alive port
+    live_at port = ap (λ (x : Endpoint). list_any (is_live_of (with_port x port) m) ls) h.beside ∙ live_of_port port
+
+    pub passed_all : IsNextNamed at end ls None → IsNextNamed e end alive None
+    passed_all next = record {
       above = tt;
-      between = tt;
-      none = λ q above. false_by (is_named e live q) (λ t.
-          let between = places_between (place_of e) (place_in f) (place_of (with_port e q)) refl refl from_start (before q above (naming q t)) in
-          none (between.0, between.1));
+      below = tt;
+      named = tt;
+      least = tt;
+      none = λ q above before. elim (cases_lt at.port q) [
+        | inl later ↦ false_by (is_named e alive q) (λ t. clash (is_named e ls q) (live_named q t) (sym (at_port q) ∙ next.none q later before))
+        | inr early ↦ h.unnamed q above early
+      ];
     }
-    skips_first (Some port) some none =
-        let later : place_cmp (place_of e) (place_in f) ≡ Less = ap (λ (p : Place). place_cmp p (place_in f)) (sym bound.place) ∙ past_bound start f bound.side_is first.side first.from in
-        let up : e.port < f.2 = less_places (place_of e) (place_in f) (sym some.0) (sym some.1) later in
-        record {
-          above = (let same = some.2 in omega (arith, up, same));
-          between = λ q above below. false_by (is_named e live q) (λ t.
-              let p = place_of (with_port e q) in
-              let stays : is_gt (place_cmp p p) ≡ false = ap is_gt (tied_itself place_total p) in
-              let between = places_between (place_in f) p p some.0 some.1 (before q above (naming q t)) stays in
-              let low = between.2 in let same = some.2 in omega (arith, low, same, below));
-          none = tt;
-        }
 
--- where none is named above, there is no next one
-pub next_none : (e : Endpoint) (ls : List PeerLease) → SkipsUnnamed e ls None → IsNextNamed e ls None
-next_none e ls h = record { above = tt; named = tt; least = tt; none = h.none }
+    module _ (port : ℕ) (next : IsNextNamed at end ls (Some port)) where
+      -- before the next named port none is named
+      between : (q : ℕ) → e.port < q → q < port → is_named e alive q ≡ false
+      between q above before = elim (cases_lt at.port q) [
+        | inl later ↦ false_by (is_named e alive q) (λ t. let low = next.least q later (at_port q ∙ live_named q t) in omega (arith, low, before))
+        | inr early ↦ h.unnamed q above early
+      ]
 
-lease_named : (e : Endpoint) (l : PeerLease) (k : PeerKey) (port : ℕ) → key_of_lease l ≡ k → k.0 ≡ e.address.0 → k.1 ≡ protocol_number e.protocol → port ≡ k.2 → names l (with_port e port) ≡ true
-lease_named e l k port key address protocol is =
-    (same_endpoint-Decides l.endpoint (with_port e port)).1 (place_of-one l.endpoint (with_port e port) (
-    ap (λ (q : PeerKey). place_in q) key
-    ∙ ap (λ (x : List ℕ). (x, (k.1, k.2))) address ∙ ap (λ (x : ℕ). (e.address.0, (x, k.2))) protocol ∙ ap (λ (x : ℕ). (e.address.0, (protocol_number e.protocol, x))) (sym is)))
+      pub passed_one : list_any (is_live_of (with_port at port) m) ls ≡ false → HavePassed (with_port at port)
+      passed_one dead = record {
+        beside = ap (λ (x : Endpoint). with_port x port) h.beside;
+        from = (let up = next.above in let low = h.from in omega (arith, up, low));
+        unnamed = λ q above low. elim (cases_lt q port) [
+          | inl before ↦ between q above before
+          | inr last ↦ (let same : q ≡ port = omega (arith, low, last) in ap (is_named e alive) same ∙ sym (live_at port) ∙ dead)
+        ];
+      }
 
-not_true : (b : Bool) → b ≡ true → b ≡ false → ⊥
-not_true b t h = let no : true ≡ false = sym t ∙ h in cc
-
--- the port of a live lease's key, up to which none is named, is the next one
-pub next_first : (m : ℕ) (ls : List PeerLease) (e : Endpoint) (k : PeerKey) → HasLive m ls k → (r : Option ℕ) →
-    IfSome r (λ port. (k.0 ≡ e.address.0) × (k.1 ≡ protocol_number e.protocol) × (port ≡ k.2)) → SkipsUnnamed e (filter (is_live_peer m) ls) r → IsNextNamed e (filter (is_live_peer m) ls) r
-next_first m ls e k has None some h = next_none e (filter (is_live_peer m) ls) h
-next_first m ls e k has (Some port) some h = record {
-  above = h.above;
-  named = some-any (λ l. names l (with_port e port)) (filter (is_live_peer m) ls) has.lease
-      (filter-IsIn (is_live_peer m) ls has.lease (IsIn-from_Contains ls has.lease has.stands) has.alive) (lease_named e has.lease k port has.key some.0 some.1 some.2);
-  least = λ other above there. elim (cases_lt other port) [
-    | inl before ↦ absurd (not_true (is_named e (filter (is_live_peer m) ls) other) there (h.between other above before))
-    | inr after ↦ after
-  ];
-  none = tt;
-}
+      pub passed_to : list_any (is_live_of (with_port at port) m) ls ≡ true → IsNextNamed e end alive (Some port)
+      passed_to live = record {
+        above = (let up = next.above in let low = h.from in omega (arith, up, low));
+        below = next.below;
+        named = sym (live_at port) ∙ live;
+        least = λ q above t. elim (cases_lt q port) [
+          | inl before ↦ absurd (clash (is_named e alive q) t (between q above before))
+          | inr last ↦ last
+        ];
+        none = tt;
+      }

@@ -1,5 +1,7 @@
 -- PEER leases and their maps after a call.
-use Rattle.std.proofs.Common.{◌≡◌, ℕ, ◌&&◌, ◌==◌, Bool, true, false, List, not, Some, None, IsSome, Result, OnOk, OnErr, sym, ap, ◌∙◌, subst}
+use Rattle.std.proofs.Common.{◌≡◌, ℕ, ◌&&◌, ◌==◌, Bool, true, false, List, not, Option, Some, None, IsSome, Result, OnOk, OnErr, sym, ap, ◌∙◌, subst}
+use Rattle.std.specs.Prelude.{is_some}
+use Rattle.std.specs.List.{list_any}
 use Rattle.std.specs.Ordering.{nat_cmp}
 use Rattle.std.specs.Cmp.{IsTotalOrder, nat_cmp_total}
 use Rattle.std.specs.BTreeMap.{get, values}
@@ -12,13 +14,17 @@ use Rattle.pcp_base.specs.declared.leases.Protocol.{Protocol}
 use Rattle.pcp_base.specs.declared.leases.Endpoint.{Endpoint}
 use Rattle.pcp_base.specs.declared.leases.PeerLease.{PeerLease}
 use Rattle.pcp_base.specs.Tables.{EachTwo, is_peer_of, same_endpoint, same_protocol}
+use Rattle.pcp_base.proofs.Members.{find-none, none-any}
 use Rattle.pcp_base.proofs.Same.{same_address-Decides, same_endpoint-Decides, same_protocol-Decides}
 use Rattle.ordered_index.specs.declared.numbered.Numbered.{Numbered}
+use Rattle.ordered_index.specs.Ended.{IsOneEnded}
 use Rattle.ordered_index.specs.Orders.{place_of}
 use Rattle.ordered_index.specs.Steps.{Appends, Replaces, Forgets, Stays}
+use Rattle.ordered_index.proofs.Endings.{one-none, one-stands}
+use Rattle.ordered_index.proofs.Entries.{any_at}
 use Rattle.ordered_index.proofs.Keeping.{each_weaker, AreLaws, Tells, TellsPort, port-free, number-has, put-appended, put-replaced, taken-out, none-found, none-gone, put-either}
 use Rattle.ordered_index.proofs.OrderLaws.{both_equal, place_of-one, protocol_one, address_same}
-use Rattle.peer_table.specs.PeerLists.{AreFellows, AreSoundPeers, opens, with_peer, PutsPeer, RemovesPeer}
+use Rattle.peer_table.specs.PeerLists.{is_ended_peer, AreFellows, AreSoundPeers, opens, with_peer, PutsPeer, RemovesPeer}
 use Rattle.pcp_base.specs.Protocols.{protocol_number}
 use Rattle.peer_table.specs.Kept.{PeerKey, Opening, key_at, opening_at, place_in, key_cmp, opening_cmp, key_of_lease, opening_of_lease, peer_keying, AreKeptPeers}
 use Rattle.peer_table.proofs.Sounds.{AreSoundPeers-filter}
@@ -141,3 +147,10 @@ module _ (it : Numbered PeerLease PeerKey Opening) (h : AreKeptPeers it) where
     peer_removed new p n x p_is number at_n forgets =
         let out = taken-out peer_keying peer_laws it h.kept new (is_peer_of e remote port) (key_at e remote port) k p n x (peer_tells e remote port) k_is p_is number at_n forgets in
         (record { sound = subst AreSoundPeers (sym out.gone) (AreSoundPeers-filter (λ y. not (is_peer_of e remote port y)) (values it.leases) h.sound); kept = out.kept }, record { answer = out.found; removed = out.gone })
+
+  -- whether a lease has ended, by the first of the expiries
+  pub one_told : (m : ℕ) (r : Option ℕ) → IsOneEnded m it.expiries r → is_some r ≡ list_any (is_ended_peer m) (values it.leases)
+  one_told m None is = sym (none-any (is_ended_peer m) (values it.leases) (find-none (is_ended_peer m) (values it.leases) (one-none peer_keying peer_laws it h.kept m is)))
+  one_told m (Some n) is =
+      let y = one-stands peer_keying peer_laws it h.kept m n is in
+      sym (any_at (is_ended_peer m) it.leases.entries n y.0 y.1 (ap not y.2))

@@ -1,5 +1,7 @@
--- What the live leases of an endpoint use.
-use Rattle.std.proofs.Common.{◌≡◌, ℕ, ◌+◌, ◌≤◌, ◌&&◌, ◌==◌, Bool, true, false, cond, List, [], ◌∷◌, length, filter, find, count_by, Option, Some, None, refl, sym, ap, ◌∙◌, inl, inr, arith}
+-- The leases of an endpoint that pass a test, and what the live ones use.
+use Rattle.std.proofs.Common.{◌≡◌, ℕ, ◌+◌, ◌≤◌, ◌&&◌, ◌==◌, Bool, true, false, cond, List, [], ◌∷◌, length, filter, find, count_by, Option, Some, None, refl, sym, ap, ◌∙◌, subst, inl, inr, arith}
+use Rattle.std.specs.Prelude.{is_some}
+use Rattle.std.specs.List.{list_any}
 use Rattle.std.specs.Option.{option_map}
 use Rattle.std.specs.Ordering.{nat_cmp}
 use Rattle.std.specs.declared.ops.Bound.TheVariants.{Included, Excluded}
@@ -12,21 +14,20 @@ use Rattle.pcp_base.specs.declared.leases.TheConstants.{MOST_PEERS}
 use Rattle.pcp_base.specs.declared.leases.Endpoint.{Endpoint}
 use Rattle.pcp_base.specs.declared.leases.PeerLease.{PeerLease}
 use Rattle.pcp_base.specs.Tables.{names}
-use Rattle.pcp_base.proofs.Members.{IsIn, IsIn-filter, find-some}
+use Rattle.pcp_base.proofs.Members.{IsIn, IsIn-filter, find-some, any-some}
 use Rattle.pcp_base.proofs.Same.{same_endpoint-Decides}
 use Rattle.ordered_index.specs.declared.numbered.Numbered.{Numbered}
 use Rattle.ordered_index.specs.Orders.{place_of, place_cmp}
-use Rattle.ordered_index.proofs.Entries.{same_tests}
-use Rattle.ordered_index.proofs.Endings.{count-values}
-use Rattle.ordered_index.proofs.Entries.{any_at, entry_at}
-use Rattle.ordered_index.proofs.EntryLaws.{tally, count-cons}
+use Rattle.ordered_index.proofs.Endings.{count-values, one-among}
+use Rattle.ordered_index.proofs.Entries.{any_at, entry_at, false_by, same_tests}
+use Rattle.ordered_index.proofs.EntryLaws.{tally, count-cons, count-some}
 use Rattle.ordered_index.proofs.Keeping.{key-from}
 use Rattle.ordered_index.proofs.Mirrorings.{entry-at}
 use Rattle.ordered_index.proofs.OrderLaws.{at_self, at_exact, place_total, place_exact, place_of-one}
-use Rattle.peer_table.specs.PeerLists.{is_live_peer, is_live_of, IsPortUse}
-use Rattle.peer_table.specs.Kept.{PeerKey, Opening, key_cmp, key_of_lease, peer_keying, AreKeptPeers, IsBound, some_live}
+use Rattle.peer_table.specs.PeerLists.{is_live_peer, is_live_of, is_ended_peer, IsEndedOf, IsPortUse}
+use Rattle.peer_table.specs.Kept.{PeerKey, Opening, key_cmp, key_of_lease, peer_keying, AreKeptPeers, IsBound, some_that}
 use Rattle.peer_table.proofs.PeerKeeping.{peer_laws, key_total, key_exact}
-use Rattle.peer_table.proofs.Finds.{none_counted}
+use Rattle.peer_table.proofs.Finds.{none_counted, is_false}
 use Rattle.peer_table.proofs.PeerKeys.{within_bounds}
 
 -- a search that ends at an entry, and one that ends at none
@@ -62,39 +63,22 @@ count_filtered p q (x ∷ xs) =
     let b = filter_step p q x xs (q x) refl (count_filtered p q xs) in
     omega (arith, a, b)
 
-at_most : (a b : Bool) → tally (a && b) ≤ tally a
-at_most true true = omega arith
-at_most true false = omega arith
-at_most false b = omega arith
-
 none_found : {K : Type 0} (o : Option (K × ℕ)) → None ≡ option_map (λ (x : K × ℕ). x.1) o → o ≡ None
 none_found None h = refl
 none_found (Some x) h = absurd (let no : None ≡ Some x.1 = h in cc)
 
-module _ (it : Numbered PeerLease PeerKey Opening) (h : AreKeptPeers it) (e : Endpoint) (m : ℕ) (lo hi : PeerKey) (low : IsBound e 0 lo) (high : IsBound e 2 hi) where
+module _ (it : Numbered PeerLease PeerKey Opening) (h : AreKeptPeers it) (e : Endpoint) (lo hi : PeerKey) (low : IsBound e 0 lo) (high : IsBound e 2 hi) where
   abbrev within : PeerKey → Bool
   within k = range_contains key_cmp (Included lo) (Excluded hi) k
 
   abbrev part : List (PeerKey × ℕ)
   part = entries_between key_cmp (Included lo) (Excluded hi) it.keys.entries
 
-  abbrev live_at : PeerKey × ℕ → Bool
-  live_at x = some_live m (get nat_cmp it.leases x.1)
-
   -- the keys between the bounds are those of leases that name the endpoint
-  within_names : (l : PeerLease) → within (key_of_lease l) ≡ names l e
+  pub within_names : (l : PeerLease) → within (key_of_lease l) ≡ names l e
   within_names l = within_bounds e lo hi (key_of_lease l) low high refl ∙ same_tests (is_at (place_cmp (place_of e)) (place_of l.endpoint)) (names l e)
       (λ t. (same_endpoint-Decides l.endpoint e).1 (place_of-one l.endpoint e (sym (at_exact place_exact (place_of e) (place_of l.endpoint) t))))
       (λ t. ap (λ (x : Endpoint). is_at (place_cmp (place_of e)) (place_of x)) ((same_endpoint-Decides l.endpoint e).0 t) ∙ at_self place_total (place_of e))
-
-  -- the numbers there count the endpoint's live leases
-  pub counted : count_by live_at part ≡ count_by (is_live_of e m) (values it.leases)
-  counted =
-      count_filtered live_at (λ (x : PeerKey × ℕ). within x.0) it.keys.entries
-      ∙ h.kept.keys (λ (x : PeerKey × ℕ). within x.0 && live_at x)
-      ∙ count_same (λ (x : ℕ × PeerLease). within (key_of_lease x.1) && some_live m (get nat_cmp it.leases x.0)) (λ (x : ℕ × PeerLease). is_live_of e m x.1) it.leases.entries
-      (λ x i. ap (λ t. t && some_live m (get nat_cmp it.leases x.0)) (within_names x.1) ∙ ap (λ o. names x.1 e && some_live m o) (entry_at it.leases h.kept.ordered x.0 x.1 i))
-      ∙ count-values (is_live_of e m) it.leases.entries
 
   -- no more numbers stand there than an endpoint has leases
   pub few_there : length part ≤ MOST_PEERS
@@ -106,47 +90,83 @@ module _ (it : Numbered PeerLease PeerKey Opening) (h : AreKeptPeers it) (e : En
       let few = h.sound.few_peers e in
       omega (arith, all, keys, named, listed, few)
 
-  few_step : (xs : List PeerLease) → count_by (is_live_of e m) xs ≤ count_by (λ l. names l e) xs
-  few_step [] = omega arith
-  few_step (x ∷ xs) =
-      let a = count-cons (is_live_of e m) x xs in let b = count-cons (λ l. names l e) x xs in let rest = few_step xs in
-      let fewer : tally (is_live_of e m x) ≤ tally (names x e) = at_most (names x e) (is_live_peer m x) in
-      omega (arith, a, b, rest, fewer)
+  module _ (test : PeerLease → Bool) where
+    abbrev passes_at : PeerKey × ℕ → Bool
+    passes_at x = some_that test (get nat_cmp it.leases x.1)
 
-  pub few_live : (n : ℕ) → n ≡ count_by live_at part → n ≤ MOST_PEERS
-  few_live n is = let all = counted in let fewer = few_step (values it.leases) in let few = h.sound.few_peers e in omega (arith, is, all, fewer, few)
+    abbrev passes_of : PeerLease → Bool
+    passes_of l = names l e && test l
 
-  -- where no number there has a live lease, the endpoint has none
-  pub none_used : None ≡ option_map (λ (x : PeerKey × ℕ). x.1) (find live_at part) → count_by (is_live_of e m) (values it.leases) ≡ 0
-  none_used none = sym counted ∙ none_counted live_at part (none_found (find live_at part) none)
+    -- the numbers there count the endpoint's leases that pass
+    pub counted : count_by passes_at part ≡ count_by passes_of (values it.leases)
+    counted =
+        count_filtered passes_at (λ (x : PeerKey × ℕ). within x.0) it.keys.entries
+        ∙ h.kept.keys (λ (x : PeerKey × ℕ). within x.0 && passes_at x)
+        ∙ count_same (λ (x : ℕ × PeerLease). within (key_of_lease x.1) && some_that test (get nat_cmp it.leases x.0)) (λ (x : ℕ × PeerLease). passes_of x.1) it.leases.entries
+        (λ x i. ap (λ t. t && some_that test (get nat_cmp it.leases x.0)) (within_names x.1) ∙ ap (λ o. names x.1 e && some_that test o) (entry_at it.leases h.kept.ordered x.0 x.1 i))
+        ∙ count-values passes_of it.leases.entries
 
-  record First (n : ℕ) : Type 0 where
-    lease : PeerLease
-    stands : get nat_cmp it.leases n ≡ Some lease
-    live : is_live_of e m lease ≡ true
+    -- where no number there has a lease that passes, the endpoint has none
+    pub none_pass : None ≡ option_map (λ (x : PeerKey × ℕ). x.1) (find passes_at part) → count_by passes_of (values it.leases) ≡ 0
+    none_pass none = sym counted ∙ none_counted passes_at part (none_found (find passes_at part) none)
 
-  first_is : (n : ℕ) (found : Option (PeerKey × ℕ)) → find live_at part ≡ found → Some n ≡ option_map (λ (x : PeerKey × ℕ). x.1) found → First n
-  first_is n None is has = absurd (let no : Some n ≡ None = has in cc)
-  first_is n (Some x) is has =
-      let same : n ≡ x.1 = (let both : Some n ≡ Some x.1 = has in cc) in
-      let i = find-some live_at part x is in
-      let j = IsIn-filter (λ (y : PeerKey × ℕ). within y.0) it.keys.entries x i.0 in
-      let y = key-from peer_keying peer_laws it h.kept x.0 x.1 (entry-at key_total key_exact it.keys h.kept.keys_ordered x.0 x.1 j.0) in
-      let named : names y.0 e ≡ true = sym (within_names y.0) ∙ ap within y.2 ∙ j.1 in
-      let alive : is_live_peer m y.0 ≡ true = ap (some_live m) (sym y.1) ∙ i.1 in
-      record { lease = y.0; stands = ap (get nat_cmp it.leases) same ∙ y.1; live = and_from _ _ named alive }
+    -- the first number there has one
+    pub record First (n : ℕ) : Type 0 where
+      pub lease : PeerLease
+      pub stands : get nat_cmp it.leases n ≡ Some lease
+      pub named : names lease e ≡ true
+      pub passes : test lease ≡ true
 
-  pub first_stands : (n : ℕ) → Some n ≡ option_map (λ (x : PeerKey × ℕ). x.1) (find live_at part) → (l : PeerLease) × (get nat_cmp it.leases n ≡ Some l) × (is_live_of e m l ≡ true)
-  first_stands n has = let f = first_is n (find live_at part) refl has in (f.lease, f.stands, f.live)
+    first_is : (n : ℕ) (found : Option (PeerKey × ℕ)) → find passes_at part ≡ found → Some n ≡ option_map (λ (x : PeerKey × ℕ). x.1) found → First n
+    first_is n None is has = absurd (let no : Some n ≡ None = has in cc)
+    first_is n (Some x) is has =
+        let same : n ≡ x.1 = (let both : Some n ≡ Some x.1 = has in cc) in
+        let i = find-some passes_at part x is in
+        let j = IsIn-filter (λ (y : PeerKey × ℕ). within y.0) it.keys.entries x i.0 in
+        let y = key-from peer_keying peer_laws it h.kept x.0 x.1 (entry-at key_total key_exact it.keys h.kept.keys_ordered x.0 x.1 j.0) in
+        record {
+          lease = y.0;
+          stands = ap (get nat_cmp it.leases) same ∙ y.1;
+          named = sym (within_names y.0) ∙ ap within y.2 ∙ j.1;
+          passes = ap (some_that test) (sym y.1) ∙ i.1;
+        }
 
-  pub used : (n : ℕ) (l : PeerLease) (external count : ℕ) → Some n ≡ option_map (λ (x : PeerKey × ℕ). x.1) (find live_at part) → get nat_cmp it.leases n ≡ Some l → external ≡ l.external → count ≡ count_by live_at part →
-      IsPortUse e m (values it.leases) (Some (record { external = external; count = count }))
-  used n l external count has at_n port is =
-      let f = first_stands n has in
-      let same : f.0 ≡ l = (let both : Some f.0 ≡ Some l = sym f.1 ∙ at_n in cc) in
-      record {
-        external = any_at (λ x. is_live_of e m x && x.external == external) it.leases.entries n l at_n
-            (and_from _ _ (ap (is_live_of e m) (sym same) ∙ f.2) ((Decides-eqb l.external external).1 (sym port)));
-        count = is ∙ counted;
-        none = tt;
-      }
+    pub first_stands : (n : ℕ) → Some n ≡ option_map (λ (x : PeerKey × ℕ). x.1) (find passes_at part) → First n
+    first_stands n has = first_is n (find passes_at part) refl has
+
+    -- whether one passes, by the first number
+    pub any_passes : (found : Option ℕ) → found ≡ option_map (λ (x : PeerKey × ℕ). x.1) (find passes_at part) → is_some found ≡ list_any passes_of (values it.leases)
+    any_passes None is = sym (false_by (list_any passes_of (values it.leases)) (λ t.
+        let r = any-some passes_of (values it.leases) t in
+        let some = count-some passes_of (values it.leases) r.0 r.1 r.2 in
+        let none = none_pass is in
+        absurd (omega (arith, some, none))))
+    any_passes (Some n) is =
+        let f = first_stands n is in
+        sym (any_at passes_of it.leases.entries n f.lease f.stands (and_from _ _ f.named f.passes))
+
+  module _ (m : ℕ) where
+    pub used : (n : ℕ) (l : PeerLease) (external count : ℕ) → Some n ≡ option_map (λ (x : PeerKey × ℕ). x.1) (find (passes_at (is_live_peer m)) part) → get nat_cmp it.leases n ≡ Some l → external ≡ l.external →
+        count ≡ count_by (passes_at (is_live_peer m)) part → IsPortUse e m (values it.leases) (Some (record { external = external; count = count }))
+    used n l external count has at_n port is =
+        let f = first_stands (is_live_peer m) n has in
+        let same : f.lease ≡ l = (let both : Some f.lease ≡ Some l = sym f.stands ∙ at_n in cc) in
+        record {
+          external = any_at (λ x. is_live_of e m x && x.external == external) it.leases.entries n l at_n
+              (and_from _ _ (ap (is_live_of e m) (sym same) ∙ and_from _ _ f.named f.passes) ((Decides-eqb l.external external).1 (sym port)));
+          count = is ∙ counted (is_live_peer m);
+          none = tt;
+        }
+
+    pub ended_first : (n : ℕ) → Some n ≡ option_map (λ (x : PeerKey × ℕ). x.1) (find (passes_at (is_ended_peer m)) part) → IsEndedOf e m (values it.leases) (get nat_cmp it.leases n)
+    ended_first n has =
+        let f = first_stands (is_ended_peer m) n has in
+        subst (IsEndedOf e m (values it.leases)) (sym f.stands) (record {
+          among = one-among peer_keying peer_laws it h.kept m n f.lease f.stands;
+          names = f.named;
+          dead = is_false (is_live_peer m f.lease) f.passes;
+          none = tt;
+        })
+
+    pub ended_none : None ≡ option_map (λ (x : PeerKey × ℕ). x.1) (find (passes_at (is_ended_peer m)) part) → IsEndedOf e m (values it.leases) None
+    ended_none none = record { among = tt; names = tt; dead = tt; none = none_pass (is_ended_peer m) none }

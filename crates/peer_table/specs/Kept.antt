@@ -1,7 +1,7 @@
 -- How a table keeps its leases (our own; for proofs alone).
-use Rattle.std.specs.Prelude.{◌≡◌, ℕ, ◌≤◌, nat_lt, Bool, true, false, List, Contains, Option, Some, None, IfSome, IfNone, if◌then◌else◌}
+use Rattle.std.specs.Prelude.{◌≡◌, ℕ, ◌&&◌, ◌==◌, nat_lt, Bool, true, false, bytes_eq, List, [], ◌∷◌, Contains, Option, Some, None, IsSome, IfSome, if◌then◌else◌}
 use Rattle.std.specs.List.{fold}
-use Rattle.std.specs.Ordering.{nat_cmp, ordering_then, is_gt}
+use Rattle.std.specs.Ordering.{nat_cmp, ordering_then}
 use Rattle.std.specs.declared.cmp.Ordering.{Ordering}
 use Rattle.std.specs.Cmp.Lexicographic.{slice_cmp}
 use Rattle.std.specs.BTreeMap.{values}
@@ -10,12 +10,11 @@ use Rattle.pcp_base.specs.declared.leases.Protocol.{Protocol}
 use Rattle.pcp_base.specs.declared.leases.Endpoint.{Endpoint}
 use Rattle.pcp_base.specs.declared.leases.PeerLease.{PeerLease}
 use Rattle.pcp_base.specs.Protocols.{protocol_number}
+use Rattle.pcp_base.specs.Tables.{is_peer_of}
 use Rattle.ordered_index.specs.declared.numbered.Numbered.{Numbered}
-use Rattle.ordered_index.specs.declared.live.LiveKeys.{LiveKeys}
-use Rattle.ordered_index.specs.Live.{AreLive}
 use Rattle.ordered_index.specs.Kept.{Keying, IsKept}
 use Rattle.ordered_index.specs.Orders.{Place, place_of, port_at}
-use Rattle.peer_table.specs.PeerLists.{AreSoundPeers, is_live_peer}
+use Rattle.peer_table.specs.PeerLists.{AreSoundPeers, overlaps}
 
 -- an address, a protocol number and a port; 1, or 0 before all remotes and 2 behind them; and a
 -- remote address and port
@@ -81,35 +80,10 @@ pub record AreKeptPeers (it : Numbered PeerLease PeerKey Opening) : Type 0 where
   pub sound : AreSoundPeers (values it.leases)
   pub kept : IsKept peer_keying it
 
--- all that, and the keys of the leases that are live behind the moment reached
-pub record AreReachedPeers (it : Numbered PeerLease PeerKey Opening) (keys : LiveKeys PeerKey)
-    : Type 0 where
-  pub kept : AreKeptPeers it
-  pub live : AreLive peer_keying (values it.leases) keys
-  pub begun : 1 ≤ keys.from
-
--- a lease's key from which on the leases that are live at m are, if there is one at all
-pub record IsFirstLive (m : ℕ) (ls : List PeerLease) (k : PeerKey) (result : Option PeerKey)
-    : Type 0 where
-  pub from : IfSome result (λ first. is_gt (key_cmp k first) ≡ false)
-  pub side : IfSome result (λ first. first.3 ≡ 1)
-  pub least : IfSome result (λ first. (l : PeerLease) → Contains ls l → is_live_peer m l ≡ true
-      → is_gt (key_cmp k (key_of_lease l)) ≡ false
-      → is_gt (key_cmp first (key_of_lease l)) ≡ false)
-  pub none : IfNone result ((l : PeerLease) → Contains ls l → is_live_peer m l ≡ true
-      → is_gt (key_cmp k (key_of_lease l)) ≡ true)
-
--- a lease that is live at m has the key
-pub record HasLive (m : ℕ) (ls : List PeerLease) (k : PeerKey) : Type 0 where
-  pub lease : PeerLease
-  pub stands : Contains ls lease
-  pub alive : is_live_peer m lease ≡ true
-  pub key : key_of_lease lease ≡ k
-
--- whether there is a lease that is live at m
-abbrev pub some_live : ℕ → Option PeerLease → Bool
-some_live m None = false
-some_live m (Some l) = is_live_peer m l
+-- whether there is a lease, and it passes the test
+abbrev pub some_that : (PeerLease → Bool) → Option PeerLease → Bool
+some_that test None = false
+some_that test (Some l) = test l
 
 -- the expiry of a lease, if there is one
 abbrev pub expiry_in : Option PeerLease → Option ℕ
@@ -125,3 +99,25 @@ later (Some a) (Some b) = if nat_lt a b then Some b else Some a
 -- the latest of a number and of those of the items
 abbrev pub last_of : {X : Type 0} → (X → Option ℕ) → Option ℕ → List X → Option ℕ
 last_of number a xs = fold (λ b x. later b (number x)) a xs
+
+-- whether the key has this remote
+abbrev pub has_remote : Address → ℕ → PeerKey → Bool
+has_remote remote port k = bytes_eq k.4 remote.0 && k.5 == port
+
+-- the number of the first entry
+abbrev pub first_number : {K : Type 0} → List (K × ℕ) → Option ℕ
+first_number [] = None
+first_number (e ∷ es) = Some e.1
+
+-- what was looked up, where this lease overlaps it
+abbrev pub overlapped : PeerLease → Option PeerLease → Option PeerLease
+overlapped l None = None
+overlapped l (Some x) = if overlaps l x then Some x else None
+
+-- one of the leases, which this one overlaps where one with another key differs from it so
+pub record TellsOther (differs : PeerLease → PeerLease → Bool) (l : PeerLease)
+    (ls : List PeerLease) (result : Option PeerLease) : Type 0 where
+  pub among : IfSome result (λ x. Contains ls x)
+  pub tells : (x : PeerLease) → Contains ls x
+      → is_peer_of l.endpoint l.remote l.remote_port x ≡ false → differs l x ≡ true
+      → IsSome (overlapped l result)

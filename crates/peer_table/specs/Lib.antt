@@ -1,4 +1,3 @@
 pub mod PeerLists
-pub mod PeerTables
 pub mod Kept
 pub mod Laws

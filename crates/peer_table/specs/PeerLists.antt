@@ -1,6 +1,6 @@
 -- What is asked of a list of PEER leases, in the order granted, and what it must keep to (our own; a
 -- PEER lease is a mapping of RFC 6887, section 12).
-use Rattle.std.specs.Prelude.{◌≡◌, ℕ, ◌<◌, ◌≤◌, ◌&&◌, ◌==◌, nat_lt, not, Bool, false, List, ◌++◌, length, filter, find, Contains, count_by, IsTrue, Option, None, IfSome, IfNone, Result, OnOk, OnErr}
+use Rattle.std.specs.Prelude.{◌≡◌, ℕ, ◌<◌, ◌≤◌, ◌&&◌, ◌||◌, ◌==◌, nat_lt, not, Bool, false, List, ◌++◌, length, filter, find, Contains, count_by, IsTrue, Option, None, IfSome, IfNone, Result, OnOk, OnErr}
 use Rattle.std.specs.List.{AllByRecursion, list_any}
 use Rattle.pcp_base.specs.declared.addresses.Address.{Address}
 use Rattle.pcp_base.specs.declared.leases.TheConstants.{MOST_LEASES, MOST_PEERS}
@@ -29,6 +29,10 @@ opens protocol port remote remote_port l =
 abbrev pub peer_opening : Protocol → ℕ → Address → ℕ → List PeerLease → Option PeerLease
 peer_opening protocol port remote remote_port ls = find (opens protocol port remote remote_port) ls
 
+-- whether the lease has ended by m
+abbrev pub is_ended_peer : ℕ → PeerLease → Bool
+is_ended_peer m l = not (is_live_peer m l)
+
 -- the first lease that isn't live at m
 abbrev pub first_dead_peer : ℕ → List PeerLease → Option PeerLease
 first_dead_peer m ls = find (λ l. not (is_live_peer m l)) ls
@@ -42,6 +46,18 @@ pub record IsDeadPeer (m : ℕ) (ls : List PeerLease) (result : Option PeerLease
 -- whether the lease names the endpoint and is live at m
 abbrev pub is_live_of : Endpoint → ℕ → PeerLease → Bool
 is_live_of e m l = names l e && is_live_peer m l
+
+-- whether the lease names the endpoint and has ended by m
+abbrev pub is_ended_of : Endpoint → ℕ → PeerLease → Bool
+is_ended_of e m l = names l e && is_ended_peer m l
+
+-- one of the endpoint's leases that aren't live at m, None exactly where all of the endpoint's are
+pub record IsEndedOf (e : Endpoint) (m : ℕ) (ls : List PeerLease) (result : Option PeerLease)
+    : Type 0 where
+  pub among : IfSome result (λ l. Contains ls l)
+  pub names : IfSome result (λ l. IsTrue (names l e))
+  pub dead : IfSome result (λ l. is_live_peer m l ≡ false)
+  pub none : IfNone result (count_by (is_ended_of e m) ls ≡ 0)
 
 -- the external port of the endpoint's leases that are live at m, and how many they are; None exactly
 -- where there is none
@@ -79,27 +95,43 @@ abbrev pub is_named : Endpoint → List PeerLease → ℕ → Bool
 is_named e ls port =
     list_any (λ l. names l (record { address = e.address; protocol = e.protocol; port = port })) ls
 
--- the least named port above the endpoint's, None exactly where there is none
-pub record IsNextNamed (e : Endpoint) (ls : List PeerLease) (result : Option ℕ) : Type 0 where
+-- the least named port above the endpoint's and below the end, None exactly where there is none
+pub record IsNextNamed (e : Endpoint) (end : ℕ) (ls : List PeerLease) (result : Option ℕ)
+    : Type 0 where
   pub above : IfSome result (λ port. e.port < port)
+  pub below : IfSome result (λ port. port < end)
   pub named : IfSome result (λ port. IsTrue (is_named e ls port))
   pub least : IfSome result (λ port.
       (other : ℕ) → e.port < other → IsTrue (is_named e ls other) → port ≤ other)
-  pub none : IfNone result ((other : ℕ) → e.port < other → is_named e ls other ≡ false)
-
--- a port above the endpoint's, up to which no port above the endpoint's is named, if there is one at
--- all; None only where no port above the endpoint's is named
-pub record SkipsUnnamed (e : Endpoint) (ls : List PeerLease) (result : Option ℕ) : Type 0 where
-  pub above : IfSome result (λ port. e.port < port)
-  pub between : IfSome result (λ port.
-      (other : ℕ) → e.port < other → other < port → is_named e ls other ≡ false)
-  pub none : IfNone result ((other : ℕ) → e.port < other → is_named e ls other ≡ false)
+  pub none : IfNone result ((other : ℕ) → e.port < other → other < end
+      → is_named e ls other ≡ false)
 
 -- the keys differ, no external port has two endpoints, and no endpoint has two external ports
 pub record AreFellows (a b : PeerLease) : Type 0 where
   pub keys : HaveOtherKeys a b
   pub shares : (same_protocol a.endpoint.protocol b.endpoint.protocol && a.external == b.external)
       ≡ same_endpoint a.endpoint b.endpoint
+
+-- whether the other lease has the endpoint of this one, and another external port
+abbrev pub has_other_port : PeerLease → PeerLease → Bool
+has_other_port l other = names other l.endpoint && not (other.external == l.external)
+
+-- whether the other lease owns the external port of this one, and has another endpoint
+abbrev pub has_other_endpoint : PeerLease → PeerLease → Bool
+has_other_endpoint l other = is_port l.endpoint.protocol l.external (peer_owner other)
+    && not (names other l.endpoint)
+
+-- whether the other lease has another key than this one and isn't its fellow
+abbrev pub overlaps : PeerLease → PeerLease → Bool
+overlaps l other = not (is_peer_of l.endpoint l.remote l.remote_port other)
+    && (has_other_port l other || has_other_endpoint l other)
+
+-- one of the leases that this one overlaps, None exactly where it overlaps none
+pub record IsOverlapped (l : PeerLease) (ls : List PeerLease) (result : Option PeerLease)
+    : Type 0 where
+  pub among : IfSome result (λ other. Contains ls other)
+  pub overlapped : IfSome result (λ other. IsTrue (overlaps l other))
+  pub none : IfNone result (list_any (overlaps l) ls ≡ false)
 
 -- the PEER leases of a sound table
 pub record AreSoundPeers (ls : List PeerLease) : Type 0 where

@@ -1,12 +1,13 @@
 //! The plain body: a list that is searched, and nothing beside it.
 
-ghost use Rattle.std.specs.Prelude.{◌≡◌, ◌≤◌, [], ◌∷◌, length, max, filter, find, count_by, position, not, IfOk, OnOk, OnErr};
+ghost use Rattle.std.specs.Prelude.{◌≡◌, ◌≤◌, [], ◌∷◌, length, filter, find, count_by, position, not, IfOk, OnOk, OnErr};
+ghost use Rattle.std.specs.List.{list_any};
 ghost use Rattle.std.specs.Option.{option_copied};
 ghost use Rattle.pcp_base.specs.declared.leases.TheConstants.{MOST_LEASES};
 ghost use Rattle.pcp_base.specs.Tables.{is_peer_of};
-ghost use Rattle.peer_table.specs.PeerTables.{no_peers};
-ghost use Rattle.peer_table.specs.PeerLists.{is_live_peer, is_live_of, opens, peer_with_key, peer_opening, IsPortUse, IsNextNamed, SkipsUnnamed, AreSoundPeers, with_peer, PutsPeer, RemovesPeer, CopiesLivePeers};
+ghost use Rattle.peer_table.specs.PeerLists.{is_live_peer, is_live_of, is_ended_peer, is_ended_of, opens, peer_with_key, peer_opening, IsEndedOf, IsPortUse, IsNextNamed, AreSoundPeers, IsOverlapped, overlaps, with_peer, PutsPeer, RemovesPeer, CopiesLivePeers};
 
+use crate::overlaps::overlaps;
 use crate::uses::PortUse;
 use ordered_index::lesser;
 use pcp_base::{Address, Endpoint, Memory, Moment, PeerLease, Protocol};
@@ -20,18 +21,25 @@ use step_count::Steps;
 #[derive(Drop)]
 pub struct PlainPeerTable {
     leases: Vec<PeerLease>,
-    reached: u64,
 }
 
 impl Model for PlainPeerTable {
-    ghost use Rattle.peer_table.specs.PeerTables.{PeerTableView};
+    ghost use Rattle.std.specs.Prelude.{List};
+    ghost use Rattle.pcp_base.specs.declared.leases.PeerLease.{PeerLease};
     ghost use Rattle.peer_table.specs.PeerLists.{AreSoundPeers};
 
-    ghost Value = { PeerTableView };
+    ghost Value = { List PeerLease };
 
-    ghost view = { λ t. record { leases = t.leases.items; reached = t.reached } };
+    ghost view = { λ t. t.leases.items };
 
     ghost invariant = { λ t. AreSoundPeers t.leases.items };
+}
+
+/// The first of the leases that the lease overlaps.
+fn overlapped_by<'a>(leases: &'a [PeerLease], lease: &PeerLease) -> Option<&'a PeerLease>
+    ensures { option_copied result ≡ find (overlaps lease.now) leases.now }
+{
+    leases.iter().find(|other| overlaps(lease, other))
 }
 
 /// The lease with this key.
@@ -112,6 +120,20 @@ fn count_of(leases: &[PeerLease], endpoint: &Endpoint, m: Moment) -> u32
         .count() as u32
 }
 
+/// Whether the lease names the endpoint and has ended by `m`.
+fn is_ended_of(lease: &PeerLease, endpoint: &Endpoint, m: Moment) -> bool
+    ensures { result ≡ is_ended_of endpoint.now m lease.now }
+{
+    lease.endpoint == *endpoint && !lease.is_live(m)
+}
+
+/// A lease that names the endpoint and has ended by `m`.
+fn ended_with<'a>(leases: &'a [PeerLease], endpoint: &Endpoint, m: Moment) -> Option<&'a PeerLease>
+    ensures { option_copied result ≡ find (is_ended_of endpoint.now m) leases.now }
+{
+    leases.iter().find(|lease| is_ended_of(lease, endpoint, m))
+}
+
 /// Whether the lease owns the external port and has exactly this remote.
 fn opens(
     lease: &PeerLease,
@@ -128,54 +150,47 @@ fn opens(
         && lease.remote_port == remote_port
 }
 
-/// The port that the lease names, where it is above the endpoint's.
-fn next_of(lease: &PeerLease, endpoint: &Endpoint) -> Option<u16>
-    ensures { IsNextNamed endpoint.now (lease.now ∷ []) result }
+/// The port that the lease names, where it is above the endpoint's and below `end`.
+fn next_of(lease: &PeerLease, endpoint: &Endpoint, end: u32) -> Option<u16>
+    ensures { IsNextNamed endpoint.now end (lease.now ∷ []) result }
 {
     if lease.endpoint.address != endpoint.address
         || lease.endpoint.protocol != endpoint.protocol
         || lease.endpoint.port <= endpoint.port
+        || end <= u32::from(lease.endpoint.port)
     {
         return None;
     }
     Some(lease.endpoint.port)
 }
 
-/// The least port above the endpoint's that a lease names which is live at `m`.
-fn next_in(leases: &[PeerLease], endpoint: &Endpoint, m: Moment) -> Option<u16>
-    ensures { IsNextNamed endpoint.now (filter (is_live_peer m) leases.now) result }
+/// The least port above the endpoint's and below `end` that a lease names which is live at `m`.
+fn next_in(leases: &[PeerLease], endpoint: &Endpoint, end: u32, m: Moment) -> Option<u16>
+    ensures { IsNextNamed endpoint.now end (filter (is_live_peer m) leases.now) result }
 {
     let [first, rest @ ..] = leases else {
         return None;
     };
-    let next = next_in(rest, endpoint, m);
+    let next = next_in(rest, endpoint, end, m);
     if !first.is_live(m) {
         return next;
     }
-    lesser(next_of(first, endpoint), next)
-}
-
-/// The later of both moments, in seconds.
-fn later(reached: u64, m: Moment) -> u64
-    ensures { result ≡ max reached m }
-{
-    reached.max(m.get())
+    lesser(next_of(first, endpoint, end), next)
 }
 
 impl PlainPeerTable {
     /// A table without a lease. The one error is want of memory.
     pub fn new(alloc: Global) -> Result<PlainPeerTable, Memory>
-        ensures { IfOk result (λ table. table ≡ no_peers) }
+        ensures { IfOk result (λ table. table ≡ []) }
     {
         Ok(PlainPeerTable {
             leases: Vec::new(alloc),
-            reached: 0,
         })
     }
 
     /// The leases, in the order granted.
     pub fn leases(&self) -> &[PeerLease]
-        ensures { result.now ≡ self.now.leases }
+        ensures { result.now ≡ self.now }
     {
         &self.leases
     }
@@ -189,7 +204,7 @@ impl PlainPeerTable {
         _steps: &mut Steps<L>,
     ) -> Option<&PeerLease>
         ensures lease { option_copied result
-            ≡ peer_with_key endpoint.now remote.now port self.now.leases }
+            ≡ peer_with_key endpoint.now remote.now port self.now }
         ensures steps { _steps.new ≡ _steps.old }
     {
         lease_with(&self.leases, endpoint, remote, port)
@@ -202,12 +217,25 @@ impl PlainPeerTable {
         m: Moment,
         _steps: &mut Steps<L>,
     ) -> Option<PortUse>
-        ensures used { IsPortUse endpoint.now m self.now.leases result }
+        ensures used { IsPortUse endpoint.now m self.now result }
         ensures steps { _steps.new ≡ _steps.old }
     {
         let external = live_with(&self.leases, endpoint, m)?.external;
         let count = count_of(&self.leases, endpoint, m);
         Some(PortUse { external, count })
+    }
+
+    /// The first of the endpoint's leases that aren't live at `m`.
+    pub fn ended_of<L: Ledger>(
+        &self,
+        endpoint: &Endpoint,
+        m: Moment,
+        _steps: &mut Steps<L>,
+    ) -> Option<&PeerLease>
+        ensures ended { IsEndedOf endpoint.now m self.now (option_copied result) }
+        ensures steps { _steps.new ≡ _steps.old }
+    {
+        ended_with(&self.leases, endpoint, m)
     }
 
     /// The lease that owns the external port and has exactly this remote.
@@ -219,43 +247,46 @@ impl PlainPeerTable {
         remote_port: u16,
     ) -> Option<&PeerLease>
         ensures { option_copied result ≡
-            peer_opening protocol port remote.now remote_port self.now.leases }
+            peer_opening protocol port remote.now remote_port self.now }
     {
         self.leases
             .iter()
             .find(|lease| opens(lease, protocol, port, remote, remote_port))
     }
 
-    /// The least port above the endpoint's that a lease of its address and protocol names which is live
-    /// at `m`.
+    /// The first of the leases that this one overlaps, live or not: those that have its endpoint,
+    /// another remote and another external port, or its external port and another endpoint.
+    pub fn overlapping<L: Ledger>(
+        &self,
+        lease: &PeerLease,
+        _steps: &mut Steps<L>,
+    ) -> Option<&PeerLease>
+        ensures overlapped { IsOverlapped lease.now self.now (option_copied result) }
+        ensures steps { _steps.new ≡ _steps.old }
+    {
+        overlapped_by(&self.leases, lease)
+    }
+
+    /// The least port above the endpoint's and below `end` that a lease of its address and protocol
+    /// names which is live at `m`.
     pub fn next_internal<L: Ledger>(
         &self,
         endpoint: &Endpoint,
+        end: u32,
         m: Moment,
         _steps: &mut Steps<L>,
     ) -> Option<u16>
-        ensures next { IsNextNamed endpoint.now (filter (is_live_peer m) self.now.leases) result }
-        ensures skips { SkipsUnnamed endpoint.now (filter (is_live_peer m) self.now.leases) result }
+        ensures next { IsNextNamed endpoint.now end (filter (is_live_peer m) self.now) result }
         ensures steps { _steps.new ≡ _steps.old }
     {
-        next_in(&self.leases, endpoint, m)
-    }
-
-    /// Lets a moment pass. All leases stay.
-    pub fn reach<L: Ledger>(&mut self, m: Moment, _steps: &mut Steps<L>)
-        ensures leases { self.new.leases ≡ self.old.leases }
-        ensures reached { self.new.reached ≡ max self.old.reached m }
-        ensures steps { _steps.new ≡ _steps.old }
-    {
-        self.reached = later(self.reached, m);
+        next_in(&self.leases, endpoint, end, m)
     }
 
     /// Puts a lease in the place of the one with its key, or at the end. The one error is want of
     /// memory, which changes nothing.
     pub fn put(&mut self, _alloc: Global, lease: PeerLease) -> Result<(), Memory>
-        requires { AreSoundPeers (with_peer lease self.old.leases) }
-        ensures put { PutsPeer self.old.leases lease result self.new.leases }
-        ensures reached { self.new.reached ≡ self.old.reached }
+        requires { AreSoundPeers (with_peer lease self.old) }
+        ensures put { PutsPeer self.old lease result self.new }
     {
         put_into(&mut self.leases, lease)?;
         Ok(())
@@ -263,9 +294,7 @@ impl PlainPeerTable {
 
     /// Takes out the lease with this endpoint, remote address and remote port.
     pub fn remove(&mut self, endpoint: &Endpoint, remote: &Address, port: u16) -> Option<PeerLease>
-        ensures removed { RemovesPeer self.old.leases endpoint.now remote.now port result
-            self.new.leases }
-        ensures reached { self.new.reached ≡ self.old.reached }
+        ensures removed { RemovesPeer self.old endpoint.now remote.now port result self.new }
     {
         let found = lease_with(&self.leases, endpoint, remote, port).copied();
         drop_from(&mut self.leases, endpoint, remote, port);
@@ -273,11 +302,18 @@ impl PlainPeerTable {
     }
 
     /// How many leases are live at `m`.
-    pub fn live<L: Ledger>(&self, m: Moment, _steps: &mut Steps<L>) -> u32
-        ensures live { result ≡ count_by (is_live_peer m) self.now.leases }
-        ensures steps { _steps.new ≡ _steps.old }
+    pub fn live(&self, m: Moment) -> u32
+        ensures live { result ≡ count_by (is_live_peer m) self.now }
     {
         self.leases.iter().filter(|lease| lease.is_live(m)).count() as u32
+    }
+
+    /// Whether a lease isn't live at `m`.
+    pub fn has_ended<L: Ledger>(&self, m: Moment, _steps: &mut Steps<L>) -> bool
+        ensures ended { result ≡ list_any (is_ended_peer m) self.now }
+        ensures steps { _steps.new ≡ _steps.old }
+    {
+        self.leases.iter().any(|lease| !lease.is_live(m))
     }
 
     /// Appends the leases that are live at `m`, in the order granted. The one error is want of
@@ -288,7 +324,7 @@ impl PlainPeerTable {
         m: Moment,
         out: &mut Vec<PeerLease>,
     ) -> Result<(), Memory>
-        ensures { CopiesLivePeers self.now.leases m out.old.items result out.new.items }
+        ensures { CopiesLivePeers self.now m out.old.items result out.new.items }
     {
         let mut live = live_of(alloc, &self.leases, m)?;
         out.append(&mut live)?;

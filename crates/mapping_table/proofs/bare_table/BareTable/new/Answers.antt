@@ -1,8 +1,6 @@
-use Rattle.std.proofs.Common.{rules, ◌≡◌, ◌≤◌, List, [], sym, subst, arith}
+use Rattle.std.proofs.Common.{rules, ◌≡◌, []}
 use Rattle.std.specs.BTreeMap.{values}
-use Rattle.pcp_base.specs.declared.leases.MapLease.{MapLease}
-use Rattle.ordered_index.specs.Live.{AreLive}
-use Rattle.mapping_table.specs.Kept.{map_keying, AreCountedMaps}
+use Rattle.mapping_table.specs.Kept.{AreCountedMaps}
 use Rattle.mapping_table.proofs.Sieving.{sieved_blank}
 use Rattle.mapping_table.proofs.bare_table.BareTable.new.Goals as goal
 
@@ -10,4 +8,4 @@ pub invariant_of-result : goal.invariant_of-result
 invariant_of-result c =
     let counted : AreCountedMaps c.new.result 0 = search rules in
     let blank : values c.new.result.leases ≡ [] = search rules in
-    record { sieved = record { counted = counted; sieved = sieved_blank c.in_ok-new.field-0 (values c.new.result.leases) c.in_ok-new.ensures blank }; live = subst (λ (ls : List MapLease). AreLive map_keying ls c.begin.new.live) (sym blank) c.begin.ensures.live; begun = subst (λ n. 1 ≤ n) (sym c.begin.ensures.from) (omega arith) }
+    record { counted = counted; sieved = sieved_blank c.in_ok-new.field-0 (values c.new.result.leases) c.in_ok-new.ensures blank }

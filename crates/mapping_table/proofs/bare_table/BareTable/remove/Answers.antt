@@ -1,54 +1,42 @@
-use Rattle.std.proofs.Common.{ℕ, ◌≤◌, List, Some, None, sym, ◌∙◌, subst}
+use Rattle.std.proofs.Common.{ℕ, List, Some, None, sym, ◌∙◌, subst}
 use Rattle.std.specs.BTreeMap.{values}
 use Rattle.pcp_base.specs.declared.leases.MapLease.{MapLease}
 use Rattle.mapping_table.specs.MapLists.{RemovesMap}
 use Rattle.mapping_table.specs.Kept.{SievesMaps}
 use Rattle.mapping_table.proofs.Lookups.{number_stands}
-use Rattle.pcp_base.specs.Tables.{is_map_of}
-use Rattle.ordered_index.specs.Orders.{place_of}
-use Rattle.ordered_index.proofs.Lives.{one-key, removed-out, take-live}
-use Rattle.mapping_table.specs.Kept.{map_keying}
-use Rattle.mapping_table.proofs.MapKeeping.{map_laws, map_tells, none_removed, map_removed}
+use Rattle.mapping_table.proofs.MapKeeping.{none_removed, map_removed}
 use Rattle.mapping_table.proofs.Sets.{removed_few, counted_removed}
 use Rattle.mapping_table.proofs.Sieving.{sieved_removed}
-use Rattle.mapping_table.proofs.Views.{leases_of}
 use Rattle.mapping_table.proofs.bare_table.BareTable.remove.Goals as goal
 
-pub returns-in_default-clause-removed : goal.returns-in_default-clause-removed
-returns-in_default-clause-removed c =
-    subst (λ (v : List MapLease). RemovesMap v c.args.key.now None v) (leases_of c.self.view_is)
-    (none_removed c.self.inside.kept c.self.invariant.sieved.counted.kept c.args.key.now c.place_of-place.result c.place_of-place.ensures (sym c.in_default.ensures))
+pub returns-in_default : goal.returns-in_default
+returns-in_default c =
+    subst (λ (v : List MapLease). RemovesMap v c.args.key.now None v) c.self.view_is
+    (none_removed c.self.inside.kept c.self.invariant.counted.kept c.args.key.now c.place_of-place.result c.place_of-place.ensures (sym c.in_default.ensures))
 
 pub returns-in_default-copied : goal.returns-in_default-copied
 returns-in_default-copied c =
-    absurd (number_stands c.self.inside.kept c.self.invariant.sieved.counted.kept c.place_of-place.result c.in-Some.number (sym c.in-Some.ensures) (c.in_default-copied.ensures ∙ c.get.ensures.value))
+    absurd (number_stands c.self.inside.kept c.self.invariant.counted.kept c.place_of-place.result c.in-Some.number (sym c.in-Some.ensures) (c.in_default-copied.ensures ∙ c.get.ensures.value))
 
 pub overflow_sub-self : goal.overflow_sub-self
 overflow_sub-self c =
-    removed_few c.self.inside.kept c.self.inside.sets c.self.invariant.sieved.counted c.forget.new.self c.in-Some.number c.in-Some-copied.lease (sym (c.in-Some-copied.ensures ∙ c.get.ensures.value)) c.sets.result c.sets.ensures
+    removed_few c.self.inside.kept c.self.inside.sets c.self.invariant.counted c.forget.new.self c.in-Some.number c.in-Some-copied.lease (sym (c.in-Some-copied.ensures ∙ c.get.ensures.value)) c.sets.result c.sets.ensures
 
 pub invariant_of-self : goal.invariant_of-self
 invariant_of-self c =
-    let removed = map_removed c.self.inside.kept c.self.invariant.sieved.counted.kept c.args.key.now c.place_of-place.result c.place_of-place.ensures c.forget.new.self c.port.result c.in-Some.number c.expiry.result c.in-Some-copied.lease
+    let removed = map_removed c.self.inside.kept c.self.invariant.counted.kept c.args.key.now c.place_of-place.result c.place_of-place.ensures c.forget.new.self c.port.result c.in-Some.number c.expiry.result c.in-Some-copied.lease
     c.port.ensures c.expiry.ensures (sym c.in-Some.ensures) (sym (c.in-Some-copied.ensures ∙ c.get.ensures.value)) c.forget.ensures in
     let at_number = sym (c.in-Some-copied.ensures ∙ c.get.ensures.value) in
-    let kept = c.self.inside.kept in let e = c.args.key.now in let x = c.in-Some-copied.lease in
-    let out = removed-out kept.leases c.forget.new.self.leases (is_map_of e) c.in-Some.number x at_number (sym removed.1.answer) c.forget.ensures.leases in
+    let kept = c.self.inside.kept in let x = c.in-Some-copied.lease in
     record {
-      sieved = record {
-        counted = counted_removed kept c.self.inside.sets c.self.invariant.sieved.counted c.forget.new.self c.in-Some.number x at_number c.sets.result c.sets.ensures removed.0 c.forget.ensures.leases;
-        sieved = subst (λ (s : List ℕ). SievesMaps s (values c.forget.new.self.leases)) (sym c.take.ensures)
-            (sieved_removed kept c.self.inside.sieve c.self.invariant.sieved.sieved c.forget.new.self c.in-Some.number x at_number c.self.invariant.sieved.counted.kept c.forget.ensures.leases
-            c.place_of-place.result (sym c.in-Some.ensures));
-      };
-      live = take-live map_keying map_laws (is_map_of e) (place_of e) (map_tells e) (values kept.leases) c.self.inside.live c.self.invariant.live
-          (one-key map_keying map_laws kept c.self.invariant.sieved.counted.kept.kept (is_map_of e) (place_of e) (map_tells e))
-          (values c.forget.new.self.leases) out c.leave.new.self c.place_of-place.result c.place_of-place.ensures c.leave.ensures;
-      begun = subst (λ n. 1 ≤ n) (sym c.leave.ensures.from) c.self.invariant.begun;
+      counted = counted_removed kept c.self.inside.sets c.self.invariant.counted c.forget.new.self c.in-Some.number x at_number c.sets.result c.sets.ensures removed.0 c.forget.ensures.leases;
+      sieved = subst (λ (s : List ℕ). SievesMaps s (values c.forget.new.self.leases)) (sym c.take.ensures)
+          (sieved_removed kept c.self.inside.sieve c.self.invariant.sieved c.forget.new.self c.in-Some.number x at_number c.self.invariant.counted.kept c.forget.ensures.leases
+          c.place_of-place.result (sym c.in-Some.ensures));
     }
 
-pub returns-clause-removed : goal.returns-clause-removed
-returns-clause-removed c =
-    let removed = (map_removed c.self.inside.kept c.self.invariant.sieved.counted.kept c.args.key.now c.place_of-place.result c.place_of-place.ensures c.forget.new.self c.port.result c.in-Some.number c.expiry.result c.in-Some-copied.lease
+pub returns : goal.returns
+returns c =
+    let removed = (map_removed c.self.inside.kept c.self.invariant.counted.kept c.args.key.now c.place_of-place.result c.place_of-place.ensures c.forget.new.self c.port.result c.in-Some.number c.expiry.result c.in-Some-copied.lease
     c.port.ensures c.expiry.ensures (sym c.in-Some.ensures) (sym (c.in-Some-copied.ensures ∙ c.get.ensures.value)) c.forget.ensures).1 in
-    subst (λ (v : List MapLease). RemovesMap v c.args.key.now (Some c.in-Some-copied.lease) (values c.forget.new.self.leases)) (leases_of c.self.view_is) removed
+    subst (λ (v : List MapLease). RemovesMap v c.args.key.now (Some c.in-Some-copied.lease) (values c.forget.new.self.leases)) c.self.view_is removed

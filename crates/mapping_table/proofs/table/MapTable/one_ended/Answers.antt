@@ -4,11 +4,10 @@ use Rattle.pcp_base.specs.declared.leases.MapLease.{MapLease}
 use Rattle.mapping_table.specs.Kept.{filters_at}
 use Rattle.mapping_table.specs.MapLists.{IsDeadMap}
 use Rattle.mapping_table.proofs.Wholes.{dead_whole}
-use Rattle.mapping_table.proofs.Views.{leases_of}
 use Rattle.mapping_table.proofs.table.MapTable.one_ended.Goals as goal
 
 pub returns : goal.returns
 returns c =
     let kept = filters_at c.self.inside.filters in let m = c.args.m in
-    subst (λ (v : List MapLease). IsDeadMap m v c.whole_found.result) (leases_of c.self.view_is)
-    (subst (IsDeadMap m _) (sym c.whole_found.ensures) (dead_whole kept c.self.inside.leases.leases m (option_copied c.one_ended.result) c.one_ended.ensures))
+    subst (λ (v : List MapLease). IsDeadMap m v c.whole_found.result) c.self.view_is
+    (subst (IsDeadMap m _) (sym c.whole_found.ensures) (dead_whole kept c.self.inside.leases m (option_copied c.one_ended.result) c.one_ended.ensures))

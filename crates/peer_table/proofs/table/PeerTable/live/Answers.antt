@@ -1,50 +1,14 @@
-use Rattle.std.proofs.Common.{rules, ◌<◌, ◌≤◌, ◌+◌, ◌-◌, ◌^◌, ◌∙◌, length, filter, ap, count_by, arith}
+use Rattle.std.proofs.Common.{◌∙◌, ap, count_by, arith}
 use Rattle.std.specs.BTreeMap.{values}
-use Rattle.std.proofs.lemmas.List.Sums.{length-filter}
-use Rattle.pcp_base.proofs.TableLemmas.{length-fewer}
+use Rattle.std.proofs.lemmas.List.Sums.{count_by-le-length}
 use Rattle.peer_table.specs.PeerLists.{is_live_peer}
-use Rattle.peer_table.specs.Kept.{peer_keying}
-use Rattle.ordered_index.proofs.Endings.{ended-few, live-count}
-use Rattle.ordered_index.proofs.Lives.{live-length}
-use Rattle.peer_table.proofs.PeerKeeping.{peer_laws}
-use Rattle.peer_table.proofs.Views.{leases_of, from_reached}
 use Rattle.peer_table.proofs.table.PeerTable.live.Goals as goal
 
 pub overflow_cast-result : goal.overflow_cast-result
-overflow_cast-result g c =
-    let ls = values c.self.inside.kept.leases in let m = c.args.m in
-    let all = c.len.ensures.len in
-    let few = c.self.invariant.kept.sound.few in
-    let is = live-length peer_keying ls c.self.inside.live c.self.invariant.live m (c.if-self-get.true ∙ ap (λ n. n + 1) c.get.ensures.value) in
-    let filtered = length-filter (is_live_peer m) ls in
-    let fewer : length (filter (is_live_peer m) ls) ≤ length ls = length-fewer (is_live_peer m) ls in
-    omega (arith, all, few, is, filtered, fewer)
+overflow_cast-result c =
+    let few = c.self.invariant.sound.few in let is = c.count_live_of.ensures in
+    let fewer = count_by-le-length (is_live_peer c.args.m) (values c.self.inside.kept.leases) in
+    omega (arith, few, is, fewer)
 
-pub returns-then-self-get-clause-live : goal.returns-then-self-get-clause-live
-returns-then-self-get-clause-live g c =
-    let ls = values c.self.inside.kept.leases in
-    c.len.ensures.len ∙ live-length peer_keying ls c.self.inside.live c.self.invariant.live c.args.m (c.if-self-get.true ∙ ap (λ n. n + 1) c.get.ensures.value)
-    ∙ ap (count_by (is_live_peer c.args.m)) (leases_of c.self.view_is)
-
-pub overflow_add-levels : goal.overflow_add-levels
-overflow_add-levels g c =
-    let few = ended-few peer_keying peer_laws c.self.inside.kept c.self.invariant.kept.kept c.args.m c.ended-ended.result c.ended-ended.ensures in
-    let most = c.self.invariant.kept.sound.few in
-    let digits : c.levels.result ≤ 64 = (let is = c.levels.ensures in omega (arith, is)) in
-    let sum : c.levels.result + c.ended-ended.result < 2 ^ 64 = omega (arith, few, most, digits) in search rules
-
-pub overflow_sub-result : goal.overflow_sub-result
-overflow_sub-result g c =
-    let few = ended-few peer_keying peer_laws c.self.inside.kept c.self.invariant.kept.kept c.args.m c.ended-ended.result c.ended-ended.ensures in
-    let all = c.len-3.ensures.len in
-    omega (arith, few, all)
-
-pub returns-clause-live : goal.returns-clause-live
-returns-clause-live g c =
-    ap (λ n. n - c.ended-ended.result) c.len-3.ensures.len ∙ live-count peer_keying peer_laws c.self.inside.kept c.self.invariant.kept.kept c.args.m c.ended-ended.result c.ended-ended.ensures
-    ∙ ap (count_by (is_live_peer c.args.m)) (leases_of c.self.view_is)
-
-pub returns-clause-steps : goal.returns-clause-steps
-returns-clause-steps g c at = absurd (
-    let other = c.if-self-get.false in let value = c.get.ensures.value in
-    let from = from_reached c.self.inside.live.from c.args.m c.self.view_is c.self.invariant.begun at in omega (arith, other, value, from))
+pub returns : goal.returns
+returns c = record { live = c.count_live_of.ensures ∙ ap (count_by (is_live_peer c.args.m)) c.self.view_is }

@@ -1,0 +1,116 @@
+//! Leases of a table that another one may overlap.
+
+ghost use Rattle.std.specs.Prelude.{◌≡◌, ◌≤◌, ◌+◌, ◌*◌, length};
+ghost use Rattle.std.specs.Option.{option_copied};
+ghost use Rattle.std.specs.BTreeMap.{values};
+ghost use Rattle.step_count.specs.Levels.{levels};
+ghost use Rattle.ordered_index.specs.Orders.{place_cmp, port_cmp};
+ghost use Rattle.mapping_table.specs.MapLists.{meet_inside, meet_outside, IsOverlapped};
+ghost use Rattle.mapping_table.specs.Kept.{AreKeptMaps, place_of_lease, port_of_lease, overlapped_key, IsNearest, TellsMet};
+
+use crate::bare::BareLease;
+use crate::looks::{lease_at, look};
+use ordered_index::{Numbered, Place, Port, last_up_to};
+use pcp_base::Endpoint;
+use std::sync::ledger::Ledger;
+use step_count::Steps;
+
+/// The key of what was looked up, where the lease overlaps it.
+pub(crate) fn overlapped_key(lease: &BareLease, found: Option<&BareLease>) -> Option<Endpoint>
+    ensures { result ≡ overlapped_key lease.now (option_copied found.entry) }
+{
+    let Some(other) = found else {
+        return None;
+    };
+    if lease.overlaps(other) {
+        Some(other.first_endpoint())
+    } else {
+        None
+    }
+}
+
+/// The lease whose first endpoint has the last place up to this one.
+fn nearest_place<'a, L: Ledger>(
+    kept: &'a Numbered<BareLease, Place, Port>,
+    place: Place,
+    steps: &mut Steps<L>,
+) -> Option<&'a BareLease>
+    requires { AreKeptMaps kept.now }
+    ensures nearest { IsNearest place_cmp place_of_lease place (values kept.now.leases)
+        (option_copied result) }
+    ensures steps { steps.new ≤ steps.old + 2 * levels (length (values kept.now.leases)) }
+{
+    look(kept, steps);
+    let Some(number) = last_up_to(&kept.keys, place) else {
+        return None;
+    };
+    lease_at(kept, number, steps)
+}
+
+/// The lease whose first external port is the last one up to this one.
+fn nearest_port<'a, L: Ledger>(
+    kept: &'a Numbered<BareLease, Place, Port>,
+    port: Port,
+    steps: &mut Steps<L>,
+) -> Option<&'a BareLease>
+    requires { AreKeptMaps kept.now }
+    ensures nearest { IsNearest port_cmp port_of_lease port (values kept.now.leases)
+        (option_copied result) }
+    ensures steps { steps.new ≤ steps.old + 2 * levels (length (values kept.now.leases)) }
+{
+    look(kept, steps);
+    let Some(number) = last_up_to(&kept.ports, port) else {
+        return None;
+    };
+    lease_at(kept, number, steps)
+}
+
+/// The lease that begins last among those that begin up to the last endpoint. Where that one isn't
+/// overlapped inside, no other is, as those that begin before it end before it too.
+fn last_inside<'a, L: Ledger>(
+    kept: &'a Numbered<BareLease, Place, Port>,
+    lease: &BareLease,
+    steps: &mut Steps<L>,
+) -> Option<&'a BareLease>
+    requires { AreKeptMaps kept.now }
+    ensures met { TellsMet meet_inside lease.now (values kept.now.leases) (option_copied result) }
+    ensures steps { steps.new ≤ steps.old + 2 * levels (length (values kept.now.leases)) }
+{
+    nearest_place(kept, lease.last_place(), steps)
+}
+
+/// The same outside, by external ports. There the lease with the same key may have other ports, so
+/// that the one before it is asked for.
+fn last_outside<'a, L: Ledger>(
+    kept: &'a Numbered<BareLease, Place, Port>,
+    lease: &BareLease,
+    steps: &mut Steps<L>,
+) -> Option<&'a BareLease>
+    requires { AreKeptMaps kept.now }
+    ensures met { TellsMet meet_outside lease.now (values kept.now.leases) (option_copied result) }
+    ensures steps { steps.new ≤ steps.old + 4 * levels (length (values kept.now.leases)) }
+{
+    let Some(last) = nearest_port(kept, lease.last_port(), steps) else {
+        return None;
+    };
+    if !last.has_key_of(lease) {
+        return Some(last);
+    }
+    nearest_port(kept, last.port_before(), steps)
+}
+
+/// The first endpoint of a lease that this one overlaps, however many ports it has.
+pub(crate) fn overlapping_set<L: Ledger>(
+    kept: &Numbered<BareLease, Place, Port>,
+    lease: &BareLease,
+    steps: &mut Steps<L>,
+) -> Option<Endpoint>
+    requires { AreKeptMaps kept.now }
+    ensures overlapped { IsOverlapped lease.now (values kept.now.leases) result }
+    ensures steps { steps.new ≤ steps.old + 6 * levels (length (values kept.now.leases)) }
+{
+    let Some(key) = overlapped_key(lease, last_inside(kept, lease, steps)) else {
+        return overlapped_key(lease, last_outside(kept, lease, steps));
+    };
+    Some(key)
+}
