@@ -57,7 +57,7 @@ module _ (s : State) (sound : SoundState s) where
         let parts = and_parts _ _ found.1 in
         (kept.0, kept.1, protocol_number-same e.endpoint.protocol protocol (eqb-true _ _ parts.0), eqb-true e.external port parts.1)
 
-    found-is : (o : Option End) (e : End) → IsSome o → ((x : End) → o ≡ Some x → x ≡ e) → o ≡ Some e
+    pub found-is : (o : Option End) (e : End) → IsSome o → ((x : End) → o ≡ Some x → x ≡ e) → o ≡ Some e
     found-is None e some is = absurd cc
     found-is (Some x) e some is = ap Some (is x refl)
 

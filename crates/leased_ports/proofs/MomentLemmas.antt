@@ -1,15 +1,14 @@
 -- Last ends at a later moment.
-use Rattle.std.specs.Prelude.{◌≡◌, refl, ℕ, ◌+◌, ◌<◌, ◌≤◌, Bool, true, false, Option, Some, None}
+use Rattle.std.specs.Prelude.{◌≡◌, refl, ℕ, ◌+◌, ◌<◌, ◌≤◌, nat_lt, Bool, true, false, Option, Some, None}
 use Rattle.std.proofs.Common.{sym, ap, ◌∙◌, arith, cond}
-use Rattle.std.proofs.Math.ListN.{get_or-map}
-use Rattle.std.proofs.lemmas.Bool.{ltb-true, lt-ltb}
+use Rattle.std.proofs.lemmas.Bool.{ltb-true, ltb-false, lt-ltb, le-ltb}
 use Rattle.pcp_base.specs.declared.leases.Protocol.{Protocol}
 use Rattle.pcp_base.specs.declared.leases.End.{End}
 use Rattle.pcp_base.specs.Ends.{is_recent}
 use Rattle.pcp_base.specs.States.{State, empty_state}
 use Rattle.pcp_base.specs.Sound.{SoundState}
 use Rattle.leased_ports.specs.LastEnds.{last_end}
-use Rattle.leased_ports.specs.Leased.{Leased, IsPortsOf, place, while_recent, at_moment, fresh_ports}
+use Rattle.leased_ports.specs.Leased.{Leased, IsPortsOf, place, end_of, while_recent, at_moment, fresh_ports}
 use Rattle.leased_ports.proofs.LastEndLemmas.{last-some, last-at}
 use Rattle.leased_ports.proofs.StepLemmas.{end_in-no_ends}
 
@@ -41,12 +40,20 @@ module _ (s : State) (sound : SoundState s) (n m : ℕ) (later : n ≤ m) (proto
   pub last_end-later : last_end s m protocol port ≡ while_recent m (last_end s n protocol port)
   last_end-later = still (last_end s n protocol port) refl (last_end s m protocol port) refl
 
-pub ports-later : (v : Leased) (s : State) (m : ℕ) → SoundState s → v.reached ≤ m → IsPortsOf v s → IsPortsOf (at_moment m v) s
-ports-later v s m sound later is = record {
-  passed = omega (arith, is.passed, later);
-  same = λ protocol port.
-      get_or-map (while_recent m) v.ends (place protocol port) None ∙ ap (while_recent m) (is.same protocol port) ∙ sym (last_end-later s sound v.reached m later protocol port);
-}
+pub ports-later : (v : Leased) (s : State) (m : ℕ) → v.reached ≤ m → IsPortsOf v s → IsPortsOf (at_moment m v) s
+ports-later v s m later is = let passed : s.last ≤ m = omega (arith, is.passed, later) in record { passed = passed; same = is.same }
+
+twice-recent : (n m : ℕ) → n ≤ m → (o : Option End) → while_recent m o ≡ while_recent m (while_recent n o)
+twice-recent n m later None = refl
+twice-recent n m later (Some e) = by (nat_lt n (e.end + 120)) refl
+  where
+    by : (b : Bool) → nat_lt n (e.end + 120) ≡ b → while_recent m (Some e) ≡ while_recent m (cond b (Some e) None)
+    by true h = refl
+    by false h = ap (λ (b : Bool). cond b (Some e) None) (le-ltb m (e.end + 120) (let over = ltb-false n (e.end + 120) h in omega (arith, over, later)))
+
+pub ports-told : (v : Leased) (s : State) (m : ℕ) (protocol : Protocol) (port : ℕ) → SoundState s → IsPortsOf v s → s.last ≤ m → while_recent m (end_of v protocol port) ≡ last_end s m protocol port
+ports-told v s m protocol port sound is later =
+    twice-recent s.last m later (end_of v protocol port) ∙ ap (while_recent m) (is.same protocol port) ∙ sym (last_end-later s sound s.last m later protocol port)
 
 pub ports-new : (low high quota : ℕ) → IsPortsOf (fresh_ports low high quota) empty_state
-ports-new low high quota = record { passed = omega arith; same = λ protocol port. end_in-no_ends 131072 (place protocol port) }
+ports-new low high quota = record { passed = omega arith; same = λ protocol port. ap (while_recent 0) (end_in-no_ends 131072 (place protocol port)) }

@@ -1,60 +1,46 @@
 -- A run that is parted, with a wheel that follows.
-use Rattle.std.proofs.Common.{◌≡◌, ℕ, ◌+◌, ◌-◌, ◌<◌, ◌≤◌, nat_lt, Bool, true, false, cond, List, Option, Some, None, IfSome, refl, sym, ap, ◌∙◌, subst, inl, inr, arith}
+use Rattle.std.proofs.Common.{◌≡◌, ℕ, ◌+◌, ◌-◌, ◌<◌, ◌≤◌, ◌==◌, nat_lt, Bool, true, false, cond, List, Option, Some, None, IfSome, refl, sym, ap, ◌∙◌, subst, inl, inr, arith}
 use Rattle.std.specs.Option.{option_map}
 use Rattle.std.specs.Ordering.{nat_cmp}
 use Rattle.std.specs.FinMap.{FinMap, get}
 use Rattle.std.proofs.lemmas.Bool.{ltb-false}
 use Rattle.pcp_base.specs.declared.leases.End.{End}
-use Rattle.expiry_wheel.proofs.Maps.{same_or_not, below_or_not, cond_same, cond_other}
+use Rattle.expiry_wheel.proofs.Maps.{same_or_not, cond_same, cond_other}
 use Rattle.external_pool.specs.PortUses.{use_along}
 use Rattle.external_pool.specs.Holdings.{Holdings}
 use Rattle.port_spans.specs.declared.runs.Run.{Run}
 use Rattle.port_spans.specs.Runs.{has_place, run_at, AreRuns, part_at, with_value}
+use Rattle.port_spans.proofs.RunLemmas.{in_by}
+use Rattle.port_spans.specs.Along.{end_along, spot}
 use Rattle.port_spans.proofs.CutLemmas as cut_lemmas
-use Rattle.port_spans.specs.Along.{end_along, spot, end_told}
-use Rattle.leased_ports.specs.Kept.{held_at, is_held_at, use_by, use_told, until, wait_told, IsSet, AreScheduled, AreInStep, AreRecent}
+use Rattle.pcp_base.specs.declared.leases.Protocol.{Protocol}
+use Rattle.leased_ports.specs.declared.phases.Phase.{Phase}
+use Rattle.leased_ports.specs.declared.phases.Phase.TheVariants.{Holds, Rests, Over}
+use Rattle.leased_ports.specs.Kept.{use_in, use_told, since, until, phase_until, phase_by, wait_told, IsSet, AreScheduled, AreInStep, HaveBegun}
 use Rattle.leased_ports.specs.Steps.{Waits}
-use Rattle.port_spans.proofs.SpotLemmas.{if-some, run_whole, run_to, spot_more}
-use Rattle.leased_ports.proofs.SpotLemmas.{run_of_low, run_of_high}
+use Rattle.leased_ports.proofs.PhaseLemmas.{run_waits, phase_other}
+use Rattle.port_spans.proofs.SpotLemmas.{if-some, some-if, run_has, run_whole, run_from, run_to, spot_more, along_twice}
 
 -- a use by what is told alone
-use_step : (i : ℕ) (v : End) (b : Bool) → use_along i (use_by b (Some v)) ≡ use_by b (Some (end_along i v))
-use_step i v true = refl
-use_step i v false = refl
+pub use_step : (i : ℕ) (v : End) (p : Phase) → use_along i (use_in p v) ≡ use_in p (end_along i v)
+use_step i v Holds = refl
+use_step i v Rests = refl
+use_step i v Over = refl
 
-pub use_is_told : (m at : ℕ) (o : Option (Run End)) → use_told (held_at m) at o ≡ use_by (is_held_at m (end_told at o)) (end_told at o)
-use_is_told m at None = refl
-use_is_told m at (Some r) = use_step (at - r.first) r.value (nat_lt m r.value.end)
-
-pub same_use : (m at : ℕ) (o p : Option (Run End)) → end_told at o ≡ end_told at p → use_told (held_at m) at o ≡ use_told (held_at m) at p
-same_use m at o p h = use_is_told m at o ∙ ap (λ (e : Option End). use_by (is_held_at m e) e) h ∙ sym (use_is_told m at p)
-
--- the pool follows, where each port keeps its last end
-pub in_step_told : (m : ℕ) (runs new : List (Run End)) (pool : Holdings) (waits next : FinMap nat_cmp ℕ) → AreInStep (held_at m) runs pool waits → AreScheduled (held_at m) new next
-    → ((at : ℕ) → end_told at (run_at new at) ≡ end_told at (run_at runs at)) → AreInStep (held_at m) new pool next
-in_step_told m runs new pool waits next is scheduled told = record {
+-- the pool follows, where each port keeps its use
+pub in_step_told : (runs new : List (Run End)) (pool : Holdings) (waits next : FinMap nat_cmp ℕ) → AreInStep runs pool waits → AreScheduled new next
+    → ((at : ℕ) → use_told next at (run_at new at) ≡ use_told waits at (run_at runs at)) → AreInStep new pool next
+in_step_told runs new pool waits next is scheduled told = record {
   whole = is.whole;
   scheduled = scheduled;
-  used = λ q port. elim (below_or_not port 65536) [
-    | inl low ↦ is.used q port ∙ ap (use_told (held_at m) (spot q port)) (run_of_low runs q port low)
-        ∙ same_use m (spot q port) (run_at runs (spot q port)) (run_at new (spot q port)) (sym (told (spot q port)))
-        ∙ ap (use_told (held_at m) (spot q port)) (sym (run_of_low new q port low))
-    | inr high ↦ is.used q port ∙ ap (use_told (held_at m) (spot q port)) (run_of_high runs q port high ∙ sym (run_of_high new q port high))
-  ];
+  used = λ q port. is.used q port ∙ by q port (nat_lt port 65536);
 }
+  where
+    by : (q : Protocol) (port : ℕ) (b : Bool) → use_told waits (spot q port) (cond b (run_at runs (spot q port)) None) ≡ use_told next (spot q port) (cond b (run_at new (spot q port)) None)
+    by q port true = sym (told (spot q port))
+    by q port false = refl
 
-recent_step : (m at : ℕ) (o p : Option (Run End)) → end_told at o ≡ end_told at p → IfSome p (λ r. m < r.value.end + 120) → IfSome o (λ r. m < r.value.end + 120)
-recent_step m at None p h late = tt
-recent_step m at (Some r) None h late = absurd (let no : Some (end_along (at - r.first) r.value) ≡ None = h in cc)
-recent_step m at (Some r) (Some q) h late =
-    let same : end_along (at - r.first) r.value ≡ end_along (at - q.first) q.value = cc in
-    let ends : r.value.end ≡ q.value.end = ap (λ (e : End). e.end) same in
-    omega (arith, late, ends)
-
-pub recent_told : (m : ℕ) (runs new : List (Run End)) → ((at : ℕ) → end_told at (run_at new at) ≡ end_told at (run_at runs at)) → AreRecent m runs → AreRecent m new
-recent_told m runs new told recent at = recent_step m at (run_at new at) (run_at runs at) (told at) (recent at)
-
-module _ (m : ℕ) (runs : List (Run End)) (waits : FinMap nat_cmp ℕ) (is : AreScheduled (held_at m) runs waits) (p : ℕ) (r : Run End) (there : run_at runs p ≡ Some r) where
+module _ (runs : List (Run End)) (waits : FinMap nat_cmp ℕ) (is : AreScheduled runs waits) (p : ℕ) (r : Run End) (there : run_at runs p ≡ Some r) where
   pub set_run : IsSet r
   set_run = if-some IsSet (run_at runs p) r there (is.set p)
 
@@ -115,27 +101,90 @@ module _ (m : ℕ) (runs : List (Run End)) (waits : FinMap nat_cmp ℕ) (is : Ar
       set_at at true h = subst (λ (o : Option (Run End)). IfSome o IsSet) (sym (new_own at h)) (part_set (nat_lt at p))
       set_at at false h = subst (λ (o : Option (Run End)). IfSome o IsSet) (sym (new_other at h)) (is.set at)
 
-      module _ (apart : AreRuns new) (next : FinMap nat_cmp ℕ) (waits_are : Waits waits p (Some (until (nat_lt m r.value.end) r.value.end)) next) where
-        waiting_own : (at : ℕ) → has_place at r ≡ true → (at ≡ p → ⊥) → (b : Bool) → nat_lt at p ≡ b → wait_told (held_at m) at (Some r) ≡ wait_told (held_at m) at (Some (cond b left right))
-        waiting_own at h other true e = refl
-        waiting_own at h other false e =
+      -- what has another place isn't at the cut
+      apart_from : (at : ℕ) (q : Run End) → run_at runs at ≡ Some q → has_place at r ≡ false → has_place p q ≡ true → ⊥
+      apart_from at q own out has =
+          let both : Some q ≡ Some r = sym (run_whole runs is.apart at q own p has) ∙ there in
+          let same : q ≡ r = cc in
+          let own_has : has_place at r ≡ true = subst (λ (t : Run End). has_place at t ≡ true) same (run_has runs is.apart at q own) in
+          absurd (let no : true ≡ false = sym own_has ∙ out in cc)
+
+      module _ (apart : AreRuns new) (next : FinMap nat_cmp ℕ) (waits_are : Waits waits p (get waits r.first) next) where
+        left_phase : phase_by next left ≡ phase_by waits r
+        left_phase = ap (phase_until r.value.end) (waits_are r.first ∙ cond_other r.first p (get waits r.first) (get waits r.first) inner)
+
+        right_phase : phase_by next right ≡ phase_by waits r
+        right_phase = ap (phase_until r.value.end) (waits_are p ∙ cond_same p p (get waits r.first) (get waits p) refl)
+
+        -- the phase of another stays
+        other_phase : (at : ℕ) (q : Run End) → run_at runs at ≡ Some q → has_place at r ≡ false → phase_by next q ≡ phase_by waits q
+        other_phase at q own out = phase_other waits next p (get waits r.first) waits_are q (λ same.
+            let from = run_from runs is.apart at q own in
+            let to = run_to runs is.apart at q own in
+            apart_from at q own out (in_by q.first q.count p (omega (arith, same)) (omega (arith, same, from, to))))
+
+        own_use : (at : ℕ) (b : Bool) → nat_lt at p ≡ b → use_told next at (Some (cond b left right)) ≡ use_told waits at (Some r)
+        own_use at true e = ap (λ (f : Phase). use_along (at - r.first) (use_in f r.value)) left_phase
+        own_use at false e =
+            let from : p ≤ at = ltb-false at p e in
+            ap (λ (f : Phase). use_along (at - p) (use_in f last)) right_phase
+            ∙ use_step (at - p) last (phase_by waits r)
+            ∙ ap (use_in (phase_by waits r)) (along_twice r.value (p - r.first) (at - p) (at - r.first) (omega (arith, from, behind)))
+            ∙ sym (use_step (at - r.first) r.value (phase_by waits r))
+
+        other_use : (at : ℕ) → has_place at r ≡ false → (o : Option (Run End)) → run_at runs at ≡ o → use_told next at o ≡ use_told waits at o
+        other_use at out None e = refl
+        other_use at out (Some q) e = ap (λ (f : Phase). use_along (at - q.first) (use_in f q.value)) (other_phase at q e out)
+
+        used_at : (at : ℕ) (t : Bool) → has_place at r ≡ t → use_told next at (run_at new at) ≡ use_told waits at (run_at runs at)
+        used_at at true h = ap (use_told next at) (new_own at h) ∙ own_use at (nat_lt at p) refl ∙ sym (ap (use_told waits at) (run_whole runs is.apart p r there at h))
+        used_at at false h = ap (use_told next at) (new_other at h) ∙ other_use at h (run_at runs at) refl
+
+        pub part_uses : (at : ℕ) → use_told next at (run_at new at) ≡ use_told waits at (run_at runs at)
+        part_uses at = used_at at (has_place at r) refl
+
+        abbrev Began : ℕ → Run End → Type 0
+        Began m q = since (phase_by next q) q.value.end ≤ m
+
+        own_begun : (m : ℕ) → since (phase_by waits r) r.value.end ≤ m → (b : Bool) → Began m (cond b left right)
+        own_begun m h true = subst (λ (f : Phase). since f r.value.end ≤ m) (sym left_phase) h
+        own_begun m h false = subst (λ (f : Phase). since f r.value.end ≤ m) (sym right_phase) h
+
+        begun_at : (m : ℕ) → HaveBegun m runs waits → (at : ℕ) (t : Bool) → has_place at r ≡ t → IfSome (run_at new at) (Began m)
+        begun_at m begun at true h = subst (λ (o : Option (Run End)). IfSome o (Began m)) (sym (new_own at h))
+            (own_begun m (if-some (λ (q : Run End). since (phase_by waits q) q.value.end ≤ m) (run_at runs p) r there (begun p)) (nat_lt at p))
+        begun_at m begun at false h = subst (λ (o : Option (Run End)). IfSome o (Began m)) (sym (new_other at h)) (some-if (Began m) (run_at runs at) (λ q e.
+            subst (λ (f : Phase). since f q.value.end ≤ m) (sym (other_phase at q e h)) (if-some (λ (t : Run End). since (phase_by waits t) t.value.end ≤ m) (run_at runs at) q e (begun at))))
+
+        pub part_begun : (m : ℕ) → HaveBegun m runs waits → HaveBegun m new next
+        part_begun m begun at = begun_at m begun at (has_place at r) refl
+
+        waiting_own : (at : ℕ) → (at ≡ p → ⊥) → (b : Bool) → nat_lt at p ≡ b → wait_told waits at (Some r) ≡ wait_told next at (Some (cond b left right))
+        waiting_own at other true e = ap (λ (f : Phase). cond (r.first == at) (until f r.value.end) None) (sym left_phase)
+        waiting_own at other false e =
             let from : p ≤ at = ltb-false at p e in
             let later : r.first ≡ at → ⊥ = λ same. absurd (omega (arith, same, from, behind)) in
-            cond_other r.first at (Some (until (held_at m r) r.value.end)) None later
-            ∙ sym (cond_other p at (Some (until (held_at m right) last.end)) None (λ same. other (sym same)))
+            cond_other r.first at (until (phase_by waits r) r.value.end) None later
+            ∙ sym (cond_other p at (until (phase_by next right) last.end) None (λ same. other (sym same)))
 
-        waiting_other : (at : ℕ) → (at ≡ p → ⊥) → (t : Bool) → has_place at r ≡ t → get waits at ≡ wait_told (held_at m) at (run_at new at)
+        waiting_step : (at : ℕ) → has_place at r ≡ false → (o : Option (Run End)) → run_at runs at ≡ o → wait_told waits at o ≡ wait_told next at o
+        waiting_step at out None e = refl
+        waiting_step at out (Some q) e = ap (λ (f : Phase). cond (q.first == at) (until f q.value.end) None) (sym (other_phase at q e out))
+
+        waiting_other : (at : ℕ) → (at ≡ p → ⊥) → (t : Bool) → has_place at r ≡ t → get waits at ≡ wait_told next at (run_at new at)
         waiting_other at other true h =
-            is.waiting at ∙ ap (wait_told (held_at m) at) (run_whole runs is.apart p r there at h) ∙ waiting_own at h other (nat_lt at p) refl ∙ ap (wait_told (held_at m) at) (sym (new_own at h))
-        waiting_other at other false h = is.waiting at ∙ ap (wait_told (held_at m) at) (sym (new_other at h))
+            is.waiting at ∙ ap (wait_told waits at) (run_whole runs is.apart p r there at h) ∙ waiting_own at other (nat_lt at p) refl ∙ ap (wait_told next at) (sym (new_own at h))
+        waiting_other at other false h = is.waiting at ∙ waiting_step at h (run_at runs at) refl ∙ ap (wait_told next at) (sym (new_other at h))
 
-        pub part_scheduled : AreScheduled (held_at m) new next
+        pub part_scheduled : AreScheduled new next
         part_scheduled = record {
           apart = apart;
           set = λ at. set_at at (has_place at r) refl;
           waiting = λ at. elim (same_or_not at p) [
-            | inl same ↦ waits_are at ∙ cond_same at p _ _ same
-                ∙ sym (ap (λ (a : ℕ). wait_told (held_at m) a (run_at new a)) same ∙ ap (wait_told (held_at m) p) at_cut ∙ cond_same p p (Some (until (nat_lt m r.value.end) r.value.end)) None refl)
-            | inr other ↦ waits_are at ∙ cond_other at p _ _ other ∙ waiting_other at other (has_place at r) refl
+            | inl same ↦ waits_are at ∙ cond_same at p (get waits r.first) (get waits at) same
+                ∙ run_waits runs waits is p r there
+                ∙ sym (ap (λ (a : ℕ). wait_told next a (run_at new a)) same ∙ ap (wait_told next p) at_cut ∙ cond_same p p (until (phase_by next right) last.end) None refl
+                ∙ ap (λ (f : Phase). until f r.value.end) right_phase)
+            | inr other ↦ waits_are at ∙ cond_other at p (get waits r.first) (get waits at) other ∙ waiting_other at other (has_place at r) refl
           ];
         }

@@ -33,8 +33,7 @@ use Rattle.pcp_base.proofs.StageLaws.{unlike, two_ways, with_left-unowned, expir
 use Rattle.pcp_base.proofs.StepLaws.{ends_3-by, put-or, put-new, found}
 use Rattle.pcp_base.proofs.ApplyLaws.{owners-kept, OneOwner-at, IsReached-apply}
 use Rattle.leased_ports.specs.LastEnds.{last_end}
-use Rattle.std.proofs.Math.ListN.{get_or-map}
-use Rattle.leased_ports.specs.Leased.{Leased, IsPortsOf, at_moment, end_of, fresh_ports, no_ends, place, while_recent}
+use Rattle.leased_ports.specs.Leased.{Leased, IsPortsOf, at_moment, end_of, fresh_ports, place, while_recent}
 use Rattle.leased_ports.proofs.StepLemmas.{end_in-no_ends}
 use Rattle.leased_ports.specs.Recorded.{touched, latest, held_until, end_by_rest, end_after}
 use Rattle.leased_ports.proofs.ExpiryLemmas.{map_ends-end, later-live, live-any, dead-any, owner-leaves}
@@ -210,7 +209,7 @@ latest-is m (e ∷ es) =
     ]
 
 -- leases that are live leave ends to come
-ends-late : (t : Table) (m : ℕ) (e : End) → AllByRecursion (λ l. IsTermAt m l.granted l.expiry) t.maps → AllByRecursion (λ l. IsTermAt m l.granted l.expiry) t.peers → IsIn e (ends_at_expiry t) → m < e.end
+pub ends-late : (t : Table) (m : ℕ) (e : End) → AllByRecursion (λ l. IsTermAt m l.granted l.expiry) t.maps → AllByRecursion (λ l. IsTermAt m l.granted l.expiry) t.peers → IsIn e (ends_at_expiry t) → m < e.end
 ends-late t m e maps peers h =
     elim (expiry-parts t e h) [
       | inl a ↦ (let term = All-IsIn (λ l. IsTermAt m l.granted l.expiry) t.maps a.0 maps a.1 in omega (arith, term.live, map_ends-end a.0 e a.2))
@@ -225,10 +224,10 @@ abbrev IsNotRested : Change → Protocol → ℕ → Type 0
 IsNotRested (Rest e port end) protocol n = is_end_of protocol n (record { endpoint = e; external = port; end = end }) ≡ false
 IsNotRested change protocol n = ⊤
 
-of-port : (protocol : Protocol) (port : ℕ) (e : End) → e.endpoint.protocol ≡ protocol → e.external ≡ port → is_end_of protocol port e ≡ true
+pub of-port : (protocol : Protocol) (port : ℕ) (e : End) → e.endpoint.protocol ≡ protocol → e.external ≡ port → is_end_of protocol port e ≡ true
 of-port protocol port e p n = and_from _ _ (eq-eqb _ _ (ap protocol_number p)) (eq-eqb e.external port n)
 
-port-of : (protocol : Protocol) (port : ℕ) (e : End) → is_end_of protocol port e ≡ true → (e.endpoint.protocol ≡ protocol) × (e.external ≡ port)
+pub port-of : (protocol : Protocol) (port : ℕ) (e : End) → is_end_of protocol port e ≡ true → (e.endpoint.protocol ≡ protocol) × (e.external ≡ port)
 port-of protocol port e h = let k = and_parts _ _ h in (protocol_number-same e.endpoint.protocol protocol (eqb-true _ _ k.0), eqb-true e.external port k.1)
 
 -- owners of which none has the port don't own an end of it
@@ -614,20 +613,16 @@ nothing-kept s r protocol port h = nothing s r.moment r.change protocol port h
 
 -- ---- the ports after a record
 
-pub ports-recorded : (v : Leased) (s : State) (r : Record) → IsReached s → Fits s r → empties r.change ≡ false → v.reached ≡ r.moment
-    → ((protocol : Protocol) (port : ℕ) → end_of v protocol port ≡ end_after s r protocol port) → IsPortsOf v (apply s r)
-ports-recorded v s r reached fits keeps at ends =
-    let passed : r.moment ≤ v.reached = omega (arith, at) in record {
-      passed = passed;
-      same = λ protocol port.
-          ends protocol port ∙ sym (recorded-last s r protocol port reached fits keeps) ∙ ap (λ (n : ℕ). last_end (apply s r) n protocol port) (sym at);
-    }
+pub ports-recorded : (v : Leased) (s : State) (r : Record) → IsReached s → Fits s r → empties r.change ≡ false → r.moment ≤ v.reached
+    → ((protocol : Protocol) (port : ℕ) → while_recent r.moment (end_of v protocol port) ≡ end_after s r protocol port) → IsPortsOf v (apply s r)
+ports-recorded v s r reached fits keeps passed ends = record {
+  passed = passed;
+  same = λ protocol port. ends protocol port ∙ sym (recorded-last s r protocol port reached fits keeps);
+}
 
 pub ports-anew : (low high quota : ℕ) (s : State) (r : Record) → empties r.change ≡ true → IsPortsOf (at_moment r.moment (fresh_ports low high quota)) (apply s r)
 ports-anew low high quota s r forgets =
     let passed : r.moment ≤ r.moment = omega arith in record {
       passed = passed;
-      same = λ protocol port.
-          get_or-map (while_recent r.moment) (no_ends 131072) (place protocol port) None
-          ∙ ap (while_recent r.moment) (end_in-no_ends 131072 (place protocol port)) ∙ sym (nothing-kept s r protocol port forgets);
+      same = λ protocol port. ap (while_recent r.moment) (end_in-no_ends 131072 (place protocol port)) ∙ sym (nothing-kept s r protocol port forgets);
     }

@@ -11,7 +11,7 @@ use Rattle.port_spans.specs.Runs.{has_place, run_at}
 use Rattle.port_spans.proofs.RunLemmas.{in_from, in_to, in_by}
 use Rattle.port_spans.proofs.SpotLemmas.{spot_in, spot_from, spot_up_to}
 use Rattle.port_spans.specs.Along.{spot}
-use Rattle.leased_ports.specs.Kept.{run_of, IsSet}
+use Rattle.leased_ports.specs.Kept.{port_run, IsSet}
 
 pub spot_one : (p q : Protocol) (m n : ℕ) → m < 65536 → n < 65536 → spot p m ≡ spot q n → (p ≡ q) × (m ≡ n)
 spot_one Tcp Tcp m n a b e = (refl, e)
@@ -19,10 +19,10 @@ spot_one Udp Udp m n a b e = (refl, omega (arith, e))
 spot_one Tcp Udp m n a b e = absurd (omega (arith, a, e))
 spot_one Udp Tcp m n a b e = absurd (omega (arith, b, e))
 
-pub run_of_low : (runs : List (Run End)) (protocol : Protocol) (port : ℕ) → port < 65536 → run_of runs protocol port ≡ run_at runs (spot protocol port)
+pub run_of_low : (runs : List (Run End)) (protocol : Protocol) (port : ℕ) → port < 65536 → port_run runs protocol port ≡ run_at runs (spot protocol port)
 run_of_low runs protocol port low = ap (λ b. cond b (run_at runs (spot protocol port)) None) (lt-ltb port 65536 low)
 
-pub run_of_high : (runs : List (Run End)) (protocol : Protocol) (port : ℕ) → 65536 ≤ port → run_of runs protocol port ≡ None
+pub run_of_high : (runs : List (Run End)) (protocol : Protocol) (port : ℕ) → 65536 ≤ port → port_run runs protocol port ≡ None
 run_of_high runs protocol port high = ap (λ b. cond b (run_at runs (spot protocol port)) None) (le-ltb port 65536 high)
 
 module _ (r : Run End) (set : IsSet r) where

@@ -1,5 +1,5 @@
 -- What a pool may be asked of the ports of a run, and what it makes of them.
-use Rattle.std.proofs.Common.{◌≡◌, ℕ, ◌+◌, ◌-◌, ◌≤◌, ◌&&◌, Bool, true, false, cond, Some, refl, sym, ap, ◌∙◌, subst}
+use Rattle.std.proofs.Common.{◌≡◌, ℕ, ◌+◌, ◌-◌, ◌≤◌, ◌&&◌, Bool, true, false, cond, refl, sym, ap, ◌∙◌, subst}
 use Rattle.std.proofs.lemmas.Bool.{and_parts}
 use Rattle.pcp_base.specs.declared.leases.Protocol.{Protocol}
 use Rattle.pcp_base.specs.declared.leases.Protocol.TheVariants.{Tcp, Udp}
@@ -15,27 +15,34 @@ use Rattle.external_pool.specs.Calls.{ArePorts, MayHold, MayRelease}
 use Rattle.external_pool.proofs.Counted.{with_use-whole, use_of-with_use}
 use Rattle.port_spans.specs.declared.runs.Run.{Run}
 use Rattle.port_spans.proofs.RunLemmas.{in_by}
-use Rattle.leased_ports.specs.Kept.{IsOn, IsSet, use_by}
+use Rattle.leased_ports.specs.declared.phases.Phase.{Phase}
+use Rattle.leased_ports.specs.declared.phases.Phase.TheVariants.{Holds, Rests, Over}
+use Rattle.leased_ports.specs.Kept.{IsOn, IsSet, use_in}
 use Rattle.leased_ports.specs.Steps.{GivesUses, AreUsedBy}
 
 module _ (pool : Holdings) (r : Run End) (set : IsSet r) where
   pub are_ports : ArePorts r.value.external r.count
   are_ports = record { from = set.external; some = set.some; end = set.within }
 
-  pub may_release : AreUsedBy pool r (use_by true (Some r.value)) → MayRelease pool r.value.endpoint.address r.value.endpoint.protocol r.value.external r.count
+  pub may_release : AreUsedBy pool r (use_in Holds r.value) → MayRelease pool r.value.endpoint.address r.value.endpoint.protocol r.value.external r.count
   may_release used = record { ports = are_ports; held = λ port from to. used port (in_by r.value.external r.count port from to) }
 
-  pub all_rest : AreUsedBy pool r (use_by false (Some r.value)) → AllRest pool r.value.endpoint.protocol r.value.external r.count
+  pub all_rest : AreUsedBy pool r (use_in Rests r.value) → AllRest pool r.value.endpoint.protocol r.value.external r.count
   all_rest used port from to = ap is_resting (used port (in_by r.value.external r.count port from to))
 
   pub all_free : AreUsedBy pool r Free → AllFree pool r.value.endpoint.protocol r.value.external r.count
   all_free used port from to = used port (in_by r.value.external r.count port from to)
 
-  pub may_hold : AreUsedBy pool r Free → MayHold pool r.value.endpoint.protocol r.value.external r.count
-  may_hold used = record { ports = are_ports; none_held = λ port from to. ap is_held (used port (in_by r.value.external r.count port from to)) }
+  pub may_hold : (p : Phase) → (p ≡ Holds → ⊥) → AreUsedBy pool r (use_in p r.value) → MayHold pool r.value.endpoint.protocol r.value.external r.count
+  may_hold Holds other used = absurd (other refl)
+  may_hold Rests other used = record { ports = are_ports; none_held = λ port from to. ap is_held (used port (in_by r.value.external r.count port from to)) }
+  may_hold Over other used = record { ports = are_ports; none_held = λ port from to. ap is_held (used port (in_by r.value.external r.count port from to)) }
 
-  pub may_hold_again : AreUsedBy pool r (use_by false (Some r.value)) → MayHold pool r.value.endpoint.protocol r.value.external r.count
-  may_hold_again used = record { ports = are_ports; none_held = λ port from to. ap is_held (used port (in_by r.value.external r.count port from to)) }
+-- a phase is the third one where it is neither of two
+pub must_be_over : (p : Phase) → (p ≡ Holds → ⊥) → (p ≡ Rests → ⊥) → p ≡ Over
+must_be_over Holds a b = absurd (a refl)
+must_be_over Rests a b = absurd (b refl)
+must_be_over Over a b = refl
 
 on-with_use : (pool : Holdings) (protocol : Protocol) (start n : ℕ) (value : Use) (low high most : ℕ) → IsOn pool low high most → IsOn (with_use protocol start n value pool) low high most
 on-with_use pool Tcp start n value low high most h = record { quota = h.quota; tcp_low = h.tcp_low; tcp_high = h.tcp_high; udp_low = h.udp_low; udp_high = h.udp_high }

@@ -1,10 +1,10 @@
 -- The value that is seen of what is kept.
 use Rattle.std.specs.Prelude.{◌⊎◌}
-use Rattle.std.proofs.Common.{◌≡◌, ℕ, zero, suc, ◌+◌, ◌-◌, ◌*◌, ◌/◌, ◌%◌, ◌<◌, ◌≤◌, ◌&&◌, ◌==◌, nat_lt, Bool, true, false, cond, List, [], map, length, length-set, slice_set, Option, Some, None, refl, sym, ap, ◌∙◌, subst, inl, inr, arith}
+use Rattle.std.proofs.Common.{◌≡◌, ℕ, zero, suc, ◌+◌, ◌-◌, ◌*◌, ◌/◌, ◌%◌, ◌<◌, ◌≤◌, ◌&&◌, ◌==◌, nat_lt, Bool, true, false, cond, List, [], length, length-set, slice_set, Option, Some, None, IfSome, refl, sym, ap, ◌∙◌, subst, inl, inr, arith}
 use Rattle.std.specs.List.{range_with_len}
 use Rattle.std.specs.Ordering.{nat_cmp}
 use Rattle.std.specs.FinMap.{FinMap, empty, get-empty}
-use Rattle.std.proofs.lemmas.List.{get_or-map, get_or_past, ext_get_or, get_or-set_same, get_or-set_other, length-map}
+use Rattle.std.proofs.lemmas.List.{get_or-map, get_or_past, ext_get_or, get_or-set_same, get_or-set_other}
 use Rattle.std.proofs.lemmas.List.FromFn.{get_or-range_with_len, length-range_with_len, length-map-range_with_len}
 use Rattle.std.proofs.lemmas.Bool.{and_from, le-ltb, eq-eqb, eqb-true}
 use Rattle.std.proofs.lemmas.Bool.Decides.{nat_tests}
@@ -23,7 +23,7 @@ use Rattle.expiry_wheel.proofs.Maps.{same_or_not, below_or_not}
 use Rattle.external_pool.specs.declared.uses.Use.{Use}
 use Rattle.external_pool.specs.declared.uses.Use.TheVariants.{Free}
 use Rattle.external_pool.specs.Holdings.{Holdings, uses_of, use_of, fresh_pool, emptied}
-use Rattle.external_pool.specs.PortUses.{PortUses, uses_over, use_at, all_free}
+use Rattle.external_pool.specs.PortUses.{PortUses, uses_over, use_along, use_at, all_free}
 use Rattle.external_pool.specs.PoolOf.{IsPoolOf}
 use Rattle.external_pool.proofs.Counted.{fresh-whole}
 use Rattle.external_pool.proofs.Painted.{use_at-all_free}
@@ -31,14 +31,18 @@ use Rattle.lease_store.specs.declared.terms.Terms.{Terms}
 use Rattle.port_spans.specs.declared.runs.Run.{Run}
 use Rattle.port_spans.specs.Runs.{run_at}
 use Rattle.port_spans.proofs.RunLemmas.{in_by}
-use Rattle.leased_ports.specs.Leased.{Leased, leased, place, end_in, no_ends, while_recent, with_last_end, with_last_ends, without_last_ends, IsPortsOf, IsOnTerms}
+use Rattle.leased_ports.specs.Leased.{Leased, leased, place, end_in, no_ends, with_last_end, with_last_ends, without_last_ends, IsPortsOf, IsOnTerms}
 use Rattle.port_spans.specs.Along.{end_along, spot, end_told}
-use Rattle.leased_ports.specs.Kept.{run_of, end_by, ends_of, is_held_at, held_at, use_by, use_told, IsOn, IsKept}
+use Rattle.leased_ports.specs.declared.phases.Phase.{Phase}
+use Rattle.leased_ports.specs.Kept.{port_run, end_by, ends_of, phase_at, phase_by, use_in, use_by, use_told, IsOn, IsKept, AreInStep, AreSettled}
+use Rattle.leased_ports.specs.Falling.{NoneDue}
 use Rattle.leased_ports.specs.Laws.{IsPoolOnTerms}
 use Rattle.leased_ports.specs.Steps.{AreAssigned, last_along, no_last}
 use Rattle.leased_ports.proofs.PoolLemmas.{pool-state}
 use Rattle.leased_ports.proofs.StepLemmas.{end_in-no_ends, length-no_ends}
-use Rattle.leased_ports.proofs.PartLemmas.{use_is_told}
+use Rattle.leased_ports.proofs.PartLemmas.{use_step}
+use Rattle.leased_ports.proofs.PhaseLemmas.{use-recent}
+use Rattle.leased_ports.proofs.MomentLemmas.{ports-told}
 
 -- ---- places
 
@@ -87,7 +91,7 @@ ends_of-at runs count at h =
     same : at_place runs (0 + at) ≡ at_place runs at
     same = let e : 0 + at ≡ at = omega arith in ap (at_place runs) e
 
-by_high : (runs : List (Run End)) (p : Protocol) (n : ℕ) → 65536 ≤ n → None ≡ end_by runs p n
+pub by_high : (runs : List (Run End)) (p : Protocol) (n : ℕ) → 65536 ≤ n → None ≡ end_by runs p n
 by_high runs p n high = sym (ap (λ (b : Bool). end_told (spot p n) (cond b (run_at runs (spot p n)) None)) (le-ltb n 65536 high))
 
 pub ends_of-place : (runs : List (Run End)) (p : Protocol) (n : ℕ) → end_in (ends_of runs 131072) (place p n) ≡ end_by runs p n
@@ -141,16 +145,16 @@ given-at last p start (suc n) xs all within q port = elim (same_or_not (place q 
       (in_more (same_protocol p q) start n port (λ s e. other (ap (place q) e ∙ ap (λ (r : Protocol). place r (start + n)) (sym ((same_protocol-Decides p q).0 s)))))
 ]
 
-with_given : (e : End) (n low high quota reached : ℕ) (xs : List (Option End))
-    → with_last_ends e n (leased low high quota reached xs) ≡ leased low high quota reached (given (λ i. Some (end_along i e)) e.endpoint.protocol e.external n xs)
-with_given e zero low high quota reached xs = refl
-with_given e (suc n) low high quota reached xs = ap (with_last_end (end_along n e)) (with_given e n low high quota reached xs)
+with_given : (e : End) (n low high quota seen reached : ℕ) (xs : List (Option End))
+    → with_last_ends e n (leased low high quota seen reached xs) ≡ leased low high quota seen reached (given (λ i. Some (end_along i e)) e.endpoint.protocol e.external n xs)
+with_given e zero low high quota seen reached xs = refl
+with_given e (suc n) low high quota seen reached xs = ap (with_last_end (end_along n e)) (with_given e n low high quota seen reached xs)
 
-without_given : (p : Protocol) (start n low high quota reached : ℕ) (xs : List (Option End))
-    → without_last_ends p start n (leased low high quota reached xs) ≡ leased low high quota reached (given no_last p start n xs)
-without_given p start zero low high quota reached xs = refl
-without_given p start (suc n) low high quota reached xs =
-    ap (λ (v : Leased). record v { ends = slice_set v.ends (place p (start + n)) None }) (without_given p start n low high quota reached xs)
+without_given : (p : Protocol) (start n low high quota seen reached : ℕ) (xs : List (Option End))
+    → without_last_ends p start n (leased low high quota seen reached xs) ≡ leased low high quota seen reached (given no_last p start n xs)
+without_given p start zero low high quota seen reached xs = refl
+without_given p start (suc n) low high quota seen reached xs =
+    ap (λ (v : Leased). record v { ends = slice_set v.ends (place p (start + n)) None }) (without_given p start n low high quota seen reached xs)
 
 -- what was assigned is what is seen
 module _ (m : ℕ) (old : List (Run End)) (p : Protocol) (start n : ℕ) (last : ℕ → Option End) (new : List (Run End)) (pool : Holdings) (waits : FinMap nat_cmp ℕ)
@@ -168,19 +172,19 @@ module _ (m : ℕ) (old : List (Run End)) (p : Protocol) (start n : ℕ) (last :
         ∙ ap (λ (o : Option End). cond (same_protocol p q && is_in_run start n port) o (end_in (ends_of old 131072) (place q port))) (sym (alike port))
         ∙ sym (given-at one_by_one p start n (ends_of old 131072) (length-ends_of old 131072) within q port))
 
-pub put_view : (m : ℕ) (old : List (Run End)) (e : End) (n : ℕ) (new : List (Run End)) (pool : Holdings) (waits : FinMap nat_cmp ℕ) (low high quota : ℕ)
+pub put_view : (m : ℕ) (old : List (Run End)) (e : End) (n : ℕ) (new : List (Run End)) (pool : Holdings) (waits : FinMap nat_cmp ℕ) (low high quota seen : ℕ)
     → AreAssigned m old e.endpoint.protocol e.external n (last_along e) new pool waits → e.external + n ≤ 65536
-    → leased low high quota m (ends_of new 131072) ≡ with_last_ends e n (leased low high quota m (ends_of old 131072))
-put_view m old e n new pool waits low high quota h within =
-    ap (leased low high quota m) (assigned_view m old e.endpoint.protocol e.external n (last_along e) new pool waits h within (λ i. Some (end_along i e)) (λ port. refl))
-    ∙ sym (with_given e n low high quota m (ends_of old 131072))
+    → leased low high quota seen m (ends_of new 131072) ≡ with_last_ends e n (leased low high quota seen m (ends_of old 131072))
+put_view m old e n new pool waits low high quota seen h within =
+    ap (leased low high quota seen m) (assigned_view m old e.endpoint.protocol e.external n (last_along e) new pool waits h within (λ i. Some (end_along i e)) (λ port. refl))
+    ∙ sym (with_given e n low high quota seen m (ends_of old 131072))
 
-pub free_view : (m : ℕ) (old : List (Run End)) (p : Protocol) (start n : ℕ) (new : List (Run End)) (pool : Holdings) (waits : FinMap nat_cmp ℕ) (low high quota : ℕ)
+pub free_view : (m : ℕ) (old : List (Run End)) (p : Protocol) (start n : ℕ) (new : List (Run End)) (pool : Holdings) (waits : FinMap nat_cmp ℕ) (low high quota seen : ℕ)
     → AreAssigned m old p start n no_last new pool waits → start + n ≤ 65536
-    → leased low high quota m (ends_of new 131072) ≡ without_last_ends p start n (leased low high quota m (ends_of old 131072))
-free_view m old p start n new pool waits low high quota h within =
-    ap (leased low high quota m) (assigned_view m old p start n no_last new pool waits h within no_last (λ port. refl))
-    ∙ sym (without_given p start n low high quota m (ends_of old 131072))
+    → leased low high quota seen m (ends_of new 131072) ≡ without_last_ends p start n (leased low high quota seen m (ends_of old 131072))
+free_view m old p start n new pool waits low high quota seen h within =
+    ap (leased low high quota seen m) (assigned_view m old p start n no_last new pool waits h within no_last (λ port. refl))
+    ∙ sym (without_given p start n low high quota seen m (ends_of old 131072))
 
 -- ---- one port
 
@@ -235,25 +239,27 @@ fresh_free : (low high quota : ℕ) (p : Protocol) (port : ℕ) → use_of (fres
 fresh_free low high quota Tcp port = use_at-all_free 65536 port
 fresh_free low high quota Udp port = use_at-all_free 65536 port
 
-fresh_use : (held : Run End → Bool) (p : Protocol) (port : ℕ) → Free ≡ use_told held (spot p port) (run_of [] p port)
-fresh_use held p port = step (nat_lt port 65536)
+fresh_use : (waits : FinMap nat_cmp ℕ) (p : Protocol) (port : ℕ) → Free ≡ use_told waits (spot p port) (port_run [] p port)
+fresh_use waits p port = step (nat_lt port 65536)
   where
-    step : (b : Bool) → Free ≡ use_told held (spot p port) (cond b (run_at [] (spot p port)) None)
+    step : (b : Bool) → Free ≡ use_told waits (spot p port) (cond b (run_at [] (spot p port)) None)
     step true = refl
     step false = refl
 
-pub kept_fresh : (low high quota m : ℕ) (runs : List (Run End)) (pool : Holdings) (waits : FinMap nat_cmp ℕ) → runs ≡ [] → pool ≡ fresh_pool low high quota → waits ≡ empty → IsKept low high quota m runs pool waits
-kept_fresh low high quota m runs pool waits runs_is pool_is waits_is =
-    subst (λ (rs : List (Run End)). IsKept low high quota m rs pool waits) (sym runs_is)
-    (subst (λ (p : Holdings). IsKept low high quota m [] p waits) (sym pool_is)
-    (subst (λ (w : FinMap nat_cmp ℕ). IsKept low high quota m [] (fresh_pool low high quota) w) (sym waits_is) (record {
+pub kept_fresh : (low high quota : ℕ) (runs : List (Run End)) (pool : Holdings) (waits : FinMap nat_cmp ℕ) → runs ≡ [] → pool ≡ fresh_pool low high quota → waits ≡ empty → IsKept low high quota 0 0 runs pool waits
+kept_fresh low high quota runs pool waits runs_is pool_is waits_is =
+    subst (λ (rs : List (Run End)). IsKept low high quota 0 0 rs pool waits) (sym runs_is)
+    (subst (λ (p : Holdings). IsKept low high quota 0 0 [] p waits) (sym pool_is)
+    (subst (λ (w : FinMap nat_cmp ℕ). IsKept low high quota 0 0 [] (fresh_pool low high quota) w) (sym waits_is) (record {
       on = record { quota = refl; tcp_low = refl; tcp_high = refl; udp_low = refl; udp_high = refl };
       in_step = record {
         whole = fresh-whole low high quota;
         scheduled = record { apart = λ at. tt; set = λ at. tt; waiting = λ at. get-empty nat_cmp at };
-        used = λ p port. fresh_free low high quota p port ∙ fresh_use (held_at m) p port;
+        used = λ p port. fresh_free low high quota p port ∙ fresh_use empty p port;
       };
-      recent = λ at. tt;
+      begun = λ at. tt;
+      order = omega arith;
+      late = λ id expiry h. let no : None ≡ Some expiry = sym (get-empty nat_cmp id) ∙ h in absurd cc;
     })))
 
 -- a cleared pool is a new one of its range
@@ -265,55 +271,49 @@ emptied_fresh pool low high most h = λ i. record {
 }
 
 pub kept_vacated : (low high quota : ℕ) (runs : List (Run End)) (before between pool : Holdings) (waits : FinMap nat_cmp ℕ) → runs ≡ [] → ((l h q : ℕ) → IsOn before l h q → IsOn between l h q) → IsOn before low high quota
-    → pool ≡ emptied between → waits ≡ empty → IsKept low high quota 0 runs pool waits
+    → pool ≡ emptied between → waits ≡ empty → IsKept low high quota 0 0 runs pool waits
 kept_vacated low high quota runs before between pool waits runs_is keeps on pool_is waits_is =
-    kept_fresh low high quota 0 runs pool waits runs_is (pool_is ∙ emptied_fresh between low high quota (keeps low high quota on)) waits_is
+    kept_fresh low high quota runs pool waits runs_is (pool_is ∙ emptied_fresh between low high quota (keeps low high quota on)) waits_is
 
-pub view_vacated : (low high quota : ℕ) (runs : List (Run End)) → runs ≡ [] → leased low high quota 0 (ends_of runs 131072) ≡ leased low high quota 0 (no_ends 131072)
-view_vacated low high quota runs e = ap (λ (rs : List (Run End)). leased low high quota 0 (ends_of rs 131072)) e ∙ ap (leased low high quota 0) fresh_view
+pub view_vacated : (low high quota : ℕ) (runs : List (Run End)) → runs ≡ [] → leased low high quota 0 0 (ends_of runs 131072) ≡ leased low high quota 0 0 (no_ends 131072)
+view_vacated low high quota runs e = ap (λ (rs : List (Run End)). leased low high quota 0 0 (ends_of rs 131072)) e ∙ ap (leased low high quota 0 0) fresh_view
 
-pub kept_assigned : (low high quota m : ℕ) (old : List (Run End)) (p : Protocol) (start n : ℕ) (last : ℕ → Option End) (new : List (Run End)) (before pool : Holdings) (waits : FinMap nat_cmp ℕ)
-    → ((l h q : ℕ) → IsOn before l h q → IsOn pool l h q) → IsOn before low high quota → AreAssigned m old p start n last new pool waits → IsKept low high quota m new pool waits
-kept_assigned low high quota m old p start n last new before pool waits keeps on h = record { on = keeps low high quota on; in_step = h.in_step; recent = h.recent }
+pub kept_assigned : (low high quota seen m : ℕ) (old : List (Run End)) (p : Protocol) (start n : ℕ) (last : ℕ → Option End) (new : List (Run End)) (before pool : Holdings) (waits : FinMap nat_cmp ℕ)
+    → ((l h q : ℕ) → IsOn before l h q → IsOn pool l h q) → IsOn before low high quota → AreAssigned m old p start n last new pool waits → seen ≤ m → NoneDue seen waits → IsKept low high quota seen m new pool waits
+kept_assigned low high quota seen m old p start n last new before pool waits keeps on h order late = record { on = keeps low high quota on; in_step = h.in_step; begun = h.begun; order = order; late = late }
 
--- what is seen at a later moment
-pub reached_view : (m : ℕ) (old new : List (Run End)) → ((at : ℕ) → end_told at (run_at new at) ≡ while_recent m (end_told at (run_at old at))) → ends_of new 131072 ≡ map (while_recent m) (ends_of old 131072)
-reached_view m old new told = same_view (ends_of new 131072) (map (while_recent m) (ends_of old 131072)) (length-ends_of new 131072)
-    (length-map (ends_of old 131072) (while_recent m) ∙ length-ends_of old 131072) (λ p n.
-    ends_of-place new p n ∙ by_low p n (nat_lt n 65536) ∙ ap (while_recent m) (sym (ends_of-place old p n)) ∙ sym (at_map (place p n)))
-  where
-    by_low : (p : Protocol) (n : ℕ) (b : Bool) → end_told (spot p n) (cond b (run_at new (spot p n)) None) ≡ while_recent m (end_told (spot p n) (cond b (run_at old (spot p n)) None))
-    by_low p n true = told (spot p n)
-    by_low p n false = refl
+-- Where each port is used by its last end, the pool is that of the state for whose ports the value
+-- stands.
+pub used_pool : (low high quota seen m : ℕ) (runs : List (Run End)) (pool : Holdings) → ((p : Protocol) (port : ℕ) → use_of pool p port ≡ use_by m (end_in (ends_of runs 131072) (place p port)))
+    → (s : State) → IsReached s → IsPortsOf (leased low high quota seen m (ends_of runs 131072)) s → IsPoolOf pool s m
+used_pool low high quota seen m runs pool used s reached h = pool-state pool s m reached h.passed (λ p port.
+    used p port ∙ use-recent m (end_in (ends_of runs 131072) (place p port))
+    ∙ ap (use_by m) (ports-told (leased low high quota seen m (ends_of runs 131072)) s m p port reached.sound h h.passed))
 
-    at_map : (k : ℕ) → end_in (map (while_recent m) (ends_of old 131072)) k ≡ while_recent m (end_in (ends_of old 131072) k)
-    at_map k = elim (below_or_not k 131072) [
-      | inl low ↦ get_or-map (while_recent m) (ends_of old 131072) k None None (omega (arith, low, length-ends_of old 131072))
-      | inr high ↦ get_or_past (map (while_recent m) (ends_of old 131072)) k None (omega (arith, high, length-map (ends_of old 131072) (while_recent m), length-ends_of old 131072))
-          ∙ ap (while_recent m) (sym (get_or_past (ends_of old 131072) k None (omega (arith, high, length-ends_of old 131072))))
-    ]
+-- so it is where what is due is seen to
+settled_use : (m at : ℕ) (waits : FinMap nat_cmp ℕ) (o : Option (Run End)) → IfSome o (λ r. phase_by waits r ≡ phase_at m r.value.end) → use_told waits at o ≡ use_by m (end_told at o)
+settled_use m at waits None h = refl
+settled_use m at waits (Some r) h = ap (λ (f : Phase). use_along (at - r.first) (use_in f r.value)) h ∙ use_step (at - r.first) r.value (phase_at m r.value.end)
 
--- each port is used by its last end
-used_by : (low high quota m : ℕ) (runs : List (Run End)) (pool : Holdings) (waits : FinMap nat_cmp ℕ) → IsKept low high quota m runs pool waits → (p : Protocol) (port : ℕ)
-    → use_of pool p port ≡ use_by (is_held_at m (end_in (ends_of runs 131072) (place p port))) (end_in (ends_of runs 131072) (place p port))
-used_by low high quota m runs pool waits is p port =
-    is.in_step.used p port ∙ use_is_told m (spot p port) (run_of runs p port)
-    ∙ ap (λ (e : Option End). use_by (is_held_at m e) e) (sym (ends_of-place runs p port))
+module _ (m : ℕ) (runs : List (Run End)) (pool : Holdings) (waits : FinMap nat_cmp ℕ) (is : AreInStep runs pool waits) (settled : AreSettled m runs waits) where
+  use_step_by : (p : Protocol) (port : ℕ) (b : Bool) → use_told waits (spot p port) (cond b (run_at runs (spot p port)) None) ≡ use_by m (end_told (spot p port) (cond b (run_at runs (spot p port)) None))
+  use_step_by p port true = settled_use m (spot p port) waits (run_at runs (spot p port)) (settled (spot p port))
+  use_step_by p port false = refl
 
--- so it is the pool of the state for whose ports the value stands
-pub kept_pool : (low high quota m : ℕ) (runs : List (Run End)) (pool : Holdings) (waits : FinMap nat_cmp ℕ) (s : State) → IsKept low high quota m runs pool waits → IsReached s
-    → IsPortsOf (leased low high quota m (ends_of runs 131072)) s → IsPoolOf pool s m
-kept_pool low high quota m runs pool waits s is reached h = pool-state pool s m reached h.passed (λ p port.
-    used_by low high quota m runs pool waits is p port ∙ ap (λ (o : Option End). use_by (is_held_at m o) o) (h.same p port))
+  used_by : (p : Protocol) (port : ℕ) → use_of pool p port ≡ use_by m (end_in (ends_of runs 131072) (place p port))
+  used_by p port = is.used p port ∙ use_step_by p port (nat_lt port 65536) ∙ ap (use_by m) (sym (ends_of-place runs p port))
 
-pub kept_terms : (low high quota m : ℕ) (runs : List (Run End)) (pool : Holdings) (waits : FinMap nat_cmp ℕ) (terms : Terms) → IsKept low high quota m runs pool waits
-    → IsOnTerms (leased low high quota m (ends_of runs 131072)) terms → IsPoolOnTerms pool terms
-kept_terms low high quota m runs pool waits terms is h = record { quota = is.on.quota ∙ h.quota; low = low_of; high = high_of }
+  pub kept_pool : (low high quota seen : ℕ) (s : State) → IsReached s → IsPortsOf (leased low high quota seen m (ends_of runs 131072)) s → IsPoolOf pool s m
+  kept_pool low high quota seen = used_pool low high quota seen m runs pool used_by
+
+pub kept_terms : (low high quota seen m : ℕ) (runs : List (Run End)) (pool : Holdings) (terms : Terms) → IsOn pool low high quota
+    → IsOnTerms (leased low high quota seen m (ends_of runs 131072)) terms → IsPoolOnTerms pool terms
+kept_terms low high quota seen m runs pool terms on h = record { quota = on.quota ∙ h.quota; low = low_of; high = high_of }
   where
     low_of : (p : Protocol) → (uses_of pool p).low ≡ terms.external.low
-    low_of Tcp = is.on.tcp_low ∙ h.low
-    low_of Udp = is.on.udp_low ∙ h.low
+    low_of Tcp = on.tcp_low ∙ h.low
+    low_of Udp = on.udp_low ∙ h.low
 
     high_of : (p : Protocol) → (uses_of pool p).high ≡ terms.external.high
-    high_of Tcp = is.on.tcp_high ∙ h.high
-    high_of Udp = is.on.udp_high ∙ h.high
+    high_of Tcp = on.tcp_high ∙ h.high
+    high_of Udp = on.udp_high ∙ h.high

@@ -1,5 +1,5 @@
 -- The laws of the ports of a state (our own).
-use Rattle.std.specs.Prelude.{◌≡◌, ℕ, ◌≤◌, true, false, None, Result}
+use Rattle.std.specs.Prelude.{◌≡◌, ℕ, ◌≤◌, true, false, None, Result, find}
 use Rattle.pcp_base.specs.Reached.{IsReached}
 use Rattle.pcp_base.specs.declared.leases.Protocol.{Protocol}
 use Rattle.pcp_base.specs.declared.leases.Endpoint.{Endpoint}
@@ -17,10 +17,12 @@ use Rattle.pcp_base.specs.declared.records.Record.{Record}
 use Rattle.pcp_base.specs.Sound.{SoundState}
 use Rattle.pcp_base.specs.Fits.{Fits}
 use Rattle.pcp_base.specs.Apply.{empties, apply}
-use Rattle.leased_ports.specs.LastEnds.{last_end}
-use Rattle.leased_ports.specs.Leased.{Leased, IsPortsOf, at_moment, end_of, fresh_ports}
+use Rattle.pcp_base.specs.Ends.{is_end_of}
+use Rattle.leased_ports.specs.LastEnds.{last_end, come}
+use Rattle.leased_ports.specs.Leased.{Leased, IsPortsOf, at_moment, end_of, fresh_ports, while_recent}
+use Rattle.leased_ports.specs.Listed.{ends_come}
 use Rattle.leased_ports.specs.Recorded.{end_after}
-use Rattle.leased_ports.specs.Kept.{is_held_at, use_by}
+use Rattle.leased_ports.specs.Kept.{use_by}
 
 -- the pool has the quota and the range of the terms
 pub record IsPoolOnTerms (pool : Holdings) (terms : Terms) : Type 0 where
@@ -39,8 +41,8 @@ PoolsPickForStates = (pool : Holdings) (terms : Terms) (s : State) (m : ℕ) (e 
 -- of the state.
 abbrev pub LastEndsTellPools : Type 0
 LastEndsTellPools = (pool : Holdings) (s : State) (m : ℕ) → IsReached s → s.last ≤ m →
-    ((protocol : Protocol) (port : ℕ) → use_of pool protocol port
-    ≡ use_by (is_held_at m (last_end s m protocol port)) (last_end s m protocol port)) →
+    ((protocol : Protocol) (port : ℕ) →
+    use_of pool protocol port ≡ use_by m (last_end s m protocol port)) →
     IsPoolOf pool s m
 
 -- no port of the empty state is held or rests
@@ -49,8 +51,14 @@ NewPortsAreFree = (low high quota : ℕ) → IsPortsOf (fresh_ports low high quo
 
 -- the ports of a state at a later moment
 abbrev pub PortsFollowMoments : Type 0
-PortsFollowMoments = (v : Leased) (s : State) (m : ℕ) → SoundState s → v.reached ≤ m →
-    IsPortsOf v s → IsPortsOf (at_moment m v) s
+PortsFollowMoments = (v : Leased) (s : State) (m : ℕ) → v.reached ≤ m → IsPortsOf v s →
+    IsPortsOf (at_moment m v) s
+
+-- At each moment from its last one on they tell the last ends of the state.
+abbrev pub PortsTellLastEnds : Type 0
+PortsTellLastEnds = (v : Leased) (s : State) (m : ℕ) (protocol : Protocol) (port : ℕ) →
+    SoundState s → IsPortsOf v s → s.last ≤ m →
+    while_recent m (end_of v protocol port) ≡ last_end s m protocol port
 
 -- after a record that doesn't forget all, the last end of each port is this
 abbrev pub RecordsTellLastEnds : Type 0
@@ -63,14 +71,25 @@ abbrev pub NothingIsKept : Type 0
 NothingIsKept = (s : State) (r : Record) (protocol : Protocol) (port : ℕ) →
     empties r.change ≡ true → last_end (apply s r) r.moment protocol port ≡ None
 
--- Ports whose last ends are these are those of the state after the record.
+-- Ports whose last ends are these, while they are recent, are those of the state after the record.
 abbrev pub PortsFollowRecords : Type 0
 PortsFollowRecords = (v : Leased) (s : State) (r : Record) → IsReached s → Fits s r →
-    empties r.change ≡ false → v.reached ≡ r.moment →
-    ((protocol : Protocol) (port : ℕ) → end_of v protocol port ≡ end_after s r protocol port) →
+    empties r.change ≡ false → r.moment ≤ v.reached →
+    ((protocol : Protocol) (port : ℕ) →
+    while_recent r.moment (end_of v protocol port) ≡ end_after s r protocol port) →
     IsPortsOf v (apply s r)
 
 -- New ports at its moment are those of the state after a record that forgets all.
 abbrev pub PortsBeginAnew : Type 0
 PortsBeginAnew = (low high quota : ℕ) (s : State) (r : Record) → empties r.change ≡ true →
     IsPortsOf (at_moment r.moment (fresh_ports low high quota)) (apply s r)
+
+-- The ends of a state are the last ends of ports that came by its last moment.
+abbrev pub EndsAreLastEnds : Type 0
+EndsAreLastEnds = (s : State) (protocol : Protocol) (port : ℕ) → IsReached s →
+    find (is_end_of protocol port) s.ends ≡ come s.last (last_end s s.last protocol port)
+
+-- They are told by its ports, in their order.
+abbrev pub EndsAreTold : Type 0
+EndsAreTold = (v : Leased) (s : State) → IsReached s → IsPortsOf v s →
+    s.ends ≡ ends_come s.last v

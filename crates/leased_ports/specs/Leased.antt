@@ -1,6 +1,5 @@
 -- What is known of the ports of an external address at a moment (our own).
-use Rattle.std.specs.Prelude.{◌≡◌, ℕ, zero, suc, ◌+◌, ◌*◌, ◌<◌, ◌≤◌, ◌^◌, List, Option, Some, None, map, replicate, slice_index_or, slice_set, if◌then◌else◌}
-use Rattle.pcp_base.specs.declared.leases.TheConstants.{REST_SECONDS}
+use Rattle.std.specs.Prelude.{◌≡◌, ℕ, zero, suc, ◌+◌, ◌*◌, ◌<◌, ◌≤◌, ◌^◌, List, Option, Some, None, replicate, slice_index_or, slice_set, if◌then◌else◌}
 use Rattle.pcp_base.specs.declared.leases.Protocol.{Protocol}
 use Rattle.pcp_base.specs.declared.leases.Protocol.TheVariants.{Tcp, Udp}
 use Rattle.pcp_base.specs.declared.leases.End.{End}
@@ -16,16 +15,18 @@ pub record Leased : Type 0 where
   pub low : ℕ
   pub high : ℕ
   pub quota : ℕ
-  -- the moment that is reached
+  -- the moment by which all that fell due is seen to, and the one that is reached
+  pub settled : ℕ
   pub reached : ℕ
-  -- the last end of each port that is held or rests, at the port's place
+  -- the last end of each port, also one whose rest is over, at the port's place
   pub ends : List (Option End)
 
-abbrev pub leased : (low high quota reached : ℕ) → List (Option End) → Leased
-leased low high quota reached ends = record {
+abbrev pub leased : (low high quota settled reached : ℕ) → List (Option End) → Leased
+leased low high quota settled reached ends = record {
   low = low;
   high = high;
   quota = quota;
+  settled = settled;
   reached = reached;
   ends = ends;
 }
@@ -45,9 +46,9 @@ end_of v protocol port = end_in v.ends (place protocol port)
 unfoldable pub no_ends : ℕ → List (Option End)
 no_ends count = replicate count None
 
--- no port is held or rests, and the moment is 0
+-- no port has a last end, and the moment is 0
 abbrev pub fresh_ports : ℕ → ℕ → ℕ → Leased
-fresh_ports low high quota = leased low high quota 0 (no_ends PLACES)
+fresh_ports low high quota = leased low high quota 0 0 (no_ends PLACES)
 
 -- the same on the same range and quota
 abbrev pub vacated : Leased → Leased
@@ -60,7 +61,11 @@ while_recent m (Some e) = if is_recent m e then Some e else None
 
 -- the same at a later moment
 abbrev pub at_moment : ℕ → Leased → Leased
-at_moment m v = record v { reached = m; ends = map (while_recent m) v.ends }
+at_moment m v = record v { reached = m }
+
+-- the same where all that fell due is seen to
+abbrev pub as_settled : Leased → Leased
+as_settled v = record v { settled = v.reached }
 
 -- the last end of the end's port is this one
 abbrev pub with_last_end : End → Leased → Leased
@@ -73,31 +78,31 @@ abbrev pub with_last_ends : End → ℕ → Leased → Leased
 with_last_ends e zero v = v
 with_last_ends e (suc n) v = with_last_end (end_along n e) (with_last_ends e n v)
 
--- the n ports from a port on aren't held and don't rest
+-- the n ports from a port on have no last end
 abbrev pub without_last_ends : Protocol → ℕ → ℕ → Leased → Leased
 without_last_ends protocol port zero v = v
 without_last_ends protocol port (suc n) v = record (without_last_ends protocol port n v) {
   ends = slice_set (without_last_ends protocol port n v).ends (place protocol (port + n)) None;
 }
 
--- an end by which a port of 1 to 65535 is held or rests at m
-pub record IsLastEnd (m : ℕ) (e : End) : Type 0 where
+-- an end of a port of 1 to 65535
+pub record IsLastEnd (e : End) : Type 0 where
   pub external : 1 ≤ e.external
-  pub recent : m < e.end + REST_SECONDS
   pub near : e.end < 2 ^ 41
 
--- ends by which n ports in a row, at least one, are held or rest at m: this one and those along it
-pub record AreLastEnds (m : ℕ) (first : End) (n : ℕ) : Type 0 where
-  pub is_last : IsLastEnd m first
+-- ends of n ports in a row, at least one: this one and those along it
+pub record AreLastEnds (first : End) (n : ℕ) : Type 0 where
+  pub is_last : IsLastEnd first
   pub some : 1 ≤ n
   pub external : first.external + n ≤ 65536
   pub internal : first.endpoint.port + n ≤ 65536
 
--- the value is that of the ports of a state at the moment reached
+-- the value is that of the ports of a state: the last ends by which ports are held or rest at its
+-- last moment are those of the state
 pub record IsPortsOf (v : Leased) (s : State) : Type 0 where
   pub passed : s.last ≤ v.reached
   pub same : (protocol : Protocol) (port : ℕ) →
-      end_of v protocol port ≡ last_end s v.reached protocol port
+      while_recent s.last (end_of v protocol port) ≡ last_end s s.last protocol port
 
 -- the ports are leased on these terms
 pub record IsOnTerms (v : Leased) (terms : Terms) : Type 0 where

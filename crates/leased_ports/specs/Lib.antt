@@ -5,5 +5,8 @@ pub mod Kept
 pub mod Steps
 pub mod Falling
 pub mod Counts
+pub mod Frees
+pub mod Plain
+pub mod Listed
 pub mod Recorded
 pub mod Laws

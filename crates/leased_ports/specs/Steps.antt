@@ -12,7 +12,7 @@ use Rattle.external_pool.specs.Holdings.{Holdings, IsWhole, use_of}
 use Rattle.port_spans.specs.declared.runs.Run.{Run}
 use Rattle.port_spans.specs.Runs.{run_at}
 use Rattle.port_spans.specs.Along.{end_along, end_told, spot_of, BeginsAt}
-use Rattle.leased_ports.specs.Kept.{IsOn, AreInStep, AreRecent, end_by, held_at}
+use Rattle.leased_ports.specs.Kept.{IsOn, AreInStep, HaveBegun, end_by}
 
 -- The n ports from one on are used so: that one so, those behind it along it. Nothing else changes.
 pub record GivesUses (old : Holdings) (protocol : Protocol) (port n : ℕ) (value : Use)
@@ -35,31 +35,32 @@ Waits old id until new =
 
 -- n spots from one on are of no run any more, and at the others the last ends stay; pool and wheel
 -- are those of the runs then
-pub record AreFreed (m from n : ℕ) (old new : List (Run End)) (pool : Holdings)
-    (waits : FinMap nat_cmp ℕ) : Type 0 where
-  pub in_step : AreInStep (held_at m) new pool waits
-  pub recent : AreRecent m new
+pub record AreFreed (from n : ℕ) (old : List (Run End)) (before : FinMap nat_cmp ℕ)
+    (new : List (Run End)) (pool : Holdings) (waits : FinMap nat_cmp ℕ) : Type 0 where
+  pub in_step : AreInStep new pool waits
+  pub begun : (m : ℕ) → HaveBegun m old before → HaveBegun m new waits
   pub none : (at : ℕ) → is_in_run from n at ≡ true → run_at new at ≡ None
   pub others : (at : ℕ) → is_in_run from n at ≡ false →
       end_told at (run_at new at) ≡ end_told at (run_at old at)
 
--- some runs between two spots are gone
-pub record AreFreeing (m from to : ℕ) (start runs : List (Run End)) (pool : Holdings)
-    (waits : FinMap nat_cmp ℕ) : Type 0 where
-  pub in_step : AreInStep (held_at m) runs pool waits
-  pub from_begins : BeginsAt from runs
+-- of the runs between two spots those before a third one are gone
+pub record AreFreeing (from at to : ℕ) (start : List (Run End)) (before : FinMap nat_cmp ℕ)
+    (runs : List (Run End)) (pool : Holdings) (waits : FinMap nat_cmp ℕ) : Type 0 where
+  pub in_step : AreInStep runs pool waits
+  pub begun : (m : ℕ) → HaveBegun m start before → HaveBegun m runs waits
+  pub at_begins : BeginsAt at runs
   pub to_begins : BeginsAt to runs
-  pub below : (at : ℕ) → at < from → run_at runs at ≡ run_at start at
-  pub above : (at : ℕ) → to ≤ at → run_at runs at ≡ run_at start at
-  pub recent : AreRecent m start → AreRecent m runs
+  pub none : (spot : ℕ) → from ≤ spot → spot < at → run_at runs spot ≡ None
+  pub below : (spot : ℕ) → spot < from → run_at runs spot ≡ run_at start spot
+  pub above : (spot : ℕ) → to ≤ spot → run_at runs spot ≡ run_at start spot
 
 -- The n ports from one on have these last ends, or none, and no other changes; pool and wheel are
--- those of the runs then.
+-- those of the runs then, by phases that began by m.
 pub record AreAssigned (m : ℕ) (old : List (Run End)) (protocol : Protocol) (start n : ℕ)
     (last : ℕ → Option End) (new : List (Run End)) (pool : Holdings) (waits : FinMap nat_cmp ℕ)
     : Type 0 where
-  pub in_step : AreInStep (held_at m) new pool waits
-  pub recent : AreRecent m new
+  pub in_step : AreInStep new pool waits
+  pub begun : HaveBegun m new waits
   pub ends : (other : Protocol) (port : ℕ) → end_by new other port
       ≡ (if same_protocol protocol other && is_in_run start n port then last port
       else end_by old other port)

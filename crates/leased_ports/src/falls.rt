@@ -1,50 +1,46 @@
 //! What falls due at a moment.
 
-ghost use Rattle.std.specs.Prelude.{◌≡◌, ◌<◌, ◌≤◌, ◌+◌, ◌*◌, ℕ, List, Some};
+ghost use Rattle.std.specs.Prelude.{◌≡◌, ◌<◌, ◌≤◌, ◌+◌, ◌*◌, ℕ};
 ghost use Rattle.std.specs.Bool.{OnTrue, OnFalse};
-ghost use Rattle.std.specs.FinMap as fin;
-ghost use Rattle.pcp_base.specs.declared.leases.End.{End};
-ghost use Rattle.port_spans.specs.declared.runs.Run.{Run};
-ghost use Rattle.port_spans.specs.Runs.{run_at};
-ghost use Rattle.leased_ports.specs.Leased.{while_recent};
-ghost use Rattle.port_spans.specs.Along.{end_told};
-ghost use Rattle.leased_ports.specs.Kept.{IsOn, AreInStep, AreRecent, held_at};
-ghost use Rattle.leased_ports.specs.Falling.{AreFalling, due_below, held_by};
-ghost use Rattle.leased_ports.specs.declared.falls.TheConstants.{RUN_STEPS};
+ghost use Rattle.leased_ports.specs.Kept.{IsOn, AreInStep, AreSettled, HaveBegun};
+ghost use Rattle.leased_ports.specs.Falling.{NoneDue, due_below};
 ghost use Rattle.port_spans.specs.declared.runs.TheConstants.{PLACES};
 
-use crate::schedule::{next_due, reschedule, waits_until};
-use crate::steps::take_out;
+use crate::schedule::{next_due, phase_of, remove, reschedule};
+use crate::timed_ends::TimedEnds;
+use crate::uses::free_ports;
 use expiry_wheel::Wheel;
 use external_pool::Pool;
 use pcp_base::REST_SECONDS;
-use port_spans::Ends;
 use std::sync::ledger::Ledger;
 use step_count::Steps;
 
-/// How many steps it takes at most to see to a run, beside the 23 that find it: 24 nodes and moments of
-/// the wheel, to read, move or take out what waits, and two looks at the count of its address, of 64
-/// levels at most. What marks its ports, one by one, isn't counted.
-pub const RUN_STEPS: u64 = 152;
+/// How many runs that are due a call of `reach` sees to at most.
+pub const MOST_RUNS: u64 = 64;
+
+/// How many steps it takes at most to see to a run, beside the 23 that find it: 39 moments and nodes
+/// of the wheel, one to tell its phase and 38 to move or take out what waits, and two looks at the
+/// count of its address, of 64 levels at most. What marks its ports, one by one, isn't counted.
+pub const RUN_STEPS: u64 = 167;
 
 /// Sees to one run that falls due by `m`: one whose end came begins to rest, and the ports of one
 /// whose rest is over are free. False where none falls due.
 fn fall<L: Ledger>(
     pool: &mut Pool,
     wheel: &mut Wheel,
-    ends: &mut Ends,
+    ends: &TimedEnds,
     m: u64,
     steps: &mut Steps<L>,
 ) -> bool
-    requires { AreInStep (held_by wheel.old) ends.old pool.old wheel.old }
+    requires in_step { AreInStep ends.now pool.old wheel.old }
+    requires begun { HaveBegun m ends.now wheel.old }
     ensures on { (low high most : ℕ) →
         IsOn pool.old low high most → IsOn pool.new low high most }
+    ensures in_step { AreInStep ends.now pool.new wheel.new }
+    ensures begun { HaveBegun m ends.now wheel.new }
+    ensures late { (seen : ℕ) → seen ≤ m → NoneDue seen wheel.old → NoneDue seen wheel.new }
     ensures fewer { OnTrue result (due_below m wheel.new PLACES < due_below m wheel.old PLACES) }
-    ensures falling { (start : List (Run End)) →
-        AreFalling m start ends.old pool.old wheel.old →
-        AreFalling m start ends.new pool.new wheel.new }
-    ensures none { OnFalse result (
-        (id expiry : ℕ) → fin.get wheel.new id ≡ Some expiry → m < expiry) }
+    ensures none { OnFalse result (NoneDue m wheel.new) }
     ensures more { OnTrue result (steps.new ≤ steps.old + 23 + RUN_STEPS) }
     ensures last { OnFalse result (steps.new ≤ steps.old + 23) }
 {
@@ -57,34 +53,64 @@ fn fall<L: Ledger>(
     steps.take(RUN_STEPS);
     let over = run.value.end + REST_SECONDS;
     if over <= m {
-        let held = waits_until(wheel, id, run.value.end);
-        take_out(pool, wheel, ends, &run, held);
+        free_ports(pool, &run, phase_of(wheel, &run));
+        remove(wheel, run.first);
         return true;
     }
     pool.retire(run.value.external, &run.value.endpoint, run.count);
-    reschedule(wheel, id, over);
+    reschedule(wheel, run.first, over);
     true
 }
 
-/// Sees to all that falls due by `m`, which isn't before the moment that was reached.
-pub fn settle<L: Ledger>(
+/// Sees to some of the runs that fall due by `m`, whatever falls due.
+pub fn see_to_some<L: Ledger>(
     pool: &mut Pool,
     wheel: &mut Wheel,
-    ends: &mut Ends,
-    reached: u64,
+    ends: &TimedEnds,
     m: u64,
     steps: &mut Steps<L>,
 )
-    requires in_step { AreInStep (held_at reached) ends.old pool.old wheel.old }
-    requires later { reached ≤ m }
+    requires in_step { AreInStep ends.now pool.old wheel.old }
+    requires begun { HaveBegun m ends.now wheel.old }
     ensures on { (low high most : ℕ) →
         IsOn pool.old low high most → IsOn pool.new low high most }
-    ensures in_step { AreInStep (held_at m) ends.new pool.new wheel.new }
-    ensures recent { AreRecent m ends.new }
-    ensures ends { (at : ℕ) → end_told at (run_at ends.new at)
-        ≡ while_recent m (end_told at (run_at ends.old at)) }
+    ensures in_step { AreInStep ends.now pool.new wheel.new }
+    ensures begun { HaveBegun m ends.now wheel.new }
+    ensures late { (seen : ℕ) → seen ≤ m → NoneDue seen wheel.old → NoneDue seen wheel.new }
+    ensures steps { steps.new ≤ steps.old + (23 + RUN_STEPS) * MOST_RUNS }
+{
+    let mut left = MOST_RUNS;
+    while left > 0 {
+        if !fall(pool, wheel, ends, m, steps) {
+            return;
+        }
+        left -= 1;
+    }
+}
+
+/// Sees to all runs that fall due by `m`, where none falls due by `settled` any more.
+pub fn see_to_all<L: Ledger>(
+    pool: &mut Pool,
+    wheel: &mut Wheel,
+    ends: &TimedEnds,
+    settled: u64,
+    m: u64,
+    steps: &mut Steps<L>,
+)
+    requires in_step { AreInStep ends.now pool.old wheel.old }
+    requires begun { HaveBegun m ends.now wheel.old }
+    requires late { NoneDue settled wheel.old }
+    ensures on { (low high most : ℕ) →
+        IsOn pool.old low high most → IsOn pool.new low high most }
+    ensures in_step { AreInStep ends.now pool.new wheel.new }
+    ensures begun { HaveBegun m ends.now wheel.new }
+    ensures none { NoneDue m wheel.new }
+    ensures settled { AreSettled m ends.now wheel.new }
     ensures steps { steps.new
         ≤ steps.old + 23 + (23 + RUN_STEPS) * due_below m wheel.old PLACES }
 {
+    if settled == m {
+        return;
+    }
     while fall(pool, wheel, ends, m, steps) {}
 }

@@ -1,24 +1,26 @@
-//! Ports in a row whose last ends are along one, or that have none.
+//! Ports in a row whose last ends are along one, or that neither are held nor rest.
 
 ghost use Rattle.std.specs.Prelude.{◌≡◌, ◌≤◌, ◌<◌, ◌+◌, ◌^◌, ℕ, None, IfSome};
 ghost use Rattle.port_spans.specs.Runs.{AreRuns, run_at};
+ghost use Rattle.leased_ports.specs.Leased.{while_recent};
 ghost use Rattle.leased_ports.specs.Pieces.{IsPiece};
 ghost use Rattle.leased_ports.specs.Kept.{IsSet, end_by};
 
-use pcp_base::{End, Protocol};
-use port_spans::{Ends, end_along, spot};
+use crate::timed_ends::TimedEnds;
+use pcp_base::{End, Protocol, REST_SECONDS};
+use port_spans::{end_along, spot};
 
-/// Ports in a row: the last ends of all are along that of the first, or none has one.
+/// Ports in a row: the last ends of all are along that of the first, or none is held or rests.
 #[derive(Clone, Copy)]
 pub struct Piece {
-    /// The last end of the first of them, None where none of them has one.
+    /// The last end of the first of them, None where none of them is held or rests.
     pub last: Option<End>,
     /// How many they are, at least 1.
     pub count: u32,
 }
 
 /// How many spots from this one on, of `most`, are of no run, where this one is of none.
-fn gap(ends: &Ends, at: u32, most: u32) -> u32
+fn gap(ends: &TimedEnds, at: u32, most: u32) -> u32
     requires apart { AreRuns ends.now }
     requires none { run_at ends.now at ≡ None }
     requires some { 1 ≤ most }
@@ -33,13 +35,14 @@ fn gap(ends: &Ends, at: u32, most: u32) -> u32
     run.first - at
 }
 
-/// The ports from this one on, of `most`, that are of its run, or of none where it is of none.
-pub fn piece_at(ends: &Ends, protocol: Protocol, start: u16, most: u32) -> Piece
+/// The ports from this one on, of `most`, that are of its run, or of none where it is of none. Those
+/// of a run whose rest is over at `m` have no last end any more.
+pub fn piece_at(ends: &TimedEnds, protocol: Protocol, start: u16, most: u32, m: u64) -> Piece
     requires apart { AreRuns ends.now }
     requires set { (at : ℕ) → IfSome (run_at ends.now at) IsSet }
     requires some { 1 ≤ most }
     requires within { start + most ≤ 65536 }
-    ensures { IsPiece (end_by ends.now protocol) start most result }
+    ensures { IsPiece (λ port. while_recent m (end_by ends.now protocol port)) start most result }
 {
     let at = spot(protocol, start);
     let Some(run) = ends.run_at(at) else {
@@ -49,8 +52,12 @@ pub fn piece_at(ends: &Ends, protocol: Protocol, start: u16, most: u32) -> Piece
         };
     };
     let before = at - run.first;
+    let count = most.min(run.count - before);
+    if run.value.end + REST_SECONDS <= m {
+        return Piece { last: None, count };
+    }
     Piece {
         last: Some(end_along(before, &run.value)),
-        count: most.min(run.count - before),
+        count,
     }
 }

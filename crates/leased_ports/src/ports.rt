@@ -1,34 +1,42 @@
 //! The ports of an external address at a moment.
 
-ghost use Rattle.std.specs.Prelude.{◌≡◌, ◌≤◌, ◌+◌, ◌-◌, ◌*◌, ◌&&◌, ℕ, [], Some, None, IfOk, IfSome, OnOk, OnErr, if◌then◌else◌};
-ghost use Rattle.std.specs.Bool.{OnTrue};
-ghost use Rattle.std.specs.FinMap as map;
+ghost use Rattle.std.specs.Prelude.{◌≡◌, ◌⊎◌, ◌≤◌, ◌<◌, ◌+◌, ◌-◌, ◌*◌, ◌&&◌, ◌++◌, ℕ, [], true, map, Some, None, IfOk, IfSome, IfNone, OnOk, OnErr, if◌then◌else◌};
+ghost use Rattle.std.specs.Bool.{OnTrue, OnFalse};
+ghost use Rattle.std.specs.FinMap as fin;
 ghost use Rattle.pcp_base.specs.declared.leases.Protocol.{Protocol};
 ghost use Rattle.pcp_base.specs.Ends.{is_end_of};
+ghost use Rattle.pcp_base.specs.Snapshots.{end_record};
 ghost use Rattle.pcp_base.specs.Tables.{same_protocol};
 ghost use Rattle.port_runs.specs.Ports.{is_in_run};
-ghost use Rattle.port_spans.specs.Runs.{run_at};
 ghost use Rattle.pcp_base.specs.States.{State};
 ghost use Rattle.pcp_base.specs.Reached.{IsReached};
 ghost use Rattle.external_pool.specs.Holdings.{emptied};
 ghost use Rattle.external_pool.specs.Calls.{IsAsk};
 ghost use Rattle.lease_store.specs.declared.terms.Terms.{Terms};
 ghost use Rattle.lease_store.specs.Picks.{pick_answer};
-ghost use Rattle.leased_ports.specs.Leased.{AreLastEnds, IsLastEnd, IsPortsOf, IsOnTerms, at_moment, end_of, fresh_ports, vacated, with_last_end, with_last_ends, without_last_ends};
+ghost use Rattle.leased_ports.specs.Leased.{AreLastEnds, IsLastEnd, IsPortsOf, IsOnTerms, as_settled, at_moment, end_of, fresh_ports, vacated, while_recent, with_last_end, with_last_ends, without_last_ends};
 ghost use Rattle.port_spans.specs.Along.{end_along};
-ghost use Rattle.leased_ports.specs.Counts.{ports_due};
-ghost use Rattle.leased_ports.specs.declared.falls.TheConstants.{RUN_STEPS};
+ghost use Rattle.leased_ports.specs.Counts.{held_since, ports_due};
+ghost use Rattle.leased_ports.specs.Plain.{is_plain};
+ghost use Rattle.leased_ports.specs.declared.plain.TheConstants.{PLAIN_STEPS};
+ghost use Rattle.leased_ports.specs.Falling.{NoneDue};
+ghost use Rattle.leased_ports.specs.declared.falls.TheConstants.{MOST_RUNS, RUN_STEPS};
+ghost use Rattle.leased_ports.specs.Listed.{ends_come};
 ghost use Rattle.leased_ports.specs.Pieces.{IsPiece};
-ghost use Rattle.leased_ports.specs.Kept.{IsOn, IsSet, AreInStep, AreRecent, end_by, held_at};
+ghost use Rattle.leased_ports.specs.Kept.{IsOn, AreInStep, HaveBegun};
 ghost use Rattle.leased_ports.specs.Steps.{AreAssigned, IsOwnRun, last_along, no_last};
 
-use crate::falls::settle;
+use crate::falls::{see_to_all, see_to_some};
+use crate::listing::{append_records, copy};
 use crate::pieces::{Piece, piece_at};
+use crate::plain::{first_over, first_vacant, goes_back, is_plain, judge, lesser};
+use crate::recent::recent_end;
 use crate::steps::{free, insert, renew};
+use crate::timed_ends::TimedEnds;
 use expiry_wheel::Wheel;
 use external_pool::{PickAsk, PickRefused, Picked, Pool};
-use pcp_base::{End, Endpoint, Memory, Moment, Protocol};
-use port_spans::{Ends, Run, Spans, end_along, spot, spot_of};
+use pcp_base::{End, Endpoint, Memory, Moment, Protocol, Record};
+use port_spans::{Run, spot, spot_of};
 use std::alloc::Global;
 use std::marker::Model;
 use std::sync::ledger::Ledger;
@@ -36,16 +44,21 @@ use step_count::Steps;
 
 /// The ports of an external address at the moment reached.
 ///
-/// It is seen as the range, the quota, the moment, and the last end of each port. A port is held by
-/// its last endpoint until the end, and for 120 seconds more it rests for it. Ports that are given
-/// their last ends together are kept as one run, also in memory, until a part of them gets others.
+/// It is seen as the range, the quota, the moment, the one by which all that fell due is seen to, and
+/// the last end of each port. A port is held by its last endpoint until the end, and for 120 seconds
+/// more it rests for it; then it is free, and its last end stays known until it gets another. Ports
+/// that are given their last ends together are kept as one run, also in memory, until a part of them
+/// gets others. What falls due is seen to a few runs at a time, and all of it before a pick
+/// that needs it.
 #[derive(Drop)]
 pub struct LeasedPorts {
     low: u16,
     high: u16,
     quota: u32,
+    // The moment by which all that fell due is seen to.
+    settled: u64,
     reached: u64,
-    ends: Ends,
+    ends: TimedEnds,
     pool: Pool,
     wheel: Wheel,
 }
@@ -57,9 +70,10 @@ impl Model for LeasedPorts {
 
     ghost Value = { Leased };
 
-    ghost view = { λ a. leased a.low a.high a.quota a.reached (ends_of a.ends PLACES) };
+    ghost view = { λ a. leased a.low a.high a.quota a.settled a.reached (ends_of a.ends PLACES) };
 
-    ghost invariant = { λ a. IsKept a.low a.high a.quota a.reached a.ends a.pool a.wheel };
+    ghost invariant = { λ a.
+        IsKept a.low a.high a.quota a.settled a.reached a.ends a.pool a.wheel };
 }
 
 /// Whether both last ends are of the same port and endpoint.
@@ -70,7 +84,7 @@ fn same_port(before: &End, last: &End) -> bool
 }
 
 /// The run of exactly these ports and endpoints, if there is one.
-fn own_run(ends: &Ends, first: &End, count: u32) -> Option<Run<End>>
+fn own_run(ends: &TimedEnds, first: &End, count: u32) -> Option<Run<End>>
     ensures { IfSome result (IsOwnRun ends.now first.now count) }
 {
     let from = spot_of(first);
@@ -89,22 +103,24 @@ fn own_run(ends: &Ends, first: &End, count: u32) -> Option<Run<End>>
     None
 }
 
-/// Holds ports in a row or lets them rest by these last ends. Where memory is wanting, nothing is said
+/// Gives ports in a row these last ends, and uses them so. Where memory is wanting, nothing is said
 /// but the pool's range.
 fn assign(
     pool: &mut Pool,
     wheel: &mut Wheel,
-    ends: &mut Ends,
+    ends: &mut TimedEnds,
     alloc: Global,
     first: &End,
     count: u32,
     reached: u64,
 ) -> Result<(), Memory>
-    requires in_step { AreInStep (held_at reached) ends.old pool.old wheel.old }
-    requires recent { AreRecent reached ends.old }
-    requires last { AreLastEnds reached first.now count }
+    requires in_step { AreInStep ends.old pool.old wheel.old }
+    requires begun { HaveBegun reached ends.old wheel.old }
+    requires last { AreLastEnds first.now count }
     ensures on { (low high most : ℕ) →
         IsOn pool.old low high most → IsOn pool.new low high most }
+    ensures late { OnOk result ((seen : ℕ) → seen ≤ reached →
+        NoneDue seen wheel.old → NoneDue seen wheel.new) }
     ensures ok { OnOk result (AreAssigned reached ends.old first.now.endpoint.protocol
         first.now.external count (last_along first.now) ends.new pool.new wheel.new) }
 {
@@ -116,7 +132,7 @@ fn assign(
         count,
         value: *first,
     };
-    free(pool, wheel, ends, alloc, run.first, count, reached)?;
+    free(pool, wheel, ends, alloc, run.first, count)?;
     insert(pool, wheel, ends, alloc, &run, reached)
 }
 
@@ -124,42 +140,23 @@ fn assign(
 fn release(
     pool: &mut Pool,
     wheel: &mut Wheel,
-    ends: &mut Ends,
+    ends: &mut TimedEnds,
     alloc: Global,
     protocol: Protocol,
     start: u16,
     count: u32,
-    reached: u64,
 ) -> Result<(), Memory>
-    requires in_step { AreInStep (held_at reached) ends.old pool.old wheel.old }
-    requires recent { AreRecent reached ends.old }
+    requires in_step { AreInStep ends.old pool.old wheel.old }
     requires within { start + count ≤ 65536 }
     ensures on { (low high most : ℕ) →
         IsOn pool.old low high most → IsOn pool.new low high most }
-    ensures ok { OnOk result (AreAssigned reached ends.old protocol start count no_last
+    ensures late { OnOk result ((seen : ℕ) →
+        NoneDue seen wheel.old → NoneDue seen wheel.new) }
+    ensures ok { (m : ℕ) → HaveBegun m ends.old wheel.old →
+        OnOk result (AreAssigned m ends.old protocol start count no_last
         ends.new pool.new wheel.new) }
 {
-    free(
-        pool,
-        wheel,
-        ends,
-        alloc,
-        spot(protocol, start),
-        count,
-        reached,
-    )
-}
-
-/// The last end of a port.
-fn end_at(ends: &Ends, protocol: Protocol, port: u16) -> Option<End>
-    requires { (at : ℕ) → IfSome (run_at ends.now at) IsSet }
-    ensures { result ≡ end_by ends.now protocol port }
-{
-    let at = spot(protocol, port);
-    let Some(run) = ends.run_at(at) else {
-        return None;
-    };
-    Some(end_along(at - run.first, &run.value))
+    free(pool, wheel, ends, alloc, spot(protocol, start), count)
 }
 
 /// How many ports one is, of these external and internal ones.
@@ -172,9 +169,9 @@ fn one_port(_external: u16, _internal: u16) -> u32
 }
 
 /// Forgets all ports.
-fn vacate(pool: &mut Pool, wheel: &mut Wheel, ends: &mut Ends)
+fn vacate(pool: &mut Pool, wheel: &mut Wheel, ends: &mut TimedEnds)
     ensures pool { pool.new ≡ emptied pool.old }
-    ensures wheel { wheel.new ≡ map.empty }
+    ensures wheel { wheel.new ≡ fin.empty }
     ensures ends { ends.new ≡ [] }
 {
     pool.clear();
@@ -194,8 +191,9 @@ impl LeasedPorts {
             low,
             high,
             quota,
+            settled: 0,
             reached: 0,
-            ends: Spans::new(alloc)?,
+            ends: TimedEnds::new(alloc)?,
             pool: Pool::new(alloc, low, high, quota)?,
             wheel: Wheel::new(alloc)?,
         })
@@ -206,33 +204,45 @@ impl LeasedPorts {
         ensures { self.new ≡ vacated self.old }
     {
         vacate(&mut self.pool, &mut self.wheel, &mut self.ends);
+        self.settled = 0;
         self.reached = 0;
     }
 
-    /// Moves on to a moment that isn't below the one reached: ports whose end came rest, and those
-    /// whose rest is over are free. It takes no memory. Steps are taken for each run of ports that goes
-    /// to rest or awakes, so for no more runs than ports.
+    /// Moves on to a moment that isn't below the one reached. Of the runs of ports that go to rest or
+    /// awake by then it sees to 64 at most, whatever falls due; the others wait for later calls. It
+    /// takes no memory.
     pub fn reach<L: Ledger>(&mut self, m: Moment, steps: &mut Steps<L>)
         requires { self.old.reached ≤ m }
         ensures moved { self.new ≡ at_moment m self.old }
-        ensures steps { steps.new ≤ steps.old + 23 + (23 + RUN_STEPS) * ports_due self.old m }
+        ensures steps { steps.new ≤ steps.old + (23 + RUN_STEPS) * MOST_RUNS }
     {
         let now = m.get();
-        settle(
-            &mut self.pool,
-            &mut self.wheel,
-            &mut self.ends,
-            self.reached,
-            now,
-            steps,
-        );
+        see_to_some(&mut self.pool, &mut self.wheel, &self.ends, now, steps);
         self.reached = now;
     }
 
-    /// Gives a port this last end: it is held for the endpoint until then, or rests for it. Where
+    /// Sees to all runs of ports that go to rest or awake by the moment reached, so that nothing is left
+    /// to [`LeasedPorts::pick`] at this moment. It takes no memory. Steps are taken for each
+    /// such run, so for no more runs than ports at which something fell due since all was seen to last.
+    pub fn settle<L: Ledger>(&mut self, steps: &mut Steps<L>)
+        ensures settled { self.new ≡ as_settled self.old }
+        ensures steps { steps.new ≤ steps.old + 23 + (23 + RUN_STEPS) * ports_due self.old }
+    {
+        see_to_all(
+            &mut self.pool,
+            &mut self.wheel,
+            &self.ends,
+            self.settled,
+            self.reached,
+            steps,
+        );
+        self.settled = self.reached;
+    }
+
+    /// Gives a port this last end: it is held for the endpoint until then, and rests for it after. Where
     /// memory is wanting, all ports are forgotten, as by `clear`.
     pub fn put(&mut self, alloc: Global, last: &End) -> Result<(), Memory>
-        requires { IsLastEnd self.old.reached last.now }
+        requires { IsLastEnd last.now }
         ensures ok { OnOk result (self.new ≡ with_last_end last.now self.old) }
         ensures ports { OnOk result ((protocol : Protocol) (port : ℕ) →
             end_of self.new protocol port
@@ -245,11 +255,11 @@ impl LeasedPorts {
 
     /// Gives `count` ports in a row their last ends: the first this one, and each behind it the one
     /// whose ports are as many behind those of the first. So they are held for their endpoints until
-    /// then, or rest for them. Where these ports and endpoints are a run already, only its moment
+    /// then, and rest for them after. Where these ports and endpoints are a run already, only its moment
     /// changes, however many they are. Where memory is wanting, all ports are forgotten, as by
     /// `clear`.
     pub fn put_run(&mut self, alloc: Global, first: &End, count: u32) -> Result<(), Memory>
-        requires { AreLastEnds self.old.reached first.now count }
+        requires { AreLastEnds first.now count }
         ensures ok { OnOk result (self.new ≡ with_last_ends first.now count self.old) }
         ensures ports { OnOk result ((protocol : Protocol) (port : ℕ) →
             end_of self.new protocol port
@@ -271,6 +281,7 @@ impl LeasedPorts {
             return Ok(());
         };
         vacate(&mut self.pool, &mut self.wheel, &mut self.ends);
+        self.settled = 0;
         self.reached = 0;
         Err(refused)
     }
@@ -300,35 +311,83 @@ impl LeasedPorts {
             protocol,
             start,
             count,
-            self.reached,
         ) else {
             return Ok(());
         };
         vacate(&mut self.pool, &mut self.wheel, &mut self.ends);
+        self.settled = 0;
         self.reached = 0;
         Err(refused)
     }
 
     /// The last end of a port, where it is held or rests.
     pub fn last_end(&self, protocol: Protocol, port: u16) -> Option<End>
-        ensures { result ≡ end_of self.now protocol port }
+        ensures { result ≡ while_recent self.now.reached (end_of self.now protocol port) }
     {
-        end_at(&self.ends, protocol, port)
+        recent_end(&self.ends, protocol, port, self.reached)
+    }
+
+    /// The last ends that came by `m` and are recent then, in the order of protocol number and port.
+    /// The one error is want of memory.
+    pub fn copy_ends(&self, alloc: Global, m: Moment) -> Result<Vec<End>, Memory>
+        ensures { IfOk result (λ all. all.items ≡ ends_come m self.now) }
+    {
+        copy(&self.ends, alloc, m)
+    }
+
+    /// Appends a record at `m` for each last end that came by `m` and is recent then, in the order of
+    /// protocol number and port. The one error is want of memory.
+    pub fn add_end_records(&self, m: Moment, out: &mut Vec<Record>) -> Result<(), Memory>
+        ensures { OnOk result (out.new.items
+            ≡ out.old.items ++ map (end_record m) (ends_come m self.now)) }
+    {
+        append_records(&self.ends, m, out)
     }
 
     /// The ports from `start` on, at least it and at most `most`, whose last ends are along that of
-    /// `start`, or that have none. It is one or two looks into the runs, however many ports it tells.
+    /// `start`, or which aren't held and don't rest. A run is told by one look, however many ports it
+    /// has; where `start` is of none, the ports up to the next run are looked at one by one.
     pub fn piece(&self, protocol: Protocol, start: u16, most: u32) -> Piece
         requires some { 1 ≤ most }
         requires within { start + most ≤ 65536 }
-        ensures { IsPiece (end_of self.now protocol) start most result }
+        ensures { IsPiece (λ port. while_recent self.now.reached (end_of self.now protocol port))
+            start most result }
     {
-        piece_at(&self.ends, protocol, start, most)
+        piece_at(&self.ends, protocol, start, most, self.reached)
     }
 
-    /// The ports that would be given, the first one to this endpoint, by the rules of
-    /// [`Pool::pick`](external_pool::Pool::pick).
-    pub fn pick<L: Ledger>(
+    /// The answer to an ask for one port of any parity, though what is due isn't seen to. None where
+    /// the counts have the endpoint's address at its quota, of which some ports may rest by now.
+    fn plain_answer<L: Ledger>(
+        &self,
+        endpoint: &Endpoint,
+        ask: &PickAsk,
+        steps: &mut Steps<L>,
+    ) -> Option<Result<Picked, PickRefused>>
+        requires ask { IsAsk ask.now }
+        requires plain { is_plain ask.now ≡ true }
+        requires internal { ask.now.internal ≡ endpoint.now.port }
+        ensures pick { IfSome result (λ answer. (terms : Terms) (s : State) →
+            IsReached s → IsPortsOf self.now s → IsOnTerms self.now terms →
+            answer ≡ pick_answer terms s self.now.reached endpoint.now ask.now) }
+        ensures quota { IfNone result (
+            self.now.quota ≤ held_since self.now endpoint.now.address) }
+        ensures steps { steps.new ≤ steps.old + PLAIN_STEPS }
+    {
+        let Ok(known) = first_vacant(&self.pool, endpoint, steps) else {
+            return None;
+        };
+        let ends = &self.ends;
+        let (low, high, m) = (self.low, self.high, self.reached);
+        if goes_back(ends, low, high, m, endpoint, ask.suggested, steps) {
+            return Some(judge(ask, Some(ask.suggested)));
+        }
+        let over = first_over(ends, low, high, m, endpoint.protocol, steps);
+        Some(judge(ask, lesser(known, over)))
+    }
+
+    /// The answer to an ask, where all that is due is seen to.
+    fn settled_answer<L: Ledger>(
         &self,
         endpoint: &Endpoint,
         ask: &PickAsk,
@@ -336,6 +395,7 @@ impl LeasedPorts {
     ) -> Result<Picked, PickRefused>
         requires ask { IsAsk ask.now }
         requires internal { ask.now.internal ≡ endpoint.now.port }
+        requires settled { self.now.settled ≡ self.now.reached }
         ensures pick { (terms : Terms) (s : State) →
             IsReached s → IsPortsOf self.now s → IsOnTerms self.now terms →
             result ≡ pick_answer terms s self.now.reached endpoint.now ask.now }
@@ -343,5 +403,42 @@ impl LeasedPorts {
     {
         self.pool
             .pick(&endpoint.address, endpoint.protocol, ask, steps)
+    }
+
+    /// The ports that would be given, the first one to this endpoint, by the rules of
+    /// [`Pool::pick`](external_pool::Pool::pick). It takes no memory.
+    ///
+    /// An ask for one port of any parity is answered in a constant number of steps, whatever is due,
+    /// where the address has fewer ports than its quota by the counts: at most those whose last ends
+    /// are its own and come after the moment by which all was seen to. Any other ask first sees to
+    /// what is due, as [`LeasedPorts::settle`] does; where nothing is, that is one step. Of the steps
+    /// `room` are for ports that are suggested, so none of these where none is.
+    pub fn pick<L: Ledger>(
+        &mut self,
+        endpoint: &Endpoint,
+        ask: &PickAsk,
+        steps: &mut Steps<L>,
+    ) -> Result<Picked, PickRefused>
+        requires ask { IsAsk ask.now }
+        requires internal { ask.now.internal ≡ endpoint.now.port }
+        ensures settled { (self.new ≡ self.old) ⊎ (self.new ≡ as_settled self.old) }
+        ensures all { OnFalse (is_plain ask.now) (self.new ≡ as_settled self.old) }
+        ensures pick { (terms : Terms) (s : State) →
+            IsReached s → IsPortsOf self.old s → IsOnTerms self.old terms →
+            result ≡ pick_answer terms s self.old.reached endpoint.now ask.now }
+        ensures plain { OnTrue (is_plain ask.now)
+            (held_since self.old endpoint.now.address < self.old.quota →
+            steps.new ≤ steps.old + PLAIN_STEPS) }
+        ensures steps { steps.new ≤ steps.old + 156 + ask.now.room
+            + (if is_plain ask.now then PLAIN_STEPS else 0)
+            + (23 + RUN_STEPS) * ports_due self.old }
+    {
+        if is_plain(ask) {
+            if let Some(answer) = self.plain_answer(endpoint, ask, steps) {
+                return answer;
+            }
+        }
+        self.settle(steps);
+        self.settled_answer(endpoint, ask, steps)
     }
 }

@@ -4,28 +4,25 @@ ghost use Rattle.std.specs.Prelude.{◌≡◌, ◌<◌, ◌≤◌, ◌+◌, ◌^
 ghost use Rattle.std.specs.FinMap as fin;
 ghost use Rattle.expiry_wheel.specs.Due.{IsNextDue};
 ghost use Rattle.expiry_wheel.specs.declared.TheConstants.{NEVER};
-ghost use Rattle.leased_ports.specs.Falling.{is_until};
-ghost use Rattle.leased_ports.specs.Kept.{until};
+ghost use Rattle.leased_ports.specs.Kept.{phase_by};
 ghost use Rattle.leased_ports.specs.Steps.{Waits};
 
+use crate::phases::{Phase, phase_until};
 use expiry_wheel::Wheel;
-use pcp_base::{Memory, REST_SECONDS};
+use pcp_base::{End, Memory};
+use port_spans::Run;
 use std::alloc::Global;
 use std::sync::ledger::Ledger;
 use step_count::Steps;
 
-/// When a run of that end falls due next: at its end, if it is held, and else after its rest.
-pub fn due_after(end: u64, held: bool) -> u64
-    requires { end < 2 ^ 41 }
-    ensures { result ≡ until held end }
+/// Sets when an id falls due; where it is None, the id doesn't wait.
+pub fn set(wheel: &mut Wheel, alloc: Global, id: u32, until: Option<u64>) -> Result<(), Memory>
+    ensures { OnOk result (Waits wheel.old id until wheel.new) }
 {
-    if held { end } else { end + REST_SECONDS }
-}
-
-/// Sets when an id falls due.
-pub fn put(wheel: &mut Wheel, alloc: Global, id: u32, expiry: u64) -> Result<(), Memory>
-    ensures { OnOk result (Waits wheel.old id (Some expiry) wheel.new) }
-{
+    let Some(expiry) = until else {
+        remove(wheel, id);
+        return Ok(());
+    };
     wheel.put(alloc, id, expiry)?;
     Ok(())
 }
@@ -46,14 +43,11 @@ pub fn remove(wheel: &mut Wheel, id: u32)
     wheel.remove(id);
 }
 
-/// Whether an id waits until that moment.
-pub fn waits_until(wheel: &Wheel, id: u32, end: u64) -> bool
-    ensures { result ≡ is_until end (fin.get wheel.now id) }
+/// The phase of a run.
+pub fn phase_of(wheel: &Wheel, run: &Run<End>) -> Phase
+    ensures { result ≡ phase_by wheel.now run.now }
 {
-    match wheel.expiry(id) {
-        Some(expiry) => expiry == end,
-        None => false,
-    }
+    phase_until(run.value.end, wheel.expiry(run.first))
 }
 
 /// The id that falls due next. It takes a step where none does, and at most 23 else.

@@ -23,9 +23,15 @@ insert-requires-clause-set c = record {
   near = c.requires.last.is_last.near;
 }
 
+pub insert-requires-clause-begun : goal.insert-requires-clause-begun
+insert-requires-clause-begun c = c.in_ok-free.ensures.ok.begun c.args.reached c.requires.begun
+
 pub returns-clause-ok : goal.returns-clause-ok
 returns-clause-ok c =
     let first = c.args.first.now in
-    let freed = subst (λ (k : ℕ). AreFreed c.args.reached k c.args.count c.args.ends.now c.free.new.ends c.free.new.pool c.free.new.wheel) c.spot_of.ensures.value c.in_ok-free.ensures.ok in
-    on_ok_weaker c.insert.result (freed_then c.args.reached first.endpoint.protocol first.external c.args.count c.requires.last.external c.args.ends.now c.free.new.ends c.free.new.pool c.free.new.wheel freed
-    (last_along first) c.insert.new.ends c.insert.new.pool c.insert.new.wheel) c.insert.ensures.ok
+    let freed = subst (λ (k : ℕ). AreFreed k c.args.count c.args.ends.now c.args.wheel.now c.free.new.ends c.free.new.pool c.free.new.wheel) c.spot_of.ensures.value c.in_ok-free.ensures.ok in
+    on_ok_weaker c.insert.result (freed_then first.endpoint.protocol first.external c.args.count c.requires.last.external c.args.ends.now c.args.wheel.now c.free.new.ends c.free.new.pool c.free.new.wheel freed
+    c.args.reached (last_along first) c.insert.new.ends c.insert.new.pool c.insert.new.wheel) c.insert.ensures.ok
+
+pub returns-clause-late : goal.returns-clause-late
+returns-clause-late c = on_ok_weaker c.insert.result (λ told seen before none. told seen before (c.in_ok-free.ensures.late seen none)) c.insert.ensures.late

@@ -8,6 +8,6 @@ pub free-requires-clause-within : goal.free-requires-clause-within
 free-requires-clause-within c = omega (arith, c.spot.ensures.bound, c.requires.within)
 
 pub returns-clause-ok : goal.returns-clause-ok
-returns-clause-ok c =
-    on_ok_weaker c.free.result (λ freed. freed_assigned c.args.reached c.args.protocol c.args.start c.args.count c.requires.within c.args.ends.now c.free.new.ends c.free.new.pool c.free.new.wheel
-    (subst (λ (k : ℕ). AreFreed c.args.reached k c.args.count c.args.ends.now c.free.new.ends c.free.new.pool c.free.new.wheel) c.spot.ensures.value freed)) c.free.ensures.ok
+returns-clause-ok c m begun =
+    on_ok_weaker c.free.result (λ freed. freed_assigned c.args.protocol c.args.start c.args.count c.requires.within c.args.ends.now c.args.wheel.now c.free.new.ends c.free.new.pool c.free.new.wheel
+    (subst (λ (k : ℕ). AreFreed k c.args.count c.args.ends.now c.args.wheel.now c.free.new.ends c.free.new.pool c.free.new.wheel) c.spot.ensures.value freed) m begun) c.free.ensures.ok

@@ -1,20 +1,25 @@
+use Rattle.std.proofs.Common.{arith}
 use Rattle.leased_ports.proofs.FreeLemmas.{freeing_first}
 use Rattle.leased_ports.proofs.steps.take_between.Goals as goal
 
-pub loop-init : goal.loop-init
-loop-init c = record {
+pub loop-next-init : goal.loop-next-init
+loop-next-init c = record {
   on = λ low high most h. h;
-  freeing = freeing_first c.args.reached c.args.from c.args.to c.args.ends.now c.args.pool.now c.args.wheel.now c.requires.in_step c.requires.from_begins c.requires.to_begins;
+  late = λ seen none. none;
+  from_on = omega arith;
+  freeing = freeing_first c.args.from c.args.to c.args.ends.now c.args.pool.now c.args.wheel.now c.requires.in_step c.requires.from_begins c.requires.to_begins;
 }
 
-pub loop-preserved : goal.loop-preserved
-loop-preserved c = record {
-  on = λ low high most h. c.take_next.ensures.on low high most (c.loop.invariant.on low high most h);
-  freeing = c.take_next.ensures.freeing c.args.ends.now c.loop.invariant.freeing;
+pub loop-next-preserved : goal.loop-next-preserved
+loop-next-preserved c = record {
+  on = λ low high most h. c.take_next.ensures.on low high most (c.loop-next.invariant.on low high most h);
+  late = λ seen none. c.take_next.ensures.late seen (c.loop-next.invariant.late seen none);
+  from_on = (let past = c.loop-next.invariant.from_on in let less = c.in-Some.ensures.behind in omega (arith, past, less));
+  freeing = c.in-Some.ensures.freeing c.args.from c.args.ends.now c.args.wheel.now c.loop-next.invariant.from_on c.loop-next.invariant.freeing;
 }
 
-pub returns-clause-on : goal.returns-clause-on
-returns-clause-on c low high most h = c.take_next.ensures.on low high most (c.loop.invariant.on low high most h)
+pub returns-clause-late : goal.returns-clause-late
+returns-clause-late c seen none = c.take_next.ensures.late seen (c.loop-next.invariant.late seen none)
 
 pub returns-clause-freeing : goal.returns-clause-freeing
-returns-clause-freeing c = c.take_next.ensures.freeing c.args.ends.now c.loop.invariant.freeing
+returns-clause-freeing c = c.in_default.ensures.freeing c.args.from c.args.ends.now c.args.wheel.now c.loop-next.invariant.from_on c.loop-next.invariant.freeing

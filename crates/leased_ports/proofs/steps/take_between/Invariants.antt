@@ -1,15 +1,17 @@
-use Rattle.std.proofs.Common.{ℕ}
-use Rattle.std.specs.FinMap as fin
+use Rattle.std.proofs.Common.{ℕ, ◌≤◌, ◌-◌}
+use Rattle.leased_ports.specs.Falling.{NoneDue}
 use Rattle.leased_ports.specs.Kept.{IsOn}
 use Rattle.leased_ports.specs.Steps.{AreFreeing}
 use Rattle.leased_ports.proofs.steps.take_between.Given as goal
 
 -- some of the runs are gone
-abbrev pub invariant-loop : goal.invariant-loop
-invariant-loop l = record {
+abbrev pub invariant-loop-next : goal.invariant-loop-next
+invariant-loop-next l = record {
   on : (low high most : ℕ) → IsOn l.fn.pool low high most → IsOn l.pool low high most;
-  freeing : AreFreeing l.reached l.from l.to l.fn.ends l.ends l.pool l.wheel;
+  late : (seen : ℕ) → NoneDue seen l.fn.wheel → NoneDue seen l.wheel;
+  from_on : l.from ≤ l.at;
+  freeing : AreFreeing l.from l.at l.to l.fn.ends l.fn.wheel l.ends l.pool l.wheel;
 }
 
-abbrev pub decreases-loop : goal.decreases-loop
-decreases-loop l = fin.len l.wheel
+abbrev pub decreases-loop-next : goal.decreases-loop-next
+decreases-loop-next l = l.to - l.at

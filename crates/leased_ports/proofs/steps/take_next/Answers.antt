@@ -1,32 +1,37 @@
-use Rattle.leased_ports.specs.Kept.{held_at}
+use Rattle.std.proofs.Common.{arith}
 use Rattle.leased_ports.proofs.BlockLemmas.{run_uses}
-use Rattle.leased_ports.proofs.FreeLemmas.{freeing_first, freed_none, next_there, next_set, next_waits, freeing_more, fewer_waits}
+use Rattle.leased_ports.proofs.FreeLemmas.{next_there, next_set, next_behind, next_within, freeing_last, freeing_more}
+use Rattle.leased_ports.proofs.PhaseLemmas.{none-due-removed}
+use Rattle.leased_ports.proofs.SpotLemmas.{run_low}
 use Rattle.leased_ports.proofs.steps.take_next.Goals as goal
 
-pub returns-in_default-clause-freed : goal.returns-in_default-clause-freed
-returns-in_default-clause-freed c =
-    let m = c.args.reached in let from = c.args.from in let to = c.args.to in let old = c.args.ends.now in let pool = c.args.pool.now in let waits = c.args.wheel.now in
-    freed_none m from to old old pool waits (freeing_first m from to old pool waits c.requires.in_step c.requires.from_begins c.requires.to_begins) c.in_default.ensures
+pub returns-in_default-clause-freeing : goal.returns-in_default-clause-freeing
+returns-in_default-clause-freeing c from start before from_on f = freeing_last from c.args.at c.args.to start before c.args.ends.now c.args.pool.now c.args.wheel.now f c.in_default.ensures
 
 pub take_out-requires-clause-set : goal.take_out-requires-clause-set
-take_out-requires-clause-set c =
-    let m = c.args.reached in let from = c.args.from in let to = c.args.to in let old = c.args.ends.now in let pool = c.args.pool.now in let waits = c.args.wheel.now in
-    next_set m from to old old pool waits (freeing_first m from to old pool waits c.requires.in_step c.requires.from_begins c.requires.to_begins) c.in-Some.run' c.in-Some.ensures
+take_out-requires-clause-set c = next_set c.args.ends.now c.args.pool.now c.args.wheel.now c.requires.in_step c.args.at c.args.to c.in-Some.run' c.in-Some.ensures
 
 pub take_out-requires-clause-used : goal.take_out-requires-clause-used
 take_out-requires-clause-used c =
-    let m = c.args.reached in let from = c.args.from in let to = c.args.to in let old = c.args.ends.now in let pool = c.args.pool.now in let waits = c.args.wheel.now in
-    let f = freeing_first m from to old pool waits c.requires.in_step c.requires.from_begins c.requires.to_begins in
-    run_uses (held_at m) old pool waits c.requires.in_step c.in-Some.run'.first c.in-Some.run' (next_there m from to old old pool waits f c.in-Some.run' c.in-Some.ensures)
-    (next_set m from to old old pool waits f c.in-Some.run' c.in-Some.ensures)
+    let ends = c.args.ends.now in let pool = c.args.pool.now in let waits = c.args.wheel.now in
+    run_uses ends pool waits c.requires.in_step c.in-Some.run'.first c.in-Some.run' (next_there ends pool waits c.requires.in_step c.args.at c.args.to c.in-Some.run' c.in-Some.ensures)
+    (next_set ends pool waits c.requires.in_step c.args.at c.args.to c.in-Some.run' c.in-Some.ensures)
 
-pub returns-clause-fewer : goal.returns-clause-fewer
-returns-clause-fewer c =
-    let m = c.args.reached in let from = c.args.from in let to = c.args.to in let old = c.args.ends.now in let pool = c.args.pool.now in let waits = c.args.wheel.now in
-    let f = freeing_first m from to old pool waits c.requires.in_step c.requires.from_begins c.requires.to_begins in
-    fewer_waits waits c.take_out.new.wheel c.in-Some.run'.first (next_waits m from to old old pool waits f c.in-Some.run' c.in-Some.ensures) c.take_out.ensures.waits
+pub overflow_add-result : goal.overflow_add-result
+overflow_add-result c =
+    let low = run_low c.in-Some.run' (next_set c.args.ends.now c.args.pool.now c.args.wheel.now c.requires.in_step c.args.at c.args.to c.in-Some.run' c.in-Some.ensures) in
+    omega (arith, low)
+
+pub returns-clause-behind : goal.returns-clause-behind
+returns-clause-behind c = next_behind c.args.ends.now c.args.pool.now c.args.wheel.now c.requires.in_step c.args.at c.args.to c.in-Some.run' c.in-Some.ensures
+
+pub returns-clause-within : goal.returns-clause-within
+returns-clause-within c = next_within c.args.ends.now c.args.pool.now c.args.wheel.now c.requires.in_step c.args.at c.args.to c.in-Some.run' c.in-Some.ensures c.requires.to_begins
 
 pub returns-clause-freeing : goal.returns-clause-freeing
-returns-clause-freeing c start f =
-    freeing_more c.args.reached c.args.from c.args.to start c.args.ends.now c.args.pool.now c.args.wheel.now f c.in-Some.run' c.in-Some.ensures
+returns-clause-freeing c from start before from_on f =
+    freeing_more from c.args.at c.args.to start before c.args.ends.now c.args.pool.now c.args.wheel.now f from_on c.in-Some.run' c.in-Some.ensures
     c.take_out.new.ends c.take_out.new.pool c.take_out.new.wheel c.take_out.ensures.apart c.take_out.ensures.runs c.take_out.ensures.used c.take_out.ensures.waits
+
+pub returns-clause-late : goal.returns-clause-late
+returns-clause-late c seen none = none-due-removed seen c.args.wheel.now c.take_out.new.wheel c.in-Some.run'.first c.take_out.ensures.waits none

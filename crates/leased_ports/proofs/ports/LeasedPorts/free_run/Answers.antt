@@ -9,19 +9,19 @@ use Rattle.leased_ports.proofs.ports.LeasedPorts.free_run.Goals as goal
 pub invariant_of-self : goal.invariant_of-self
 invariant_of-self c =
     let a = c.self.inside in
-    kept_assigned a.low a.high a.quota a.reached a.ends c.args.protocol c.args.start c.args.count no_last c.release.new.ends a.pool c.release.new.pool c.release.new.wheel
-    c.release.ensures.on c.self.invariant.on c.in_default.ensures.ok
+    kept_assigned a.low a.high a.quota a.settled a.reached a.ends c.args.protocol c.args.start c.args.count no_last c.release.new.ends a.pool c.release.new.pool c.release.new.wheel
+    c.release.ensures.on c.self.invariant.on (c.in_default.ensures.ok a.reached c.self.invariant.begun) c.self.invariant.order (c.in_default.ensures.late a.settled c.self.invariant.late)
 
 pub returns-in_default-clause-ok : goal.returns-in_default-clause-ok
 returns-in_default-clause-ok c =
     let a = c.self.inside in
-    free_view a.reached a.ends c.args.protocol c.args.start c.args.count c.release.new.ends c.release.new.pool c.release.new.wheel a.low a.high a.quota c.in_default.ensures.ok c.requires
+    free_view a.reached a.ends c.args.protocol c.args.start c.args.count c.release.new.ends c.release.new.pool c.release.new.wheel a.low a.high a.quota a.settled (c.in_default.ensures.ok a.reached c.self.invariant.begun) c.requires
     ∙ ap (without_last_ends c.args.protocol c.args.start c.args.count) c.self.view_is
 
 pub returns-in_default-clause-ports : goal.returns-in_default-clause-ports
 returns-in_default-clause-ports c q port =
     let a = c.self.inside in
-    assigned_ports a.reached a.ends c.args.protocol c.args.start c.args.count no_last c.release.new.ends c.release.new.pool c.release.new.wheel c.in_default.ensures.ok q port
+    assigned_ports a.reached a.ends c.args.protocol c.args.start c.args.count no_last c.release.new.ends c.release.new.pool c.release.new.wheel (c.in_default.ensures.ok a.reached c.self.invariant.begun) q port
     ∙ ap (λ (v : Leased). cond (same_protocol c.args.protocol q && is_in_run c.args.start c.args.count port) (no_last port) (end_of v q port)) c.self.view_is
 
 pub invariant_of-self-2 : goal.invariant_of-self-2

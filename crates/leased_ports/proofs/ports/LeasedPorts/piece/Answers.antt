@@ -1,16 +1,17 @@
 use Rattle.std.proofs.Common.{◌+◌, sym, ap, ◌∙◌}
-use Rattle.leased_ports.specs.Leased.{Leased, end_of}
+use Rattle.leased_ports.specs.Leased.{Leased, end_of, while_recent}
 use Rattle.leased_ports.proofs.ViewLemmas.{ends_of-place}
 use Rattle.leased_ports.proofs.ports.LeasedPorts.piece.Goals as goal
 
 pub returns : goal.returns
 returns c =
+    let a = c.self.inside in
     let is = c.piece_at.ensures in
     record {
       some = is.some;
       few = is.few;
       internal = is.internal;
       along = λ i less.
-          ap (λ (v : Leased). end_of v c.args.protocol (c.args.start + i)) (sym c.self.view_is)
-          ∙ ends_of-place c.self.inside.ends c.args.protocol (c.args.start + i) ∙ is.along i less;
+          ap (λ (v : Leased). while_recent v.reached (end_of v c.args.protocol (c.args.start + i))) (sym c.self.view_is)
+          ∙ ap (while_recent a.reached) (ends_of-place a.ends c.args.protocol (c.args.start + i)) ∙ is.along i less;
     }

@@ -1,0 +1,16 @@
+use Rattle.std.proofs.Common.{◌++◌, List, sym, ap, ◌∙◌, append-nil}
+use Rattle.std.proofs.lemmas.Result.{on_ok_weaker}
+use Rattle.pcp_base.specs.declared.leases.End.{End}
+use Rattle.leased_ports.proofs.CopyLemmas.{come_all, come_none}
+use Rattle.leased_ports.proofs.listing.push_come.Goals as goal
+
+pub has_come-come-requires : goal.has_come-come-requires
+has_come-come-requires c = c.requires.near
+
+pub returns-then-come : goal.returns-then-come
+returns-then-come c =
+    on_ok_weaker c.push_ends.result (λ told. told ∙ ap (λ (xs : List End). c.args.all.now.items ++ xs) (come_all c.args.m c.args.run.now (sym c.has_come-come.ensures ∙ c.if-come.true))) c.push_ends.ensures
+
+pub returns : goal.returns
+returns c =
+    sym (append-nil c.args.all.now.items) ∙ ap (λ (xs : List End). c.args.all.now.items ++ xs) (come_none c.args.m c.args.run.now (sym c.has_come-come.ensures ∙ c.if-come.false))

@@ -1,0 +1,5 @@
+use Rattle.leased_ports.proofs.TimedLemmas.{none-timed}
+use Rattle.leased_ports.proofs.timed_ends.TimedEnds.clear.Goals as goal
+
+pub invariant_of-self : goal.invariant_of-self
+invariant_of-self c = none-timed c.clear.new.self c.clear-2.new.self c.clear.ensures c.clear-2.ensures

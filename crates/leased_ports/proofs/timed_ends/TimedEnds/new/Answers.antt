@@ -1,0 +1,5 @@
+use Rattle.leased_ports.proofs.TimedLemmas.{none-timed}
+use Rattle.leased_ports.proofs.timed_ends.TimedEnds.new.Goals as goal
+
+pub invariant_of-result : goal.invariant_of-result
+invariant_of-result c = none-timed c.in_ok-new.field-0 c.in_ok-new-2.field-0 c.in_ok-new.ensures c.in_ok-new-2.ensures
