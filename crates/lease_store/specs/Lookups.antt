@@ -1,5 +1,5 @@
 -- What is asked of a lease table at a moment (our own).
-use Rattle.std.specs.Prelude.{ℕ, ◌+◌, ◌-◌, ◌||◌, Bool, length, find, count_by, Option}
+use Rattle.std.specs.Prelude.{ℕ, ◌+◌, ◌-◌, ◌||◌, min, Bool, length, find, count_by, Option, Some, None}
 use Rattle.std.specs.List.{list_any, range_with_len}
 use Rattle.std.specs.Option.{option_map}
 use Rattle.pcp_base.specs.declared.addresses.Address.{Address}
@@ -41,3 +41,8 @@ is_taken_inside t m e port = list_any (λ l. covers l (with_port e port)) (live 
 -- or names
 unfoldable pub next_inside : Table → ℕ → Endpoint → Option ℕ
 next_inside t m e = find (is_taken_inside t m e) (range_with_len (e.port + 1) (65535 - e.port))
+
+-- no more ports than up to the next internal port in use
+abbrev pub up_to_next : Option ℕ → ℕ → ℕ → ℕ
+up_to_next None internal room = room
+up_to_next (Some next) internal room = min room (next - internal)

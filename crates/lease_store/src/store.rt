@@ -1,5 +1,6 @@
 //! The state that records made, as decisions ask for it.
-ghost use Rattle.std.specs.Prelude.{◌≡◌, ◌++◌, ℕ, ◌≤◌, ◌+◌, Ok, true, false, is_some, OnOk, IfOk};
+ghost use Rattle.std.specs.Prelude.{◌≡◌, ◌++◌, ℕ, ◌≤◌, ◌+◌, ◌*◌, nat_lt, Ok, true, false, is_some, OnOk, IfOk};
+ghost use Rattle.pcp_base.specs.declared.leases.TheConstants.{MOST_LEASES};
 ghost use Rattle.pcp_base.specs.Tables.{live};
 ghost use Rattle.pcp_base.specs.States.{State, empty_state};
 ghost use Rattle.pcp_base.specs.Apply.{apply, apply_first};
@@ -10,7 +11,7 @@ ghost use Rattle.filter_rules.specs.Lookups.{look};
 ghost use Rattle.lease_store.specs.declared.terms.Terms.{Terms};
 ghost use Rattle.lease_store.specs.LeaseTerms.{AreTerms};
 ghost use Rattle.lease_store.specs.HeldRecords.{held_records};
-ghost use Rattle.lease_store.specs.Lookups.{covering, peering, named_port, peer_count, lease_count, next_inside};
+ghost use Rattle.lease_store.specs.Lookups.{covering, peering, named_port, peer_count, lease_count, next_inside, up_to_next};
 ghost use Rattle.lease_store.specs.OwnerOrder.{owners_in_order};
 ghost use Rattle.lease_store.specs.Picks.{pick_answer};
 
@@ -44,8 +45,11 @@ pub trait LeaseStore {
     /// How many steps one look-up in a state takes at most.
     ghost look_steps: { State → ℕ };
 
-    /// How many steps `reach` takes at most, in a state from one moment to another.
-    ghost reach_steps: { State → ℕ → ℕ → ℕ };
+    /// How many steps a pick takes at most in a state, beside one for each port that is suggested.
+    ghost pick_steps: { State → ℕ };
+
+    /// How many steps `reach` takes at most, whatever fell due.
+    ghost reach_steps: { ℕ };
 
     /// It is new or was cleared, and nothing but `admit` changed it since.
     ghost replaying: { Self → Type 0 };
@@ -106,8 +110,7 @@ pub trait LeaseStore {
         ensures state { state self.new ≡ state self.old }
         ensures reached { reached self.new ≡ m }
         ensures terms { terms self.new ≡ terms self.old }
-        ensures steps { steps.new
-            ≤ steps.old + reach_steps (state self.old) (reached self.old) m };
+        ensures steps { steps.new ≤ steps.old + reach_steps };
 
     /// The terms on which ports are leased.
     fn terms(&self) -> Terms
@@ -145,34 +148,44 @@ pub trait LeaseStore {
         ensures count { result ≡ peer_count (state self.now).table (reached self.now) endpoint.now }
         ensures steps { steps.new ≤ steps.old + look_steps (state self.now) };
 
-    /// The next greater internal port, of the endpoint's address and protocol, that a lease covers
-    /// or names which is live at the moment reached.
-    fn next_inside<L: Ledger>(&self, endpoint: &Endpoint, steps: &mut Steps<L>) -> Option<u16>
-        requires { IsReached (state self.now) }
-        ensures next { result ≡ next_inside (state self.now).table (reached self.now) endpoint.now }
-        ensures steps { steps.new ≤ steps.old + look_steps (state self.now) };
+    /// How many of the `most` internal ports from the endpoint's on, 1 to all that there are, come
+    /// before the next greater one, of the endpoint's address and protocol, that a lease covers or
+    /// names which is live at the moment reached.
+    fn room_inside<L: Ledger>(&self, endpoint: &Endpoint, most: u32, steps: &mut Steps<L>) -> u32
+        requires sound { IsReached (state self.now) }
+        requires some { 1 ≤ most }
+        requires ports { endpoint.now.port + most ≤ 65536 }
+        ensures room { result ≡ up_to_next
+            (next_inside (state self.now).table (reached self.now) endpoint.now)
+            endpoint.now.port most }
+        ensures steps { steps.new ≤ steps.old + most * look_steps (state self.now) };
 
-    /// How many leases are live at the moment reached.
-    fn lease_count<L: Ledger>(&self, steps: &mut Steps<L>) -> u32
+    /// Whether fewer than [`MOST_LEASES`](pcp_base::MOST_LEASES) leases are live at the moment
+    /// reached.
+    fn has_room<L: Ledger>(&self, steps: &mut Steps<L>) -> bool
         requires { IsReached (state self.now) }
-        ensures count { result ≡ lease_count (state self.now).table (reached self.now) }
+        ensures room { result
+            ≡ nat_lt (lease_count (state self.now).table (reached self.now)) MOST_LEASES }
         ensures steps { steps.new ≤ steps.old + look_steps (state self.now) };
 
     /// The ports that would be given at the moment reached, the first one to this endpoint, by the
     /// rules of [`Pool::pick`](external_pool::Pool::pick). The ask is for at least one port, with
-    /// room for one.
+    /// room for one. It may see to what fell due; the state stays.
     fn pick<L: Ledger>(
-        &self,
+        &mut self,
         endpoint: &Endpoint,
         ask: &PickAsk,
         steps: &mut Steps<L>,
     ) -> Result<Picked, PickRefused>
-        requires sound { IsReached (state self.now) }
+        requires sound { IsReached (state self.old) }
         requires ask { IsAsk ask.now }
         requires internal { ask.now.internal ≡ endpoint.now.port }
-        ensures pick { result ≡ pick_answer (terms self.now) (state self.now) (reached self.now)
+        ensures pick { result ≡ pick_answer (terms self.old) (state self.old) (reached self.old)
             endpoint.now ask.now }
-        ensures steps { steps.new ≤ steps.old + look_steps (state self.now) + ask.now.room };
+        ensures state { state self.new ≡ state self.old }
+        ensures reached { reached self.new ≡ reached self.old }
+        ensures terms { terms self.new ≡ terms self.old }
+        ensures steps { steps.new ≤ steps.old + pick_steps (state self.old) + ask.now.room };
 
     /// The endpoint to which a remote peer may send through this external port. A moment below the
     /// last one counts as that.

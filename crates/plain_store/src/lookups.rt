@@ -2,16 +2,17 @@
 ghost use Rattle.std.specs.Prelude.{◌≡◌, ◌≤◌, ◌+◌, ◌-◌, ◌||◌, length, is_some, find, filter, nat_lt, count_by, max, IsTrue};
 ghost use Rattle.std.specs.List.{AllByRecursion, list_any};
 ghost use Rattle.std.specs.Option.{option_map};
+ghost use Rattle.pcp_base.specs.declared.leases.TheConstants.{MOST_LEASES};
 ghost use Rattle.pcp_base.specs.Tables.{live, names, covers, HasPorts, IsMapLease};
 ghost use Rattle.pcp_base.specs.Owners.{is_port, peer_owner, owns, endpoint_behind};
 ghost use Rattle.pcp_base.specs.Reached.{IsReached};
 ghost use Rattle.filter_rules.specs.Filters.{allows as lets};
 ghost use Rattle.filter_rules.specs.Lookups.{is_with, owners_for, look};
-ghost use Rattle.lease_store.specs.Lookups.{covering, peering, named_port, peer_count, lease_count, is_taken_inside, next_inside};
+ghost use Rattle.lease_store.specs.Lookups.{covering, peering, named_port, peer_count, lease_count, is_taken_inside, next_inside, up_to_next};
 
 use crate::owned::{is_map_owner, is_peer_owner};
 use filter_rules::allows;
-use pcp_base::{Address, Endpoint, MapLease, Moment, PeerLease, Protocol};
+use pcp_base::{Address, Endpoint, MOST_LEASES, MapLease, Moment, PeerLease, Protocol};
 use plain_replay::PlainReplay;
 
 /// The live MAP lease that covers the endpoint.
@@ -103,6 +104,14 @@ pub(crate) fn lease_count(replay: &PlainReplay, m: Moment) -> u32
     live_maps(replay.maps(), m) as u32 + live_peers(replay.peers(), m) as u32
 }
 
+/// Whether one more lease may be live.
+pub(crate) fn has_room(replay: &PlainReplay, m: Moment) -> bool
+    requires { IsReached replay.now }
+    ensures { result ≡ nat_lt (lease_count replay.now.table m) MOST_LEASES }
+{
+    (lease_count(replay, m) as usize) < MOST_LEASES
+}
+
 fn is_covered(maps: &[MapLease], m: Moment, endpoint: &Endpoint) -> bool
     ensures { result ≡
         list_any (λ l. covers l endpoint.now) (filter (λ l. nat_lt m l.expiry) maps.now) }
@@ -133,7 +142,7 @@ fn is_taken_inside(replay: &PlainReplay, m: Moment, endpoint: &Endpoint, port: u
 /// The next greater internal port, of the endpoint's address and protocol, that a live lease covers
 /// or names.
 #[tactic(auto, unfolding(lease_store::specs::Lookups::next_inside))]
-pub(crate) fn next_inside(replay: &PlainReplay, m: Moment, endpoint: &Endpoint) -> Option<u16>
+fn next_inside(replay: &PlainReplay, m: Moment, endpoint: &Endpoint) -> Option<u16>
     ensures { result ≡ next_inside replay.now.table m endpoint.now }
 {
     for before in endpoint.port..65535 {
@@ -142,6 +151,24 @@ pub(crate) fn next_inside(replay: &PlainReplay, m: Moment, endpoint: &Endpoint) 
         }
     }
     None
+}
+
+/// No more ports than up to the next internal port in use.
+fn up_to_next(next: Option<u16>, internal: u16, room: u32) -> u32
+    ensures { result ≡ up_to_next next internal room }
+{
+    match next {
+        None => room,
+        Some(next) => room.min(u32::from(next.saturating_sub(internal))),
+    }
+}
+
+/// How many of the `most` internal ports from the endpoint's on come before the next one in use.
+pub(crate) fn room_inside(replay: &PlainReplay, m: Moment, endpoint: &Endpoint, most: u32) -> u32
+    ensures { result ≡ up_to_next (next_inside replay.now.table m endpoint.now)
+        endpoint.now.port most }
+{
+    up_to_next(next_inside(replay, m, endpoint), endpoint.port, most)
 }
 
 /// The live MAP lease that owns the port, where its filters allow the remote peer.

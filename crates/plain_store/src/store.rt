@@ -70,7 +70,9 @@ impl LeaseStore for PlainStore {
 
     ghost look_steps = { λ s. 0 };
 
-    ghost reach_steps = { λ s from to. 0 };
+    ghost pick_steps = { λ s. 0 };
+
+    ghost reach_steps = { 0 };
 
     ghost replaying = { λ s. IsReached s.state };
 
@@ -133,16 +135,16 @@ impl LeaseStore for PlainStore {
         lookups::peer_count(&self.replay, self.reached, endpoint)
     }
 
-    fn next_inside<L: Ledger>(&self, endpoint: &Endpoint, _steps: &mut Steps<L>) -> Option<u16> {
-        lookups::next_inside(&self.replay, self.reached, endpoint)
+    fn room_inside<L: Ledger>(&self, endpoint: &Endpoint, most: u32, _steps: &mut Steps<L>) -> u32 {
+        lookups::room_inside(&self.replay, self.reached, endpoint, most)
     }
 
-    fn lease_count<L: Ledger>(&self, _steps: &mut Steps<L>) -> u32 {
-        lookups::lease_count(&self.replay, self.reached)
+    fn has_room<L: Ledger>(&self, _steps: &mut Steps<L>) -> bool {
+        lookups::has_room(&self.replay, self.reached)
     }
 
     fn pick<L: Ledger>(
-        &self,
+        &mut self,
         endpoint: &Endpoint,
         ask: &PickAsk,
         _steps: &mut Steps<L>,
