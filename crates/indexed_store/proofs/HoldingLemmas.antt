@@ -27,7 +27,7 @@ use Rattle.indexed_store.specs.declared.holding.Hold.{Hold}
 use Rattle.indexed_store.specs.declared.holding.Unowned.{Unowned}
 use Rattle.indexed_store.specs.declared.holding.Unowned.TheVariants.{Rests}
 use Rattle.indexed_store.specs.Runs.{behind, has_port, owner_in, owners_if, up_to}
-use Rattle.indexed_store.specs.Holding.{AreNear, Holds, HoldsIf, IsEven, IsHold, end_held, held_by_map, later_by}
+use Rattle.indexed_store.specs.Holding.{AreNearAt, Holds, HoldsIf, IsEven, IsHold, end_held, held_by_map, later_by}
 use Rattle.indexed_store.proofs.Uniques.{one-owns}
 use Rattle.indexed_store.proofs.RunLemmas.{found_owner, has_more, has_none, owner_behind, place_in, set_more}
 
@@ -97,19 +97,19 @@ module _ (t : Table) (protocol : Protocol) (port : ℕ) where
   peer-owns : (l : PeerLease) → is_port protocol port (peer_owner l) ≡ is_end_of protocol port (peer_end l)
   peer-owns l = ap (λ (b : Bool). b && l.external == port) (same_number l.endpoint.protocol protocol)
 
-  near-map : AreNear t → (o : Option MapLease) → find (owns protocol port) t.maps ≡ o → IfSome (option_map (λ (l : MapLease). l.expiry) o) (λ n. n ≤ 2 ^ 41 - 1)
-  near-map near None h = tt
-  near-map near (Some l) h = let f = find-some (owns protocol port) t.maps l h in let lt = All-IsIn (λ (x : MapLease). x.expiry < 2 ^ 41) t.maps l near.maps f.0 in omega (arith, lt)
+  near-map : (m : ℕ) → AreNearAt m t → (o : Option MapLease) → find (owns protocol port) t.maps ≡ o → IfSome (option_map (λ (l : MapLease). l.expiry) o) (λ n. n ≤ 2 ^ 41 - 1)
+  near-map m near None h = tt
+  near-map m near (Some l) h = let f = find-some (owns protocol port) t.maps l h in let lt = All-IsIn (λ (x : MapLease). x.expiry < 2 ^ 41) t.maps l near.maps f.0 in omega (arith, lt)
 
   -- when the MAP lease of the port expires
-  pub map_bounds : (m : ℕ) → AreNear t → m < 2 ^ 41 → (m ≤ held_by_map m t.maps protocol port) × (held_by_map m t.maps protocol port < 2 ^ 41)
+  pub map_bounds : (m : ℕ) → AreNearAt m t → m < 2 ^ 41 → (m ≤ held_by_map m t.maps protocol port) × (held_by_map m t.maps protocol port < 2 ^ 41)
   map_bounds m near small =
       let o = option_map (λ (l : MapLease). l.expiry) (map_owning protocol port t.maps) in
       let from = later-least m o in
-      let to = later-most m (2 ^ 41 - 1) o (omega (arith, small)) (near-map near (map_owning protocol port t.maps) refl) in
+      let to = later-most m (2 ^ 41 - 1) o (omega (arith, small)) (near-map m near (map_owning protocol port t.maps) refl) in
       (from, omega (arith, to))
 
-  module _ (m : ℕ) (near : AreNear t) (b : Option ℕ) (last : IsLastExpiry protocol port t.peers b) where
+  module _ (m : ℕ) (near : AreNearAt m t) (b : Option ℕ) (last : IsLastExpiry protocol port t.peers b) where
     abbrev a : Option ℕ
     a = option_map (λ (l : MapLease). l.expiry) (map_owning protocol port t.maps)
 
@@ -145,7 +145,7 @@ module _ (t : Table) (protocol : Protocol) (port : ℕ) where
 
     one_owns : (l : MapLease) → IsIn l t.maps → owns protocol port l ≡ true → (o : Option MapLease) → find (owns protocol port) t.maps ≡ o → o ≡ Some l
     one_owns l i h None is = absurd (unlike (owns protocol port l) h (All-IsIn (λ x. owns protocol port x ≡ false) t.maps l (find-none (owns protocol port) t.maps is) i))
-    one_owns l i h (Some x) is = let f = find-some (owns protocol port) t.maps x is in ap Some (one-owns t protocol port near.sound x l f.0 i f.1 h)
+    one_owns l i h (Some x) is = let f = find-some (owns protocol port) t.maps x is in ap Some (one-owns t protocol port near.tabled x l f.0 i f.1 h)
 
     peer-late : (l : PeerLease) → IsIn l t.peers → is_port protocol port (peer_owner l) ≡ true → (o : Option ℕ) → IsLastExpiry protocol port t.peers o → (k : ℕ) → l.expiry ≤ later_by k o
     peer-late l i h None last k = absurd (unlike (list_any (λ x. is_port protocol port (peer_owner x)) t.peers) (some-any (λ x. is_port protocol port (peer_owner x)) t.peers l i h) last.none)
@@ -179,13 +179,13 @@ module _ (t : Table) (protocol : Protocol) (port : ℕ) where
 
     pub bounded : m < 2 ^ 41 → (m ≤ r) × (r < 2 ^ 41)
     bounded small =
-        let x = later-most m (2 ^ 41 - 1) a (omega (arith, small)) (near-map near (map_owning protocol port t.maps) refl) in
+        let x = later-most m (2 ^ 41 - 1) a (omega (arith, small)) (near-map m near (map_owning protocol port t.maps) refl) in
         let y = later-most (later_by m a) (2 ^ 41 - 1) b x (near-peer b last) in
         (r-from, omega (arith, y))
 
 -- ---- ports of a run that are held until the same moment
 
-module _ (m : ℕ) (t : Table) (near : AreNear t) (r : OwnerRun) (from : ℕ) (h : Hold) (hold : IsHold from t.peers r h)
+module _ (m : ℕ) (t : Table) (near : AreNearAt m t) (r : OwnerRun) (from : ℕ) (h : Hold) (hold : IsHold from t.peers r h)
     (maps : (i : ℕ) → i < r.count → from ≡ held_by_map m t.maps r.first.protocol (r.first.external + i)) where
   until-later : (i : ℕ) (less : i < h.count) → h.until ≡ later_by (held_by_map m t.maps r.first.protocol (r.first.external + i)) (hold.same i less).expiry
   until-later i less = (hold.same i less).is ∙ ap (λ (n : ℕ). later_by n (hold.same i less).expiry) (maps i (let few = hold.few in omega (arith, less, few)))
@@ -236,11 +236,11 @@ module _ (unowned : Unowned) (m : ℕ) (t : Table) (r : OwnerRun) where
   holds-whole done before after whole h = subst (λ (n : ℕ). Holds unowned m t (up_to n r) before after) whole h
 
 -- what MAP leases hold of the ports behind the first of a run
-pub even-behind : (m : ℕ) (maps : List MapLease) (r : OwnerRun) (done : ℕ) → IsEven maps r → done < r.count → (i : ℕ) → i < r.count - done
-    → held_by_map m maps r.first.protocol r.first.external ≡ held_by_map m maps r.first.protocol (r.first.external + done + i)
-even-behind m maps r done even before i less =
+pub even-behind : (m from : ℕ) (maps : List MapLease) (r : OwnerRun) (done : ℕ) → from ≡ held_by_map m maps r.first.protocol r.first.external → IsEven maps r → done < r.count → (i : ℕ) → i < r.count - done
+    → from ≡ held_by_map m maps r.first.protocol (r.first.external + done + i)
+even-behind m from maps r done is even before i less =
     let at : r.first.external + (done + i) ≡ r.first.external + done + i = omega arith in
-    ap (λ (o : Option MapLease). later_by m (option_map (λ (l : MapLease). l.expiry) o))
+    is ∙ ap (λ (o : Option MapLease). later_by m (option_map (λ (l : MapLease). l.expiry) o))
     (sym (even (done + i) (omega (arith, before, less))) ∙ ap (λ (n : ℕ). map_owning r.first.protocol n maps) at)
 
 -- as a record tells it

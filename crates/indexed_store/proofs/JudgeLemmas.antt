@@ -18,7 +18,7 @@ use Rattle.pcp_base.specs.Sound.{Sound}
 use Rattle.pcp_base.specs.Records.{IsTermAt, IsEndAt}
 use Rattle.pcp_base.specs.Fits.{RestForNoOther, IsUnused}
 use Rattle.pcp_base.specs.Rooms.{HasRoomForMap, HasRoomForPeer}
-use Rattle.pcp_base.proofs.Members.{IsIn, All-IsIn, All-from_IsIn, All-weaker, filter-all, any-some, IsIn-append, IsIn-left, IsIn-right, IsIn-flat_map, flat_map-IsIn, IsIn-map, map-IsIn, IsIn-from_Contains, Contains-from_IsIn, find-some, find-none, any-none, none-any, some-any, IsIn-range}
+use Rattle.pcp_base.proofs.Members.{IsIn, IsIn-filter, All-IsIn, All-from_IsIn, All-weaker, filter-all, any-some, IsIn-append, IsIn-left, IsIn-right, IsIn-flat_map, flat_map-IsIn, IsIn-map, map-IsIn, IsIn-from_Contains, Contains-from_IsIn, find-some, find-none, any-none, none-any, some-any, IsIn-range}
 use Rattle.pcp_base.proofs.Same.{same_endpoint-Decides}
 use Rattle.pcp_base.proofs.TableLemmas.{IsCovered-from_covers, map_owners-IsIn, owner-covered, Sound-live}
 use Rattle.pcp_base.proofs.RestLaws.{rests_for-some}
@@ -28,12 +28,13 @@ use Rattle.leased_ports.specs.LastEnds.{last_end}
 use Rattle.leased_ports.specs.Leased.{Leased, end_of, while_recent}
 use Rattle.leased_ports.proofs.LastEndLemmas.{last-some, last-from, old-last, owned-last, last-owned, last-rests, rests-last}
 use Rattle.leased_ports.proofs.MomentLemmas.{last_end-later}
-use Rattle.indexed_store.specs.Judging.{IsCurrent, is_unheld, is_unrested, unheld_by, unrested_by, is_at_most, covered_port, has_room_at, peer_has_room}
+use Rattle.indexed_store.specs.Judging.{IsCurrent, last_told, is_unheld, is_unrested, unheld_by, unrested_by, is_at_most, covered_port, has_room_at, peer_has_room}
+use Rattle.indexed_store.specs.Tabled.{TabledState}
 use Rattle.indexed_store.proofs.Uniques.{one-covers}
 use Rattle.indexed_store.proofs.LookLemmas.{one_port, some_any}
-use Rattle.indexed_store.proofs.ApplyLemmas.{while-is}
 use Rattle.indexed_store.proofs.LeavingLemmas.{not_back}
-use Rattle.indexed_store.proofs.SettlingLemmas.{port_is, is_port_of}
+use Rattle.indexed_store.proofs.StateLooks.{state-live}
+use Rattle.indexed_store.proofs.EndPorts.{port_is, is_port_of, while-is}
 use Rattle.pcp_base.proofs.EndLemmas.{owned-some, left-by_expiry, left-owned}
 
 all-true : {X : Type 0} (p : X → Bool) (P : X → Type 0) (xs : List X) → ((x : X) → IsIn x xs → p x ≡ true → P x) → list_all p xs ≡ true → AllByRecursion P xs
@@ -69,6 +70,10 @@ module _ {X : Type 0} (K : X → Type 0) (R : Type 0) (b c : Bool) (same : b ≡
   pub told-some : (o : Option X) (x : X) → Some x ≡ o → (c ≡ true) ↔ K x → (b ≡ true) ↔ (IfSome o K × IfNone o R)
   told-some o x some h = subst (λ (o : Option X). (b ≡ true) ↔ (IfSome o K × IfNone o R)) some (λ t. (h.0 (sym same ∙ t), tt), λ r. same ∙ h.1 r.0)
 
+-- nothing is asked where something is found
+pub told-held : {X : Type 0} (R : Type 0) (o : Option X) (x : X) → Some x ≡ o → (true ≡ true) ↔ IfNone o R
+told-held {X} R o x some = subst (λ (o : Option X). (true ≡ true) ↔ IfNone o R) some (λ t. tt, λ r. refl)
+
 or-second : (a b : Bool) → a ≡ false → (a || b) ≡ true → b ≡ true
 or-second true b e h = absurd (let never : true ≡ false = e in cc)
 or-second false b e h = h
@@ -86,36 +91,53 @@ covered-owner l e h =
       refl,
     )
 
-module _ (s : State) (v : Leased) (m : ℕ) (is : IsCurrent s v m) where
+module _ (all : TabledState) (m : ℕ) (is : IsCurrent all m) where
+  abbrev s : State
+  s = all.state
+
+  abbrev v : Leased
+  v = all.ports
+
   abbrev t : Table
   t = live s.table m
 
-  told : (protocol : Protocol) (port : ℕ) → last_end s m protocol port ≡ while_recent m (end_of v protocol port)
+  -- the last ends that are told are those of the state
+  at_last : (protocol : Protocol) (port : ℕ) → last_told v protocol port ≡ last_end s s.last protocol port
+  at_last protocol port = ap (λ (k : ℕ). while_recent k (end_of v protocol port)) is.at_last ∙ is.kept.ports.same protocol port
+
+  told : (protocol : Protocol) (port : ℕ) → last_end s m protocol port ≡ while_recent m (last_told v protocol port)
   told protocol port =
       last_end-later s is.reached.sound s.last m is.later protocol port
-      ∙ ap (while_recent m) (sym (is.ports.same protocol port ∙ ap (λ (k : ℕ). last_end s k protocol port) is.at_last))
+      ∙ ap (while_recent m) (sym (at_last protocol port))
+
+  -- what is live in the state stands in its tables
+  map-in : (x : MapLease) → IsIn x t.maps → IsIn x all.leases.maps
+  map-in x i = (IsIn-filter (λ (l : MapLease). nat_lt m l.expiry) all.leases.maps x (subst (λ (u : Table). IsIn x u.maps) (sym (state-live all m is.kept is.later)) i)).0
+
+  peer-in : (x : PeerLease) → IsIn x t.peers → IsIn x all.leases.peers
+  peer-in x i = (IsIn-filter (λ (l : PeerLease). nat_lt m l.expiry) all.leases.peers x (subst (λ (u : Table). IsIn x u.peers) (sym (state-live all m is.kept is.later)) i)).0
 
   -- ---- ports that other endpoints hold
 
   pub unheld-from : (o : Owner) → unheld_by m v o ≡ true → (q : Owner) → IsIn q (owners t) → q.protocol ≡ o.protocol → q.external ≡ o.external → q.endpoint ≡ o.endpoint
   unheld-from o h q i p n =
       let k = owned-last s is.reached.sound m q i in
-      let w = while-is m (end_of v q.protocol q.external) k.0 (sym (told q.protocol q.external) ∙ k.1) in
-      let here : end_of v o.protocol o.external ≡ Some k.0 = ap (λ (x : Protocol). end_of v x o.external) (sym p) ∙ ap (λ (x : ℕ). end_of v q.protocol x) (sym n) ∙ w.0 in
+      let w = while-is m (last_told v q.protocol q.external) k.0 (sym (told q.protocol q.external) ∙ k.1) in
+      let here : last_told v o.protocol o.external ≡ Some k.0 = ap (λ (x : Protocol). last_told v x o.external) (sym p) ∙ ap (λ (x : ℕ). last_told v q.protocol x) (sym n) ∙ w.0 in
       let test = sym (ap (λ (x : Option End). is_unheld m x o.endpoint) here) ∙ h in
       let same = or-second (not (nat_lt m k.0.end)) (same_endpoint k.0.endpoint o.endpoint) (ap not (lt-ltb m k.0.end k.2)) test in
       sym k.3 ∙ (same_endpoint-Decides k.0.endpoint o.endpoint).0 same
 
   pub unheld-to : (o : Owner) → ((q : Owner) → IsIn q (owners t) → q.protocol ≡ o.protocol → q.external ≡ o.external → q.endpoint ≡ o.endpoint) → unheld_by m v o ≡ true
-  unheld-to o f = step (end_of v o.protocol o.external) refl
+  unheld-to o f = step (last_told v o.protocol o.external) refl
     where
-      held : (x : End) → end_of v o.protocol o.external ≡ Some x → m < x.end → same_endpoint x.endpoint o.endpoint ≡ true
+      held : (x : End) → last_told v o.protocol o.external ≡ Some x → m < x.end → same_endpoint x.endpoint o.endpoint ≡ true
       held x here late =
           let last : last_end s m o.protocol o.external ≡ Some x = told o.protocol o.external ∙ ap (while_recent m) here ∙ cond-true (is_recent m x) (Some x) None (lt-ltb m (x.end + 120) (omega (arith, late))) in
           let k = last-owned s m is.reached is.later o.protocol o.external x last late in
           (same_endpoint-Decides x.endpoint o.endpoint).1 (sym k.4 ∙ f k.0 k.1 k.2 k.3)
 
-      step : (r : Option End) → end_of v o.protocol o.external ≡ r → is_unheld m r o.endpoint ≡ true
+      step : (r : Option End) → last_told v o.protocol o.external ≡ r → is_unheld m r o.endpoint ≡ true
       step None here = refl
       step (Some x) here = elim (two_ways (nat_lt m x.end)) [
         | inl late ↦ or_right (not (nat_lt m x.end)) (same_endpoint x.endpoint o.endpoint) (held x here (ltb-true m x.end late))
@@ -131,18 +153,18 @@ module _ (s : State) (v : Leased) (m : ℕ) (is : IsCurrent s v m) where
   unrested-from o h e p rests =
       let x = rests_for-some s m o.external e rests in
       let k = rests-last s m is.reached is.later x.0 x.1 in
-      let w = while-is m (end_of v x.0.endpoint.protocol x.0.external) x.0 (sym (told x.0.endpoint.protocol x.0.external) ∙ k.0) in
+      let w = while-is m (last_told v x.0.endpoint.protocol x.0.external) x.0 (sym (told x.0.endpoint.protocol x.0.external) ∙ k.0) in
       let protocol : x.0.endpoint.protocol ≡ o.protocol = ap (λ (y : Endpoint). y.protocol) x.2 ∙ p in
-      let here : end_of v o.protocol o.external ≡ Some x.0 = ap (λ (y : Protocol). end_of v y o.external) (sym protocol) ∙ ap (λ (y : ℕ). end_of v x.0.endpoint.protocol y) (sym x.3) ∙ w.0 in
+      let here : last_told v o.protocol o.external ≡ Some x.0 = ap (λ (y : Protocol). last_told v y o.external) (sym protocol) ∙ ap (λ (y : ℕ). last_told v x.0.endpoint.protocol y) (sym x.3) ∙ w.0 in
       let test = sym (ap (λ (y : Option End). is_unrested m y o.endpoint) here) ∙ h in
       let came : (nat_lt m x.0.end || not (is_recent m x.0)) ≡ false = ap (λ (b : Bool). b || not (is_recent m x.0)) (le-ltb m x.0.end k.1) ∙ ap not w.1 in
       let same = or-second (nat_lt m x.0.end || not (is_recent m x.0)) (same_endpoint x.0.endpoint o.endpoint) came test in
       sym x.2 ∙ (same_endpoint-Decides x.0.endpoint o.endpoint).0 same
 
   unrested-to : (o : Owner) → RestsForNone o → unrested_by m v o ≡ true
-  unrested-to o f = step (end_of v o.protocol o.external) refl
+  unrested-to o f = step (last_told v o.protocol o.external) refl
     where
-      rested : (x : End) → end_of v o.protocol o.external ≡ Some x → nat_lt m x.end ≡ false → is_recent m x ≡ true → same_endpoint x.endpoint o.endpoint ≡ true
+      rested : (x : End) → last_told v o.protocol o.external ≡ Some x → nat_lt m x.end ≡ false → is_recent m x ≡ true → same_endpoint x.endpoint o.endpoint ≡ true
       rested x here came recent =
           let last : last_end s m o.protocol o.external ≡ Some x = told o.protocol o.external ∙ ap (while_recent m) here ∙ cond-true (is_recent m x) (Some x) None recent in
           let there = last-rests s m is.reached is.later o.protocol o.external x last (ltb-false m x.end came) in
@@ -151,7 +173,7 @@ module _ (s : State) (v : Leased) (m : ℕ) (is : IsCurrent s v m) where
           (and_from _ _ ((same_endpoint-Decides x.endpoint x.endpoint).1 refl) (eq-eqb x.external o.external k.3)) in
           (same_endpoint-Decides x.endpoint o.endpoint).1 (f x.endpoint k.2 rests)
 
-      step : (r : Option End) → end_of v o.protocol o.external ≡ r → is_unrested m r o.endpoint ≡ true
+      step : (r : Option End) → last_told v o.protocol o.external ≡ r → is_unrested m r o.endpoint ≡ true
       step None here = refl
       step (Some x) here = elim (two_ways (nat_lt m x.end || not (is_recent m x))) [
         | inl free ↦ or_left (nat_lt m x.end || not (is_recent m x)) (same_endpoint x.endpoint o.endpoint) free
@@ -174,13 +196,10 @@ module _ (s : State) (v : Leased) (m : ℕ) (is : IsCurrent s v m) where
       ∙ ap (λ (ls : List PeerLease). record { maps = s.table.maps; peers = ls })
       (filter-all (λ (l : PeerLease). nat_lt s.last l.expiry) s.table.peers (All-weaker (λ (l : PeerLease). IsTermAt s.last l.granted l.expiry) (λ (l : PeerLease). nat_lt s.last l.expiry ≡ true) (λ l term. lt-ltb s.last l.expiry term.live) s.table.peers is.reached.peers))
 
-  at_last : (protocol : Protocol) (port : ℕ) → end_of v protocol port ≡ last_end s s.last protocol port
-  at_last protocol port = is.ports.same protocol port ∙ ap (λ (k : ℕ). last_end s k protocol port) is.at_last
-
   no-end : {A : Type 0} (protocol : Protocol) (port : ℕ) (x : End) → last_end s s.last protocol port ≡ None → last_end s s.last protocol port ≡ Some x → A
   no-end protocol port x none some = absurd (let never : None ≡ Some x = sym none ∙ some in cc)
 
-  unused-from : (e : Endpoint) (port : ℕ) → end_of v e.protocol port ≡ None → IsUnused s e port
+  unused-from : (e : Endpoint) (port : ℕ) → last_told v e.protocol port ≡ None → IsUnused s e port
   unused-from e port h =
       let none = sym (at_last e.protocol port) ∙ h in
       record {
@@ -206,13 +225,10 @@ module _ (s : State) (v : Leased) (m : ℕ) (is : IsCurrent s v m) where
             (ap (λ (q : Protocol). is_owned q port (owners s.table)) (sym p.2) ∙ ap (λ (n : ℕ). is_owned x.endpoint.protocol n (owners s.table)) (sym p.3) ∙ owned) h.unowned)
       ]
 
-  pub unused : (e : Endpoint) (port : ℕ) → (end_of v e.protocol port ≡ None) ↔ IsUnused s e port
+  pub unused : (e : Endpoint) (port : ℕ) → (last_told v e.protocol port ≡ None) ↔ IsUnused s e port
   unused e port = (unused-from e port, λ h. at_last e.protocol port ∙ unused-to e port h (last_end s s.last e.protocol port) refl)
 
   -- ---- endpoints that have ports
-
-  sound : Sound t
-  sound = Sound-live s.table m is.reached.sound.table
 
   uncovered : (e : Endpoint) → not (is_some (covering s.table m e)) ≡ true → (x : MapLease) → IsIn x t.maps → covers x e ≡ false
   uncovered e h x i = All-IsIn (λ y. covers y e ≡ false) t.maps x (any-none (λ y. covers y e) t.maps (sym (some_any (λ y. covers y e) t.maps) ∙ not_back _ h)) i
@@ -224,7 +240,7 @@ module _ (s : State) (v : Leased) (m : ℕ) (is : IsCurrent s v m) where
       step None none k = absurd (unlike (names y e) named (All-IsIn (λ l. names l e ≡ false) t.peers y (find-none (λ l. names l e) t.peers none) i))
       step (Some z) some k =
           let f = find-some (λ l. names l e) t.peers z some in
-          one_port t e m sound y z i f.0 named f.1 ∙ eqb-true z.external n k
+          one_port all.leases e m is.kept.tabled y z (peer-in y i) (peer-in z f.0) named f.1 ∙ eqb-true z.external n k
 
   keeps-to : (e : Endpoint) (n : ℕ) → ((y : PeerLease) → IsIn y t.peers → names y e ≡ true → y.external ≡ n) → is_at_most (named_port s.table m e) n ≡ true
   keeps-to e n f = step (find (λ l. names l e) t.peers) refl
@@ -301,7 +317,7 @@ module _ (s : State) (v : Leased) (m : ℕ) (is : IsCurrent s v m) where
 
     covered-at : (x : MapLease) → IsIn x t.maps → covers x l.endpoint ≡ true → (o : Option MapLease) → find (λ y. covers y l.endpoint) t.maps ≡ o → o ≡ Some x
     covered-at x i c None is_none = absurd (unlike (covers x l.endpoint) c (All-IsIn (λ y. covers y l.endpoint ≡ false) t.maps x (find-none (λ y. covers y l.endpoint) t.maps is_none) i))
-    covered-at x i c (Some y) is_some' = let f = find-some (λ y. covers y l.endpoint) t.maps y is_some' in ap Some (one-covers t l.endpoint sound y x f.0 i f.1 c)
+    covered-at x i c (Some y) is_some' = let f = find-some (λ y. covers y l.endpoint) t.maps y is_some' in ap Some (one-covers all.leases l.endpoint is.kept.tabled y x (map-in y f.0) (map-in x i) f.1 c)
 
     -- by a lease that covers the endpoint
     map-port : is_at_most (covered_port s.table m l.endpoint) l.external ≡ true → (p : Owner) (x : MapLease) → IsIn x t.maps → IsIn p (map_owners x) → p.endpoint ≡ l.endpoint → p.external ≡ l.external

@@ -5,17 +5,18 @@ use Rattle.pcp_base.specs.declared.leases.PeerLease.{PeerLease}
 use Rattle.pcp_base.specs.declared.leases.Owner.{Owner}
 use Rattle.pcp_base.specs.Tables.{Table, live, dead, first_endpoint, is_map_of, is_peer_of}
 use Rattle.pcp_base.specs.Owners.{map_owners, peer_owner, owners}
-use Rattle.pcp_base.specs.Sound.{Sound}
 use Rattle.pcp_base.proofs.Members.{IsIn, IsIn-filter, filter-IsIn, IsIn-append, IsIn-left, IsIn-right, IsIn-flat_map, flat_map-IsIn, IsIn-map, map-IsIn, IsIn-from_Contains, Contains-from_IsIn, find-none, filter-all, All-weaker, All-push}
-use Rattle.pcp_base.proofs.TableLemmas.{Sound-filter, Sound-filter_maps, key-own}
+use Rattle.pcp_base.proofs.TableLemmas.{key-own}
 use Rattle.pcp_base.proofs.StageLaws.{two_ways, unlike}
 use Rattle.pcp_base.proofs.Same.{same_endpoint-Decides, same_address-Decides}
 use Rattle.std.proofs.lemmas.Bool.{and_from, cond-false, eq-eqb}
 use Rattle.indexed_store.specs.declared.owning.OwnerRun.{OwnerRun}
 use Rattle.indexed_store.specs.Runs.{IsOwnerRun, map_run, owners_among, owners_of, peer_run}
 use Rattle.indexed_store.specs.Leaving.{AreLeaving, AreOfDead, IsOfLeases}
+use Rattle.indexed_store.specs.Tabled.{AreTabled}
+use Rattle.indexed_store.proofs.RunLemmas.{along_none}
+use Rattle.indexed_store.proofs.ChangeLemmas.{without_map, without_peer}
 use Rattle.indexed_store.proofs.Uniques.{AtMostOne, one-key, one-peer}
-use Rattle.indexed_store.proofs.TouchLemmas.{peer_owners}
 
 pub not_back : (b : Bool) → not b ≡ true → b ≡ false
 not_back true h = absurd (let no_way : false ≡ true = h in cc)
@@ -134,6 +135,10 @@ owned_by_peers = record {
   ];
 }
 
+-- the one port of a PEER lease
+peer_owners : (l : PeerLease) → one_owner l ≡ owners_of (peer_run l)
+peer_owners l = ap (λ (o : Owner). o ∷ []) (sym (along_none (peer_owner l)))
+
 peer_own : (l : PeerLease) → is_peer_of l.endpoint l.remote l.remote_port l ≡ true
 peer_own l =
     let endpoint = (same_endpoint-Decides l.endpoint l.endpoint).1 refl in
@@ -142,9 +147,8 @@ peer_own l =
 
 -- ---- the table
 
-pub begins : (m : ℕ) (t : Table) (left : List OwnerRun) → Sound t → left ≡ [] → AreLeaving m t t left
-begins m t left sound none = subst (λ (rs : List OwnerRun). AreLeaving m t t rs) (sym none) (record {
-  sound = sound;
+pub begins : (m : ℕ) (t : Table) (left : List OwnerRun) → left ≡ [] → AreLeaving m t t left
+begins m t left none = subst (λ (rs : List OwnerRun). AreLeaving m t t rs) (sym none) (record {
   live_same = refl;
   maps_from = λ l h. h;
   peers_from = λ l h. h;
@@ -180,14 +184,13 @@ in_last left r o h =
 -- the table that is left has the same live leases, and what is owned no more is left
 module _ (m : ℕ) (start t gone : Table) (left : List OwnerRun) (r : OwnerRun)
     (h : AreLeaving m start t left) where
-  leave : Sound gone → live gone m ≡ live t m → IsOwnerRun r → IsOfLeases (dead start m) r
+  leave : live gone m ≡ live t m → IsOwnerRun r → IsOfLeases (dead start m) r
       → ((l : MapLease) → IsIn l gone.maps → IsIn l t.maps)
       → ((l : PeerLease) → IsIn l gone.peers → IsIn l t.peers)
       → ((o : Owner) → IsIn o (owners (dead t m))
       → IsIn o (owners_of r) ⊎ IsIn o (owners (dead gone m)))
       → AreLeaving m start gone (left ++ r ∷ [])
-  leave sound same formed of maps peers parts = record {
-    sound = sound;
+  leave same formed of maps peers parts = record {
     live_same = same ∙ h.live_same;
     maps_from = λ l c. h.maps_from l
         (Contains-from_IsIn t.maps l (maps l (IsIn-from_Contains gone.maps l c)));
@@ -222,20 +225,17 @@ peer_part t = map peer_owner t.peers
 abbrev map_key : MapLease → MapLease → Bool
 map_key l x = is_map_of (first_endpoint l) x
 
-abbrev pub without_map : Table → MapLease → Table
-without_map t l = record t { maps = filter (λ x. not (map_key l x)) t.maps }
-
-module _ (m : ℕ) (t : Table) (sound : Sound t)
+module _ (m : ℕ) (t : Table) (tabled : AreTabled t)
     (l : MapLease) (among : Contains t.maps l) (ended : live_map m l ≡ false) where
   abbrev map_gone : Table
-  map_gone = without_map t l
+  map_gone = without_map (first_endpoint l) t
 
   map_out : IsOut (live_map m) (map_key l) t.maps l
   map_out = record {
     among = IsIn-from_Contains t.maps l among;
     ended = ended;
     key = key-own l;
-    one = one-key t (first_endpoint l) sound;
+    one = one-key t (first_endpoint l) tabled;
   }
 
   map_parts : (o : Owner) → IsIn o (owners (dead t m))
@@ -253,7 +253,6 @@ module _ (m : ℕ) (t : Table) (sound : Sound t)
   pub leave_map : (start : Table) (left : List OwnerRun) → IsOwnerRun (map_run l)
       → AreLeaving m start t left → AreLeaving m start map_gone (left ++ map_run l ∷ [])
   leave_map start left formed h = leave m start t map_gone left (map_run l) h
-      (Sound-filter_maps t (λ x. not (map_key l x)) sound)
       (ap (λ (ls : List MapLease). record (live t m) { maps = ls }) (same_live _ _ _ _ map_out))
       formed (inl (record {
         lease = l;
@@ -272,30 +271,17 @@ module _ (m : ℕ) (t : Table) (sound : Sound t)
 abbrev peer_key : PeerLease → PeerLease → Bool
 peer_key l x = is_peer_of l.endpoint l.remote l.remote_port x
 
-abbrev pub without_peer : Table → PeerLease → Table
-without_peer t l = record t { peers = filter (λ x. not (peer_key l x)) t.peers }
-
-all_pass : {X : Type 0} (xs : List X) → filter (λ x. true) xs ≡ xs
-all_pass [] = refl
-all_pass (x ∷ xs) = ap (λ ys. x ∷ ys) (all_pass xs)
-
-pub Sound-filter_peers : (t : Table) (p : PeerLease → Bool) → Sound t
-    → Sound (record t { peers = filter p t.peers })
-Sound-filter_peers t p sound =
-    subst (λ (maps : List MapLease). Sound (record { maps = maps; peers = filter p t.peers }))
-    (all_pass t.maps) (Sound-filter t (λ x. true) p sound)
-
-module _ (m : ℕ) (t : Table) (sound : Sound t)
+module _ (m : ℕ) (t : Table) (tabled : AreTabled t)
     (l : PeerLease) (among : Contains t.peers l) (ended : live_peer m l ≡ false) where
   abbrev peer_gone : Table
-  peer_gone = without_peer t l
+  peer_gone = without_peer l.endpoint l.remote l.remote_port t
 
   peer_out : IsOut (live_peer m) (peer_key l) t.peers l
   peer_out = record {
     among = IsIn-from_Contains t.peers l among;
     ended = ended;
     key = peer_own l;
-    one = one-peer l.endpoint l.remote l.remote_port t sound;
+    one = one-peer l.endpoint l.remote l.remote_port t tabled;
   }
 
   peer_parts : (o : Owner) → IsIn o (owners (dead t m))
@@ -313,7 +299,6 @@ module _ (m : ℕ) (t : Table) (sound : Sound t)
   pub leave_peer : (start : Table) (left : List OwnerRun) → IsOwnerRun (peer_run l)
       → AreLeaving m start t left → AreLeaving m start peer_gone (left ++ peer_run l ∷ [])
   leave_peer start left formed h = leave m start t peer_gone left (peer_run l) h
-      (Sound-filter_peers t (λ x. not (peer_key l x)) sound)
       (ap (λ (ls : List PeerLease). record (live t m) { peers = ls }) (same_live _ _ _ _ peer_out))
       formed (inr (record {
         lease = l;
@@ -331,8 +316,16 @@ module _ (m : ℕ) (t : Table) (sound : Sound t)
 
 -- ---- the end
 
--- where all leases of the table are live, the runs are of those that were dead at the start
-pub all_left : (m : ℕ) (start t : Table) (left : List OwnerRun) → AreLeaving m start t left
+-- where all leases of the table are live, it has those that were live at the start
+table_left : (m : ℕ) (start t : Table) (left : List OwnerRun) → AreLeaving m start t left
+    → t.maps ≡ (live t m).maps → t.peers ≡ (live t m).peers → t ≡ live start m
+table_left m start t left h maps peers =
+    ap (λ (ls : List MapLease). record t { maps = ls }) maps
+    ∙ ap (λ (ls : List PeerLease). record (live t m) { peers = ls }) peers
+    ∙ h.live_same
+
+-- and the runs are of those that were dead at the start
+all_left : (m : ℕ) (start t : Table) (left : List OwnerRun) → AreLeaving m start t left
     → t.maps ≡ (live t m).maps → t.peers ≡ (live t m).peers → AreOfDead m start left
 all_left m start t left h maps peers = record {
   formed = h.formed;
@@ -348,3 +341,12 @@ all_left m start t left h maps peers = record {
         ]
   ];
 }
+
+-- where MAP leases left first, and then PEER leases
+pub left_over : (m : ℕ) (start mid t : Table) (left : List OwnerRun) → AreLeaving m start t left
+    → mid.maps ≡ (live mid m).maps → t.maps ≡ mid.maps → t.peers ≡ (live t m).peers
+    → (t ≡ live start m) × AreOfDead m start left
+left_over m start mid t left h maps same peers =
+    let alive : List MapLease → List MapLease = filter (live_map m) in
+    let all : t.maps ≡ alive t.maps = same ∙ maps ∙ ap alive (sym same) in
+    (table_left m start t left h all peers, all_left m start t left h all peers)

@@ -11,16 +11,15 @@ use Rattle.pcp_base.specs.Tables.{Table, names}
 use Rattle.pcp_base.specs.declared.leases.Owner.{Owner}
 use Rattle.pcp_base.specs.Owners.{map_owners, peer_owner, owners, is_port, endpoint_behind}
 use Rattle.pcp_base.proofs.OwnerLooks.{found_in}
-use Rattle.pcp_base.specs.Sound.{Sound}
+use Rattle.peer_table.proofs.Fellows.{two_share}
+use Rattle.indexed_store.specs.Tabled.{AreTabled}
 use Rattle.pcp_base.proofs.Members.{IsIn, IsIn-filter, filter-IsIn, IsIn-right, map-IsIn, Contains-from_IsIn, find-some, find-IsIn, All-from_IsIn, any-some, some-any, none-any}
 use Rattle.pcp_base.proofs.Same.{same_endpoint-Decides}
-use Rattle.ordered_index.specs.Lesser.{lesser}
 use Rattle.ordered_index.proofs.EntryLaws.{tally, count-cons, count-some}
-use Rattle.mapping_table.specs.MapLists.{is_covered, SkipsUncovered, IsNextCovered}
-use Rattle.peer_table.specs.PeerLists.{is_live_peer, is_live_of, is_named, IsPortUse, SkipsUnnamed, IsNextNamed}
+use Rattle.peer_table.specs.PeerLists.{is_live_peer, is_live_of, IsPortUse}
 use Rattle.peer_table.specs.declared.uses.PortUse.{PortUse}
-use Rattle.lease_store.specs.Lookups.{with_port, is_taken_inside, named_port, peer_count, next_inside}
-use Rattle.indexed_store.proofs.Uniques.{all-none, first-in_range, none-in_range}
+use Rattle.lease_store.specs.Lookups.{named_port, peer_count}
+use Rattle.indexed_store.proofs.Uniques.{all-none}
 
 -- ---- the leases that name an endpoint
 
@@ -62,14 +61,10 @@ module _ (t : Table) (e : Endpoint) (m : ℕ) where
   none_named h = ap (option_map (λ (l : PeerLease). l.external)) (sym (all-none (λ l. names l e) living (uncounted (λ l. names l e) living (sym (none_count h)))))
 
   -- the leases that name an endpoint have one port
-  pub one_port : Sound t → (a b : PeerLease) → IsIn a t.peers → IsIn b t.peers → names a e ≡ true → names b e ≡ true → a.external ≡ b.external
-  one_port sound a b i j x y =
-      sound.one_port (peer_owner a) (peer_owner b) (there a i) (there b j) ((same_endpoint-Decides a.endpoint e).0 x ∙ sym ((same_endpoint-Decides b.endpoint e).0 y))
-    where
-      there : (l : PeerLease) → IsIn l t.peers → Rattle.std.specs.Prelude.Contains (owners t) (peer_owner l)
-      there l k = Contains-from_IsIn (owners t) (peer_owner l) (IsIn-right _ (Rattle.std.specs.Prelude.map peer_owner t.peers) (peer_owner l) (map-IsIn peer_owner t.peers l k))
+  pub one_port : AreTabled t → (a b : PeerLease) → IsIn a t.peers → IsIn b t.peers → names a e ≡ true → names b e ≡ true → a.external ≡ b.external
+  one_port tabled a b i j x y = (two_share t.peers a b tabled.peers.fellows i j).port ((same_endpoint-Decides a.endpoint e).0 x ∙ sym ((same_endpoint-Decides b.endpoint e).0 y))
 
-  found_port : Sound t → (x : PeerLease) → IsIn x t.peers → is_live_of e m x ≡ true → (o : Option PeerLease) → find (λ l. names l e) living ≡ o → Some x.external ≡ option_map (λ (l : PeerLease). l.external) o
+  found_port : AreTabled t → (x : PeerLease) → IsIn x t.peers → is_live_of e m x ≡ true → (o : Option PeerLease) → find (λ l. names l e) living ≡ o → Some x.external ≡ option_map (λ (l : PeerLease). l.external) o
   found_port sound x i h None is =
       let both = and_parts _ _ h in
       absurd (let some = find-IsIn (λ l. names l e) living x (filter-IsIn (λ (l : PeerLease). nat_lt m l.expiry) t.peers x i both.1) both.0 in no_some (find (λ l. names l e) living) is some)
@@ -82,7 +77,7 @@ module _ (t : Table) (e : Endpoint) (m : ℕ) where
       let f = find-some (λ l. names l e) living y is in
       ap Some (one_port sound x y i (IsIn-filter (λ (l : PeerLease). nat_lt m l.expiry) t.peers y f.0).0 both.0 f.1)
 
-  pub port_named : Sound t → (used : PortUse) → IsPortUse e m t.peers (Some used) → Some used.external ≡ named_port t m e
+  pub port_named : AreTabled t → (used : PortUse) → IsPortUse e m t.peers (Some used) → Some used.external ≡ named_port t m e
   port_named sound used h =
       let x = any-some (λ l. is_live_of e m l && l.external == used.external) t.peers h.external in
       let parts = and_parts _ _ x.2 in
@@ -108,145 +103,6 @@ find_any p (x ∷ xs) = step (p x) (find_any p xs)
 
 pub some_any : {X : Type 0} (p : X → Bool) (xs : List X) → Rattle.std.specs.Prelude.is_some (find p xs) ≡ list_any p xs
 some_any p xs = find_any p xs
-
-module _ (t : Table) (m : ℕ) (e : Endpoint) where
-  abbrev maps_live : List MapLease
-  maps_live = filter (λ (l : MapLease). nat_lt m l.expiry) t.maps
-
-  abbrev peers_live : List PeerLease
-  peers_live = filter (λ (l : PeerLease). nat_lt m l.expiry) t.peers
-
-  not_taken : (other : ℕ) → is_covered e maps_live other ≡ false → is_named e peers_live other ≡ false → is_taken_inside t m e other ≡ false
-  not_taken other a b = or_from _ _ a b
-
-  module _ (after : ℕ) where
-    abbrev inside : Endpoint
-    inside = with_port e after
-
-    uncovered : (a : Option ℕ) → SkipsUncovered inside maps_live a → (other : ℕ) → after < other → ((port : ℕ) → a ≡ Some port → other < port) → is_covered e maps_live other ≡ false
-    uncovered None h other up below = h.none other up
-    uncovered (Some port) h other up below = h.between other up (below port refl)
-
-    unnamed : (b : Option ℕ) → SkipsUnnamed inside peers_live b → (other : ℕ) → after < other → ((port : ℕ) → b ≡ Some port → other < port) → is_named e peers_live other ≡ false
-    unnamed None h other up below = h.none other up
-    unnamed (Some port) h other up below = h.between other up (below port refl)
-
-    lesser-above : (a b : Option ℕ) → IfSome a (λ p. after < p) → IfSome b (λ p. after < p) → IfSome (lesser a b) (λ p. after < p)
-    lesser-above None b h k = k
-    lesser-above (Some x) None h k = h
-    lesser-above (Some x) (Some y) h k = step (Rattle.std.specs.Prelude.nat_le x y)
-      where
-        step : (c : Bool) → IfSome (cond c (Some x) (Some y)) (λ p. after < p)
-        step true = h
-        step false = k
-
-    lesser-below : (a b : Option ℕ) (p : ℕ) → lesser a b ≡ Some p → ((x : ℕ) → a ≡ Some x → p ≤ x) × ((y : ℕ) → b ≡ Some y → p ≤ y)
-    lesser-below None b p h = (λ x is. absurd (let never : None ≡ Some x = is in cc), λ y is. let same : Some p ≡ Some y = sym h ∙ is in at_most p y same)
-      where
-        at_most : (p y : ℕ) → Some p ≡ Some y → p ≤ y
-        at_most p y h = let same : p ≡ y = cc in omega (arith, same)
-    lesser-below (Some x) None p h = (λ z is. let same : Some p ≡ Some z = sym h ∙ is in at_most p z same, λ y is. absurd (let never : None ≡ Some y = is in cc))
-      where
-        at_most : (p y : ℕ) → Some p ≡ Some y → p ≤ y
-        at_most p y h = let same : p ≡ y = cc in omega (arith, same)
-    lesser-below (Some x) (Some y) p h = step (Rattle.std.specs.Prelude.nat_le x y) refl h
-      where
-        one : (x z : ℕ) → Some x ≡ Some z → x ≡ z
-        one x z h = cc
-
-        step : (c : Bool) → Rattle.std.specs.Prelude.nat_le x y ≡ c → cond c (Some x) (Some y) ≡ Some p → ((z : ℕ) → Some x ≡ Some z → p ≤ z) × ((z : ℕ) → Some y ≡ Some z → p ≤ z)
-        step true le is = (λ z w. let a = one x p is in let b = one x z w in omega (arith, a, b), λ z w. let a = one x p is in let b = one y z w in let c = Rattle.std.proofs.lemmas.Bool.leb-true x y le in omega (arith, a, b, c))
-        step false le is = (λ z w. let a = one y p is in let b = one x z w in let c = Rattle.std.proofs.lemmas.Bool.leb-false x y le in omega (arith, a, b, c), λ z w. let a = one y p is in let b = one y z w in omega (arith, a, b))
-
-    pub known_above : (a b : Option ℕ) → SkipsUncovered inside maps_live a → SkipsUnnamed inside peers_live b → IfSome (lesser a b) (λ port. after < port)
-    known_above a b h k = lesser-above a b h.above k.above
-
-    pub known_between : (a b : Option ℕ) → SkipsUncovered inside maps_live a → SkipsUnnamed inside peers_live b → IfSome (lesser a b) (λ port. (other : ℕ) → after < other → other < port → is_taken_inside t m e other ≡ false)
-    known_between a b h k = some (lesser a b) refl
-      where
-        some : (r : Option ℕ) → lesser a b ≡ r → IfSome r (λ port. (other : ℕ) → after < other → other < port → is_taken_inside t m e other ≡ false)
-        some None is = tt
-        some (Some port) is = λ other up below. let least = lesser-below a b port is in
-            not_taken other (uncovered a h other up (λ x w. let le = least.0 x w in omega (arith, le, below))) (unnamed b k other up (λ y w. let le = least.1 y w in omega (arith, le, below)))
-
-    lesser-none : (a b : Option ℕ) → lesser a b ≡ None → (a ≡ None) × (b ≡ None)
-    lesser-none None b h = (refl, h)
-    lesser-none (Some x) None h = absurd (let never : Some x ≡ None = h in cc)
-    lesser-none (Some x) (Some y) h = absurd (step (Rattle.std.specs.Prelude.nat_le x y) h)
-      where
-        step : (c : Bool) → cond c (Some x) (Some y) ≡ None → ⊥
-        step true h = let never : Some x ≡ None = h in cc
-        step false h = let never : Some y ≡ None = h in cc
-
-    pub known_none : (a b : Option ℕ) → SkipsUncovered inside maps_live a → SkipsUnnamed inside peers_live b → IfNone (lesser a b) ((other : ℕ) → after < other → is_taken_inside t m e other ≡ false)
-    known_none a b h k = none (lesser a b) refl
-      where
-        none : (r : Option ℕ) → lesser a b ≡ r → IfNone r ((other : ℕ) → after < other → is_taken_inside t m e other ≡ false)
-        none (Some port) is = tt
-        none None is = λ other up. let both = lesser-none a b is in
-            not_taken other (uncovered a h other up (λ x w. absurd (let never : None ≡ Some x = sym both.0 ∙ w in cc))) (unnamed b k other up (λ y w. absurd (let never : None ≡ Some y = sym both.1 ∙ w in cc)))
-
-pub next_inside-is : (t : Table) (m : ℕ) (e : Endpoint) → next_inside t m e ≡ find (is_taken_inside t m e) (range_with_len (e.port + 1) (65535 - e.port))
-unfolding next_inside
-next_inside-is t m e = refl
-
--- ---- the next port inside, where both tables tell the next one
-
-module _ (t : Table) (m : ℕ) (e : Endpoint) where
-  taken-map : (port : ℕ) → is_covered e (maps_live t m e) port ≡ true → is_taken_inside t m e port ≡ true
-  taken-map port h = or_left _ _ h
-
-  taken-peer : (port : ℕ) → is_named e (peers_live t m e) port ≡ true → is_taken_inside t m e port ≡ true
-  taken-peer port h = or_right _ _ h
-
-  lesser-taken : (a b : Option ℕ) → IfSome a (λ p. is_taken_inside t m e p ≡ true) → IfSome b (λ p. is_taken_inside t m e p ≡ true) → IfSome (lesser a b) (λ p. is_taken_inside t m e p ≡ true)
-  lesser-taken None b h k = k
-  lesser-taken (Some x) None h k = h
-  lesser-taken (Some x) (Some y) h k = step (Rattle.std.specs.Prelude.nat_le x y)
-    where
-      step : (c : Bool) → IfSome (cond c (Some x) (Some y)) (λ p. is_taken_inside t m e p ≡ true)
-      step true = h
-      step false = k
-
-  mapped : (a : Option ℕ) → IsNextCovered e (maps_live t m e) a → IfSome a (λ p. is_taken_inside t m e p ≡ true)
-  mapped None h = tt
-  mapped (Some p) h = taken-map p h.covered
-
-  peered : (b : Option ℕ) → IsNextNamed e (peers_live t m e) b → IfSome b (λ p. is_taken_inside t m e p ≡ true)
-  peered None h = tt
-  peered (Some p) h = taken-peer p h.named
-
-  between_map : (a : Option ℕ) → IsNextCovered e (maps_live t m e) a → SkipsUncovered e (maps_live t m e) a
-  between_map None h = record { above = tt; between = tt; none = h.none }
-  between_map (Some p) h = record {
-    above = h.above;
-    between = λ o up less. false_from_ne_true (is_covered e (maps_live t m e) o) (λ k. let low = h.least o up k in absurd (omega (arith, low, less)));
-    none = tt;
-  }
-
-  between_peer : (b : Option ℕ) → IsNextNamed e (peers_live t m e) b → SkipsUnnamed e (peers_live t m e) b
-  between_peer None h = record { above = tt; between = tt; none = h.none }
-  between_peer (Some p) h = record {
-    above = h.above;
-    between = λ o up less. false_from_ne_true (is_named e (peers_live t m e) o) (λ k. let low = h.least o up k in absurd (omega (arith, low, less)));
-    none = tt;
-  }
-
-  -- the lesser of both is the next one that is taken
-  pub next-known : (a b r : Option ℕ) → r ≡ lesser a b → IfSome r (λ p. p < 65536) → IsNextCovered e (maps_live t m e) a → IsNextNamed e (peers_live t m e) b → r ≡ next_inside t m e
-  next-known a b r is small h k =
-      step r small (subst (λ o. IfSome o (λ p. is_taken_inside t m e p ≡ true)) (sym is) (lesser-taken a b (mapped a h) (peered b k)))
-      (subst (λ o. IfSome o (λ port. e.port < port)) (sym is) (known_above t m e e.port a b (between_map a h) (between_peer b k)))
-      (subst (λ o. IfSome o (λ port. (other : ℕ) → e.port < other → other < port → is_taken_inside t m e other ≡ false)) (sym is) (known_between t m e e.port a b (between_map a h) (between_peer b k)))
-      (subst (λ o. IfNone o ((other : ℕ) → e.port < other → is_taken_inside t m e other ≡ false)) (sym is) (known_none t m e e.port a b (between_map a h) (between_peer b k)))
-      ∙ sym (next_inside-is t m e)
-    where
-      step : (o : Option ℕ) → IfSome o (λ p. p < 65536) → IfSome o (λ p. is_taken_inside t m e p ≡ true) → IfSome o (λ port. e.port < port) →
-          IfSome o (λ port. (other : ℕ) → e.port < other → other < port → is_taken_inside t m e other ≡ false) →
-          IfNone o ((other : ℕ) → e.port < other → is_taken_inside t m e other ≡ false) → o ≡ find (is_taken_inside t m e) (range_with_len (e.port + 1) (65535 - e.port))
-      step None small taken above between none = none-in_range (is_taken_inside t m e) (e.port + 1) (65535 - e.port) (λ x lo. none x (omega (arith, lo)))
-      step (Some p) small taken above between none =
-          first-in_range (is_taken_inside t m e) (e.port + 1) (65535 - e.port) p (omega (arith, above)) (omega (arith, above, small)) taken (λ x lo hi. between x (omega (arith, lo)) hi)
 
 -- ---- by port
 

@@ -2,7 +2,7 @@
 use Rattle.std.proofs.Common.{◌≡◌, ℕ, ◌<◌, ◌≤◌, ◌+◌, ◌==◌, ◌⊎◌, zero, suc, Bool, true, false, cond, ◌&&◌, nat_lt, List, [], ◌∷◌, map, flat_map, filter, find, Contains, Option, Some, None, refl, sym, ap, ◌∙◌, subst, inl, inr, arith}
 use Rattle.std.specs.Prelude.{is_some}
 use Rattle.std.specs.List.{AllByRecursion, range_with_len}
-use Rattle.std.proofs.lemmas.Bool.{cond-true, cond-false, and_parts, and_from, eqb-true, eqb-false, eq-eqb, false_from_ne_true}
+use Rattle.std.proofs.lemmas.Bool.{le-ltb, ltb-false, cond-true, cond-false, and_parts, and_from, eqb-true, eqb-false, eq-eqb, false_from_ne_true}
 use Rattle.pcp_base.specs.declared.addresses.Address.{Address}
 use Rattle.pcp_base.specs.declared.leases.Protocol.{Protocol}
 use Rattle.pcp_base.specs.declared.leases.Endpoint.{Endpoint}
@@ -10,16 +10,16 @@ use Rattle.pcp_base.specs.declared.leases.MapLease.{MapLease}
 use Rattle.pcp_base.specs.declared.leases.PeerLease.{PeerLease}
 use Rattle.pcp_base.specs.Tables.{Table, EachTwo, AreApart, HaveOtherKeys, covers, first_endpoint, is_map_of, is_peer_of, live, IsMapLease, same_address, same_protocol}
 use Rattle.pcp_base.specs.Owners.{owners, map_owners, peer_owner, is_port, owns}
-use Rattle.pcp_base.specs.Sound.{Sound}
+use Rattle.indexed_store.specs.Tabled.{AreTabled}
 use Rattle.filter_rules.specs.Lookups.{is_with}
-use Rattle.peer_table.specs.PeerLists.{opens}
+use Rattle.peer_table.specs.PeerLists.{AreFellows, opens}
 use Rattle.pcp_base.proofs.Members.{IsIn, IsIn-filter, IsIn-right, map-IsIn, Contains-from_IsIn, find-some, find-none, All-IsIn, All-from_IsIn}
 use Rattle.pcp_base.proofs.Same.{same_address-Decides, same_endpoint-Decides, same_protocol-Decides}
-use Rattle.pcp_base.proofs.TableLemmas.{same_key, other_key, covers-first, Sound-live}
+use Rattle.pcp_base.proofs.TableLemmas.{other_key, covers-first}
 use Rattle.pcp_base.proofs.StageLaws.{unlike}
 use Rattle.mapping_table.specs.MapLists.{AreSeparate, map_covering, some_live_map}
-use Rattle.mapping_table.proofs.Separates.{own_apart}
-use Rattle.mapping_table.proofs.SoundTables.{sound_maps}
+use Rattle.mapping_table.proofs.Separates.{cover_apart, own_apart}
+use Rattle.peer_table.proofs.Fellows.{two_share}
 
 -- at most one of the list passes
 abbrev pub AtMostOne : {X : Type 0} → (X → Bool) → List X → Type 0
@@ -47,6 +47,10 @@ gone-within p q xs x one h k = all-none p (filter q xs) (All-from_IsIn (λ y. p 
     let there = IsIn-filter q xs y i in let found = find-some p xs x h in
     false_from_ne_true (p y) (λ t. let same : y ≡ x = one y x there.0 found.0 t found.1 in let both : true ≡ false = sym there.1 ∙ ap q same ∙ k in absurd (cc))))
 
+-- a test that only one of the whole passes is passed by one of a part
+pub one-of_part : {X : Type 0} (p q : X → Bool) (xs : List X) → AtMostOne p xs → AtMostOne p (filter q xs)
+one-of_part p q xs one = λ a b i j s t. one a b (IsIn-filter q xs a i).0 (IsIn-filter q xs b j).0 s t
+
 -- where no two pass, at most one does
 pub one-of : {X : Type 0} (p : X → Bool) (xs : List X) → EachTwo (λ a b. p a ≡ true → p b ≡ true → ⊥) xs → AtMostOne p xs
 one-of p [] h = λ a b i j s t. absurd i
@@ -62,14 +66,19 @@ pub two-weaker : {X : Type 0} (R S : X → X → Type 0) → ((x y : X) → R x 
 two-weaker R S f [] h = tt
 two-weaker R S f (x ∷ xs) h = (All-from_IsIn (S x) xs (λ y i. f x y (All-IsIn (R x) xs y h.0 i)), two-weaker R S f xs h.1)
 
-pub one-covers : (t : Table) (e : Endpoint) → Sound t → AtMostOne (λ l. covers l e) t.maps
-one-covers t e sound = one-of (λ l. covers l e) t.maps (two-weaker AreApart (λ a b. covers a e ≡ true → covers b e ≡ true → ⊥) (λ a b apart s u. apart e s u) t.maps sound.apart)
+pub one-covers : (t : Table) (e : Endpoint) → AreTabled t → AtMostOne (λ l. covers l e) t.maps
+one-covers t e tabled = one-of (λ l. covers l e) t.maps (two-weaker AreSeparate (λ a b. covers a e ≡ true → covers b e ≡ true → ⊥) (cover_apart e) t.maps tabled.maps.separate)
 
-pub one-key : (t : Table) (e : Endpoint) → Sound t → AtMostOne (is_map_of e) t.maps
-one-key t e sound = λ a b i j s u. same_key t.maps a b sound.apart sound.maps i j ((same_endpoint-Decides (first_endpoint a) e).0 s ∙ sym ((same_endpoint-Decides (first_endpoint b) e).0 u))
+-- a lease with this key covers it
+key-covers : (t : Table) (e : Endpoint) → AreTabled t → (l : MapLease) → IsIn l t.maps → is_map_of e l ≡ true → covers l e ≡ true
+key-covers t e tabled l i h =
+    subst (λ (z : Endpoint). covers l z ≡ true) ((same_endpoint-Decides (first_endpoint l) e).0 h) (covers-first l (All-IsIn IsMapLease t.maps l tabled.maps.leases i).ports.some)
 
-pub one-owns : (t : Table) (protocol : Protocol) (port : ℕ) → Sound t → AtMostOne (owns protocol port) t.maps
-one-owns t protocol port sound = one-of (owns protocol port) t.maps (two-weaker AreSeparate (λ a b. owns protocol port a ≡ true → owns protocol port b ≡ true → ⊥) (own_apart protocol port) t.maps (sound_maps t sound).separate)
+pub one-key : (t : Table) (e : Endpoint) → AreTabled t → AtMostOne (is_map_of e) t.maps
+one-key t e tabled = λ a b i j s u. one-covers t e tabled a b i j (key-covers t e tabled a i s) (key-covers t e tabled b j u)
+
+pub one-owns : (t : Table) (protocol : Protocol) (port : ℕ) → AreTabled t → AtMostOne (owns protocol port) t.maps
+one-owns t protocol port tabled = one-of (owns protocol port) t.maps (two-weaker AreSeparate (λ a b. owns protocol port a ≡ true → owns protocol port b ≡ true → ⊥) (own_apart protocol port) t.maps tabled.maps.separate)
 
 module _ (e : Endpoint) (remote : Address) (port : ℕ) where
   key-parts : (l : PeerLease) → is_peer_of e remote port l ≡ true → (l.endpoint ≡ e) × (l.remote ≡ remote) × (l.remote_port ≡ port)
@@ -82,32 +91,61 @@ module _ (e : Endpoint) (remote : Address) (port : ℕ) where
       and_from _ _ (and_from _ _ ((same_endpoint-Decides a.endpoint b.endpoint).1 (k.0 ∙ sym l.0)) ((same_address-Decides a.remote b.remote).1 (k.1 ∙ sym l.1))) (eq-eqb a.remote_port b.remote_port (k.2 ∙ sym l.2)) in
       let both : true ≡ false = sym same ∙ other in cc
 
-  pub one-peer : (t : Table) → Sound t → AtMostOne (is_peer_of e remote port) t.peers
-  one-peer t sound = one-of (is_peer_of e remote port) t.peers (two-weaker HaveOtherKeys (λ a b. is_peer_of e remote port a ≡ true → is_peer_of e remote port b ≡ true → ⊥) keys-apart t.peers sound.different)
+  pub one-peer : (t : Table) → AreTabled t → AtMostOne (is_peer_of e remote port) t.peers
+  one-peer t tabled = one-of (is_peer_of e remote port) t.peers (two-weaker AreFellows (λ a b. is_peer_of e remote port a ≡ true → is_peer_of e remote port b ≡ true → ⊥) (λ a b fellows. keys-apart a b fellows.keys) t.peers tabled.peers.fellows)
 
 -- whether one that is live covers an endpoint
-pub covered-is : (t : Table) (m : ℕ) (e : Endpoint) → Sound t → (o : Option MapLease) → map_covering e t.maps ≡ o → some_live_map m o ≡ is_some (find (λ l. covers l e) (live t m).maps)
-covered-is t m e sound None h = ap is_some (sym (none-within (λ l. covers l e) (λ l. nat_lt m l.expiry) t.maps h))
-covered-is t m e sound (Some l) h = step (nat_lt m l.expiry) refl
+pub covered-is : (t : Table) (m : ℕ) (e : Endpoint) → AreTabled t → (o : Option MapLease) → map_covering e t.maps ≡ o → some_live_map m o ≡ is_some (find (λ l. covers l e) (live t m).maps)
+covered-is t m e tabled None h = ap is_some (sym (none-within (λ l. covers l e) (λ l. nat_lt m l.expiry) t.maps h))
+covered-is t m e tabled (Some l) h = step (nat_lt m l.expiry) refl
   where
     step : (b : Bool) → nat_lt m l.expiry ≡ b → b ≡ is_some (find (λ x. covers x e) (live t m).maps)
     step true alive = ap is_some (sym (one-within (λ x. covers x e) (λ x. nat_lt m x.expiry) t.maps l h alive))
-    step false over = ap is_some (sym (gone-within (λ x. covers x e) (λ x. nat_lt m x.expiry) t.maps l (one-covers t e sound) h over))
+    step false over = ap is_some (sym (gone-within (λ x. covers x e) (λ x. nat_lt m x.expiry) t.maps l (one-covers t e tabled) h over))
+
+-- ---- leases that are live at a moment, of those that are live at an earlier one
+
+live-step : (last m e : ℕ) → last ≤ m → (b : Bool) → nat_lt last e ≡ b → (nat_lt m e && b) ≡ nat_lt m e
+live-step last m e later true h = and_last (nat_lt m e)
+  where
+    and_last : (c : Bool) → (c && true) ≡ c
+    and_last true = refl
+    and_last false = refl
+live-step last m e later false h =
+    let over : nat_lt m e ≡ false = le-ltb m e (omega (arith, later, ltb-false last e h)) in
+    ap (λ (c : Bool). c && false) over ∙ sym over
+
+filter-twice : {X : Type 0} (p q : X → Bool) (xs : List X) → ((x : X) → (p x && q x) ≡ p x) → filter p (filter q xs) ≡ filter p xs
+filter-twice p q [] h = refl
+filter-twice {X} p q (x ∷ xs) h = step (p x) (q x) refl refl (h x) (filter-twice p q xs h)
+  where
+    step : (a b : Bool) → p x ≡ a → q x ≡ b → (a && b) ≡ a → filter p (filter q xs) ≡ filter p xs → filter p (cond b (x ∷ filter q xs) (filter q xs)) ≡ cond a (x ∷ filter p xs) (filter p xs)
+    step true true e f k rest = cond-true (p x) (x ∷ filter p (filter q xs)) (filter p (filter q xs)) e ∙ ap (λ (ys : List X). x ∷ ys) rest
+    step true false e f k rest = absurd (let no : false ≡ true = k in cc)
+    step false true e f k rest = cond-false (p x) (x ∷ filter p (filter q xs)) (filter p (filter q xs)) e ∙ rest
+    step false false e f k rest = rest
+
+pub live-live : (t : Table) (last m : ℕ) → last ≤ m → live (live t last) m ≡ live t m
+live-live t last m later =
+    ap (λ (ls : List MapLease). record { maps = ls; peers = filter (λ (l : PeerLease). nat_lt m l.expiry) (filter (λ (l : PeerLease). nat_lt last l.expiry) t.peers) })
+    (filter-twice (λ (l : MapLease). nat_lt m l.expiry) (λ (l : MapLease). nat_lt last l.expiry) t.maps (λ l. live-step last m l.expiry later (nat_lt last l.expiry) refl))
+    ∙ ap (λ (ls : List PeerLease). record { maps = filter (λ (l : MapLease). nat_lt m l.expiry) t.maps; peers = ls })
+    (filter-twice (λ (l : PeerLease). nat_lt m l.expiry) (λ (l : PeerLease). nat_lt last l.expiry) t.peers (λ l. live-step last m l.expiry later (nat_lt last l.expiry) refl))
 
 -- ---- a MAP lease by its key
 
-module _ (t : Table) (m : ℕ) (e : Endpoint) (sound : Sound t) where
+module _ (t : Table) (m : ℕ) (e : Endpoint) (tabled : AreTabled t) where
   abbrev living : List MapLease
   living = filter (λ l. nat_lt m l.expiry) t.maps
 
   pub key-none : None ≡ find (λ l. covers l e) living → None ≡ find (is_map_of e) living
   key-none h = sym (all-none (is_map_of e) living (All-from_IsIn (λ l. is_map_of e l ≡ false) living (λ l i.
-      other_key l e (All-IsIn IsMapLease t.maps l sound.maps (IsIn-filter (λ (x : MapLease). nat_lt m x.expiry) t.maps l i).0).ports.some
+      other_key l e (All-IsIn IsMapLease t.maps l tabled.maps.leases (IsIn-filter (λ (x : MapLease). nat_lt m x.expiry) t.maps l i).0).ports.some
       (All-IsIn (λ x. covers x e ≡ false) living l (find-none (λ x. covers x e) living (sym h)) i))))
 
   key-found : (l : MapLease) → IsIn l living → is_map_of e l ≡ true → (o : Option MapLease) → find (is_map_of e) living ≡ o → Some l ≡ o
   key-found l i k None is = absurd (unlike (is_map_of e l) k (All-IsIn (λ x. is_map_of e x ≡ false) living l (find-none (is_map_of e) living is) i))
-  key-found l i k (Some x) is = let f = find-some (is_map_of e) living x is in ap Some (one-key (live t m) e (Sound-live t m sound) l x i f.0 k f.1)
+  key-found l i k (Some x) is = let f = find-some (is_map_of e) living x is in ap Some (one-of_part (is_map_of e) (λ (y : MapLease). nat_lt m y.expiry) t.maps (one-key t e tabled) l x i f.0 k f.1)
 
   pub key-some : (l : MapLease) → Some l ≡ find (λ x. covers x e) living → is_map_of e l ≡ true → Some l ≡ find (is_map_of e) living
   key-some l h k = key-found l (find-some (λ x. covers x e) living l (sym h)).0 k (find (is_map_of e) living) refl
@@ -116,9 +154,9 @@ module _ (t : Table) (m : ℕ) (e : Endpoint) (sound : Sound t) where
   key-other l h k =
       let f = find-some (λ x. covers x e) living l (sym h) in
       sym (all-none (is_map_of e) living (All-from_IsIn (λ x. is_map_of e x ≡ false) living (λ x i. false_from_ne_true (is_map_of e x) (λ mine.
-      let some = (All-IsIn IsMapLease t.maps x sound.maps (IsIn-filter (λ (y : MapLease). nat_lt m y.expiry) t.maps x i).0).ports.some in
+      let some = (All-IsIn IsMapLease t.maps x tabled.maps.leases (IsIn-filter (λ (y : MapLease). nat_lt m y.expiry) t.maps x i).0).ports.some in
       let c : covers x e ≡ true = subst (λ (z : Endpoint). covers x z ≡ true) ((same_endpoint-Decides (first_endpoint x) e).0 mine) (covers-first x some) in
-      let same : x ≡ l = one-covers (live t m) e (Sound-live t m sound) x l i f.0 c f.1 in
+      let same : x ≡ l = one-of_part (λ y. covers y e) (λ (y : MapLease). nat_lt m y.expiry) t.maps (one-covers t e tabled) x l i f.0 c f.1 in
       unlike (is_map_of e l) (ap (is_map_of e) (sym same) ∙ mine) k))))
 
 -- ---- ports of remotes
@@ -146,23 +184,16 @@ module _ (protocol : Protocol) (n : ℕ) (remote : Address) (remote_port : ℕ) 
   pub opening-find : (ls : List PeerLease) → find (opens protocol n remote remote_port) ls ≡ find (λ l. is_port protocol n (peer_owner l)) (filter (is_with remote remote_port) ls)
   opening-find ls = sym (find-both (λ l. is_port protocol n (peer_owner l)) (is_with remote remote_port) (opens protocol n remote remote_port) ls (opens-parts protocol n remote remote_port))
 
-  pub one-opens : (t : Table) → Sound t → AtMostOne (opens protocol n remote remote_port) t.peers
-  one-opens t sound = λ a b i j s u.
+  pub one-opens : (t : Table) → AreTabled t → AtMostOne (opens protocol n remote remote_port) t.peers
+  one-opens t tabled = λ a b i j s u.
       let p = and_parts _ _ (sym (opens-parts protocol n remote remote_port a) ∙ s) in let q = and_parts _ _ (sym (opens-parts protocol n remote remote_port b) ∙ u) in
       let pp = and_parts _ _ p.0 in let pw = and_parts _ _ p.1 in let qp = and_parts _ _ q.0 in let qw = and_parts _ _ q.1 in
       let protocols : a.endpoint.protocol ≡ b.endpoint.protocol = (same_protocol-Decides a.endpoint.protocol protocol).0 pp.0 ∙ sym ((same_protocol-Decides b.endpoint.protocol protocol).0 qp.0) in
       let externals : a.external ≡ b.external = eqb-true a.external n pp.1 ∙ sym (eqb-true b.external n qp.1) in
-      let same : a.endpoint ≡ b.endpoint = sound.one_owner (peer_owner a) (peer_owner b) (peer-there t a i) (peer-there t b j) protocols externals in
-      one-peer b.endpoint remote remote_port t sound a b i j
+      let same : a.endpoint ≡ b.endpoint = (two_share t.peers a b tabled.peers.fellows i j).endpoint protocols externals in
+      one-peer b.endpoint remote remote_port t tabled a b i j
       (and_from _ _ (and_from _ _ ((same_endpoint-Decides a.endpoint b.endpoint).1 same) pw.0) pw.1)
       (and_from _ _ (and_from _ _ ((same_endpoint-Decides b.endpoint b.endpoint).1 refl) qw.0) qw.1)
-    where
-      peer-there : (t : Table) (l : PeerLease) → IsIn l t.peers → Contains (owners t) (peer_owner l)
-      peer-there t l i = Contains-from_IsIn (owners t) (peer_owner l) (IsIn-right (flat_map map_owners t.maps) (map peer_owner t.peers) (peer_owner l) (map-IsIn peer_owner t.peers l i))
-
--- a test that only one of the whole passes is passed by one of a part
-pub one-of_part : {X : Type 0} (p q : X → Bool) (xs : List X) → AtMostOne p xs → AtMostOne p (filter q xs)
-one-of_part p q xs one = λ a b i j s t. one a b (IsIn-filter q xs a i).0 (IsIn-filter q xs b j).0 s t
 
 -- within two filters, of which one fails
 pub gone-within_both : {X : Type 0} (r p q : X → Bool) (xs : List X) (x : X) → AtMostOne r xs → find r xs ≡ Some x → (q x && p x) ≡ false → find r (filter p (filter q xs)) ≡ None

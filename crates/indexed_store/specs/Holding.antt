@@ -7,23 +7,28 @@ use Rattle.pcp_base.specs.declared.leases.PeerLease.{PeerLease}
 use Rattle.pcp_base.specs.declared.leases.Owner.{Owner}
 use Rattle.pcp_base.specs.declared.leases.End.{End}
 use Rattle.pcp_base.specs.declared.leases.Protocol.{Protocol}
-use Rattle.pcp_base.specs.Tables.{Table}
+use Rattle.pcp_base.specs.declared.records.Record.{Record}
+use Rattle.pcp_base.specs.Tables.{Table, live}
 use Rattle.pcp_base.specs.Owners.{owners}
 use Rattle.pcp_base.specs.Ends.{end_at, ends_at_expiry, is_end_of}
 use Rattle.pcp_base.specs.Sound.{Sound}
+use Rattle.pcp_base.specs.Fits.{IsAllowed}
+use Rattle.pcp_base.specs.Apply.{table_changed}
 use Rattle.mapping_table.specs.MapLists.{map_owning}
 use Rattle.peer_table.specs.PeerLists.{IsLastExpiry}
-use Rattle.leased_ports.specs.Leased.{Leased, end_of}
+use Rattle.leased_ports.specs.Leased.{Leased, end_of, while_recent}
 use Rattle.leased_ports.specs.Recorded.{held_until}
 use Rattle.indexed_store.specs.declared.owning.OwnerRun.{OwnerRun}
 use Rattle.indexed_store.specs.declared.holding.Hold.{Hold}
 use Rattle.indexed_store.specs.declared.holding.Unowned.{Unowned}
 use Rattle.indexed_store.specs.declared.holding.Unowned.TheVariants.{Rests, IsFree}
+use Rattle.indexed_store.specs.Tabled.{AreTabled}
 use Rattle.indexed_store.specs.Runs.{IsOwnerRun, has_port, have_port, owner_along, owner_in}
 
--- sound leases that expire before the year 70,000
-pub record AreNear (t : Table) : Type 0 where
-  pub sound : Sound t
+-- leases, of which those that are live at m are sound together, that expire before the year 70,000
+pub record AreNearAt (m : ℕ) (t : Table) : Type 0 where
+  pub tabled : AreTabled t
+  pub sound : Sound (live t m)
   pub maps : AllByRecursion (λ l. l.expiry < 2 ^ 41) t.maps
   pub peers : AllByRecursion (λ l. l.expiry < 2 ^ 41) t.peers
 
@@ -89,6 +94,15 @@ HoldsIf unowned m t (Some r) old new = Holds unowned m t r old new
 abbrev pub AreLiveAt : ℕ → Table → Type 0
 AreLiveAt m t = (e : End) → Contains (ends_at_expiry t) e → m < e.end
 
+-- leases that allow the record's change, and are all live at its moment, before the change and after
+pub record AreReadyFor (r : Record) (t : Table) : Type 0 where
+  pub allowed : IsAllowed t r.change
+  pub before : AreNearAt r.moment t
+  pub live_before : t ≡ live t r.moment
+  pub after : AreNearAt r.moment (table_changed r.change t)
+  pub sound_after : Sound (table_changed r.change t)
+  pub live_after : AreLiveAt r.moment (table_changed r.change t)
+
 -- the latest of the ends that the leases leave of the port; None where they leave none
 pub record IsHeldEnd (t : Table) (protocol : Protocol) (port : ℕ) (last : Option End) : Type 0 where
   pub there : IfSome last (λ e. Contains (ends_at_expiry t) e)
@@ -112,7 +126,7 @@ pub record AreHeld (t : Table) (runs : List OwnerRun) (old new : Leased) : Type 
   pub others : (protocol : Protocol) (port : ℕ) → have_port protocol port runs ≡ false →
       end_of new protocol port ≡ end_of old protocol port
 
--- each port has the last end of the leases
-abbrev pub AreEndsOf : Table → Leased → Type 0
-AreEndsOf t v =
-    (protocol : Protocol) (port : ℕ) → IsHeldEnd t protocol port (end_of v protocol port)
+-- each port has the last end of the leases, where it is recent at m
+abbrev pub AreEndsOf : ℕ → Table → Leased → Type 0
+AreEndsOf m t v = (protocol : Protocol) (port : ℕ) →
+    IsHeldEnd t protocol port (while_recent m (end_of v protocol port))

@@ -6,7 +6,6 @@ use Rattle.pcp_base.specs.declared.leases.PeerLease.{PeerLease}
 use Rattle.pcp_base.specs.declared.leases.Owner.{Owner}
 use Rattle.pcp_base.specs.Tables.{Table, live, dead}
 use Rattle.pcp_base.specs.Owners.{owners}
-use Rattle.pcp_base.specs.Sound.{Sound}
 use Rattle.indexed_store.specs.declared.owning.OwnerRun.{OwnerRun}
 use Rattle.indexed_store.specs.Runs.{IsOwnerRun, map_run, owners_among, peer_run}
 
@@ -35,7 +34,6 @@ pub record AreOfDead (m : ℕ) (t : Table) (runs : List OwnerRun) : Type 0 where
 -- the table has the live leases of that at the start, and the ports of those that it hasn't any
 -- more are left
 pub record AreLeaving (m : ℕ) (start t : Table) (left : List OwnerRun) : Type 0 where
-  pub sound : Sound t
   pub live_same : live t m ≡ live start m
   pub maps_from : (l : MapLease) → Contains t.maps l → Contains start.maps l
   pub peers_from : (l : PeerLease) → Contains t.peers l → Contains start.peers l

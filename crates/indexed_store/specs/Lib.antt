@@ -1,9 +1,9 @@
 pub mod Leading
 pub mod Runs
 pub mod Leaving
-pub mod Holding
-pub mod Settling
-pub mod Judging
 pub mod Tabled
-pub mod Looks
+pub mod Holding
 pub mod Indexed
+pub mod Judging
+pub mod MakingWay
+pub mod Looks

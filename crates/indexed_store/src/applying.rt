@@ -1,96 +1,31 @@
-//! A record that fits, applied to the state and to its ports.
-ghost use Rattle.std.specs.Prelude.{◌≡◌, ◌≤◌, ◌++◌, ℕ, true, false, IfSome, IfOk, OnOk, option_to_list, if◌then◌else◌};
-ghost use Rattle.std.specs.List.{AllByRecursion};
+//! A record that fits, applied to the state.
+ghost use Rattle.std.specs.Prelude.{◌≡◌, ◌≤◌, ℕ, true, false, IfSome, IfOk, OnOk};
 ghost use Rattle.pcp_base.specs.declared.leases.Protocol.{Protocol};
 ghost use Rattle.pcp_base.specs.States.{State};
 ghost use Rattle.pcp_base.specs.Tables.{live};
-ghost use Rattle.pcp_base.specs.Sound.{Sound};
 ghost use Rattle.pcp_base.specs.Records.{IsWellFormedChange};
 ghost use Rattle.pcp_base.specs.Reached.{IsReached};
 ghost use Rattle.pcp_base.specs.Fits.{Fits};
-ghost use Rattle.pcp_base.specs.Apply.{table_changed, table_1, table_2};
+ghost use Rattle.pcp_base.specs.Apply.{table_1, table_2};
 ghost use Rattle.pcp_base.specs.Apply as by_apply;
 ghost use Rattle.lease_store.specs.declared.terms.Terms.{Terms};
-ghost use Rattle.end_table.specs.EndLists.{AreOrdered, end_among};
-ghost use Rattle.leased_ports.specs.Leased.{IsPortsOf, IsOnTerms, end_of, while_recent};
+ghost use Rattle.leased_ports.specs.Leased.{IsPortsOf, IsOnTerms, end_of};
 ghost use Rattle.leased_ports.specs.Recorded.{end_by_rest};
-ghost use Rattle.indexed_store.specs.Runs.{IsOwnerRun, have_port, touched_run};
-ghost use Rattle.indexed_store.specs.Holding.{AreNear, IsEvenRun};
-ghost use Rattle.indexed_store.specs.Settling.{AreMoved, AreOwn, come_by, rest_runs};
+ghost use Rattle.indexed_store.specs.Runs.{touched_run};
+ghost use Rattle.indexed_store.specs.Holding.{AreNearAt, IsEvenRun};
+ghost use Rattle.indexed_store.specs.Indexed.{IsKept};
 
 use crate::facts::empties;
 use crate::holding::{Unowned, hold_touched};
 use crate::leases::Leases;
-use crate::owning::{OwnerRun, run_of_one};
-use crate::settling::settle_all;
+use crate::owning::OwnerRun;
 use crate::state::IndexedState;
-use crate::uncounted::reach_ports;
-use end_table::EndTable;
 use leased_ports::LeasedPorts;
-use leased_ports::laws::{ports_follow_states, records_tell_last_ends};
-use pcp_base::{Change, End, Memory, Moment, Owner, Record, states_are_sound};
-use std::alloc::{AllocError, Global};
-
-/// What a record moves.
-#[derive(Drop)]
-struct Moved {
-    /// The ports of the lease that the change puts or takes out.
-    touched: Option<OwnerRun>,
-    /// All ports whose ends it may move: these too, those of leases that have ended, and that of a
-    /// Rest.
-    runs: Vec<OwnerRun>,
-}
-
-/// Adds the port of a Rest.
-fn add_rest(runs: &mut Vec<OwnerRun>, m: Moment, change: &Change) -> Result<(), AllocError>
-    requires formed { IsWellFormedChange m change.now }
-    ensures runs { OnOk result (runs.new.items ≡ runs.old.items ++ rest_runs change.now) }
-    ensures formed { OnOk result (AllByRecursion IsOwnerRun runs.old.items
-        → AllByRecursion IsOwnerRun runs.new.items) }
-{
-    let Change::Rest(endpoint, external, _) = change else {
-        return Ok(());
-    };
-    runs.push(run_of_one(&Owner {
-        protocol: endpoint.protocol,
-        external: *external,
-        endpoint: *endpoint,
-    }))?;
-    Ok(())
-}
-
-/// Adds the run, if there is one.
-fn add_run(runs: &mut Vec<OwnerRun>, run: Option<OwnerRun>) -> Result<(), AllocError>
-    ensures { OnOk result (runs.new.items ≡ runs.old.items ++ option_to_list run) }
-{
-    let Some(run) = run else {
-        return Ok(());
-    };
-    runs.push(run)?;
-    Ok(())
-}
-
-/// Takes out the leases that have ended, and makes the change.
-fn move_leases(leases: &mut Leases, kept: &Record, alloc: Global) -> Result<Moved, Memory>
-    requires formed { IsWellFormedChange kept.now.moment kept.now.change }
-    requires before { Sound leases.old.table }
-    requires after { Sound (table_changed kept.now.change (live leases.old.table kept.now.moment)) }
-    ensures table { OnOk result (leases.new.table
-        ≡ table_changed kept.now.change (live leases.old.table kept.now.moment)) }
-    ensures touched { IfOk result (λ moved. moved.touched
-        ≡ touched_run kept.now.change (live leases.old.table kept.now.moment)) }
-    ensures formed { IfOk result (λ moved. IfSome moved.touched IsOwnerRun) }
-    ensures runs { IfOk result (λ moved.
-        AreMoved kept.now.moment leases.old.table kept.now.change moved.runs.items) }
-    ensures maps_reached { leases.new.maps_reached ≤ leases.old.maps_reached }
-    ensures peers_reached { leases.new.peers_reached ≤ leases.old.peers_reached }
-{
-    let mut runs = leases.drop_dead(alloc, kept.moment)?;
-    let touched = leases.change(alloc, kept.moment, &kept.change)?;
-    add_rest(&mut runs, kept.moment, &kept.change)?;
-    add_run(&mut runs, touched)?;
-    Ok(Moved { touched, runs })
-}
+use leased_ports::laws::{ends_are_last_ends, ports_follow_states, records_tell_last_ends};
+use pcp_base::{Change, End, Memory, Moment, Record, states_are_sound};
+use std::alloc::Global;
+use std::sync::ledger::Ledger;
+use step_count::Steps;
 
 /// Lets a port rest, where the change is a Rest.
 fn hold_rest(
@@ -118,119 +53,107 @@ fn hold_rest(
     ports.put(alloc, &rest)
 }
 
-/// Brings the ports of a state to those after the record.
-fn move_ports(
+/// Brings the ports of a state to those after the record, beside its leases then.
+fn move_ports<L: Ledger>(
     ports: &mut LeasedPorts,
     alloc: Global,
     leases: &Leases,
     kept: &Record,
     touched: Option<OwnerRun>,
+    steps: &mut Steps<L>,
 ) -> Result<(), Memory>
     requires formed { IsWellFormedChange kept.now.moment kept.now.change }
-    requires leases { AreNear leases.now.table }
-    requires touched { IfSome touched (IsEvenRun leases.now.table.maps) }
+    requires leases { AreNearAt kept.now.moment leases.now }
+    requires touched { IfSome touched (IsEvenRun leases.now.maps) }
     requires later { ports.old.reached ≤ kept.now.moment }
     ensures terms { (terms : Terms) → IsOnTerms ports.old terms → IsOnTerms ports.new terms }
     ensures reached { OnOk result (ports.new.reached ≡ kept.now.moment) }
     ensures ports { OnOk result ((s : State) → IsReached s → Fits s kept.now
         → by_apply.empties kept.now.change ≡ false → IsPortsOf ports.old s
-        → leases.now.table ≡ table_2 s kept.now
+        → live leases.now kept.now.moment ≡ table_2 s kept.now
         → touched ≡ touched_run kept.now.change (table_1 s kept.now)
         → IsPortsOf ports.new (by_apply.apply s kept.now)) }
 {
     ports_follow_states();
     records_tell_last_ends();
-    reach_ports(ports, kept.moment);
+    ports.reach(kept.moment, steps);
     hold_rest(ports, alloc, kept.moment, &kept.change)?;
-    hold_touched(ports, alloc, leases, kept.moment, touched, Unowned::Rests)
+    hold_touched(
+        ports,
+        alloc,
+        leases,
+        kept.moment,
+        touched,
+        Unowned::Rests,
+        steps,
+    )
 }
 
-/// Brings the ends of these ports to what the ports have, and takes out those that are over.
-fn move_ends(
-    ends: &mut EndTable,
-    ports: &LeasedPorts,
-    m: Moment,
-    runs: &[OwnerRun],
-) -> Result<(), Memory>
-    requires own { AreOwn ports.now }
-    requires runs { AllByRecursion IsOwnerRun runs.now }
-    ensures ordered { OnOk result (AreOrdered ends.old → AreOrdered ends.new) }
-    ensures ends { OnOk result (AreOrdered ends.old → (protocol : Protocol) (port : ℕ) →
-        end_among protocol port ends.new ≡ while_recent m
-        (if have_port protocol port runs.now then come_by m (end_of ports.now protocol port)
-        else end_among protocol port ends.old)) }
-{
-    settle_all(ends, ports, m, runs)?;
-    ends.drop_over(m);
-    Ok(())
-}
-
-/// Applies a record that doesn't forget all. After an error nothing is said of either.
-fn change(
+/// Applies a record that doesn't forget all. After an error nothing is said of the state.
+fn change<L: Ledger>(
     state: &mut IndexedState,
-    ports: &mut LeasedPorts,
     alloc: Global,
     kept: &Record,
+    steps: &mut Steps<L>,
 ) -> Result<(), Memory>
     requires sound { IsReached state.old.state }
+    requires kept { IsKept state.old }
     requires fits { Fits state.old.state kept.now }
     requires keeps { by_apply.empties kept.now.change ≡ false }
-    requires later { ports.old.reached ≤ kept.now.moment }
-    requires ports { IsPortsOf ports.old state.old.state }
-    ensures terms { (terms : Terms) → IsOnTerms ports.old terms → IsOnTerms ports.new terms }
+    requires later { state.old.ports.reached ≤ kept.now.moment }
+    ensures terms { (terms : Terms) → IsOnTerms state.old.ports terms
+        → IsOnTerms state.new.ports terms }
     ensures applied { OnOk result (state.new.state ≡ by_apply.apply state.old.state kept.now) }
-    ensures ports { OnOk result (IsPortsOf ports.new (by_apply.apply state.old.state kept.now)) }
-    ensures reached { OnOk result (ports.new.reached ≡ kept.now.moment) }
-    ensures maps_reached { state.new.maps_reached ≤ state.old.maps_reached }
-    ensures peers_reached { state.new.peers_reached ≤ state.old.peers_reached }
+    ensures kept { OnOk result (IsKept state.new) }
+    ensures reached { OnOk result (state.new.ports.reached ≡ kept.now.moment) }
 {
     states_are_sound();
-    let moved = move_leases(&mut state.leases, kept, alloc)?;
-    move_ports(ports, alloc, &state.leases, kept, moved.touched)?;
-    move_ends(&mut state.ends, ports, kept.moment, &moved.runs)?;
+    ends_are_last_ends();
+    let touched = state
+        .leases
+        .change(alloc, kept.moment, &kept.change, steps)?;
+    move_ports(&mut state.ports, alloc, &state.leases, kept, touched, steps)?;
+    state.leases.drop_some(kept.moment);
     state.note(kept);
     Ok(())
 }
 
 /// Applies a record that forgets all.
-pub(crate) fn begin(state: &mut IndexedState, ports: &mut LeasedPorts, kept: &Record)
+pub(crate) fn begin<L: Ledger>(state: &mut IndexedState, kept: &Record, steps: &mut Steps<L>)
     requires { by_apply.empties kept.now.change ≡ true }
-    ensures terms { (terms : Terms) → IsOnTerms ports.old terms → IsOnTerms ports.new terms }
+    ensures terms { (terms : Terms) → IsOnTerms state.old.ports terms
+        → IsOnTerms state.new.ports terms }
     ensures applied { state.new.state ≡ by_apply.apply state.old.state kept.now }
-    ensures ports { IsPortsOf ports.new (by_apply.apply state.old.state kept.now) }
-    ensures reached { ports.new.reached ≡ kept.now.moment }
-    ensures maps_reached { state.new.maps_reached ≤ state.old.maps_reached }
-    ensures peers_reached { state.new.peers_reached ≤ state.old.peers_reached }
+    ensures kept { IsKept state.new }
+    ensures reached { state.new.ports.reached ≡ kept.now.moment }
 {
     records_tell_last_ends();
     state.leases.clear();
-    state.ends.clear();
+    state.ports.clear();
+    state.ports.reach(kept.moment, steps);
     state.note(kept);
-    ports.clear();
-    reach_ports(ports, kept.moment);
 }
 
-/// Applies a record that fits. After an error nothing is said of either.
-pub(crate) fn apply(
+/// Applies a record that fits. After an error nothing is said of the state.
+pub(crate) fn apply<L: Ledger>(
     state: &mut IndexedState,
-    ports: &mut LeasedPorts,
     alloc: Global,
     kept: &Record,
+    steps: &mut Steps<L>,
 ) -> Result<(), Memory>
     requires sound { IsReached state.old.state }
+    requires kept { IsKept state.old }
     requires fits { Fits state.old.state kept.now }
-    requires later { ports.old.reached ≤ kept.now.moment }
-    requires ports { IsPortsOf ports.old state.old.state }
-    ensures terms { (terms : Terms) → IsOnTerms ports.old terms → IsOnTerms ports.new terms }
+    requires later { state.old.ports.reached ≤ kept.now.moment }
+    ensures terms { (terms : Terms) → IsOnTerms state.old.ports terms
+        → IsOnTerms state.new.ports terms }
     ensures applied { OnOk result (state.new.state ≡ by_apply.apply state.old.state kept.now) }
-    ensures ports { OnOk result (IsPortsOf ports.new (by_apply.apply state.old.state kept.now)) }
-    ensures reached { OnOk result (ports.new.reached ≡ kept.now.moment) }
-    ensures maps_reached { state.new.maps_reached ≤ state.old.maps_reached }
-    ensures peers_reached { state.new.peers_reached ≤ state.old.peers_reached }
+    ensures kept { OnOk result (IsKept state.new) }
+    ensures reached { OnOk result (state.new.ports.reached ≡ kept.now.moment) }
 {
     if empties(&kept.change) {
-        begin(state, ports, kept);
+        begin(state, kept, steps);
         return Ok(());
     }
-    change(state, ports, alloc, kept)
+    change(state, alloc, kept, steps)
 }

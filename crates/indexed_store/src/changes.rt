@@ -1,19 +1,21 @@
 //! What a change makes of the leases.
-ghost use Rattle.std.specs.Prelude.{◌≡◌, ◌≤◌, ◌+◌, max, IfSome, IfOk, OnOk};
-ghost use Rattle.pcp_base.specs.Tables.{HasPorts, IsPeerLease};
+ghost use Rattle.std.specs.Prelude.{◌≡◌, ◌<◌, false, IfSome, IfOk, OnOk};
+ghost use Rattle.pcp_base.specs.Tables.{IsMapLease, IsPeerLease, empty_table, live};
 ghost use Rattle.pcp_base.specs.declared.records.Change.TheVariants.{Map, Peer, DropMap, DropPeer};
 ghost use Rattle.pcp_base.specs.Sound.{Sound};
 ghost use Rattle.pcp_base.specs.Records.{IsWellFormedChange};
 ghost use Rattle.pcp_base.specs.Apply.{table_changed};
-ghost use Rattle.indexed_store.specs.Tabled.{no_leases};
-ghost use Rattle.indexed_store.specs.Looks.{table_steps};
-ghost use Rattle.indexed_store.specs.Runs.{IsOwnerRun, touched_run};
+ghost use Rattle.pcp_base.specs.Apply as by_apply;
+ghost use Rattle.pcp_base.specs.Fits.{IsAllowed};
+ghost use Rattle.indexed_store.specs.Holding.{IsEvenRun};
+ghost use Rattle.indexed_store.specs.Tabled.{AreTabled};
+ghost use Rattle.indexed_store.specs.Runs.{touched_run};
 
 use crate::leases::Leases;
 use crate::owning::{OwnerRun, run_of_map, run_of_peer};
-use mapping_table::laws::sound_tables_have_sound_maps;
+use mapping_table::laws::{fewer_maps_are_sound, maps_are_sound_with_one_more};
 use pcp_base::{Address, Change, Endpoint, MapLease, Memory, Moment, PeerLease};
-use peer_table::laws::sound_tables_have_sound_peers;
+use peer_table::laws::{fewer_peers_are_sound, peers_are_sound_with_one_more};
 use std::alloc::Global;
 use std::sync::ledger::Ledger;
 use step_count::Steps;
@@ -21,112 +23,133 @@ use step_count::Steps;
 impl Leases {
     /// No leases.
     pub(crate) fn clear(&mut self)
-        ensures { self.new ≡ no_leases }
+        ensures { self.new ≡ empty_table }
     {
         self.maps.clear();
         self.peers.clear();
     }
 
-    /// Lets the leases that have ended by `m` leave the keys of those that are live. All stay.
-    pub(crate) fn reach<L: Ledger>(&mut self, m: Moment, steps: &mut Steps<L>)
-        ensures table { self.new.table ≡ self.old.table }
-        ensures maps_reached { self.new.maps_reached ≡ max self.old.maps_reached m }
-        ensures peers_reached { self.new.peers_reached ≡ max self.old.peers_reached m }
-        ensures steps { steps.new ≤ steps.old
-            + table_steps self.old.table self.old.maps_reached self.old.peers_reached m }
+    /// Puts a MAP lease, of which those that are in its way have ended by `m` and go. Tells its ports.
+    fn put_map<L: Ledger>(
+        &mut self,
+        alloc: Global,
+        m: Moment,
+        lease: &MapLease,
+        steps: &mut Steps<L>,
+    ) -> Result<Option<OwnerRun>, Memory>
+        requires tabled { AreTabled self.old }
+        requires after { Sound (table_changed (Map lease.now) (live self.old m)) }
+        requires lease { IsMapLease lease.now }
+        requires later { m < lease.now.expiry }
+        ensures tabled { OnOk result (AreTabled self.new) }
+        ensures table { OnOk result (live self.new m
+            ≡ table_changed (Map lease.now) (live self.old m)) }
+        ensures touched { IfOk result (λ run.
+            run ≡ touched_run (Map lease.now) (live self.old m)) }
+        ensures formed { IfOk result (λ run. IfSome run (IsEvenRun self.new.maps)) }
     {
-        self.maps.reach(m, steps);
-        self.peers.reach(m, steps);
-    }
-
-    /// Puts a MAP lease. Tells its ports.
-    fn put_map(&mut self, alloc: Global, lease: &MapLease) -> Result<Option<OwnerRun>, Memory>
-        requires sound { Sound (table_changed (Map lease.now) self.old.table) }
-        requires ports { HasPorts lease.now }
-        ensures table { OnOk result (self.new.table ≡ table_changed (Map lease.now) self.old.table) }
-        ensures touched { IfOk result (λ run. run ≡ touched_run (Map lease.now) self.old.table) }
-        ensures formed { IfOk result (λ run. IfSome run IsOwnerRun) }
-        ensures maps_reached { self.new.maps_reached ≡ self.old.maps_reached }
-        ensures peers_reached { self.new.peers_reached ≡ self.old.peers_reached }
-    {
-        sound_tables_have_sound_maps();
+        maps_are_sound_with_one_more();
+        self.make_way_for_map(m, lease, steps);
         self.maps.put(alloc, *lease)?;
         Ok(Some(run_of_map(lease)))
     }
 
-    /// Puts a PEER lease. Tells its port.
-    fn put_peer(&mut self, alloc: Global, lease: &PeerLease) -> Result<Option<OwnerRun>, Memory>
-        requires sound { Sound (table_changed (Peer lease.now) self.old.table) }
-        requires port { IsPeerLease lease.now }
-        ensures table { OnOk result (self.new.table ≡ table_changed (Peer lease.now) self.old.table) }
-        ensures touched { IfOk result (λ run. run ≡ touched_run (Peer lease.now) self.old.table) }
-        ensures formed { IfOk result (λ run. IfSome run IsOwnerRun) }
-        ensures maps_reached { self.new.maps_reached ≡ self.old.maps_reached }
-        ensures peers_reached { self.new.peers_reached ≡ self.old.peers_reached }
+    /// Puts a PEER lease, likewise. Tells its port.
+    fn put_peer<L: Ledger>(
+        &mut self,
+        alloc: Global,
+        m: Moment,
+        lease: &PeerLease,
+        steps: &mut Steps<L>,
+    ) -> Result<Option<OwnerRun>, Memory>
+        requires tabled { AreTabled self.old }
+        requires after { Sound (table_changed (Peer lease.now) (live self.old m)) }
+        requires lease { IsPeerLease lease.now }
+        requires later { m < lease.now.expiry }
+        ensures tabled { OnOk result (AreTabled self.new) }
+        ensures table { OnOk result (live self.new m
+            ≡ table_changed (Peer lease.now) (live self.old m)) }
+        ensures touched { IfOk result (λ run.
+            run ≡ touched_run (Peer lease.now) (live self.old m)) }
+        ensures formed { IfOk result (λ run. IfSome run (IsEvenRun self.new.maps)) }
     {
-        sound_tables_have_sound_peers();
+        peers_are_sound_with_one_more();
+        self.make_way_for_peer(m, lease, steps);
         self.peers.put(alloc, *lease)?;
         Ok(Some(run_of_peer(lease)))
     }
 
-    /// Takes out a MAP lease. Tells its ports.
-    fn delete_map(&mut self, key: &Endpoint) -> Option<OwnerRun>
-        requires { Sound self.old.table }
-        ensures table { self.new.table ≡ table_changed (DropMap key.now) self.old.table }
-        ensures touched { result ≡ touched_run (DropMap key.now) self.old.table }
-        ensures maps_reached { self.new.maps_reached ≡ self.old.maps_reached }
-        ensures peers_reached { self.new.peers_reached ≡ self.old.peers_reached }
-        ensures formed { IfSome result IsOwnerRun }
+    /// Takes out a MAP lease that is live at `m`. Tells its ports.
+    fn delete_map(&mut self, m: Moment, key: &Endpoint) -> Option<OwnerRun>
+        requires tabled { AreTabled self.old }
+        requires there { IsAllowed (live self.old m) (DropMap key.now) }
+        ensures tabled { AreTabled self.new }
+        ensures table { live self.new m
+            ≡ table_changed (DropMap key.now) (live self.old m) }
+        ensures touched { result ≡ touched_run (DropMap key.now) (live self.old m) }
+        ensures formed { IfSome result (IsEvenRun self.new.maps) }
     {
+        fewer_maps_are_sound();
         let Some(lease) = self.maps.remove(key) else {
             return None;
         };
         Some(run_of_map(&lease))
     }
 
-    /// Takes out a PEER lease. Tells its port.
-    fn delete_peer(&mut self, endpoint: &Endpoint, remote: &Address, port: u16) -> Option<OwnerRun>
-        requires { Sound self.old.table }
-        ensures table { self.new.table ≡ table_changed (DropPeer endpoint.now remote.now port) self.old.table }
-        ensures touched { result ≡ touched_run (DropPeer endpoint.now remote.now port) self.old.table }
-        ensures maps_reached { self.new.maps_reached ≡ self.old.maps_reached }
-        ensures peers_reached { self.new.peers_reached ≡ self.old.peers_reached }
-        ensures formed { IfSome result IsOwnerRun }
+    /// Takes out a PEER lease that is live at `m`. Tells its port.
+    fn delete_peer(
+        &mut self,
+        m: Moment,
+        endpoint: &Endpoint,
+        remote: &Address,
+        port: u16,
+    ) -> Option<OwnerRun>
+        requires tabled { AreTabled self.old }
+        requires there { IsAllowed (live self.old m)
+            (DropPeer endpoint.now remote.now port) }
+        ensures tabled { AreTabled self.new }
+        ensures table { live self.new m
+            ≡ table_changed (DropPeer endpoint.now remote.now port) (live self.old m) }
+        ensures touched { result
+            ≡ touched_run (DropPeer endpoint.now remote.now port) (live self.old m) }
+        ensures formed { IfSome result (IsEvenRun self.new.maps) }
     {
+        fewer_peers_are_sound();
         let Some(lease) = self.peers.remove(endpoint, remote, port) else {
             return None;
         };
         Some(run_of_peer(&lease))
     }
 
-    /// Makes a change. Tells the ports of the lease that it puts or takes out.
-    pub(crate) fn change(
+    /// Makes a change of the leases that are live at `m`. Tells the ports of the lease that it puts or
+    /// takes out.
+    pub(crate) fn change<L: Ledger>(
         &mut self,
         alloc: Global,
         m: Moment,
         change: &Change,
+        steps: &mut Steps<L>,
     ) -> Result<Option<OwnerRun>, Memory>
         requires formed { IsWellFormedChange m change.now }
-        requires before { Sound self.old.table }
-        requires after { Sound (table_changed change.now self.old.table) }
-        ensures table { OnOk result (self.new.table ≡ table_changed change.now self.old.table) }
-        ensures touched { IfOk result (λ run. run ≡ touched_run change.now self.old.table) }
-        ensures maps_reached { self.new.maps_reached ≤ self.old.maps_reached }
-        ensures peers_reached { self.new.peers_reached ≤ self.old.peers_reached }
-        ensures formed { IfOk result (λ run. IfSome run IsOwnerRun) }
+        requires keeps { by_apply.empties change.now ≡ false }
+        requires tabled { AreTabled self.old }
+        requires allowed { IsAllowed (live self.old m) change.now }
+        requires after { Sound (table_changed change.now (live self.old m)) }
+        ensures tabled { OnOk result (AreTabled self.new) }
+        ensures table { OnOk result (live self.new m
+            ≡ table_changed change.now (live self.old m)) }
+        ensures touched { IfOk result (λ run.
+            run ≡ touched_run change.now (live self.old m)) }
+        ensures formed { IfOk result (λ run. IfSome run (IsEvenRun self.new.maps)) }
     {
         match change {
-            Change::Map(lease) => self.put_map(alloc, lease),
-            Change::Peer(lease) => self.put_peer(alloc, lease),
-            Change::DropMap(key) => Ok(self.delete_map(key)),
+            Change::Map(lease) => self.put_map(alloc, m, lease, steps),
+            Change::Peer(lease) => self.put_peer(alloc, m, lease, steps),
+            Change::DropMap(key) => Ok(self.delete_map(m, key)),
             Change::DropPeer(endpoint, remote, port) => {
-                Ok(self.delete_peer(endpoint, remote, *port))
+                Ok(self.delete_peer(m, endpoint, remote, *port))
             }
-            Change::Start | Change::Lose => {
-                self.clear();
-                Ok(None)
-            }
-            Change::Mark | Change::Rest(..) | Change::Renumber(_) => Ok(None),
+            _ => Ok(None),
         }
     }
 }

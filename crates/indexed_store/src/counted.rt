@@ -1,13 +1,16 @@
-//! What is looked up in a state at a moment. A step is a look at a level of an ordered map.
-ghost use Rattle.std.specs.Prelude.{◌≡◌, ◌≤◌, ◌+◌, ◌*◌, length};
+//! What is looked up in a state at a moment, which isn't before its last. A step is a look at a level of
+//! an ordered map.
+ghost use Rattle.std.specs.Prelude.{◌≡◌, ◌≤◌, ◌+◌, ◌*◌, nat_lt};
 ghost use Rattle.step_count.specs.Levels.{levels};
-ghost use Rattle.pcp_base.specs.Sound.{Sound};
-ghost use Rattle.lease_store.specs.Lookups.{covering, peering, named_port, peer_count, next_inside};
+ghost use Rattle.pcp_base.specs.declared.leases.TheConstants.{MOST_LEASES};
+ghost use Rattle.indexed_store.specs.Indexed.{IsKept};
+ghost use Rattle.lease_store.specs.Lookups.{covering, peering, named_port, peer_count, lease_count, next_inside, up_to_next};
 
 use crate::state::IndexedState;
 use pcp_base::{Address, Endpoint, MapLease, Moment, PeerLease};
 use std::sync::ledger::Ledger;
 use step_count::Steps;
+use step_count::laws::levels_grow;
 
 impl IndexedState {
     /// The MAP lease that covers the endpoint.
@@ -17,10 +20,12 @@ impl IndexedState {
         endpoint: &Endpoint,
         steps: &mut Steps<L>,
     ) -> Option<MapLease>
-        requires { Sound self.now.state.table }
+        requires kept { IsKept self.now }
+        requires later { self.now.state.last ≤ m }
         ensures lease { result ≡ covering self.now.state.table m endpoint.now }
-        ensures steps { steps.new ≤ steps.old + 4 * levels (length self.now.state.table.maps) }
+        ensures steps { steps.new ≤ steps.old + 4 * levels MOST_LEASES }
     {
+        levels_grow();
         self.leases.covering_counted(m, endpoint, steps)
     }
 
@@ -33,11 +38,13 @@ impl IndexedState {
         remote_port: u16,
         steps: &mut Steps<L>,
     ) -> Option<PeerLease>
-        requires { Sound self.now.state.table }
+        requires kept { IsKept self.now }
+        requires later { self.now.state.last ≤ m }
         ensures lease { result
             ≡ peering self.now.state.table m endpoint.now remote.now remote_port }
-        ensures steps { steps.new ≤ steps.old + 2 * levels (length self.now.state.table.peers) }
+        ensures steps { steps.new ≤ steps.old + 2 * levels MOST_LEASES }
     {
+        levels_grow();
         self.leases
             .peering_counted(m, endpoint, remote, remote_port, steps)
     }
@@ -49,10 +56,12 @@ impl IndexedState {
         endpoint: &Endpoint,
         steps: &mut Steps<L>,
     ) -> Option<u16>
-        requires { Sound self.now.state.table }
+        requires kept { IsKept self.now }
+        requires later { self.now.state.last ≤ m }
         ensures port { result ≡ named_port self.now.state.table m endpoint.now }
-        ensures steps { steps.new ≤ steps.old + 35 * levels (length self.now.state.table.peers) }
+        ensures steps { steps.new ≤ steps.old + 35 * levels MOST_LEASES }
     {
+        levels_grow();
         self.leases.named_port_counted(m, endpoint, steps)
     }
 
@@ -63,27 +72,44 @@ impl IndexedState {
         endpoint: &Endpoint,
         steps: &mut Steps<L>,
     ) -> u32
+        requires kept { IsKept self.now }
+        requires later { self.now.state.last ≤ m }
         ensures count { result ≡ peer_count self.now.state.table m endpoint.now }
-        ensures steps { steps.new ≤ steps.old + 35 * levels (length self.now.state.table.peers) }
+        ensures steps { steps.new ≤ steps.old + 35 * levels MOST_LEASES }
     {
+        levels_grow();
         self.leases.peer_count_counted(m, endpoint, steps)
     }
 
-    /// The next greater internal port, of the endpoint's address and protocol, that a lease covers or
-    /// names which is live at the moment that was reached last.
-    pub(crate) fn next_inside<L: Ledger>(
+    /// How many of the `most` internal ports from the endpoint's on come before the next greater one
+    /// that a lease covers or names.
+    pub(crate) fn room_inside<L: Ledger>(
         &self,
         m: Moment,
         endpoint: &Endpoint,
+        most: u32,
         steps: &mut Steps<L>,
-    ) -> Option<u16>
-        requires sound { Sound self.now.state.table }
-        requires maps { m ≡ self.now.maps_reached }
-        requires peers { m ≡ self.now.peers_reached }
-        ensures next { result ≡ next_inside self.now.state.table m endpoint.now }
-        ensures steps { steps.new ≤ steps.old + 4 * levels (length self.now.state.table.maps)
-            + levels (length self.now.state.table.peers) }
+    ) -> u32
+        requires kept { IsKept self.now }
+        requires later { self.now.state.last ≤ m }
+        requires some { 1 ≤ most }
+        requires within { endpoint.now.port + most ≤ 65536 }
+        ensures room { result ≡ up_to_next (next_inside self.now.state.table m endpoint.now)
+            endpoint.now.port most }
+        ensures steps { steps.new ≤ steps.old + most * (35 * levels MOST_LEASES) }
     {
-        self.leases.next_inside_counted(m, endpoint, steps)
+        levels_grow();
+        self.leases.room_inside_counted(m, endpoint, most, steps)
+    }
+
+    /// Whether fewer than `MOST_LEASES` leases are live.
+    pub(crate) fn has_room<L: Ledger>(&self, m: Moment, steps: &mut Steps<L>) -> bool
+        requires kept { IsKept self.now }
+        requires later { self.now.state.last ≤ m }
+        ensures room { result ≡ nat_lt (lease_count self.now.state.table m) MOST_LEASES }
+        ensures steps { steps.new ≤ steps.old + 2 * levels MOST_LEASES }
+    {
+        levels_grow();
+        self.leases.has_space_counted(m, steps)
     }
 }

@@ -3,15 +3,17 @@ ghost use Rattle.std.specs.Prelude.{◌≡◌, ◌≤◌, ◌↔◌, false, IsTr
 ghost use Rattle.std.specs.List.{AllByRecursion};
 ghost use Rattle.pcp_base.specs.States.{State};
 ghost use Rattle.pcp_base.specs.Tables.{live};
-ghost use Rattle.pcp_base.specs.Records.{IsWellFormedChange};
+ghost use Rattle.pcp_base.specs.Records.{IsWellFormedRecord};
 ghost use Rattle.pcp_base.specs.Reached.{IsReached, IsReachedFirst};
-ghost use Rattle.pcp_base.specs.Fits.{IsAllowed, IsOfFirst, FitsFirst};
+ghost use Rattle.pcp_base.specs.Fits.{IsOfFirst, FitsFirst};
 ghost use Rattle.pcp_base.specs.Rooms.{SuitsFirst};
 ghost use Rattle.pcp_base.specs.Apply.{table_changed};
 ghost use Rattle.pcp_base.specs.Apply as by_apply;
 ghost use Rattle.lease_store.specs.declared.terms.Terms.{Terms};
 ghost use Rattle.leased_ports.specs.Leased.{IsPortsOf, IsOnTerms};
-ghost use Rattle.indexed_store.specs.Holding.{AreEndsOf, AreHeld, AreLiveAt, AreNear, IsAgreed};
+ghost use Rattle.indexed_store.specs.Holding.{AreEndsOf, AreHeld, AreLiveAt, AreNearAt, AreReadyFor, IsAgreed};
+ghost use Rattle.indexed_store.specs.Tabled.{AreTabled};
+ghost use Rattle.indexed_store.specs.Indexed.{IsKept};
 
 use crate::applying::begin;
 use crate::facts::empties;
@@ -20,11 +22,14 @@ use crate::judging::{is_next, suits_table};
 use crate::leases::Leases;
 use crate::owning::OwnerRun;
 use crate::state::IndexedState;
-use crate::uncounted::reach_ports;
 use leased_ports::LeasedPorts;
-use leased_ports::laws::ports_follow_states;
+use leased_ports::laws::{ends_are_last_ends, ports_follow_states};
+use mapping_table::laws::sound_tables_have_sound_maps;
 use pcp_base::{Change, Memory, Moment, Record, first_states_are_sound};
+use peer_table::laws::sound_tables_have_sound_peers;
 use std::alloc::Global;
+use std::sync::ledger::Ledger;
+use step_count::Steps;
 
 /// Whether the first format has such a change.
 fn is_of_first(change: &Change) -> bool
@@ -36,13 +41,12 @@ fn is_of_first(change: &Change) -> bool
 /// Whether the record fits in the first format.
 pub(crate) fn suits_first(
     state: &IndexedState,
-    ports: &LeasedPorts,
     alloc: Global,
     kept: &Record,
 ) -> Result<bool, Memory>
     requires reached { IsReached state.now.state }
-    requires ports { IsPortsOf ports.now state.now.state }
-    requires at_last { ports.now.reached ≡ state.now.state.last }
+    requires kept { IsKept state.now }
+    requires at_last { state.now.ports.reached ≡ state.now.state.last }
     ensures { IfOk result (λ b. IsTrue b ↔ SuitsFirst state.now.state kept.now) }
 {
     if !is_of_first(&kept.change) {
@@ -51,128 +55,153 @@ pub(crate) fn suits_first(
     if !is_next(state, kept) {
         return Ok(false);
     }
-    suits_table(state, ports, alloc, kept)
+    suits_table(state, alloc, kept)
 }
 
 /// Gives the ports of these runs the last ends by which the leases hold them; others of them are free.
-fn hold_all(
+fn hold_all<L: Ledger>(
     ports: &mut LeasedPorts,
     alloc: Global,
     leases: &Leases,
     m: Moment,
     runs: &[OwnerRun],
+    steps: &mut Steps<L>,
 ) -> Result<(), Memory>
-    requires near { AreNear leases.now.table }
-    requires live { AreLiveAt m leases.now.table }
-    requires runs { AllByRecursion (IsAgreed leases.now.table) runs.now }
+    requires near { AreNearAt m leases.now }
+    requires live { AreLiveAt m leases.now }
+    requires runs { AllByRecursion (IsAgreed leases.now) runs.now }
     requires reached { ports.old.reached ≡ m }
     ensures terms { (terms : Terms) → IsOnTerms ports.old terms → IsOnTerms ports.new terms }
     ensures reached { OnOk result (ports.new.reached ≡ m) }
-    ensures ports { OnOk result (AreHeld leases.now.table runs.now ports.old ports.new) }
+    ensures ports { OnOk result (AreHeld leases.now runs.now ports.old ports.new) }
 {
     for run in runs {
-        hold_run(ports, alloc, leases, m, run, Unowned::IsFree)?;
+        hold_run(ports, alloc, leases, m, run, Unowned::IsFree, steps)?;
     }
     Ok(())
 }
 
-/// Takes out the leases that have ended, and brings their ports to what the others hold.
-fn drop_dead(
+/// Takes out the leases that have ended by `m`, and brings the ports of those that were live at `last`
+/// to what the others hold. Others may have got the ports of those that had ended by then.
+fn drop_dead<L: Ledger>(
     leases: &mut Leases,
     ports: &mut LeasedPorts,
     alloc: Global,
+    last: Moment,
     m: Moment,
+    steps: &mut Steps<L>,
 ) -> Result<(), Memory>
-    requires near { AreNear leases.old.table }
+    requires near { AreNearAt last leases.old }
+    requires later { last ≤ m }
     requires reached { ports.old.reached ≡ m }
     ensures terms { (terms : Terms) → IsOnTerms ports.old terms → IsOnTerms ports.new terms }
-    ensures table { OnOk result (leases.new.table ≡ live leases.old.table m) }
+    ensures table { OnOk result (leases.new ≡ live leases.old m) }
     ensures reached { OnOk result (ports.new.reached ≡ m) }
-    ensures ports { OnOk result ((s : State) → IsReachedFirst s → s.table ≡ leases.old.table
-        → IsPortsOf ports.old s → AreEndsOf (live leases.old.table m) ports.new) }
-    ensures maps_reached { leases.new.maps_reached ≤ leases.old.maps_reached }
-    ensures peers_reached { leases.new.peers_reached ≤ leases.old.peers_reached }
+    ensures ports { OnOk result ((s : State) → IsReachedFirst s
+        → s.table ≡ live leases.old last → s.last ≤ m
+        → IsPortsOf ports.old s → AreEndsOf m (live leases.old m) ports.new) }
 {
+    sound_tables_have_sound_maps();
+    sound_tables_have_sound_peers();
+    ports_follow_states();
+    let _ended = leases.drop_dead(alloc, last)?;
     let left = leases.drop_dead(alloc, m)?;
-    hold_all(ports, alloc, leases, m, &left)
+    hold_all(ports, alloc, leases, m, &left, steps)
 }
 
 /// Makes a change, and brings the ports that it touches to what the leases hold.
-fn make_change(
+fn make_change<L: Ledger>(
     leases: &mut Leases,
     ports: &mut LeasedPorts,
     alloc: Global,
     kept: &Record,
+    steps: &mut Steps<L>,
 ) -> Result<(), Memory>
-    requires formed { IsWellFormedChange kept.now.moment kept.now.change }
+    requires formed { IsWellFormedRecord kept.now }
     requires keeps { by_apply.empties kept.now.change ≡ false }
-    requires allowed { IsAllowed leases.old.table kept.now.change }
-    requires before { AreNear leases.old.table }
-    requires after { AreNear (table_changed kept.now.change leases.old.table) }
-    requires live { AreLiveAt kept.now.moment (table_changed kept.now.change leases.old.table) }
+    requires ready { AreReadyFor kept.now leases.old }
     requires reached { ports.old.reached ≡ kept.now.moment }
-    requires ports { AreEndsOf leases.old.table ports.old }
+    requires ports { AreEndsOf kept.now.moment leases.old ports.old }
     ensures terms { (terms : Terms) → IsOnTerms ports.old terms → IsOnTerms ports.new terms }
-    ensures table { OnOk result (leases.new.table ≡ table_changed kept.now.change leases.old.table) }
+    ensures tabled { OnOk result (AreTabled leases.new) }
+    ensures table { OnOk result
+        (live leases.new kept.now.moment ≡ table_changed kept.now.change leases.old) }
     ensures reached { OnOk result (ports.new.reached ≡ kept.now.moment) }
     ensures ports { OnOk result
-        (AreEndsOf (table_changed kept.now.change leases.old.table) ports.new) }
-    ensures maps_reached { leases.new.maps_reached ≤ leases.old.maps_reached }
-    ensures peers_reached { leases.new.peers_reached ≤ leases.old.peers_reached }
+        (AreEndsOf kept.now.moment (table_changed kept.now.change leases.old) ports.new) }
 {
-    let touched = leases.change(alloc, kept.moment, &kept.change)?;
-    hold_touched(ports, alloc, leases, kept.moment, touched, Unowned::IsFree)
+    let touched = leases.change(alloc, kept.moment, &kept.change, steps)?;
+    hold_touched(
+        ports,
+        alloc,
+        leases,
+        kept.moment,
+        touched,
+        Unowned::IsFree,
+        steps,
+    )
 }
 
-/// Applies a record that doesn't forget all. After an error nothing is said of either.
-fn change(
+/// Applies a record that doesn't forget all. After an error nothing is said of the state.
+fn change<L: Ledger>(
     state: &mut IndexedState,
-    ports: &mut LeasedPorts,
     alloc: Global,
     kept: &Record,
+    steps: &mut Steps<L>,
 ) -> Result<(), Memory>
     requires sound { IsReachedFirst state.old.state }
+    requires kept { IsKept state.old }
     requires fits { FitsFirst state.old.state kept.now }
     requires keeps { by_apply.empties kept.now.change ≡ false }
-    requires later { ports.old.reached ≤ kept.now.moment }
-    requires ports { IsPortsOf ports.old state.old.state }
-    ensures terms { (terms : Terms) → IsOnTerms ports.old terms → IsOnTerms ports.new terms }
-    ensures applied { OnOk result (state.new.state ≡ by_apply.apply_first state.old.state kept.now) }
-    ensures ports { OnOk result (IsPortsOf ports.new (by_apply.apply_first state.old.state kept.now)) }
-    ensures reached { OnOk result (ports.new.reached ≡ kept.now.moment) }
-    ensures maps_reached { state.new.maps_reached ≤ state.old.maps_reached }
-    ensures peers_reached { state.new.peers_reached ≤ state.old.peers_reached }
+    requires later { state.old.ports.reached ≤ kept.now.moment }
+    ensures terms { (terms : Terms) → IsOnTerms state.old.ports terms
+        → IsOnTerms state.new.ports terms }
+    ensures applied { OnOk result
+        (state.new.state ≡ by_apply.apply_first state.old.state kept.now) }
+    ensures kept { OnOk result (IsKept state.new) }
+    ensures reached { OnOk result (state.new.ports.reached ≡ kept.now.moment) }
 {
     first_states_are_sound();
+    sound_tables_have_sound_maps();
+    sound_tables_have_sound_peers();
     ports_follow_states();
-    reach_ports(ports, kept.moment);
-    drop_dead(&mut state.leases, ports, alloc, kept.moment)?;
-    make_change(&mut state.leases, ports, alloc, kept)?;
+    ends_are_last_ends();
+    state.ports.reach(kept.moment, steps);
+    drop_dead(
+        &mut state.leases,
+        &mut state.ports,
+        alloc,
+        state.last,
+        kept.moment,
+        steps,
+    )?;
+    make_change(&mut state.leases, &mut state.ports, alloc, kept, steps)?;
     state.note(kept);
     Ok(())
 }
 
-/// Applies a record that fits in the first format. After an error nothing is said of either.
-pub(crate) fn apply_first(
+/// Applies a record that fits in the first format. All leases that have ended go at once, and their
+/// ports are free. After an error nothing is said of the state.
+pub(crate) fn apply_first<L: Ledger>(
     state: &mut IndexedState,
-    ports: &mut LeasedPorts,
     alloc: Global,
     kept: &Record,
+    steps: &mut Steps<L>,
 ) -> Result<(), Memory>
     requires sound { IsReachedFirst state.old.state }
+    requires kept { IsKept state.old }
     requires fits { FitsFirst state.old.state kept.now }
-    requires later { ports.old.reached ≤ kept.now.moment }
-    requires ports { IsPortsOf ports.old state.old.state }
-    ensures terms { (terms : Terms) → IsOnTerms ports.old terms → IsOnTerms ports.new terms }
-    ensures applied { OnOk result (state.new.state ≡ by_apply.apply_first state.old.state kept.now) }
-    ensures ports { OnOk result (IsPortsOf ports.new (by_apply.apply_first state.old.state kept.now)) }
-    ensures reached { OnOk result (ports.new.reached ≡ kept.now.moment) }
-    ensures maps_reached { state.new.maps_reached ≤ state.old.maps_reached }
-    ensures peers_reached { state.new.peers_reached ≤ state.old.peers_reached }
+    requires later { state.old.ports.reached ≤ kept.now.moment }
+    ensures terms { (terms : Terms) → IsOnTerms state.old.ports terms
+        → IsOnTerms state.new.ports terms }
+    ensures applied { OnOk result
+        (state.new.state ≡ by_apply.apply_first state.old.state kept.now) }
+    ensures kept { OnOk result (IsKept state.new) }
+    ensures reached { OnOk result (state.new.ports.reached ≡ kept.now.moment) }
 {
     if empties(&kept.change) {
-        begin(state, ports, kept);
+        begin(state, kept, steps);
         return Ok(());
     }
-    change(state, ports, alloc, kept)
+    change(state, alloc, kept, steps)
 }

@@ -7,7 +7,7 @@ ghost use Rattle.mapping_table.specs.MapLists.{map_owning};
 ghost use Rattle.lease_store.specs.declared.terms.Terms.{Terms};
 ghost use Rattle.leased_ports.specs.Leased.{IsOnTerms, end_of};
 ghost use Rattle.indexed_store.specs.Runs.{IsOwnerRun, has_port, owner_in, up_to};
-ghost use Rattle.indexed_store.specs.Holding.{AreNear, Holds, HoldsIf, IsEvenRun, IsHold, end_held, held_by_map, later_by};
+ghost use Rattle.indexed_store.specs.Holding.{AreNearAt, Holds, HoldsIf, IsEvenRun, IsHold, end_held, held_by_map, later_by};
 ghost use Rattle.indexed_store.specs.Holding as the;
 
 use crate::leases::Leases;
@@ -16,6 +16,8 @@ use leased_ports::LeasedPorts;
 use pcp_base::{End, Memory, Moment, Owner, Protocol};
 use peer_table::PeerTable;
 use std::alloc::Global;
+use std::sync::ledger::Ledger;
+use step_count::Steps;
 
 /// What becomes of a port that no lease owns any more.
 #[derive(Clone, Copy)]
@@ -47,22 +49,33 @@ fn later(m: u64, other: Option<u64>) -> u64
 
 impl Leases {
     /// When the MAP lease expires that owns the port.
-    fn map_expiry(&self, protocol: Protocol, port: u16) -> Option<u64>
-        ensures { result ≡ option_map (λ l. l.expiry) (map_owning protocol port self.now.table.maps) }
+    fn map_expiry<L: Ledger>(
+        &self,
+        protocol: Protocol,
+        port: u16,
+        steps: &mut Steps<L>,
+    ) -> Option<u64>
+        ensures { result ≡ option_map (λ l. l.expiry) (map_owning protocol port self.now.maps) }
     {
-        let Some(lease) = self.map_owning(protocol, port) else {
+        let Some(lease) = self.maps.by_external(protocol, port, steps) else {
             return None;
         };
         Some(lease.expiry)
     }
 
     /// The later of `m` and of the expiry of the MAP lease that owns the port.
-    fn held_by_map(&self, m: Moment, protocol: Protocol, port: u16) -> u64
-        requires { AreNear self.now.table }
-        ensures value { result ≡ held_by_map m self.now.table.maps protocol port }
+    fn held_by_map<L: Ledger>(
+        &self,
+        m: Moment,
+        protocol: Protocol,
+        port: u16,
+        steps: &mut Steps<L>,
+    ) -> u64
+        requires { AreNearAt m self.now }
+        ensures value { result ≡ held_by_map m self.now.maps protocol port }
         ensures bounds { (m ≤ result) × (result < 2 ^ 41) }
     {
-        later(m.get(), self.map_expiry(protocol, port))
+        later(m.get(), self.map_expiry(protocol, port, steps))
     }
 }
 
@@ -70,7 +83,7 @@ impl Leases {
 /// hold all of them until `from`: those before the next one that a PEER lease owns, or that one.
 fn hold_along(peers: &PeerTable, run: &OwnerRun, from: u64) -> Hold
     requires { IsOwnerRun run.now }
-    ensures { IsHold from peers.now.leases run.now result }
+    ensures { IsHold from peers.now run.now result }
 {
     let first = &run.first;
     let Some(next) = peers.next_owned(first.protocol, first.external) else {
@@ -150,17 +163,17 @@ fn hold_piece(
     from: u64,
     unowned: Unowned,
 ) -> Result<u32, Memory>
-    requires near { AreNear leases.now.table }
+    requires near { AreNearAt m leases.now }
     requires run { IsOwnerRun run.now }
     requires from { (i : ℕ) → i < run.now.count → from
-        ≡ held_by_map m leases.now.table.maps run.now.first.protocol (run.now.first.external + i) }
+        ≡ held_by_map m leases.now.maps run.now.first.protocol (run.now.first.external + i) }
     requires bounds { (m ≤ from) × (from < 2 ^ 41) }
     requires reached { ports.old.reached ≡ m }
     ensures terms { (terms : Terms) → IsOnTerms ports.old terms → IsOnTerms ports.new terms }
     ensures reached { OnOk result (ports.new.reached ≡ m) }
     ensures count { IfOk result (λ n. (1 ≤ n) × (n ≤ run.now.count)) }
     ensures ports { IfOk result (λ n.
-        Holds unowned m leases.now.table (up_to n run.now) ports.old ports.new) }
+        Holds unowned m leases.now (up_to n run.now) ports.old ports.new) }
 {
     let hold = hold_along(&leases.peers, run, from);
     let piece = OwnerRun {
@@ -173,22 +186,23 @@ fn hold_piece(
 
 /// Gives ports in a row the last ends by which these leases hold them. Where memory is wanting, all
 /// ports are forgotten.
-pub(crate) fn hold_run(
+pub(crate) fn hold_run<L: Ledger>(
     ports: &mut LeasedPorts,
     alloc: Global,
     leases: &Leases,
     m: Moment,
     run: &OwnerRun,
     unowned: Unowned,
+    steps: &mut Steps<L>,
 ) -> Result<(), Memory>
-    requires near { AreNear leases.now.table }
-    requires run { IsEvenRun leases.now.table.maps run.now }
+    requires near { AreNearAt m leases.now }
+    requires run { IsEvenRun leases.now.maps run.now }
     requires reached { ports.old.reached ≡ m }
     ensures terms { (terms : Terms) → IsOnTerms ports.old terms → IsOnTerms ports.new terms }
     ensures reached { OnOk result (ports.new.reached ≡ m) }
-    ensures ports { OnOk result (Holds unowned m leases.now.table run.now ports.old ports.new) }
+    ensures ports { OnOk result (Holds unowned m leases.now run.now ports.old ports.new) }
 {
-    let from = leases.held_by_map(m, run.first.protocol, run.first.external);
+    let from = leases.held_by_map(m, run.first.protocol, run.first.external, steps);
     let mut done = 0;
     while done < run.count {
         let count = hold_piece(ports, alloc, leases, m, &run.behind(done), from, unowned)?;
@@ -198,23 +212,24 @@ pub(crate) fn hold_run(
 }
 
 /// The same of one run, if there is one.
-pub(crate) fn hold_touched(
+pub(crate) fn hold_touched<L: Ledger>(
     ports: &mut LeasedPorts,
     alloc: Global,
     leases: &Leases,
     m: Moment,
     touched: Option<OwnerRun>,
     unowned: Unowned,
+    steps: &mut Steps<L>,
 ) -> Result<(), Memory>
-    requires near { AreNear leases.now.table }
-    requires touched { IfSome touched (IsEvenRun leases.now.table.maps) }
+    requires near { AreNearAt m leases.now }
+    requires touched { IfSome touched (IsEvenRun leases.now.maps) }
     requires reached { ports.old.reached ≡ m }
     ensures terms { (terms : Terms) → IsOnTerms ports.old terms → IsOnTerms ports.new terms }
     ensures reached { OnOk result (ports.new.reached ≡ m) }
-    ensures ports { OnOk result (HoldsIf unowned m leases.now.table touched ports.old ports.new) }
+    ensures ports { OnOk result (HoldsIf unowned m leases.now touched ports.old ports.new) }
 {
     match touched {
-        Some(run) => hold_run(ports, alloc, leases, m, &run, unowned),
+        Some(run) => hold_run(ports, alloc, leases, m, &run, unowned, steps),
         None => Ok(()),
     }
 }

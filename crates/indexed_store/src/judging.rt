@@ -5,24 +5,25 @@ ghost use Rattle.pcp_base.specs.declared.leases.TheConstants.{MOST_LEASES, MOST_
 ghost use Rattle.pcp_base.specs.declared.records.Change.TheVariants.{Map, Peer};
 ghost use Rattle.pcp_base.specs.Tables.{HasPorts, IsMapLease, is_map_of, live};
 ghost use Rattle.pcp_base.specs.Owners.{map_owners};
-ghost use Rattle.pcp_base.specs.Sound.{Sound};
+ghost use Rattle.indexed_store.specs.Tabled.{AreTabled};
 ghost use Rattle.pcp_base.specs.Fits.{IsAllowed, IsRested, renews};
 ghost use Rattle.pcp_base.specs.Rooms.{HasRoom, IsNext, Suits};
 ghost use Rattle.pcp_base.specs.Records.{IsWellFormedRecord};
 ghost use Rattle.lease_store.specs.Lookups.{covering, lease_count, named_port, peer_count};
 ghost use Rattle.pcp_base.specs.Reached.{IsReached};
-ghost use Rattle.leased_ports.specs.Leased.{IsPortsOf, end_of};
+ghost use Rattle.indexed_store.specs.Indexed.{IsKept};
 ghost use Rattle.indexed_store.specs.Judging as the;
 ghost use Rattle.indexed_store.specs.Judging.{IsCurrent};
 
 use crate::facts::is_start;
 use crate::leases::Leases;
+use crate::lookups::with_key;
 use crate::owning::{add_owners, owner_of_peer};
 use crate::state::IndexedState;
 use leased_ports::LeasedPorts;
 use pcp_base::{
-    Change, End, Endpoint, MOST_LEASES, MOST_PEERS, MapLease, Memory, Moment, Owner, PeerLease,
-    REST_SECONDS, Record,
+    Change, End, Endpoint, MOST_PEERS, MapLease, Memory, Moment, Owner, PeerLease, REST_SECONDS,
+    Record,
 };
 use std::alloc::{AllocError, Global};
 
@@ -108,13 +109,6 @@ fn is_renewed_peer(held: &PeerLease, lease: &PeerLease) -> bool
     *lease == renewed
 }
 
-/// Whether this is the key of the lease: its first endpoint.
-fn has_key(lease: &MapLease, key: &Endpoint) -> bool
-    ensures { result ≡ is_map_of key.now lease.now }
-{
-    lease.first_endpoint() == *key
-}
-
 /// The external port of the endpoint by a lease that covers it.
 fn port_behind(lease: &MapLease, endpoint: &Endpoint) -> u16
     requires ports { HasPorts lease.now }
@@ -127,24 +121,17 @@ fn port_behind(lease: &MapLease, endpoint: &Endpoint) -> u16
 
 impl Leases {
     /// The live MAP lease with this key: its first endpoint.
-    fn map_of(&self, m: Moment, key: &Endpoint) -> Option<MapLease>
-        requires { Sound self.now.table }
-        ensures { result ≡ find (is_map_of key.now) (live self.now.table m).maps }
+    pub(crate) fn map_of(&self, m: Moment, key: &Endpoint) -> Option<MapLease>
+        requires { AreTabled self.now }
+        ensures { result ≡ find (is_map_of key.now) (live self.now m).maps }
     {
-        let Some(lease) = self.covering(m, key) else {
-            return None;
-        };
-        if has_key(&lease, key) {
-            Some(lease)
-        } else {
-            None
-        }
+        with_key(self.covering(m, key), key)
     }
 
     /// The port of the live MAP lease that covers the endpoint.
     fn covered_port(&self, m: Moment, endpoint: &Endpoint) -> Option<u16>
-        requires { Sound self.now.table }
-        ensures { result ≡ the.covered_port self.now.table m endpoint.now }
+        requires { AreTabled self.now }
+        ensures { result ≡ the.covered_port self.now m endpoint.now }
     {
         let Some(lease) = self.covering(m, endpoint) else {
             return None;
@@ -152,19 +139,11 @@ impl Leases {
         Some(port_behind(&lease, endpoint))
     }
 
-    /// Whether one more lease may be live.
-    fn has_space(&self, m: Moment) -> bool
-        requires { Sound self.now.table }
-        ensures { result ≡ nat_lt (lease_count self.now.table m) MOST_LEASES }
-    {
-        (self.count(m) as usize) < MOST_LEASES
-    }
-
     /// Whether the endpoint has no port, or this one, and may have a MAP lease on it.
     fn is_free_inside(&self, m: Moment, owner: &Owner) -> bool
-        requires { Sound self.now.table }
-        ensures { result ≡ (not (is_some (covering self.now.table m owner.now.endpoint))
-            && the.is_at_most (named_port self.now.table m owner.now.endpoint) owner.now.external) }
+        requires { AreTabled self.now }
+        ensures { result ≡ (not (is_some (covering self.now m owner.now.endpoint))
+            && the.is_at_most (named_port self.now m owner.now.endpoint) owner.now.external) }
     {
         !self.is_covered(m, &owner.endpoint)
             && is_at_most(self.named_port(m, &owner.endpoint), owner.external)
@@ -172,15 +151,15 @@ impl Leases {
 
     /// Whether a new MAP lease may have this port.
     fn has_room_at(&self, ports: &LeasedPorts, m: Moment, owner: &Owner) -> bool
-        requires { Sound self.now.table }
-        ensures { result ≡ the.has_room_at self.now.table m ports.now owner.now }
+        requires { AreTabled self.now }
+        ensures { result ≡ the.has_room_at self.now m ports.now owner.now }
     {
         self.is_free_inside(m, owner) && is_unheld_by(ports, m, owner)
     }
 
     fn have_room(&self, ports: &LeasedPorts, m: Moment, owners: &[Owner]) -> bool
-        requires { Sound self.now.table }
-        ensures { result ≡ list_all (the.has_room_at self.now.table m ports.now) owners.now }
+        requires { AreTabled self.now }
+        ensures { result ≡ list_all (the.has_room_at self.now m ports.now) owners.now }
     {
         for owner in owners {
             if !self.has_room_at(ports, m, owner) {
@@ -193,9 +172,9 @@ impl Leases {
     /// Whether there are few enough PEER leases of the endpoint, and those that cover it have this
     /// port.
     fn is_few_inside(&self, m: Moment, owner: &Owner) -> bool
-        requires { Sound self.now.table }
-        ensures { result ≡ (nat_lt (peer_count self.now.table m owner.now.endpoint) MOST_PEERS
-            && the.is_at_most (the.covered_port self.now.table m owner.now.endpoint)
+        requires { AreTabled self.now }
+        ensures { result ≡ (nat_lt (peer_count self.now m owner.now.endpoint) MOST_PEERS
+            && the.is_at_most (the.covered_port self.now m owner.now.endpoint)
             owner.now.external) }
     {
         (self.peer_count(m, &owner.endpoint) as usize) < MOST_PEERS
@@ -204,10 +183,10 @@ impl Leases {
 
     /// The same, and those that name it.
     fn is_one_inside(&self, m: Moment, owner: &Owner) -> bool
-        requires { Sound self.now.table }
-        ensures { result ≡ ((nat_lt (peer_count self.now.table m owner.now.endpoint) MOST_PEERS
-            && the.is_at_most (the.covered_port self.now.table m owner.now.endpoint) owner.now.external)
-            && the.is_at_most (named_port self.now.table m owner.now.endpoint) owner.now.external) }
+        requires { AreTabled self.now }
+        ensures { result ≡ ((nat_lt (peer_count self.now m owner.now.endpoint) MOST_PEERS
+            && the.is_at_most (the.covered_port self.now m owner.now.endpoint) owner.now.external)
+            && the.is_at_most (named_port self.now m owner.now.endpoint) owner.now.external) }
     {
         self.is_few_inside(m, owner)
             && is_at_most(self.named_port(m, &owner.endpoint), owner.external)
@@ -215,26 +194,26 @@ impl Leases {
 
     /// Whether a new PEER lease may have this port.
     fn peer_has_room(&self, ports: &LeasedPorts, m: Moment, owner: &Owner) -> bool
-        requires { Sound self.now.table }
-        ensures { result ≡ the.peer_has_room self.now.table m ports.now owner.now }
+        requires { AreTabled self.now }
+        ensures { result ≡ the.peer_has_room self.now m ports.now owner.now }
     {
         self.is_one_inside(m, owner) && is_unheld_by(ports, m, owner)
     }
 
     /// Whether a new MAP lease on these ports has room.
     fn has_room_for(&self, ports: &LeasedPorts, m: Moment, owners: &[Owner]) -> bool
-        requires { Sound self.now.table }
-        ensures { result ≡ (nat_lt (lease_count self.now.table m) MOST_LEASES
-            && list_all (the.has_room_at self.now.table m ports.now) owners.now) }
+        requires { AreTabled self.now }
+        ensures { result ≡ (nat_lt (lease_count self.now m) MOST_LEASES
+            && list_all (the.has_room_at self.now m ports.now) owners.now) }
     {
         self.has_space(m) && self.have_room(ports, m, owners)
     }
 
     /// Whether a new PEER lease on this port has room.
     fn has_room_for_peer(&self, ports: &LeasedPorts, m: Moment, owner: &Owner) -> bool
-        requires { Sound self.now.table }
-        ensures { result ≡ (nat_lt (lease_count self.now.table m) MOST_LEASES
-            && the.peer_has_room self.now.table m ports.now owner.now) }
+        requires { AreTabled self.now }
+        ensures { result ≡ (nat_lt (lease_count self.now m) MOST_LEASES
+            && the.peer_has_room self.now m ports.now owner.now) }
     {
         self.has_space(m) && self.peer_has_room(ports, m, owner)
     }
@@ -253,26 +232,25 @@ fn owners_of(alloc: Global, lease: &MapLease) -> Result<Vec<Owner>, AllocError>
 /// Whether a MAP lease renews one, or is new and has room.
 fn map_suits_table(
     state: &IndexedState,
-    ports: &LeasedPorts,
     alloc: Global,
     m: Moment,
     lease: &MapLease,
 ) -> Result<bool, Memory>
-    requires current { IsCurrent state.now.state ports.now m }
+    requires current { IsCurrent state.now m }
     requires formed { IsMapLease lease.now }
     ensures { IfOk result (λ b. IsTrue b ↔ (IsAllowed (live state.now.state.table m) (Map lease.now)
         × HasRoom (live state.now.state.table m) (Map lease.now))) }
 {
     let Some(held) = state.leases.map_of(m, &lease.first_endpoint()) else {
         let owners = owners_of(alloc, lease)?;
-        return Ok(state.leases.has_room_for(ports, m, &owners));
+        return Ok(state.leases.has_room_for(&state.ports, m, &owners));
     };
     Ok(is_renewed(&held, lease))
 }
 
 /// Whether a PEER lease renews one, or is new and has room.
-fn peer_suits_table(state: &IndexedState, ports: &LeasedPorts, m: Moment, lease: &PeerLease) -> bool
-    requires { IsCurrent state.now.state ports.now m }
+fn peer_suits_table(state: &IndexedState, m: Moment, lease: &PeerLease) -> bool
+    requires { IsCurrent state.now m }
     ensures { IsTrue result ↔ (IsAllowed (live state.now.state.table m) (Peer lease.now)
         × HasRoom (live state.now.state.table m) (Peer lease.now)) }
 {
@@ -282,7 +260,7 @@ fn peer_suits_table(state: &IndexedState, ports: &LeasedPorts, m: Moment, lease:
     else {
         return state
             .leases
-            .has_room_for_peer(ports, m, &owner_of_peer(lease));
+            .has_room_for_peer(&state.ports, m, &owner_of_peer(lease));
     };
     is_renewed_peer(&held, lease)
 }
@@ -290,11 +268,10 @@ fn peer_suits_table(state: &IndexedState, ports: &LeasedPorts, m: Moment, lease:
 /// Whether the live leases allow the change, and have room for it.
 pub(crate) fn suits_table(
     state: &IndexedState,
-    ports: &LeasedPorts,
     alloc: Global,
     kept: &Record,
 ) -> Result<bool, Memory>
-    requires current { IsCurrent state.now.state ports.now kept.now.moment }
+    requires current { IsCurrent state.now kept.now.moment }
     requires formed { IsWellFormedRecord kept.now }
     ensures { IfOk result (λ b. IsTrue b ↔
         (IsAllowed (live state.now.state.table kept.now.moment) kept.now.change
@@ -302,8 +279,8 @@ pub(crate) fn suits_table(
 {
     let m = kept.moment;
     match &kept.change {
-        Change::Map(lease) => map_suits_table(state, ports, alloc, m, lease),
-        Change::Peer(lease) => Ok(peer_suits_table(state, ports, m, lease)),
+        Change::Map(lease) => map_suits_table(state, alloc, m, lease),
+        Change::Peer(lease) => Ok(peer_suits_table(state, m, lease)),
         Change::DropMap(key) => Ok(state.leases.map_of(m, key).is_some()),
         Change::DropPeer(endpoint, remote, port) => Ok(
             state.leases.peering(m, endpoint, remote, *port).is_some(),
@@ -315,59 +292,53 @@ pub(crate) fn suits_table(
 /// Whether a new MAP lease takes no port that rests for another.
 fn map_is_rested(
     state: &IndexedState,
-    ports: &LeasedPorts,
     alloc: Global,
     m: Moment,
     lease: &MapLease,
 ) -> Result<bool, Memory>
-    requires current { IsCurrent state.now.state ports.now m }
+    requires current { IsCurrent state.now m }
     requires formed { IsMapLease lease.now }
     ensures { IfOk result (λ b. IsTrue b ↔ IsRested state.now.state m (Map lease.now)) }
 {
     let Some(_held) = state.leases.map_of(m, &lease.first_endpoint()) else {
         let owners = owners_of(alloc, lease)?;
-        return Ok(are_unrested(ports, m, &owners));
+        return Ok(are_unrested(&state.ports, m, &owners));
     };
     Ok(true)
 }
 
 /// Whether a new PEER lease takes no port that rests for another.
-fn peer_is_rested(state: &IndexedState, ports: &LeasedPorts, m: Moment, lease: &PeerLease) -> bool
-    requires { IsCurrent state.now.state ports.now m }
+fn peer_is_rested(state: &IndexedState, m: Moment, lease: &PeerLease) -> bool
+    requires { IsCurrent state.now m }
     ensures { IsTrue result ↔ IsRested state.now.state m (Peer lease.now) }
 {
     let Some(_held) = state
         .leases
         .peering(m, &lease.endpoint, &lease.remote, lease.remote_port)
     else {
-        return is_unrested_by(ports, m, &owner_of_peer(lease));
+        return is_unrested_by(&state.ports, m, &owner_of_peer(lease));
     };
     true
 }
 
 /// Whether the change takes no port that rests for another, and a Rest names an unused port.
-fn is_rested(
-    state: &IndexedState,
-    ports: &LeasedPorts,
-    alloc: Global,
-    kept: &Record,
-) -> Result<bool, Memory>
-    requires current { IsCurrent state.now.state ports.now kept.now.moment }
+fn is_rested(state: &IndexedState, alloc: Global, kept: &Record) -> Result<bool, Memory>
+    requires current { IsCurrent state.now kept.now.moment }
     requires formed { IsWellFormedRecord kept.now }
     ensures { IfOk result (λ b. IsTrue b ↔ IsRested state.now.state kept.now.moment kept.now.change) }
 {
     let m = kept.moment;
     match &kept.change {
-        Change::Map(lease) => map_is_rested(state, ports, alloc, m, lease),
-        Change::Peer(lease) => Ok(peer_is_rested(state, ports, m, lease)),
-        Change::Rest(endpoint, port, _) => Ok(is_unused(ports, endpoint, *port)),
+        Change::Map(lease) => map_is_rested(state, alloc, m, lease),
+        Change::Peer(lease) => Ok(peer_is_rested(state, m, lease)),
+        Change::Rest(endpoint, port, _) => Ok(is_unused(&state.ports, endpoint, *port)),
         _ => Ok(true),
     }
 }
 
 /// Whether the port has no last end.
 fn is_unused(ports: &LeasedPorts, endpoint: &Endpoint, port: u16) -> bool
-    ensures { IsTrue result ↔ (end_of ports.now endpoint.now.protocol port ≡ None) }
+    ensures { IsTrue result ↔ (the.last_told ports.now endpoint.now.protocol port ≡ None) }
 {
     match ports.last_end(endpoint.protocol, port) {
         Some(_) => false,
@@ -385,22 +356,17 @@ pub(crate) fn is_next(state: &IndexedState, kept: &Record) -> bool
 }
 
 /// Whether the record fits.
-pub(crate) fn suits(
-    state: &IndexedState,
-    ports: &LeasedPorts,
-    alloc: Global,
-    kept: &Record,
-) -> Result<bool, Memory>
+pub(crate) fn suits(state: &IndexedState, alloc: Global, kept: &Record) -> Result<bool, Memory>
     requires reached { IsReached state.now.state }
-    requires ports { IsPortsOf ports.now state.now.state }
-    requires at_last { ports.now.reached ≡ state.now.state.last }
+    requires kept { IsKept state.now }
+    requires at_last { state.now.ports.reached ≡ state.now.state.last }
     ensures { IfOk result (λ b. IsTrue b ↔ Suits state.now.state kept.now) }
 {
     if !is_next(state, kept) {
         return Ok(false);
     }
-    if !suits_table(state, ports, alloc, kept)? {
+    if !suits_table(state, alloc, kept)? {
         return Ok(false);
     }
-    is_rested(state, ports, alloc, kept)
+    is_rested(state, alloc, kept)
 }

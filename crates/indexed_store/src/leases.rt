@@ -4,7 +4,7 @@ use mapping_table::MapTable;
 use peer_table::PeerTable;
 use std::marker::Model;
 
-/// MAP and PEER leases, seen as a table, and the moments that its two tables reached last.
+/// MAP and PEER leases, seen as a table. Those that have ended stay until they are taken out.
 #[derive(Drop)]
 pub(crate) struct Leases {
     pub(crate) maps: MapTable,
@@ -12,13 +12,9 @@ pub(crate) struct Leases {
 }
 
 impl Model for Leases {
-    ghost use Rattle.indexed_store.specs.Tabled.{TabledLeases};
+    ghost use Rattle.pcp_base.specs.Tables.{Table};
 
-    ghost Value = { TabledLeases };
+    ghost Value = { Table };
 
-    ghost view = { λ t. record {
-      table = record { maps = t.maps.leases; peers = t.peers.leases };
-      maps_reached = t.maps.reached;
-      peers_reached = t.peers.reached;
-    } };
+    ghost view = { λ t. record { maps = t.maps; peers = t.peers } };
 }

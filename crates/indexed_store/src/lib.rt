@@ -1,5 +1,5 @@
-//! A fast store of the state that records made: leases and ends in ordered maps, and ports in the
-//! pool of their external address.
+//! A fast store of the state that records made: leases in ordered maps, and the ports of their external
+//! address, whose last ends tell the ends. A lease that has ended stays in its map for a while.
 #![tactic(auto)]
 
 mod applying;
@@ -13,9 +13,9 @@ mod judging;
 mod leases;
 mod lists;
 mod lookups;
+mod making_way;
 mod outside;
 mod owning;
-mod settling;
 mod state;
 mod store;
 mod uncounted;

@@ -1,15 +1,33 @@
 //! What is looked up in the leases that are live at a moment, by internal endpoint. A step is a look at a
 //! level of an ordered map.
-ghost use Rattle.std.specs.Prelude.{◌≡◌, ◌≤◌, ◌+◌, ◌*◌, length};
+ghost use Rattle.std.specs.Prelude.{◌≡◌, ◌≤◌, ◌+◌, ◌*◌, length, find, nat_lt};
 ghost use Rattle.step_count.specs.Levels.{levels};
-ghost use Rattle.pcp_base.specs.Sound.{Sound};
-ghost use Rattle.lease_store.specs.Lookups.{covering, peering, named_port, peer_count, lease_count, next_inside};
+ghost use Rattle.pcp_base.specs.declared.leases.TheConstants.{MOST_LEASES};
+ghost use Rattle.pcp_base.specs.Tables.{is_map_of, live};
+ghost use Rattle.indexed_store.specs.Judging.{map_with_key};
+ghost use Rattle.indexed_store.specs.Tabled.{AreTabled};
+ghost use Rattle.lease_store.specs.Lookups.{covering, peering, named_port, peer_count, lease_count, next_inside, up_to_next};
 
 use crate::leases::Leases;
 use ordered_index::lesser;
-use pcp_base::{Address, Endpoint, MapLease, Moment, PeerLease};
+use pcp_base::{Address, Endpoint, MOST_LEASES, MapLease, Moment, PeerLease};
 use std::sync::ledger::Ledger;
 use step_count::Steps;
+use step_count::laws::levels_grow;
+
+/// The lease, where this is its key: its first endpoint.
+pub(crate) fn with_key(found: Option<MapLease>, key: &Endpoint) -> Option<MapLease>
+    ensures { result ≡ map_with_key key.now found }
+{
+    let Some(lease) = found else {
+        return None;
+    };
+    if lease.first_endpoint() == *key {
+        Some(lease)
+    } else {
+        None
+    }
+}
 
 impl Leases {
     /// The MAP lease that covers the endpoint.
@@ -19,14 +37,28 @@ impl Leases {
         endpoint: &Endpoint,
         steps: &mut Steps<L>,
     ) -> Option<MapLease>
-        requires { Sound self.now.table }
-        ensures lease { result ≡ covering self.now.table m endpoint.now }
-        ensures steps { steps.new ≤ steps.old + 4 * levels (length self.now.table.maps) }
+        requires { AreTabled self.now }
+        ensures lease { result ≡ covering self.now m endpoint.now }
+        ensures steps { steps.new ≤ steps.old + 4 * levels (length self.now.maps) }
     {
         let Some(lease) = self.maps.find(endpoint, steps) else {
             return None;
         };
         if lease.is_live(m) { Some(lease) } else { None }
+    }
+
+    /// The MAP lease with this key: its first endpoint.
+    pub(crate) fn map_of_counted<L: Ledger>(
+        &self,
+        m: Moment,
+        key: &Endpoint,
+        steps: &mut Steps<L>,
+    ) -> Option<MapLease>
+        requires { AreTabled self.now }
+        ensures lease { result ≡ find (is_map_of key.now) (live self.now m).maps }
+        ensures steps { steps.new ≤ steps.old + 4 * levels (length self.now.maps) }
+    {
+        with_key(self.covering_counted(m, key, steps), key)
     }
 
     /// The PEER lease of this endpoint and remote.
@@ -38,9 +70,9 @@ impl Leases {
         remote_port: u16,
         steps: &mut Steps<L>,
     ) -> Option<PeerLease>
-        requires { Sound self.now.table }
-        ensures lease { result ≡ peering self.now.table m endpoint.now remote.now remote_port }
-        ensures steps { steps.new ≤ steps.old + 2 * levels (length self.now.table.peers) }
+        requires { AreTabled self.now }
+        ensures lease { result ≡ peering self.now m endpoint.now remote.now remote_port }
+        ensures steps { steps.new ≤ steps.old + 2 * levels (length self.now.peers) }
     {
         let Some(lease) = self.peers.find(endpoint, remote, remote_port, steps) else {
             return None;
@@ -55,9 +87,9 @@ impl Leases {
         endpoint: &Endpoint,
         steps: &mut Steps<L>,
     ) -> Option<u16>
-        requires { Sound self.now.table }
-        ensures port { result ≡ named_port self.now.table m endpoint.now }
-        ensures steps { steps.new ≤ steps.old + 35 * levels (length self.now.table.peers) }
+        requires { AreTabled self.now }
+        ensures port { result ≡ named_port self.now m endpoint.now }
+        ensures steps { steps.new ≤ steps.old + 35 * levels (length self.now.peers) }
     {
         let Some(used) = self.peers.of_endpoint(endpoint, m, steps) else {
             return None;
@@ -72,8 +104,8 @@ impl Leases {
         endpoint: &Endpoint,
         steps: &mut Steps<L>,
     ) -> u32
-        ensures count { result ≡ peer_count self.now.table m endpoint.now }
-        ensures steps { steps.new ≤ steps.old + 35 * levels (length self.now.table.peers) }
+        ensures count { result ≡ peer_count self.now m endpoint.now }
+        ensures steps { steps.new ≤ steps.old + 35 * levels (length self.now.peers) }
     {
         let Some(used) = self.peers.of_endpoint(endpoint, m, steps) else {
             return 0;
@@ -81,36 +113,56 @@ impl Leases {
         used.count
     }
 
-    /// How many leases are live, MAP and PEER together. At the moment that was reached last no lease is
-    /// looked at.
-    pub(crate) fn count_counted<L: Ledger>(&self, m: Moment, steps: &mut Steps<L>) -> u32
-        requires { Sound self.now.table }
-        ensures count { result ≡ lease_count self.now.table m }
-        ensures steps { m ≡ self.now.maps_reached → m ≡ self.now.peers_reached →
-            steps.new ≡ steps.old }
+    /// Whether fewer than `MOST_LEASES` are live: there are fewer of all, or one has ended.
+    pub(crate) fn has_space_counted<L: Ledger>(&self, m: Moment, steps: &mut Steps<L>) -> bool
+        requires { AreTabled self.now }
+        ensures space { result ≡ nat_lt (lease_count self.now m) MOST_LEASES }
+        ensures steps { steps.new ≤ steps.old + levels (length self.now.maps)
+            + levels (length self.now.peers) }
     {
-        self.maps.live(m, steps) + self.peers.live(m, steps)
+        if self.maps.len() + self.peers.len() < MOST_LEASES {
+            return true;
+        }
+        if self.maps.has_ended(m, steps) {
+            return true;
+        }
+        self.peers.has_ended(m, steps)
     }
 
-    /// The next greater internal port, of the endpoint's address and protocol, that a lease covers or
-    /// names which is live at the moment that was reached last.
-    pub(crate) fn next_inside_counted<L: Ledger>(
+    /// How many leases are live, MAP and PEER together. It looks at those that have ended.
+    pub(crate) fn count(&self, m: Moment) -> u32
+        requires { AreTabled self.now }
+        ensures { result ≡ lease_count self.now m }
+    {
+        self.maps.live(m) + self.peers.live(m)
+    }
+
+    /// How many of the `most` internal ports from the endpoint's on come before the next greater one
+    /// that a lease covers or names.
+    pub(crate) fn room_inside_counted<L: Ledger>(
         &self,
         m: Moment,
         endpoint: &Endpoint,
+        most: u32,
         steps: &mut Steps<L>,
-    ) -> Option<u16>
-        requires sound { Sound self.now.table }
-        requires maps { m ≡ self.now.maps_reached }
-        requires peers { m ≡ self.now.peers_reached }
-        ensures next { result ≡ next_inside self.now.table m endpoint.now }
-        ensures steps { steps.new ≤ steps.old + 4 * levels (length self.now.table.maps)
-            + levels (length self.now.table.peers) }
+    ) -> u32
+        requires tabled { AreTabled self.now }
+        requires some { 1 ≤ most }
+        requires within { endpoint.now.port + most ≤ 65536 }
+        ensures room { result
+            ≡ up_to_next (next_inside self.now m endpoint.now) endpoint.now.port most }
+        ensures steps { steps.new ≤ steps.old + most * (35 * levels MOST_LEASES) }
     {
-        let mapped = self.maps.next_internal(endpoint, m, steps);
-        let Some(port) = lesser(mapped, self.peers.next_internal(endpoint, m, steps)) else {
-            return None;
+        levels_grow();
+        if most == 1 {
+            return 1;
+        }
+        let end = u32::from(endpoint.port) + most;
+        let mapped = self.maps.next_internal(endpoint, end, m, steps);
+        let named = self.peers.next_internal(endpoint, end, m, steps);
+        let Some(next) = lesser(mapped, named) else {
+            return most;
         };
-        Some(port)
+        u32::from(next - endpoint.port)
     }
 }

@@ -2,7 +2,7 @@
 ghost use Rattle.std.specs.Prelude.{◌≡◌, ◌&&◌, nat_lt, filter, find, max, IsTrue};
 ghost use Rattle.std.specs.Option.{option_map};
 ghost use Rattle.pcp_base.specs.Tables.{HasPorts, live};
-ghost use Rattle.pcp_base.specs.Sound.{Sound};
+ghost use Rattle.indexed_store.specs.Tabled.{AreTabled};
 ghost use Rattle.pcp_base.specs.Owners.{is_port, peer_owner, owns, endpoint_behind};
 ghost use Rattle.filter_rules.specs.Filters.{allows as lets};
 ghost use Rattle.filter_rules.specs.Lookups.{is_with, owners_for};
@@ -42,10 +42,10 @@ impl Leases {
         remote: &Address,
         remote_port: u16,
     ) -> Option<MapLease>
-        requires { Sound self.now.table }
+        requires { AreTabled self.now }
         ensures { result ≡ find (owns protocol port)
             (filter (λ l. lets l.filters remote.now remote_port)
-            (filter (λ l. nat_lt m l.expiry) self.now.table.maps)) }
+            (filter (λ l. nat_lt m l.expiry) self.now.maps)) }
     {
         let Some(lease) = self.map_owning(protocol, port) else {
             return None;
@@ -66,10 +66,10 @@ impl Leases {
         remote: &Address,
         remote_port: u16,
     ) -> Option<PeerLease>
-        requires { Sound self.now.table }
+        requires { AreTabled self.now }
         ensures { result ≡ find (λ l. is_port protocol port (peer_owner l))
             (filter (is_with remote.now remote_port)
-            (filter (λ l. nat_lt m l.expiry) self.now.table.peers)) }
+            (filter (λ l. nat_lt m l.expiry) self.now.peers)) }
     {
         let Some(lease) = self.peers.by_external(protocol, port, remote, remote_port) else {
             return None;
@@ -86,10 +86,10 @@ impl Leases {
         remote: &Address,
         remote_port: u16,
     ) -> Option<Endpoint>
-        requires { Sound self.now.table }
+        requires { AreTabled self.now }
         ensures { result ≡ option_map (endpoint_behind port) (find (owns protocol port)
             (filter (λ l. lets l.filters remote.now remote_port)
-            (filter (λ l. nat_lt m l.expiry) self.now.table.maps))) }
+            (filter (λ l. nat_lt m l.expiry) self.now.maps))) }
     {
         let Some(lease) = self.map_through(m, protocol, port, remote, remote_port) else {
             return None;
@@ -106,10 +106,10 @@ impl Leases {
         remote: &Address,
         remote_port: u16,
     ) -> Option<Endpoint>
-        requires { Sound self.now.table }
+        requires { AreTabled self.now }
         ensures { result ≡ option_map (λ l. l.endpoint)
             (find (λ l. is_port protocol port (peer_owner l)) (filter (is_with remote.now remote_port)
-            (filter (λ l. nat_lt m l.expiry) self.now.table.peers))) }
+            (filter (λ l. nat_lt m l.expiry) self.now.peers))) }
     {
         self.peer_through(m, protocol, port, remote, remote_port)
             .map(|lease| lease.endpoint)
@@ -124,9 +124,9 @@ impl Leases {
         remote: &Address,
         remote_port: u16,
     ) -> Option<Endpoint>
-        requires { Sound self.now.table }
+        requires { AreTabled self.now }
         ensures { result ≡ option_map (λ o. o.endpoint) (find (is_port protocol port)
-            (owners_for (live self.now.table m) remote.now remote_port)) }
+            (owners_for (live self.now m) remote.now remote_port)) }
     {
         let Some(endpoint) = self.behind_map(m, protocol, port, remote, remote_port) else {
             return self.behind_peer(m, protocol, port, remote, remote_port);

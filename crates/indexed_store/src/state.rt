@@ -1,13 +1,16 @@
-//! The state that records made, in tables.
-ghost use Rattle.std.specs.Prelude.{◌≡◌, ◌≤◌, ◌+◌, ◌++◌, ◌||◌, max, IfOk, OnOk, if◌then◌else◌};
-ghost use Rattle.indexed_store.specs.Tabled.{no_state};
-ghost use Rattle.indexed_store.specs.Looks.{table_steps};
+//! The state that records made, in tables and ports.
+ghost use Rattle.std.specs.Prelude.{◌≡◌, ◌≤◌, ◌+◌, ◌++◌, ◌||◌, IfOk, OnOk, if◌then◌else◌};
+ghost use Rattle.indexed_store.specs.Tabled.{IsNew, state_in};
+ghost use Rattle.indexed_store.specs.Looks.{reach_steps};
 ghost use Rattle.pcp_base.specs.Apply as the;
+ghost use Rattle.lease_store.specs.declared.terms.Terms.{Terms};
 ghost use Rattle.lease_store.specs.HeldRecords.{held_records};
+ghost use Rattle.leased_ports.specs.Leased.{IsOnTerms, at_moment, fresh_ports, vacated};
 
 use crate::facts::{address_after, base_after, is_start};
 use crate::leases::Leases;
-use end_table::EndTable;
+use lease_store::Terms;
+use leased_ports::LeasedPorts;
 use mapping_table::MapTable;
 use pcp_base::{Address, Memory, Moment, Record};
 use peer_table::PeerTable;
@@ -16,11 +19,12 @@ use std::marker::Model;
 use std::sync::ledger::Ledger;
 use step_count::Steps;
 
-/// The state that records made.
+/// The state that records made. Leases that had ended by the last moment aren't of it, but stay for a
+/// while; and its ends are the last ends of ports that came by then.
 #[derive(Drop)]
 pub(crate) struct IndexedState {
     pub(crate) leases: Leases,
-    pub(crate) ends: EndTable,
+    pub(crate) ports: LeasedPorts,
     pub(crate) base: Moment,
     pub(crate) address: Option<Address>,
     pub(crate) last: Moment,
@@ -28,21 +32,14 @@ pub(crate) struct IndexedState {
 }
 
 impl Model for IndexedState {
-    ghost use Rattle.indexed_store.specs.Tabled.{TabledState};
+    ghost use Rattle.indexed_store.specs.Tabled.{TabledState, state_in};
 
     ghost Value = { TabledState };
 
     ghost view = { λ s. record {
-      state = record {
-        table = s.leases.table;
-        ends = s.ends;
-        base = s.base;
-        address = s.address;
-        last = s.last;
-        started = s.started;
-      };
-      maps_reached = s.leases.maps_reached;
-      peers_reached = s.leases.peers_reached;
+      state = state_in s.leases s.ports s.base s.address s.last s.started;
+      leases = s.leases;
+      ports = s.ports;
     } };
 }
 
@@ -57,16 +54,21 @@ pub(crate) fn zero() -> Moment
 }
 
 impl IndexedState {
-    /// The state of no record. The one error is want of memory.
-    pub(crate) fn new(alloc: Global) -> Result<IndexedState, Memory>
-        ensures { IfOk result (λ s. s ≡ no_state) }
+    /// The state of no record, on these terms. The one error is want of memory.
+    pub(crate) fn new(alloc: Global, terms: &Terms) -> Result<IndexedState, Memory>
+        requires some { 1 ≤ terms.now.external.low }
+        requires ordered { terms.now.external.low ≤ terms.now.external.high }
+        ensures new { IfOk result IsNew }
+        ensures ports { IfOk result (λ s. s.ports
+            ≡ fresh_ports terms.now.external.low terms.now.external.high terms.now.quota) }
     {
+        let external = &terms.external;
         Ok(IndexedState {
             leases: Leases {
                 maps: MapTable::new(alloc)?,
                 peers: PeerTable::new(alloc)?,
             },
-            ends: EndTable::new(alloc)?,
+            ports: LeasedPorts::new(alloc, external.low, external.high, terms.quota)?,
             base: zero(),
             address: None,
             last: zero(),
@@ -76,47 +78,47 @@ impl IndexedState {
 
     /// Begins anew, without a record.
     pub(crate) fn clear(&mut self)
-        ensures { self.new ≡ no_state }
+        ensures new { IsNew self.new }
+        ensures ports { self.new.ports ≡ vacated self.old.ports }
     {
         self.leases.clear();
-        self.ends.clear();
+        self.ports.clear();
         self.base = zero();
         self.address = None;
         self.last = zero();
         self.started = false;
     }
 
-    /// Lets the leases that have ended by `m` leave the keys of those that are live. All stay.
+    /// Moves on to a moment that isn't below the one reached: some runs of ports that are due are seen
+    /// to. The state stays.
     pub(crate) fn reach<L: Ledger>(&mut self, m: Moment, steps: &mut Steps<L>)
+        requires { self.old.ports.reached ≤ m }
         ensures state { self.new.state ≡ self.old.state }
-        ensures maps_reached { self.new.maps_reached ≡ max self.old.maps_reached m }
-        ensures peers_reached { self.new.peers_reached ≡ max self.old.peers_reached m }
-        ensures steps { steps.new ≤ steps.old
-            + table_steps self.old.state.table self.old.maps_reached self.old.peers_reached m }
+        ensures leases { self.new.leases ≡ self.old.leases }
+        ensures ports { self.new.ports ≡ at_moment m self.old.ports }
+        ensures steps { steps.new ≤ steps.old + reach_steps }
     {
-        self.leases.reach(m, steps);
+        self.ports.reach(m, steps);
     }
 
     /// Appends a record at the last moment for each end and each lease.
     pub(crate) fn add_records(&self, out: &mut Vec<Record>) -> Result<(), Memory>
         ensures { OnOk result (out.new.items ≡ out.old.items ++ held_records self.now.state) }
     {
-        self.ends.add_records(self.last, out)?;
+        self.ports.add_end_records(self.last, out)?;
         self.leases.maps.add_records(self.last, out)?;
         self.leases.peers.add_records(self.last, out)
     }
 
     /// Notes what a record makes of the base, the address and the last moment.
     pub(crate) fn note(&mut self, kept: &Record)
-        ensures state { self.new.state ≡ record self.old.state {
-          base = if the.rebases kept.now.change self.old.state.address
-              then kept.now.moment else self.old.state.base;
-          address = the.address_changed kept.now.change self.old.state.address;
-          last = kept.now.moment;
-          started = the.is_start kept.now.change || self.old.state.started;
-        } }
-        ensures maps_reached { self.new.maps_reached ≡ self.old.maps_reached }
-        ensures peers_reached { self.new.peers_reached ≡ self.old.peers_reached }
+        ensures state { self.new.state ≡ state_in self.old.leases self.old.ports
+            (if the.rebases kept.now.change self.old.state.address
+            then kept.now.moment else self.old.state.base)
+            (the.address_changed kept.now.change self.old.state.address) kept.now.moment
+            (the.is_start kept.now.change || self.old.state.started) }
+        ensures leases { self.new.leases ≡ self.old.leases }
+        ensures ports { self.new.ports ≡ self.old.ports }
     {
         self.base = base_after(kept, self.address, self.base);
         self.address = address_after(&kept.change, self.address);

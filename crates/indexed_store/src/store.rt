@@ -1,44 +1,41 @@
 //! The store: a state in tables, its ports, the terms, and the moment that is reached.
-ghost use Rattle.std.specs.Prelude.{◌≡◌, ◌≤◌, ℕ, max, OnOk, OnErr, IfOk};
+ghost use Rattle.std.specs.Prelude.{◌≡◌, ◌<◌, ◌≤◌, ℕ, max, OnOk, OnErr, IfOk};
 ghost use Rattle.pcp_base.specs.States.{empty_state};
 ghost use Rattle.pcp_base.specs.Reached.{IsReached, IsReachedFirst};
 ghost use Rattle.pcp_base.specs.Fits.{Fits, FitsFirst};
 ghost use Rattle.pcp_base.specs.Apply as by_apply;
 ghost use Rattle.lease_store.specs.declared.terms.Terms.{Terms};
 ghost use Rattle.lease_store.specs.LeaseTerms.{AreTerms};
-ghost use Rattle.leased_ports.specs.Leased.{IsPortsOf, IsOnTerms};
-ghost use Rattle.indexed_store.specs.Tabled.{no_state};
-ghost use Rattle.indexed_store.specs.Indexed.{IsReplaying, IsReplayingFirst};
+ghost use Rattle.leased_ports.specs.Leased.{IsOnTerms};
+ghost use Rattle.indexed_store.specs.Tabled.{IsNew};
+ghost use Rattle.indexed_store.specs.Indexed.{IsKept, IsReplaying, IsReplayingFirst};
 
 use crate::applying::apply;
 use crate::first::{apply_first, suits_first};
 use crate::judging::suits;
 use crate::state::{IndexedState, zero};
-use crate::uncounted::reach_state;
 use external_pool::{PickAsk, PickRefused, Picked};
 use lease_store::{LeaseStore, Terms};
-use leased_ports::LeasedPorts;
 use leased_ports::laws::ports_follow_states;
 use pcp_base::{
     Address, End, Endpoint, MapLease, Memory, Moment, Owner, PeerLease, Protocol, Record,
     first_states_are_sound, new_leases_need_room, states_are_sound,
 };
 use std::alloc::Global;
-use std::marker::Model;
-use std::sync::ledger::Ledger;
+use std::marker::{Brand, Model};
+use std::sync::ledger::{Blank, Ledger};
 use step_count::Steps;
-use step_count::laws::levels_grow;
 
 /// The state that records made, at a moment that is reached. What is looked up, picked and applied
 /// takes logarithmic time in the number of leases and of runs of their ports, for each of those that
-/// it touches: the ports of a MAP lease are one run, parted where PEER leases own some of them.
-/// `reach` and `apply` take as much for each lease that ended meanwhile, each of them once for it.
+/// it touches: the ports of a MAP lease are one run, parted where PEER leases own some of them. What
+/// has ended is seen to a few leases and runs at a time, and what is left waits for later calls; but
+/// a pick sees to all runs that are due. `admit_first` takes out all leases that have ended.
 /// `admit` and `admit_first` look at each port of a new lease besides. Calls that copy lists, or count
 /// at another moment than the one reached, take more.
 #[derive(Drop)]
 pub struct IndexedStore {
     state: IndexedState,
-    ports: LeasedPorts,
     reached: Moment,
     terms: Terms,
 }
@@ -51,80 +48,76 @@ impl Model for IndexedStore {
 
     ghost view = { λ s. record { state = s.state.state; reached = s.reached; terms = s.terms } };
 
-    ghost invariant = { λ s. IsIndexed s.state s.ports s.reached s.terms };
+    ghost invariant = { λ s. IsIndexed s.state s.reached s.terms };
 }
 
 /// Forgets all.
-fn vacate(state: &mut IndexedState, ports: &mut LeasedPorts)
-    ensures terms { (terms : Terms) → IsOnTerms ports.old terms → IsOnTerms ports.new terms }
-    ensures state { state.new ≡ no_state }
-    ensures ports { IsPortsOf ports.new empty_state }
-    ensures reached { ports.new.reached ≡ 0 }
+fn vacate(state: &mut IndexedState)
+    ensures terms { (terms : Terms) → IsOnTerms state.old.ports terms
+        → IsOnTerms state.new.ports terms }
+    ensures new { IsNew state.new }
+    ensures kept { IsKept state.new }
 {
     ports_follow_states();
     state.clear();
-    ports.clear();
 }
 
 /// Applies a record that fits. Where memory is wanting, all is forgotten.
-fn take(
+fn take<L: Ledger>(
     state: &mut IndexedState,
-    ports: &mut LeasedPorts,
     alloc: Global,
     kept: &Record,
+    blank: Blank,
 ) -> Result<(), Memory>
+    requires name { blank.name ≡ L.name }
+    requires parts { blank.parts ≡ L.parts }
+    requires some { 0 < L.parts }
     requires sound { IsReached state.old.state }
+    requires kept { IsKept state.old }
     requires fits { Fits state.old.state kept.now }
-    requires later { ports.old.reached ≤ kept.now.moment }
-    requires ports { IsPortsOf ports.old state.old.state }
-    requires maps_later { state.old.maps_reached ≤ kept.now.moment }
-    requires peers_later { state.old.peers_reached ≤ kept.now.moment }
-    ensures terms { (terms : Terms) → IsOnTerms ports.old terms → IsOnTerms ports.new terms }
+    requires later { state.old.ports.reached ≤ kept.now.moment }
+    ensures terms { (terms : Terms) → IsOnTerms state.old.ports terms
+        → IsOnTerms state.new.ports terms }
     ensures applied { OnOk result (state.new.state ≡ by_apply.apply state.old.state kept.now) }
-    ensures ports { OnOk result (IsPortsOf ports.new (by_apply.apply state.old.state kept.now)) }
-    ensures reached { OnOk result (ports.new.reached ≡ kept.now.moment) }
-    ensures maps_reached { OnOk result (state.new.maps_reached ≡ kept.now.moment) }
-    ensures peers_reached { OnOk result (state.new.peers_reached ≡ kept.now.moment) }
-    ensures empty { OnErr result (state.new ≡ no_state) }
-    ensures free { OnErr result (IsPortsOf ports.new empty_state) }
-    ensures anew { OnErr result (ports.new.reached ≡ 0) }
+    ensures kept { IsKept state.new }
+    ensures reached { OnOk result (state.new.ports.reached ≡ kept.now.moment) }
+    ensures new { OnErr result (IsNew state.new) }
 {
-    let Err(refused) = apply(state, ports, alloc, kept) else {
-        reach_state(state, kept.moment);
+    let mut steps = Steps::<L>::begin(blank);
+    let Err(refused) = apply(state, alloc, kept, &mut steps) else {
         return Ok(());
     };
-    vacate(state, ports);
+    vacate(state);
     Err(refused)
 }
 
 /// The same in the first format.
-fn take_first(
+fn take_first<L: Ledger>(
     state: &mut IndexedState,
-    ports: &mut LeasedPorts,
     alloc: Global,
     kept: &Record,
+    blank: Blank,
 ) -> Result<(), Memory>
+    requires name { blank.name ≡ L.name }
+    requires parts { blank.parts ≡ L.parts }
+    requires some { 0 < L.parts }
     requires sound { IsReachedFirst state.old.state }
+    requires kept { IsKept state.old }
     requires fits { FitsFirst state.old.state kept.now }
-    requires later { ports.old.reached ≤ kept.now.moment }
-    requires ports { IsPortsOf ports.old state.old.state }
-    requires maps_later { state.old.maps_reached ≤ kept.now.moment }
-    requires peers_later { state.old.peers_reached ≤ kept.now.moment }
-    ensures terms { (terms : Terms) → IsOnTerms ports.old terms → IsOnTerms ports.new terms }
-    ensures applied { OnOk result (state.new.state ≡ by_apply.apply_first state.old.state kept.now) }
-    ensures ports { OnOk result (IsPortsOf ports.new (by_apply.apply_first state.old.state kept.now)) }
-    ensures reached { OnOk result (ports.new.reached ≡ kept.now.moment) }
-    ensures maps_reached { OnOk result (state.new.maps_reached ≡ kept.now.moment) }
-    ensures peers_reached { OnOk result (state.new.peers_reached ≡ kept.now.moment) }
-    ensures empty { OnErr result (state.new ≡ no_state) }
-    ensures free { OnErr result (IsPortsOf ports.new empty_state) }
-    ensures anew { OnErr result (ports.new.reached ≡ 0) }
+    requires later { state.old.ports.reached ≤ kept.now.moment }
+    ensures terms { (terms : Terms) → IsOnTerms state.old.ports terms
+        → IsOnTerms state.new.ports terms }
+    ensures applied { OnOk result
+        (state.new.state ≡ by_apply.apply_first state.old.state kept.now) }
+    ensures kept { IsKept state.new }
+    ensures reached { OnOk result (state.new.ports.reached ≡ kept.now.moment) }
+    ensures new { OnErr result (IsNew state.new) }
 {
-    let Err(refused) = apply_first(state, ports, alloc, kept) else {
-        reach_state(state, kept.moment);
+    let mut steps = Steps::<L>::begin(blank);
+    let Err(refused) = apply_first(state, alloc, kept, &mut steps) else {
         return Ok(());
     };
-    vacate(state, ports);
+    vacate(state);
     Err(refused)
 }
 
@@ -147,10 +140,8 @@ impl IndexedStore {
         states_are_sound();
         first_states_are_sound();
         ports_follow_states();
-        let external = &terms.external;
         Ok(IndexedStore {
-            state: IndexedState::new(alloc)?,
-            ports: LeasedPorts::new(alloc, external.low, external.high, terms.quota)?,
+            state: IndexedState::new(alloc, &terms)?,
             reached: zero(),
             terms,
         })
@@ -159,7 +150,7 @@ impl IndexedStore {
 
 impl LeaseStore for IndexedStore {
     ghost use Rattle.indexed_store.specs.Indexed.{IsReplaying, IsReplayingFirst};
-    ghost use Rattle.indexed_store.specs.Looks.{look_steps, reach_steps};
+    ghost use Rattle.indexed_store.specs.Looks.{look_steps, pick_steps, reach_steps};
 
     ghost state = { λ s. s.state };
 
@@ -168,6 +159,8 @@ impl LeaseStore for IndexedStore {
     ghost terms = { λ s. s.terms };
 
     ghost look_steps = { look_steps };
+
+    ghost pick_steps = { pick_steps };
 
     ghost reach_steps = { reach_steps };
 
@@ -182,17 +175,17 @@ impl LeaseStore for IndexedStore {
     fn clear(&mut self) {
         states_are_sound();
         first_states_are_sound();
-        vacate(&mut self.state, &mut self.ports);
+        vacate(&mut self.state);
         self.reached = zero();
     }
 
     fn admit(&mut self, alloc: Global, kept: &Record) -> Result<bool, Memory> {
         states_are_sound();
         new_leases_need_room();
-        if !suits(&self.state, &self.ports, alloc, kept)? {
+        if !suits(&self.state, alloc, kept)? {
             return Ok(false);
         }
-        let Err(refused) = take(&mut self.state, &mut self.ports, alloc, kept) else {
+        let Err(refused) = take::<Brand>(&mut self.state, alloc, kept, Blank::new(1)) else {
             self.reached = kept.moment;
             return Ok(true);
         };
@@ -204,10 +197,10 @@ impl LeaseStore for IndexedStore {
         states_are_sound();
         first_states_are_sound();
         new_leases_need_room();
-        if !suits_first(&self.state, &self.ports, alloc, kept)? {
+        if !suits_first(&self.state, alloc, kept)? {
             return Ok(false);
         }
-        let Err(refused) = take_first(&mut self.state, &mut self.ports, alloc, kept) else {
+        let Err(refused) = take_first::<Brand>(&mut self.state, alloc, kept, Blank::new(1)) else {
             self.reached = kept.moment;
             return Ok(true);
         };
@@ -217,7 +210,7 @@ impl LeaseStore for IndexedStore {
 
     fn apply(&mut self, alloc: Global, kept: &Record) -> Result<(), Memory> {
         states_are_sound();
-        let Err(refused) = take(&mut self.state, &mut self.ports, alloc, kept) else {
+        let Err(refused) = take::<Brand>(&mut self.state, alloc, kept, Blank::new(1)) else {
             self.reached = kept.moment;
             return Ok(());
         };
@@ -228,7 +221,6 @@ impl LeaseStore for IndexedStore {
     fn reach<L: Ledger>(&mut self, m: Moment, steps: &mut Steps<L>) {
         ports_follow_states();
         self.state.reach(m, steps);
-        self.ports.reach(m, steps);
         self.reached = m;
     }
 
@@ -237,7 +229,6 @@ impl LeaseStore for IndexedStore {
     }
 
     fn covering<L: Ledger>(&self, endpoint: &Endpoint, steps: &mut Steps<L>) -> Option<MapLease> {
-        levels_grow();
         self.state.covering(self.reached, endpoint, steps)
     }
 
@@ -248,37 +239,33 @@ impl LeaseStore for IndexedStore {
         remote_port: u16,
         steps: &mut Steps<L>,
     ) -> Option<PeerLease> {
-        levels_grow();
         self.state
             .peering(self.reached, endpoint, remote, remote_port, steps)
     }
 
     fn named_port<L: Ledger>(&self, endpoint: &Endpoint, steps: &mut Steps<L>) -> Option<u16> {
-        levels_grow();
         self.state.named_port(self.reached, endpoint, steps)
     }
 
     fn peer_count<L: Ledger>(&self, endpoint: &Endpoint, steps: &mut Steps<L>) -> u32 {
-        levels_grow();
         self.state.peer_count(self.reached, endpoint, steps)
     }
 
-    fn next_inside<L: Ledger>(&self, endpoint: &Endpoint, steps: &mut Steps<L>) -> Option<u16> {
-        levels_grow();
-        self.state.next_inside(self.reached, endpoint, steps)
+    fn room_inside<L: Ledger>(&self, endpoint: &Endpoint, most: u32, steps: &mut Steps<L>) -> u32 {
+        self.state.room_inside(self.reached, endpoint, most, steps)
     }
 
-    fn lease_count<L: Ledger>(&self, steps: &mut Steps<L>) -> u32 {
-        self.state.leases.count_counted(self.reached, steps)
+    fn has_room<L: Ledger>(&self, steps: &mut Steps<L>) -> bool {
+        self.state.has_room(self.reached, steps)
     }
 
     fn pick<L: Ledger>(
-        &self,
+        &mut self,
         endpoint: &Endpoint,
         ask: &PickAsk,
         steps: &mut Steps<L>,
     ) -> Result<Picked, PickRefused> {
-        self.ports.pick(endpoint, ask, steps)
+        self.state.ports.pick(endpoint, ask, steps)
     }
 
     fn look(
@@ -296,27 +283,32 @@ impl LeaseStore for IndexedStore {
     }
 
     fn covered(&self, endpoint: &Endpoint, m: Moment) -> bool {
+        let m = later(m, self.state.last);
         self.state.leases.is_covered(m, endpoint)
     }
 
     fn leases(&self, m: Moment) -> u32 {
+        let m = later(m, self.state.last);
         self.state.leases.count(m)
     }
 
     fn maps(&self, alloc: Global, m: Moment) -> Result<Vec<MapLease>, Memory> {
+        let m = later(m, self.state.last);
         self.state.leases.live_maps(alloc, m)
     }
 
     fn peers(&self, alloc: Global, m: Moment) -> Result<Vec<PeerLease>, Memory> {
+        let m = later(m, self.state.last);
         self.state.leases.live_peers(alloc, m)
     }
 
     fn owners(&self, alloc: Global, m: Moment) -> Result<Vec<Owner>, Memory> {
+        let m = later(m, self.state.last);
         self.state.leases.owners_in_order(alloc, m)
     }
 
     fn ends(&self, alloc: Global) -> Result<Vec<End>, Memory> {
-        self.state.ends.copy(alloc)
+        self.state.ports.copy_ends(alloc, self.state.last)
     }
 
     fn add_records(&self, out: &mut Vec<Record>) -> Result<(), Memory> {

@@ -1,55 +1,15 @@
 //! Look-ups of callers that count no steps.
-ghost use Rattle.std.specs.Prelude.{◌≡◌, ◌≤◌, ◌<◌, max, is_some};
-ghost use Rattle.pcp_base.specs.Sound.{Sound};
+ghost use Rattle.std.specs.Prelude.{◌≡◌, ◌<◌, nat_lt, is_some};
+ghost use Rattle.pcp_base.specs.declared.leases.TheConstants.{MOST_LEASES};
+ghost use Rattle.indexed_store.specs.Tabled.{AreTabled};
 ghost use Rattle.lease_store.specs.Lookups.{covering, peering, named_port, peer_count, lease_count};
-ghost use Rattle.leased_ports.specs.Leased.{at_moment};
 ghost use Rattle.mapping_table.specs.MapLists.{map_owning};
 
 use crate::leases::Leases;
-use crate::state::IndexedState;
-use leased_ports::LeasedPorts;
 use pcp_base::{Address, Endpoint, MapLease, Moment, PeerLease, Protocol};
 use std::marker::Brand;
 use std::sync::ledger::{Blank, Ledger};
 use step_count::Steps;
-
-fn reach_ports_from<L: Ledger>(ports: &mut LeasedPorts, m: Moment, blank: Blank)
-    requires name { blank.name ≡ L.name }
-    requires parts { blank.parts ≡ L.parts }
-    requires some { 0 < L.parts }
-    requires later { ports.old.reached ≤ m }
-    ensures { ports.new ≡ at_moment m ports.old }
-{
-    ports.reach(m, &mut Steps::<L>::begin(blank));
-}
-
-/// Moves the ports on to a moment.
-pub(crate) fn reach_ports(ports: &mut LeasedPorts, m: Moment)
-    requires { ports.old.reached ≤ m }
-    ensures { ports.new ≡ at_moment m ports.old }
-{
-    reach_ports_from::<Brand>(ports, m, Blank::new(1));
-}
-
-fn reach_state_from<L: Ledger>(state: &mut IndexedState, m: Moment, blank: Blank)
-    requires name { blank.name ≡ L.name }
-    requires parts { blank.parts ≡ L.parts }
-    requires some { 0 < L.parts }
-    ensures state { state.new.state ≡ state.old.state }
-    ensures maps_reached { state.new.maps_reached ≡ max state.old.maps_reached m }
-    ensures peers_reached { state.new.peers_reached ≡ max state.old.peers_reached m }
-{
-    state.reach(m, &mut Steps::<L>::begin(blank));
-}
-
-/// Lets the tables of a state reach a moment.
-pub(crate) fn reach_state(state: &mut IndexedState, m: Moment)
-    ensures state { state.new.state ≡ state.old.state }
-    ensures maps_reached { state.new.maps_reached ≡ max state.old.maps_reached m }
-    ensures peers_reached { state.new.peers_reached ≡ max state.old.peers_reached m }
-{
-    reach_state_from::<Brand>(state, m, Blank::new(1));
-}
 
 impl Leases {
     fn covering_from<L: Ledger>(
@@ -61,16 +21,16 @@ impl Leases {
         requires name { blank.name ≡ L.name }
         requires parts { blank.parts ≡ L.parts }
         requires some { 0 < L.parts }
-        requires sound { Sound self.now.table }
-        ensures { result ≡ covering self.now.table m endpoint.now }
+        requires tabled { AreTabled self.now }
+        ensures { result ≡ covering self.now m endpoint.now }
     {
         self.covering_counted(m, endpoint, &mut Steps::<L>::begin(blank))
     }
 
     /// The MAP lease that covers the endpoint.
     pub(crate) fn covering(&self, m: Moment, endpoint: &Endpoint) -> Option<MapLease>
-        requires { Sound self.now.table }
-        ensures { result ≡ covering self.now.table m endpoint.now }
+        requires { AreTabled self.now }
+        ensures { result ≡ covering self.now m endpoint.now }
     {
         self.covering_from::<Brand>(m, endpoint, Blank::new(1))
     }
@@ -86,8 +46,8 @@ impl Leases {
         requires name { blank.name ≡ L.name }
         requires parts { blank.parts ≡ L.parts }
         requires some { 0 < L.parts }
-        requires sound { Sound self.now.table }
-        ensures { result ≡ peering self.now.table m endpoint.now remote.now remote_port }
+        requires tabled { AreTabled self.now }
+        ensures { result ≡ peering self.now m endpoint.now remote.now remote_port }
     {
         self.peering_counted(
             m,
@@ -106,8 +66,8 @@ impl Leases {
         remote: &Address,
         remote_port: u16,
     ) -> Option<PeerLease>
-        requires { Sound self.now.table }
-        ensures { result ≡ peering self.now.table m endpoint.now remote.now remote_port }
+        requires { AreTabled self.now }
+        ensures { result ≡ peering self.now m endpoint.now remote.now remote_port }
     {
         self.peering_from::<Brand>(m, endpoint, remote, remote_port, Blank::new(1))
     }
@@ -121,16 +81,16 @@ impl Leases {
         requires name { blank.name ≡ L.name }
         requires parts { blank.parts ≡ L.parts }
         requires some { 0 < L.parts }
-        requires sound { Sound self.now.table }
-        ensures { result ≡ named_port self.now.table m endpoint.now }
+        requires tabled { AreTabled self.now }
+        ensures { result ≡ named_port self.now m endpoint.now }
     {
         self.named_port_counted(m, endpoint, &mut Steps::<L>::begin(blank))
     }
 
     /// The external port of the PEER leases that name the endpoint.
     pub(crate) fn named_port(&self, m: Moment, endpoint: &Endpoint) -> Option<u16>
-        requires { Sound self.now.table }
-        ensures { result ≡ named_port self.now.table m endpoint.now }
+        requires { AreTabled self.now }
+        ensures { result ≡ named_port self.now m endpoint.now }
     {
         self.named_port_from::<Brand>(m, endpoint, Blank::new(1))
     }
@@ -139,50 +99,50 @@ impl Leases {
         requires name { blank.name ≡ L.name }
         requires parts { blank.parts ≡ L.parts }
         requires some { 0 < L.parts }
-        ensures { result ≡ peer_count self.now.table m endpoint.now }
+        ensures { result ≡ peer_count self.now m endpoint.now }
     {
         self.peer_count_counted(m, endpoint, &mut Steps::<L>::begin(blank))
     }
 
     /// How many PEER leases name the endpoint.
     pub(crate) fn peer_count(&self, m: Moment, endpoint: &Endpoint) -> u32
-        ensures { result ≡ peer_count self.now.table m endpoint.now }
+        ensures { result ≡ peer_count self.now m endpoint.now }
     {
         self.peer_count_from::<Brand>(m, endpoint, Blank::new(1))
     }
 
-    fn count_from<L: Ledger>(&self, m: Moment, blank: Blank) -> u32
+    fn has_space_from<L: Ledger>(&self, m: Moment, blank: Blank) -> bool
         requires name { blank.name ≡ L.name }
         requires parts { blank.parts ≡ L.parts }
         requires some { 0 < L.parts }
-        requires sound { Sound self.now.table }
-        ensures { result ≡ lease_count self.now.table m }
+        requires tabled { AreTabled self.now }
+        ensures { result ≡ nat_lt (lease_count self.now m) MOST_LEASES }
     {
-        self.count_counted(m, &mut Steps::<L>::begin(blank))
+        self.has_space_counted(m, &mut Steps::<L>::begin(blank))
     }
 
-    /// How many leases are live, MAP and PEER together.
-    pub(crate) fn count(&self, m: Moment) -> u32
-        requires { Sound self.now.table }
-        ensures { result ≡ lease_count self.now.table m }
+    /// Whether one more lease may be live.
+    pub(crate) fn has_space(&self, m: Moment) -> bool
+        requires { AreTabled self.now }
+        ensures { result ≡ nat_lt (lease_count self.now m) MOST_LEASES }
     {
-        self.count_from::<Brand>(m, Blank::new(1))
+        self.has_space_from::<Brand>(m, Blank::new(1))
     }
 
     fn is_covered_from<L: Ledger>(&self, m: Moment, endpoint: &Endpoint, blank: Blank) -> bool
         requires name { blank.name ≡ L.name }
         requires parts { blank.parts ≡ L.parts }
         requires some { 0 < L.parts }
-        requires sound { Sound self.now.table }
-        ensures { result ≡ is_some (covering self.now.table m endpoint.now) }
+        requires tabled { AreTabled self.now }
+        ensures { result ≡ is_some (covering self.now m endpoint.now) }
     {
         self.maps.covers(endpoint, m, &mut Steps::<L>::begin(blank))
     }
 
     /// Whether a live MAP lease covers the endpoint.
     pub(crate) fn is_covered(&self, m: Moment, endpoint: &Endpoint) -> bool
-        requires { Sound self.now.table }
-        ensures { result ≡ is_some (covering self.now.table m endpoint.now) }
+        requires { AreTabled self.now }
+        ensures { result ≡ is_some (covering self.now m endpoint.now) }
     {
         self.is_covered_from::<Brand>(m, endpoint, Blank::new(1))
     }
@@ -196,7 +156,7 @@ impl Leases {
         requires name { blank.name ≡ L.name }
         requires parts { blank.parts ≡ L.parts }
         requires some { 0 < L.parts }
-        ensures { result ≡ map_owning protocol port self.now.table.maps }
+        ensures { result ≡ map_owning protocol port self.now.maps }
     {
         self.maps
             .by_external(protocol, port, &mut Steps::<L>::begin(blank))
@@ -204,7 +164,7 @@ impl Leases {
 
     /// The MAP lease that owns the port, live or not.
     pub(crate) fn map_owning(&self, protocol: Protocol, port: u16) -> Option<MapLease>
-        ensures { result ≡ map_owning protocol port self.now.table.maps }
+        ensures { result ≡ map_owning protocol port self.now.maps }
     {
         self.map_owning_from::<Brand>(protocol, port, Blank::new(1))
     }

@@ -1,10 +1,27 @@
-use Rattle.std.proofs.Common.{sym, ap, ◌∙◌, subst}
+use Rattle.std.proofs.Common.{◌≡◌, sym, ap, ◌∙◌, subst}
 use Rattle.pcp_base.specs.Apply.{apply}
-use Rattle.leased_ports.specs.Leased.{Leased, IsPortsOf, at_moment}
+use Rattle.leased_ports.specs.Leased.{Leased, IsOnTerms, at_moment}
+use Rattle.indexed_store.specs.Tabled.{TabledState, state_in}
+use Rattle.indexed_store.proofs.AppliedStates.{begin-applied, begin-kept}
 use Rattle.indexed_store.proofs.applying.begin.Goals as goal
 
-pub returns-clause-ports : goal.returns-clause-ports
-returns-clause-ports c =
-    let v = c.args.ports.now in let s = c.args.state.now.state in let r = c.args.kept.now in
-    subst (λ (x : Leased). IsPortsOf x (apply s r)) (sym (c.reach_ports.ensures ∙ ap (at_moment r.moment) c.clear-3.ensures))
-    (c.records_tell_last_ends.ensures.anew v.low v.high v.quota s r c.requires)
+pub returns-clause-terms : goal.returns-clause-terms
+returns-clause-terms g c = λ terms h.
+    subst (λ (v : Leased). IsOnTerms v terms) (sym (c.note.ensures.ports ∙ c.reach.ensures.moved ∙ ap (at_moment c.args.kept.now.moment) c.clear-2.ensures))
+    (let on = subst (λ (x : TabledState). IsOnTerms x.ports terms) (sym c.state.view_is) h in record { low = on.low; high = on.high; quota = on.quota })
+
+pub returns-clause-applied : goal.returns-clause-applied
+returns-clause-applied g c =
+    let i = c.state.inside in
+    subst (λ (x : TabledState). c.note.new.self.state ≡ apply x.state c.args.kept.now) c.state.view_is
+    (begin-applied c.records_tell_last_ends.ensures.anew (state_in i.leases i.ports i.base i.address i.last i.started) c.args.kept.now c.requires c.clear.new.self c.reach.new.self i.ports
+    c.clear.ensures (c.reach.ensures.moved ∙ ap (at_moment c.args.kept.now.moment) c.clear-2.ensures) c.note.new.self c.note.ensures.state)
+
+pub returns-clause-kept : goal.returns-clause-kept
+returns-clause-kept g c =
+    let i = c.state.inside in
+    begin-kept c.records_tell_last_ends.ensures.anew (state_in i.leases i.ports i.base i.address i.last i.started) c.args.kept.now c.requires c.clear.new.self c.reach.new.self i.ports
+    c.clear.ensures (c.reach.ensures.moved ∙ ap (at_moment c.args.kept.now.moment) c.clear-2.ensures) c.note.new.self c.note.ensures.state c.note.ensures.leases c.note.ensures.ports
+
+pub returns-clause-reached : goal.returns-clause-reached
+returns-clause-reached g c = ap (λ (v : Leased). v.reached) (c.note.ensures.ports ∙ c.reach.ensures.moved)

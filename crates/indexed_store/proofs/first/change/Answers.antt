@@ -1,86 +1,69 @@
-use Rattle.std.proofs.Common.{◌≡◌, ◌||◌, List, cond, sym, ap, ◌∙◌, subst}
-use Rattle.pcp_base.specs.declared.leases.End.{End}
-use Rattle.pcp_base.specs.Tables.{Table, live}
-use Rattle.pcp_base.specs.States.{State}
-use Rattle.pcp_base.specs.Fits.{IsAllowed}
-use Rattle.pcp_base.specs.Apply.{apply_first, table_changed, rebases, address_changed, is_start}
-use Rattle.leased_ports.specs.Leased.{Leased, IsOnTerms, IsPortsOf}
-use Rattle.indexed_store.specs.Holding.{AreEndsOf, AreLiveAt, AreNear}
-use Rattle.indexed_store.proofs.ApplyLemmas.{near}
+use Rattle.std.proofs.Common.{◌≤◌, sym, ap, ◌∙◌, subst}
+use Rattle.pcp_base.specs.Tables.{Table}
+use Rattle.pcp_base.specs.Apply.{apply_first}
+use Rattle.leased_ports.specs.Leased.{Leased, IsOnTerms}
+use Rattle.indexed_store.specs.Tabled.{TabledState}
+use Rattle.indexed_store.specs.Holding.{AreEndsOf}
 use Rattle.indexed_store.proofs.MoveLemmas.{on_later}
-use Rattle.indexed_store.proofs.FirstLemmas.{first-live, live-near, ports-follow}
-use Rattle.indexed_store.proofs.Views.{state_of}
+use Rattle.indexed_store.proofs.FirstStates.{kept-first, left-ready, next-inside, next-ports, noted-first, old-near}
 use Rattle.indexed_store.proofs.first.change.Goals as goal
 
+pub reach-requires : goal.reach-requires
+reach-requires g c = subst (λ (x : TabledState). x.ports.reached ≤ c.args.kept.now.moment) (sym c.state.view_is) c.requires.later
+
 pub drop_dead-requires-clause-near : goal.drop_dead-requires-clause-near
-drop_dead-requires-clause-near c = subst (λ (x : State). AreNear x.table) (sym (state_of c.state.view_is)) (near c.args.state.now.state c.requires.sound.reached)
+drop_dead-requires-clause-near g c =
+    old-near c.sound_tables_have_sound_maps.ensures c.sound_tables_have_sound_peers.ensures c.first_states_are_sound.ensures.kept _ c.args.kept.now
+    (next-inside _ c.args.kept.now c.state.view_is c.requires.kept c.requires.sound c.requires.fits)
+
+pub drop_dead-requires-clause-later : goal.drop_dead-requires-clause-later
+drop_dead-requires-clause-later g c = (next-inside _ c.args.kept.now c.state.view_is c.requires.kept c.requires.sound c.requires.fits).fits.later
 
 pub drop_dead-requires-clause-reached : goal.drop_dead-requires-clause-reached
-drop_dead-requires-clause-reached c = ap (λ (v : Leased). v.reached) c.reach_ports.ensures
+drop_dead-requires-clause-reached g c = ap (λ (v : Leased). v.reached) c.reach.ensures.moved
 
-pub make_change-requires-clause-allowed : goal.make_change-requires-clause-allowed
-make_change-requires-clause-allowed c =
-    let r = c.args.kept.now in
-    subst (λ (t : Table). IsAllowed t r.change) (sym (c.in_ok-drop_dead.ensures.table ∙ ap (λ (x : State). live x.table r.moment) (state_of c.state.view_is))) c.requires.fits.allowed
-
-pub make_change-requires-clause-before : goal.make_change-requires-clause-before
-make_change-requires-clause-before c =
-    let r = c.args.kept.now in
-    subst AreNear (sym (c.in_ok-drop_dead.ensures.table ∙ ap (λ (x : State). live x.table r.moment) (state_of c.state.view_is)))
-    (live-near c.args.state.now.state.table r.moment (near c.args.state.now.state c.requires.sound.reached))
-
-pub make_change-requires-clause-after : goal.make_change-requires-clause-after
-make_change-requires-clause-after c =
-    let s = c.args.state.now.state in let r = c.args.kept.now in
-    subst (λ (t : Table). AreNear (table_changed r.change t)) (sym (c.in_ok-drop_dead.ensures.table ∙ ap (λ (x : State). live x.table r.moment) (state_of c.state.view_is)))
-    (near (apply_first s r) (c.first_states_are_sound.ensures.kept s r c.requires.sound c.requires.fits).reached)
-
-pub make_change-requires-clause-live : goal.make_change-requires-clause-live
-make_change-requires-clause-live c =
-    let s = c.args.state.now.state in let r = c.args.kept.now in
-    subst (λ (t : Table). AreLiveAt r.moment (table_changed r.change t)) (sym (c.in_ok-drop_dead.ensures.table ∙ ap (λ (x : State). live x.table r.moment) (state_of c.state.view_is)))
-    (first-live (apply_first s r) (c.first_states_are_sound.ensures.kept s r c.requires.sound c.requires.fits))
+pub make_change-requires-clause-ready : goal.make_change-requires-clause-ready
+make_change-requires-clause-ready g c =
+    left-ready c.sound_tables_have_sound_maps.ensures c.sound_tables_have_sound_peers.ensures c.first_states_are_sound.ensures.kept _ c.args.kept.now
+    (next-inside _ c.args.kept.now c.state.view_is c.requires.kept c.requires.sound c.requires.fits) c.drop_dead.new.leases c.in_ok-drop_dead.ensures.table
 
 pub make_change-requires-clause-ports : goal.make_change-requires-clause-ports
-make_change-requires-clause-ports c =
-    let s = c.args.state.now.state in let r = c.args.kept.now in
-    let then = subst (λ (v : Leased). IsPortsOf v s) (sym c.reach_ports.ensures)
-    (c.ports_follow_states.ensures.later c.args.ports.now s r.moment c.requires.sound.reached.sound c.requires.later c.requires.ports) in
-    subst (λ (t : Table). AreEndsOf t c.drop_dead.new.ports) (sym c.in_ok-drop_dead.ensures.table)
-    (c.in_ok-drop_dead.ensures.ports s c.requires.sound (ap (λ (x : State). x.table) (sym (state_of c.state.view_is))) then)
+make_change-requires-clause-ports g c =
+    let r = c.args.kept.now in
+    let next = next-inside _ r c.state.view_is c.requires.kept c.requires.sound c.requires.fits in
+    let later = subst (λ (x : TabledState). x.ports.reached ≤ r.moment) (sym c.state.view_is) c.requires.later in
+    subst (λ (t : Table). AreEndsOf r.moment t c.drop_dead.new.ports) (sym c.in_ok-drop_dead.ensures.table)
+    (c.in_ok-drop_dead.ensures.ports _ next.first next.kept.live next.fits.later (next-ports c.ports_follow_states.ensures.later _ r next later c.reach.new.self c.reach.ensures.moved))
 
 pub returns-clause-applied : goal.returns-clause-applied
-returns-clause-applied c =
-    let s = c.args.state.now.state in let r = c.args.kept.now in
-    let after = c.first_states_are_sound.ensures.kept s r c.requires.sound c.requires.fits in
-    let table : c.make_change.new.leases.table ≡ (apply_first s r).table =
-    c.in_ok-make_change.ensures.table ∙ ap (table_changed r.change) (c.in_ok-drop_dead.ensures.table ∙ ap (λ (x : State). live x.table r.moment) (state_of c.state.view_is)) in
-    let ends : s.ends ≡ (apply_first s r).ends = c.requires.sound.endless ∙ sym after.endless in
-    let noted : Table → List End → State → State = λ t es x. record {
-      table = t;
-      ends = es;
-      base = cond (rebases r.change x.address) r.moment x.base;
-      address = address_changed r.change x.address;
-      last = r.moment;
-      started = is_start r.change || x.started;
-    } in
-    c.note.ensures.state ∙ ap (λ (x : State). noted c.make_change.new.leases.table x.ends x) (state_of c.state.view_is) ∙ ap (λ (t : Table). noted t s.ends s) table ∙ ap (λ (es : List End). noted (apply_first s r).table es s) ends
+returns-clause-applied g c =
+    c.note.ensures.state
+    ∙ noted-first c.sound_tables_have_sound_maps.ensures c.sound_tables_have_sound_peers.ensures c.first_states_are_sound.ensures.kept _ c.args.kept.now
+    (next-inside _ c.args.kept.now c.state.view_is c.requires.kept c.requires.sound c.requires.fits) c.drop_dead.new.leases c.in_ok-drop_dead.ensures.table
+    c.ends_are_last_ends.ensures.told c.make_change.new.leases c.make_change.new.ports c.in_ok-make_change.ensures.table c.in_ok-make_change.ensures.ports c.in_ok-make_change.ensures.reached
+    ∙ ap (λ (x : TabledState). apply_first x.state c.args.kept.now) c.state.view_is
 
-pub returns-clause-ports : goal.returns-clause-ports
-returns-clause-ports c =
-    let s = c.args.state.now.state in let r = c.args.kept.now in
-    let after = c.first_states_are_sound.ensures.kept s r c.requires.sound c.requires.fits in
-    let table = ap (table_changed r.change) (c.in_ok-drop_dead.ensures.table ∙ ap (λ (x : State). live x.table r.moment) (state_of c.state.view_is)) in
-    ports-follow (apply_first s r) after c.make_change.new.ports (subst (λ (t : Table). AreEndsOf t c.make_change.new.ports) table c.in_ok-make_change.ensures.ports) c.in_ok-make_change.ensures.reached
+pub returns-clause-kept : goal.returns-clause-kept
+returns-clause-kept g c =
+    kept-first c.sound_tables_have_sound_maps.ensures c.sound_tables_have_sound_peers.ensures c.first_states_are_sound.ensures.kept _ c.args.kept.now
+    (next-inside _ c.args.kept.now c.state.view_is c.requires.kept c.requires.sound c.requires.fits) c.drop_dead.new.leases c.in_ok-drop_dead.ensures.table
+    c.ends_are_last_ends.ensures.told c.make_change.new.leases c.make_change.new.ports c.in_ok-make_change.ensures.table c.in_ok-make_change.ensures.ports c.in_ok-make_change.ensures.reached
+    c.note.new.self c.note.ensures.state c.note.ensures.leases c.note.ensures.ports c.in_ok-make_change.ensures.tabled
 
-pub returns-clause-terms : goal.returns-clause-terms
-returns-clause-terms c = λ terms h.
-    c.make_change.ensures.terms terms (c.drop_dead.ensures.terms terms (subst (λ (v : Leased). IsOnTerms v terms) (sym c.reach_ports.ensures) (on_later c.args.ports.now c.args.kept.now.moment terms h)))
+pub returns-clause-reached : goal.returns-clause-reached
+returns-clause-reached g c = ap (λ (v : Leased). v.reached) c.note.ensures.ports ∙ c.in_ok-make_change.ensures.reached
 
 pub returns-in_err-drop_dead-clause-terms : goal.returns-in_err-drop_dead-clause-terms
-returns-in_err-drop_dead-clause-terms c = λ terms h.
-    c.drop_dead.ensures.terms terms (subst (λ (v : Leased). IsOnTerms v terms) (sym c.reach_ports.ensures) (on_later c.args.ports.now c.args.kept.now.moment terms h))
+returns-in_err-drop_dead-clause-terms g c = λ terms h.
+    c.drop_dead.ensures.terms terms (subst (λ (v : Leased). IsOnTerms v terms) (sym c.reach.ensures.moved)
+    (on_later _ c.args.kept.now.moment terms (subst (λ (x : TabledState). IsOnTerms x.ports terms) (sym c.state.view_is) h)))
 
 pub returns-in_err-make_change-clause-terms : goal.returns-in_err-make_change-clause-terms
-returns-in_err-make_change-clause-terms c = λ terms h.
-    c.make_change.ensures.terms terms (c.drop_dead.ensures.terms terms (subst (λ (v : Leased). IsOnTerms v terms) (sym c.reach_ports.ensures) (on_later c.args.ports.now c.args.kept.now.moment terms h)))
+returns-in_err-make_change-clause-terms g c = λ terms h.
+    c.make_change.ensures.terms terms (c.drop_dead.ensures.terms terms (subst (λ (v : Leased). IsOnTerms v terms) (sym c.reach.ensures.moved)
+    (on_later _ c.args.kept.now.moment terms (subst (λ (x : TabledState). IsOnTerms x.ports terms) (sym c.state.view_is) h))))
+
+pub returns-clause-terms : goal.returns-clause-terms
+returns-clause-terms g c = λ terms h.
+    subst (λ (v : Leased). IsOnTerms v terms) (sym c.note.ensures.ports) (c.make_change.ensures.terms terms (c.drop_dead.ensures.terms terms (subst (λ (v : Leased). IsOnTerms v terms) (sym c.reach.ensures.moved)
+    (on_later _ c.args.kept.now.moment terms (subst (λ (x : TabledState). IsOnTerms x.ports terms) (sym c.state.view_is) h)))))

@@ -5,5 +5,5 @@ use Rattle.indexed_store.specs.Holding.{AreHeld}
 use Rattle.indexed_store.proofs.first.hold_all.Given as goal
 
 abbrev pub invariant-loop-run : goal.invariant-loop-run
-invariant-loop-run l = ((terms : Terms) → IsOnTerms l.initial.ports terms → IsOnTerms l.ports terms) × (l.ports.reached ≡ l.m)
-    × AreHeld l.leases.table (take l.run-index l.runs) l.initial.ports l.ports
+invariant-loop-run g l = ((terms : Terms) → IsOnTerms l.initial.ports terms → IsOnTerms l.ports terms) × (l.ports.reached ≡ l.m)
+    × AreHeld l.leases (take l.run-index l.runs) l.initial.ports l.ports

@@ -1,4 +1,4 @@
-use Rattle.std.proofs.Common.{◌≡◌, ℕ, ◌+◌, ◌<◌, ◌≤◌, sym, ◌∙◌, subst, arith}
+use Rattle.std.proofs.Common.{◌≡◌, ℕ, ◌+◌, ◌<◌, ◌≤◌, sym, subst, arith}
 use Rattle.indexed_store.specs.declared.owning.OwnerRun.{OwnerRun}
 use Rattle.indexed_store.specs.Runs.{up_to}
 use Rattle.indexed_store.specs.Holding.{Holds, held_by_map}
@@ -6,30 +6,30 @@ use Rattle.indexed_store.proofs.HoldingLemmas.{even-behind, holds-more, holds-no
 use Rattle.indexed_store.proofs.holding.hold_run.Goals as goal
 
 pub hold_piece-requires-clause-from : goal.hold_piece-requires-clause-from
-hold_piece-requires-clause-from c =
+hold_piece-requires-clause-from g c =
     let run = c.args.run.now in
-    subst (λ (r : OwnerRun). (i : ℕ) → i < r.count → c.held_by_map-from.result ≡ held_by_map c.args.m c.args.leases.now.table.maps r.first.protocol (r.first.external + i)) (sym c.behind.ensures.value)
-    (λ i less. c.held_by_map-from.ensures.value ∙ even-behind c.args.m c.args.leases.now.table.maps run c.loop-done.done c.requires.run.even c.loop-done-test.true i less)
+    subst (λ (r : OwnerRun). (i : ℕ) → i < r.count → c.held_by_map-from.result ≡ held_by_map c.args.m c.args.leases.now.maps r.first.protocol (r.first.external + i)) (sym c.behind.ensures.value)
+    (even-behind c.args.m c.held_by_map-from.result c.args.leases.now.maps run c.loop-done.done c.held_by_map-from.ensures.value c.requires.run.even c.loop-done-test.true)
 
 pub loop-done-init : goal.loop-done-init
-loop-done-init c = (omega arith, λ terms h. h, c.requires.reached, holds-none c.args.unowned c.args.m c.args.leases.now.table c.args.run.now c.args.ports.now)
+loop-done-init g c = (omega arith, λ terms h. h, c.requires.reached, holds-none c.args.unowned c.args.m c.args.leases.now c.args.run.now c.args.ports.now)
 
 pub loop-done-preserved : goal.loop-done-preserved
-loop-done-preserved c =
+loop-done-preserved g c =
     let run = c.args.run.now in let n = c.in_ok-count.count in
     let few = subst (λ (r : OwnerRun). n ≤ r.count) c.behind.ensures.value c.in_ok-count.ensures.count.1 in
     let less = c.loop-done-test.true in (
       omega (arith, few, less),
       λ terms h. c.hold_piece.ensures.terms terms (c.loop-done.invariant.1 terms h),
       c.in_ok-count.ensures.reached,
-      holds-more c.args.unowned c.args.m c.args.leases.now.table run c.loop-done.done n c.args.ports.now c.loop-done.ports c.hold_piece.new.ports c.loop-done.invariant.3
-          (subst (λ (r : OwnerRun). Holds c.args.unowned c.args.m c.args.leases.now.table (up_to n r) c.loop-done.ports c.hold_piece.new.ports) c.behind.ensures.value c.in_ok-count.ensures.ports),
+      holds-more c.args.unowned c.args.m c.args.leases.now run c.loop-done.done n c.args.ports.now c.loop-done.ports c.hold_piece.new.ports c.loop-done.invariant.3
+          (subst (λ (r : OwnerRun). Holds c.args.unowned c.args.m c.args.leases.now (up_to n r) c.loop-done.ports c.hold_piece.new.ports) c.behind.ensures.value c.in_ok-count.ensures.ports),
     )
 
 pub returns-in_err-count-clause-terms : goal.returns-in_err-count-clause-terms
-returns-in_err-count-clause-terms c = λ terms h. c.hold_piece.ensures.terms terms (c.loop-done.invariant.1 terms h)
+returns-in_err-count-clause-terms g c = λ terms h. c.hold_piece.ensures.terms terms (c.loop-done.invariant.1 terms h)
 
 pub returns-clause-ports : goal.returns-clause-ports
-returns-clause-ports c =
+returns-clause-ports g c =
     let most = c.loop-done.invariant.0 in let least = c.loop-done-test.false in
-    holds-whole c.args.unowned c.args.m c.args.leases.now.table c.args.run.now c.loop-done.done c.args.ports.now c.loop-done.ports (omega (arith, most, least)) c.loop-done.invariant.3
+    holds-whole c.args.unowned c.args.m c.args.leases.now c.args.run.now c.loop-done.done c.args.ports.now c.loop-done.ports (omega (arith, most, least)) c.loop-done.invariant.3

@@ -6,8 +6,8 @@ use Rattle.indexed_store.specs.Holding.{Holds}
 use Rattle.indexed_store.proofs.holding.hold_run.Given as goal
 
 abbrev pub invariant-loop-done : goal.invariant-loop-done
-invariant-loop-done l = (l.done ≤ l.run.count) × ((terms : Terms) → IsOnTerms l.initial.ports terms → IsOnTerms l.ports terms) × (l.ports.reached ≡ l.m)
-    × Holds l.unowned l.m l.leases.table (up_to l.done l.run) l.initial.ports l.ports
+invariant-loop-done g l = (l.done ≤ l.run.count) × ((terms : Terms) → IsOnTerms l.initial.ports terms → IsOnTerms l.ports terms) × (l.ports.reached ≡ l.m)
+    × Holds l.unowned l.m l.leases (up_to l.done l.run) l.initial.ports l.ports
 
 abbrev pub decreases-loop-done : goal.decreases-loop-done
-decreases-loop-done l = l.run.count - l.done
+decreases-loop-done g l = l.run.count - l.done

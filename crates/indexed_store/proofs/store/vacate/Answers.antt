@@ -1,9 +1,13 @@
 use Rattle.std.proofs.Common.{sym, subst}
-use Rattle.pcp_base.specs.States.{empty_state}
-use Rattle.leased_ports.specs.Leased.{Leased, IsPortsOf}
+use Rattle.leased_ports.specs.Leased.{Leased, IsOnTerms}
+use Rattle.indexed_store.proofs.KeptStates.{new-kept}
+use Rattle.indexed_store.proofs.MoveLemmas.{on_anew}
 use Rattle.indexed_store.proofs.store.vacate.Goals as goal
 
-pub returns-clause-ports : goal.returns-clause-ports
-returns-clause-ports c =
-    let v = c.args.ports.now in
-    subst (λ (x : Leased). IsPortsOf x empty_state) (sym c.clear-2.ensures) (c.ports_follow_states.ensures.new v.low v.high v.quota)
+pub returns-clause-terms : goal.returns-clause-terms
+returns-clause-terms c = λ terms h. subst (λ (v : Leased). IsOnTerms v terms) (sym c.clear.ensures.ports) (on_anew c.args.state.now.ports terms h)
+
+pub returns-clause-kept : goal.returns-clause-kept
+returns-clause-kept c =
+    let v = c.args.state.now.ports in
+    new-kept c.ports_follow_states.ensures.new c.clear.new.self v.low v.high v.quota c.clear.ensures.new c.clear.ensures.ports

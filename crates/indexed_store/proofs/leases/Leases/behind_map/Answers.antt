@@ -10,14 +10,14 @@ pub endpoint_behind-requires-clause-ports : goal.endpoint_behind-requires-clause
 endpoint_behind-requires-clause-ports c =
     let alive : MapLease → Bool = λ l. nat_lt c.args.m l.expiry in
     let lets : MapLease → Bool = λ l. allows l.filters c.args.remote.now c.args.remote_port in
-    let ls = c.args.self.now.table.maps in
+    let ls = c.args.self.now.maps in
     let f = find-some (owns c.args.protocol c.args.port) (filter lets (filter alive ls)) c.in-Some.lease (sym c.in-Some.ensures) in
     let a = IsIn-filter lets (filter alive ls) c.in-Some.lease f.0 in
     let b = IsIn-filter alive ls c.in-Some.lease a.0 in
-    (All-IsIn IsMapLease ls c.in-Some.lease c.requires.maps b.0).ports
+    (All-IsIn IsMapLease ls c.in-Some.lease c.requires.maps.leases b.0).ports
 
 pub endpoint_behind-requires-clause-owned : goal.endpoint_behind-requires-clause-owned
 endpoint_behind-requires-clause-owned c =
     let alive : MapLease → Bool = λ l. nat_lt c.args.m l.expiry in
     let lets : MapLease → Bool = λ l. allows l.filters c.args.remote.now c.args.remote_port in
-    (find-some (owns c.args.protocol c.args.port) (filter lets (filter alive c.args.self.now.table.maps)) c.in-Some.lease (sym c.in-Some.ensures)).1
+    (find-some (owns c.args.protocol c.args.port) (filter lets (filter alive c.args.self.now.maps)) c.in-Some.lease (sym c.in-Some.ensures)).1

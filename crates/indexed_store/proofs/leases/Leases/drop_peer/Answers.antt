@@ -1,58 +1,45 @@
-use Rattle.std.proofs.Common.{◌≡◌, ◌++◌, ◌∷◌, [], ◌<◌, nat_lt, not, List, filter, length, ap, ◌∙◌, subst, sym, arith}
+use Rattle.std.proofs.Common.{◌++◌, ◌∷◌, [], ◌<◌, nat_lt, length, subst, sym, arith}
 use Rattle.pcp_base.specs.declared.leases.PeerLease.{PeerLease}
-use Rattle.pcp_base.specs.Tables.{Table, IsPeerLease, is_peer_of}
-use Rattle.pcp_base.specs.Sound.{Sound}
+use Rattle.pcp_base.specs.Tables.{Table, IsPeerLease}
 use Rattle.pcp_base.proofs.Members.{IsIn-from_Contains, All-IsIn}
 use Rattle.indexed_store.specs.Runs.{IsOwnerRun, peer_run}
-use Rattle.indexed_store.proofs.LeavingLemmas.{Sound-filter_peers, all_live, leaving_same, pushed, without_peer, leave_peer, fewer_peers}
-use Rattle.indexed_store.proofs.Views.{table_of}
+use Rattle.indexed_store.specs.Tabled.{AreTabled}
+use Rattle.indexed_store.proofs.ChangeLemmas.{peer_gone_tabled, seen_without_peer, without_peer}
+use Rattle.indexed_store.proofs.LeavingLemmas.{all_live, leaving_same, pushed, leave_peer, fewer_peers}
 use Rattle.indexed_store.proofs.leases.Leases.drop_peer.Goals as goal
 
 pub returns-in_default-clause-all : goal.returns-in_default-clause-all
 returns-in_default-clause-all c = λ _.
-    all_live (λ (l : PeerLease). nat_lt c.args.m l.expiry) c.args.self.now.table.peers
+    all_live (λ (l : PeerLease). nat_lt c.args.m l.expiry) c.args.self.now.peers
     c.in_default.ensures.none
 
 pub run_of_peer-requires : goal.run_of_peer-requires
 run_of_peer-requires c =
-    let ls = c.args.self.now.table.peers in
-    let is = All-IsIn IsPeerLease ls c.in-Some.lease c.requires.peers
+    let ls = c.args.self.now.peers in
+    let is = All-IsIn IsPeerLease ls c.in-Some.lease c.requires.peers.leases
     (IsIn-from_Contains ls c.in-Some.lease c.in-Some.ensures.among) in
     let some = is.external in omega (arith, some)
 
--- what is removed from the peers of the table that is seen
-removed : (t before : Table) (l : PeerLease) (peers : List PeerLease) → before ≡ t
-    → peers ≡ filter (λ (x : PeerLease). not (is_peer_of l.endpoint l.remote l.remote_port x))
-    before.peers
-    → record before { peers = peers } ≡ without_peer t l
-removed t before l peers seen are =
-    ap (λ (ls : List PeerLease). record before { peers = ls }) are
-    ∙ ap (λ (x : Table). without_peer x l) seen
-
 pub returns-clause-leaving : goal.returns-clause-leaving
 returns-clause-leaving c = λ start h.
-    let m = c.args.m in let t = c.args.self.now.table in let l = c.in-Some.lease in
+    let m = c.args.m in let t = c.args.self.now in let l = c.in-Some.lease in
     let left = c.args.left.now.items in
-    let before : Table = record { maps = c.self.inside.maps.leases; peers = c.self.inside.peers.leases } in
-    let gone = removed t before l c.remove.new.self.leases (table_of c.self.view_is) c.remove.ensures.removed.removed in
+    let gone = seen_without_peer l.endpoint l.remote l.remote_port t _ _ c.self.view_is c.remove.ensures.removed.removed in
     let more = pushed left _ c.run_of_peer.result (peer_run l) c.in_ok-push.ensures.items
     c.run_of_peer.ensures.value in
     let formed = subst IsOwnerRun c.run_of_peer.ensures.value c.run_of_peer.ensures.formed in
-    leaving_same m start (without_peer t l) _ (left ++ peer_run l ∷ []) _ gone more
+    leaving_same m start (without_peer l.endpoint l.remote l.remote_port t) _ (left ++ peer_run l ∷ []) _ gone more
     (leave_peer m t c.requires l c.in-Some.ensures.among c.in-Some.ensures.dead start left formed h)
 
 pub returns-clause-sound : goal.returns-clause-sound
 returns-clause-sound c =
-    let t = c.args.self.now.table in let l = c.in-Some.lease in
-    let before : Table = record { maps = c.self.inside.maps.leases; peers = c.self.inside.peers.leases } in
-    let gone = removed t before l c.remove.new.self.leases (table_of c.self.view_is) c.remove.ensures.removed.removed in
-    subst Sound (sym gone) (Sound-filter_peers t
-    (λ (x : PeerLease). not (is_peer_of l.endpoint l.remote l.remote_port x)) c.requires)
+    let t = c.args.self.now in let l = c.in-Some.lease in
+    let gone = seen_without_peer l.endpoint l.remote l.remote_port t _ _ c.self.view_is c.remove.ensures.removed.removed in
+    subst AreTabled (sym gone) (peer_gone_tabled c.args.m l.endpoint l.remote l.remote_port t c.requires c.fewer_peers_are_sound.ensures)
 
 pub returns-clause-fewer : goal.returns-clause-fewer
 returns-clause-fewer c = λ _.
-    let m = c.args.m in let t = c.args.self.now.table in let l = c.in-Some.lease in
-    let before : Table = record { maps = c.self.inside.maps.leases; peers = c.self.inside.peers.leases } in
-    let gone = removed t before l c.remove.new.self.leases (table_of c.self.view_is) c.remove.ensures.removed.removed in
+    let m = c.args.m in let t = c.args.self.now in let l = c.in-Some.lease in
+    let gone = seen_without_peer l.endpoint l.remote l.remote_port t _ _ c.self.view_is c.remove.ensures.removed.removed in
     subst (λ (x : Table). length x.peers < length t.peers) (sym gone)
     (fewer_peers m t c.requires l c.in-Some.ensures.among c.in-Some.ensures.dead)

@@ -8,4 +8,4 @@ use Rattle.indexed_store.proofs.leases.Leases.live_owners.Goals as goal
 pub add_owners_of_maps-requires : goal.add_owners_of_maps-requires
 add_owners_of_maps-requires c =
     let test : MapLease → Bool = λ l. nat_lt c.args.m l.expiry in
-    subst (AllByRecursion IsMapLease) (sym (c.deref.ensures.value ∙ c.in_ok-maps.ensures)) (All-filter IsMapLease test c.args.self.now.table.maps c.requires.maps)
+    subst (AllByRecursion IsMapLease) (sym (c.deref.ensures.value ∙ c.in_ok-maps.ensures)) (All-filter IsMapLease test c.args.self.now.maps c.requires.maps.leases)

@@ -1,11 +1,35 @@
-use Rattle.std.proofs.Common.{sym, subst}
+use Rattle.std.proofs.Common.{ap, ◌∙◌, sym, subst}
 use Rattle.pcp_base.specs.declared.records.Change.TheVariants.{Map}
-use Rattle.pcp_base.specs.Tables.{Table}
+use Rattle.pcp_base.specs.Tables.{Table, live}
 use Rattle.pcp_base.specs.Apply.{table_changed}
 use Rattle.mapping_table.specs.MapLists.{AreSoundMaps, with_map}
-use Rattle.indexed_store.proofs.Views.{table_of}
+use Rattle.indexed_store.specs.Holding.{IsEvenRun}
+use Rattle.indexed_store.specs.Tabled.{AreTabled}
+use Rattle.indexed_store.proofs.ChangeLemmas.{maps_with_one, map_tabled, map_live, map_even, seen_with_map}
 use Rattle.indexed_store.proofs.leases.Leases.put_map.Goals as goal
 
 pub put-requires : goal.put-requires
-put-requires c = subst (λ (t : Table). AreSoundMaps (with_map c.args.lease.now t.maps)) (sym (table_of c.self.view_is))
-    (c.sound_tables_have_sound_maps.ensures (table_changed (Map c.args.lease.now) c.args.self.now.table) c.requires.sound)
+put-requires g c =
+    let l = c.args.lease.now in let t = c.make_way_for_map.new.self in
+    subst (λ (x : Table). AreSoundMaps (with_map l x.maps)) (sym c.self.view_is)
+    (maps_with_one c.args.m l t c.make_way_for_map.ensures.way c.maps_are_sound_with_one_more.ensures c.requires.lease)
+
+pub returns-clause-tabled : goal.returns-clause-tabled
+returns-clause-tabled g c =
+    let l = c.args.lease.now in let t = c.make_way_for_map.new.self in
+    subst AreTabled (sym (seen_with_map l t _ _ c.self.view_is c.in_ok-put.ensures.ok))
+    (map_tabled c.args.m l t c.make_way_for_map.ensures.way c.maps_are_sound_with_one_more.ensures c.requires.lease)
+
+pub returns-clause-table : goal.returns-clause-table
+returns-clause-table g c =
+    let m = c.args.m in let l = c.args.lease.now in let t = c.make_way_for_map.new.self in
+    ap (λ (x : Table). live x m) (seen_with_map l t _ _ c.self.view_is c.in_ok-put.ensures.ok)
+    ∙ map_live m l t c.make_way_for_map.ensures.way c.requires.later
+    ∙ ap (table_changed (Map l)) c.make_way_for_map.ensures.live
+
+pub returns-clause-formed : goal.returns-clause-formed
+returns-clause-formed g c =
+    let l = c.args.lease.now in let t = c.make_way_for_map.new.self in let r = c.run_of_map in
+    subst (λ (x : Table). IsEvenRun x.maps r.result) (sym (seen_with_map l t _ _ c.self.view_is c.in_ok-put.ensures.ok))
+    (map_even c.args.m l t c.make_way_for_map.ensures.way c.maps_are_sound_with_one_more.ensures c.requires.lease
+    r.result r.ensures.value r.ensures.formed)

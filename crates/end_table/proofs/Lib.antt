@@ -1,9 +1,0 @@
-mod SpotLemmas
-mod ListLemmas
-mod DueLemmas
-mod PartLemmas
-mod GoingLemmas
-mod DropLemmas
-mod CopyLemmas
-mod RecordLemmas
-mod TableLemmas

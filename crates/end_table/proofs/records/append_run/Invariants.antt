@@ -1,8 +1,0 @@
-use Rattle.std.proofs.Common.{◌≡◌, ◌++◌, map}
-use Rattle.pcp_base.specs.Snapshots.{end_record}
-use Rattle.end_table.specs.Kept.{listed}
-use Rattle.end_table.proofs.CopyLemmas.{run_ends}
-use Rattle.end_table.proofs.records.append_run.Given as goal
-
-abbrev pub invariant-loop-i : goal.invariant-loop-i
-invariant-loop-i l = l.out.items ≡ l.fn.out.items ++ map (end_record l.m) (listed (run_ends l.run) l.run.first l.i)

@@ -1,2 +1,0 @@
-pub mod EndLists
-pub mod Kept

@@ -1,0 +1,103 @@
+-- What a state in tables keeps where it is new, after a record, and at a later moment.
+use Rattle.std.proofs.Common.{◌≡◌, ◌⊎◌, ℕ, ◌≤◌, Bool, false, List, [], ◌++◌, filter, length, Option, None, inl, inr, sym, ap, ◌∙◌, subst, arith}
+use Rattle.pcp_base.specs.declared.addresses.Address.{Address}
+use Rattle.pcp_base.specs.declared.leases.Protocol.TheVariants.{Tcp, Udp}
+use Rattle.pcp_base.specs.declared.leases.End.{End}
+use Rattle.pcp_base.specs.Tables.{Table, empty_table, live}
+use Rattle.pcp_base.specs.States.{State, empty_state}
+use Rattle.pcp_base.specs.Reached.{IsReached}
+use Rattle.pcp_base.specs.Laws.{RecordsReach}
+use Rattle.lease_store.specs.declared.terms.Terms.{Terms}
+use Rattle.lease_store.specs.LeaseTerms.{AreTerms}
+use Rattle.port_spans.specs.declared.runs.TheConstants.{PLACES}
+use Rattle.leased_ports.specs.Leased.{Leased, IsPortsOf, IsOnTerms, as_settled, at_moment, end_of, fresh_ports, no_ends, place}
+use Rattle.leased_ports.specs.Listed.{ends_come, has_come, listed}
+use Rattle.leased_ports.specs.Laws.{NewPortsAreFree, PortsFollowMoments}
+use Rattle.leased_ports.proofs.StepLemmas.{end_in-no_ends}
+use Rattle.leased_ports.proofs.ListedLemmas.{listed-empty}
+use Rattle.indexed_store.specs.Tabled.{AreTabled, IsNew, TabledState, state_in}
+use Rattle.indexed_store.specs.Indexed.{IsIndexed, IsKept}
+
+-- no end came by ports that have none
+pub none-come : (m low high quota : ℕ) → ends_come m (fresh_ports low high quota) ≡ []
+none-come m low high quota =
+    let v = fresh_ports low high quota in let n = length (no_ends PLACES) in
+    ap (λ (es : List End). filter (has_come m) (es ++ listed (end_of v Udp) 0 n)) (listed-empty (end_of v Tcp) 0 n (λ i a b. end_in-no_ends PLACES (place Tcp i)))
+    ∙ ap (filter (has_come m)) (listed-empty (end_of v Udp) 0 n (λ i a b. end_in-no_ends PLACES (place Udp i)))
+
+-- no leases, and ports that have no last ends, make the state of no record
+pub fresh-new : (t : Table) (v : Leased) (base last low high quota : ℕ) → t ≡ empty_table → v ≡ fresh_ports low high quota → base ≡ 0 → last ≡ 0
+    → IsNew (record { state = state_in t v base None last false; leases = t; ports = v })
+fresh-new t v base last low high quota none free from zeroth = record {
+  state =
+      ap (λ (u : Table). state_in u v base None last false) none
+      ∙ ap (λ (x : Leased). state_in empty_table x base None last false) free
+      ∙ ap (λ (n : ℕ). state_in empty_table (fresh_ports low high quota) n None last false) from
+      ∙ ap (λ (n : ℕ). state_in empty_table (fresh_ports low high quota) 0 None n false) zeroth
+      ∙ ap (λ (es : List End). record empty_state { ends = es }) (none-come 0 low high quota);
+  leases = none;
+  reached = ap (λ (x : Leased). x.reached) free;
+}
+
+pub tabled-empty : AreTabled empty_table
+tabled-empty = record {
+  maps = record { leases = tt; separate = tt; few = omega arith };
+  peers = record { leases = tt; fellows = tt; few = omega arith; few_peers = λ e. omega arith };
+  few = omega arith;
+}
+
+pub new-kept : NewPortsAreFree → (s : TabledState) (low high quota : ℕ) → IsNew s → s.ports ≡ fresh_ports low high quota → IsKept s
+new-kept free s low high quota new ports = record {
+  tabled = subst AreTabled (sym new.leases) tabled-empty;
+  live = ap (λ (x : State). x.table) new.state ∙ ap (λ (t : Table). live t s.state.last) (sym new.leases);
+  ports = subst (λ (x : State). IsPortsOf s.ports x) (sym new.state) (subst (λ (v : Leased). IsPortsOf v empty_state) (sym ports) (free low high quota));
+}
+
+pub later-kept : PortsFollowMoments → (old new : TabledState) (m : ℕ) → old.ports.reached ≤ m → new.state ≡ old.state → new.leases ≡ old.leases → new.ports ≡ at_moment m old.ports
+    → IsKept old → IsKept new
+later-kept follow old new m later state leases ports kept = record {
+  tabled = subst AreTabled (sym leases) kept.tabled;
+  live = ap (λ (x : State). x.table) state ∙ kept.live ∙ ap (λ (x : State). live old.leases x.last) (sym state) ∙ ap (λ (t : Table). live t new.state.last) (sym leases);
+  ports = subst (λ (x : State). IsPortsOf new.ports x) (sym state) (subst (λ (v : Leased). IsPortsOf v old.state) (sym ports) (follow old.ports old.state m later kept.ports));
+}
+
+-- a state that is new, on terms that are allowed
+pub new-indexed : RecordsReach → (s : TabledState) (reached : ℕ) (terms : Terms) → AreTerms terms → IsNew s → IsKept s → reached ≡ 0 → IsOnTerms s.ports terms → IsIndexed s reached terms
+new-indexed made s reached terms allowed new kept is on = record {
+  allowed = allowed;
+  sound = subst IsReached (sym new.state) (made [] tt);
+  kept = kept;
+  now = new.reached ∙ sym is;
+  on = on;
+}
+
+-- what is seen to changes nothing that it keeps
+pub settled-indexed : (t : Table) (v w : Leased) (base : ℕ) (address : Option Address) (last : ℕ) (started : Bool) (reached : ℕ) (terms : Terms) → w ≡ as_settled v
+    → IsIndexed (record { state = state_in t v base address last started; leases = t; ports = v }) reached terms
+    → IsIndexed (record { state = state_in t w base address last started; leases = t; ports = w }) reached terms
+settled-indexed t v w base address last started reached terms is indexed =
+    subst (λ (x : Leased). IsIndexed (record { state = state_in t x base address last started; leases = t; ports = x }) reached terms) (sym is)
+    (record {
+      allowed = indexed.allowed;
+      sound = indexed.sound;
+      kept = record {
+        tabled = indexed.kept.tabled;
+        live = indexed.kept.live;
+        ports = record { passed = indexed.kept.ports.passed; same = indexed.kept.ports.same };
+      };
+      now = indexed.now;
+      on = record { low = indexed.on.low; high = indexed.on.high; quota = indexed.on.quota };
+    })
+
+-- nor does what a pick sees to, where it sees to anything
+pub picked-indexed : (t : Table) (v w : Leased) (base : ℕ) (address : Option Address) (last : ℕ) (started : Bool) (reached : ℕ) (terms : Terms) → (w ≡ v) ⊎ (w ≡ as_settled v)
+    → IsIndexed (record { state = state_in t v base address last started; leases = t; ports = v }) reached terms
+    → IsIndexed (record { state = state_in t w base address last started; leases = t; ports = w }) reached terms
+picked-indexed t v w base address last started reached terms (inl same) indexed =
+    subst (λ (x : Leased). IsIndexed (record { state = state_in t x base address last started; leases = t; ports = x }) reached terms) (sym same) indexed
+picked-indexed t v w base address last started reached terms (inr is) indexed = settled-indexed t v w base address last started reached terms is indexed
+
+pub picked-state : (t : Table) (v w : Leased) (base : ℕ) (address : Option Address) (last : ℕ) (started : Bool) → (w ≡ v) ⊎ (w ≡ as_settled v)
+    → state_in t w base address last started ≡ state_in t v base address last started
+picked-state t v w base address last started (inl same) = ap (λ (x : Leased). state_in t x base address last started) same
+picked-state t v w base address last started (inr is) = ap (λ (x : Leased). state_in t x base address last started) is

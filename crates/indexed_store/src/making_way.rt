@@ -1,0 +1,227 @@
+//! Leases that have ended make way for one that is put.
+ghost use Rattle.std.specs.Prelude.{◌≡◌, ◌<◌, ◌+◌, length, count_by, find, is_some, nat_lt, true, false, Contains, IfSome};
+ghost use Rattle.std.specs.List.{list_any};
+ghost use Rattle.std.specs.Bool.{OnTrue, OnFalse};
+ghost use Rattle.pcp_base.specs.declared.leases.TheConstants.{MOST_LEASES};
+ghost use Rattle.pcp_base.specs.declared.leases.MapLease.{MapLease};
+ghost use Rattle.pcp_base.specs.declared.leases.PeerLease.{PeerLease};
+ghost use Rattle.pcp_base.specs.declared.records.Change.TheVariants.{Map, Peer};
+ghost use Rattle.pcp_base.specs.Apply.{table_changed};
+ghost use Rattle.pcp_base.specs.Sound.{Sound};
+ghost use Rattle.pcp_base.specs.Tables.{is_map_of, is_peer_of, live, names};
+ghost use Rattle.mapping_table.specs.MapLists.{overlaps as overlaps_map, IsOverlapped as IsOverlappedMap};
+ghost use Rattle.peer_table.specs.PeerLists.{overlaps as overlaps_peer, IsOverlapped as IsOverlappedPeer};
+ghost use Rattle.indexed_store.specs.MakingWay.{HasWayForMap, HasWayForPeer};
+ghost use Rattle.indexed_store.specs.Tabled.{AreTabled};
+
+use crate::leases::Leases;
+use mapping_table::laws::{fewer_maps_are_sound, sound_tables_have_sound_maps};
+use pcp_base::{Endpoint, MOST_LEASES, MapLease, Moment, PeerLease};
+use peer_table::laws::{fewer_peers_are_sound, sound_tables_have_sound_peers};
+use std::sync::ledger::Ledger;
+use step_count::Steps;
+
+/// How many leases that have ended a record takes out at most, beside those that are in the way of one.
+const MOST_DROPPED: u32 = 8;
+
+impl Leases {
+    /// Takes out a lease that has ended by `m`; false where there is none.
+    pub(crate) fn drop_one(&mut self, m: Moment) -> bool
+        requires { AreTabled self.old }
+        ensures tabled { AreTabled self.new }
+        ensures live { live self.new m ≡ live self.old m }
+        ensures fewer { OnTrue result (length self.new.maps + length self.new.peers
+            < length self.old.maps + length self.old.peers) }
+        ensures all { OnFalse result (self.new ≡ live self.new m) }
+        ensures maps_from { (l : MapLease) → Contains self.new.maps l
+            → Contains self.old.maps l }
+        ensures peers_from { (l : PeerLease) → Contains self.new.peers l
+            → Contains self.old.peers l }
+    {
+        fewer_maps_are_sound();
+        fewer_peers_are_sound();
+        if let Some(lease) = self.maps.one_ended(m) {
+            self.maps.remove(&lease.first_endpoint());
+            return true;
+        }
+        let Some(lease) = self.peers.one_ended(m).copied() else {
+            return false;
+        };
+        self.peers
+            .remove(&lease.endpoint, &lease.remote, lease.remote_port);
+        true
+    }
+
+    /// Takes out up to 8 leases that have ended by `m`.
+    pub(crate) fn drop_some(&mut self, m: Moment)
+        requires { AreTabled self.old }
+        ensures tabled { AreTabled self.new }
+        ensures live { live self.new m ≡ live self.old m }
+    {
+        let mut left = MOST_DROPPED;
+        while left > 0 {
+            if !self.drop_one(m) {
+                return;
+            }
+            left -= 1;
+        }
+    }
+
+    /// Where there are as many leases as may be, takes out one that has ended by `m`: then fewer than
+    /// that are live.
+    fn make_room(&mut self, m: Moment)
+        requires tabled { AreTabled self.old }
+        requires some { length (live self.old m).maps + length (live self.old m).peers
+            < MOST_LEASES }
+        ensures tabled { AreTabled self.new }
+        ensures live { live self.new m ≡ live self.old m }
+        ensures room { length self.new.maps + length self.new.peers < MOST_LEASES }
+        ensures maps_from { (l : MapLease) → Contains self.new.maps l
+            → Contains self.old.maps l }
+        ensures peers_from { (l : PeerLease) → Contains self.new.peers l
+            → Contains self.old.peers l }
+    {
+        if self.maps.len() + self.peers.len() < MOST_LEASES {
+            return;
+        }
+        self.drop_one(m);
+    }
+
+    /// The same, where a lease isn't put in the place of another.
+    fn make_room_unless(&mut self, m: Moment, there: bool)
+        requires tabled { AreTabled self.old }
+        requires some { OnFalse there (length (live self.old m).maps
+            + length (live self.old m).peers < MOST_LEASES) }
+        ensures tabled { AreTabled self.new }
+        ensures live { live self.new m ≡ live self.old m }
+        ensures room { OnFalse there (length self.new.maps + length self.new.peers
+            < MOST_LEASES) }
+        ensures same { OnTrue there (self.new ≡ self.old) }
+        ensures maps_from { (l : MapLease) → Contains self.new.maps l
+            → Contains self.old.maps l }
+        ensures peers_from { (l : PeerLease) → Contains self.new.peers l
+            → Contains self.old.peers l }
+    {
+        if !there {
+            self.make_room(m);
+        }
+    }
+
+    /// Takes out the MAP leases that this one overlaps. None of them is live at `m`.
+    fn drop_overlapped_maps<L: Ledger>(&mut self, m: Moment, lease: &MapLease, steps: &mut Steps<L>)
+        requires tabled { AreTabled self.old }
+        requires after { Sound (table_changed (Map lease.now) (live self.old m)) }
+        ensures tabled { AreTabled self.new }
+        ensures live { live self.new m ≡ live self.old m }
+        ensures apart { list_any (overlaps_map lease.now) self.new.maps ≡ false }
+    {
+        sound_tables_have_sound_maps();
+        fewer_maps_are_sound();
+        while let Some(key) = self.maps.overlapping(lease, steps) {
+            self.maps.remove(&key);
+        }
+    }
+
+    /// The same of PEER leases.
+    fn drop_overlapped_peers<L: Ledger>(
+        &mut self,
+        m: Moment,
+        lease: &PeerLease,
+        steps: &mut Steps<L>,
+    )
+        requires tabled { AreTabled self.old }
+        requires after { Sound (table_changed (Peer lease.now) (live self.old m)) }
+        ensures tabled { AreTabled self.new }
+        ensures live { live self.new m ≡ live self.old m }
+        ensures apart { list_any (overlaps_peer lease.now) self.new.peers ≡ false }
+    {
+        sound_tables_have_sound_peers();
+        fewer_peers_are_sound();
+        while let Some(other) = self.peers.overlapping(lease, steps).copied() {
+            self.peers
+                .remove(&other.endpoint, &other.remote, other.remote_port);
+        }
+    }
+
+    /// Takes out the PEER leases of an endpoint that have ended by `m`.
+    fn drop_ended_of<L: Ledger>(&mut self, m: Moment, endpoint: &Endpoint, steps: &mut Steps<L>)
+        requires { AreTabled self.old }
+        ensures tabled { AreTabled self.new }
+        ensures live { live self.new m ≡ live self.old m }
+        ensures of_endpoint { count_by (λ l. names l endpoint.now) self.new.peers
+            ≡ count_by (λ l. names l endpoint.now) (live self.new m).peers }
+        ensures peers_from { (l : PeerLease) → Contains self.new.peers l
+            → Contains self.old.peers l }
+    {
+        fewer_peers_are_sound();
+        while let Some(other) = self.peers.ended_of(endpoint, m, steps).copied() {
+            self.peers
+                .remove(&other.endpoint, &other.remote, other.remote_port);
+        }
+    }
+
+    /// Whether there is a MAP lease with this key. One that has ended by `m` is taken out.
+    fn keeps_map<L: Ledger>(&mut self, m: Moment, key: &Endpoint, steps: &mut Steps<L>) -> bool
+        requires { AreTabled self.old }
+        ensures tabled { AreTabled self.new }
+        ensures live { live self.new m ≡ live self.old m }
+        ensures own { IfSome (find (is_map_of key.now) self.new.maps)
+            (λ l. nat_lt m l.expiry ≡ true) }
+        ensures there { result ≡ is_some (find (is_map_of key.now) self.new.maps) }
+        ensures maps_from { (l : MapLease) → Contains self.new.maps l
+            → Contains self.old.maps l }
+    {
+        fewer_maps_are_sound();
+        if self.map_of_counted(m, key, steps).is_some() {
+            return true;
+        }
+        self.maps.remove(key);
+        false
+    }
+
+    /// Whether there is a PEER lease with this key, where none of its endpoint has ended by `m`.
+    fn keeps_peer<L: Ledger>(&self, m: Moment, lease: &PeerLease, steps: &mut Steps<L>) -> bool
+        requires { AreTabled self.now }
+        ensures { result ≡ is_some (find (is_peer_of lease.now.endpoint lease.now.remote
+            lease.now.remote_port) (live self.now m).peers) }
+    {
+        self.peering_counted(m, &lease.endpoint, &lease.remote, lease.remote_port, steps)
+            .is_some()
+    }
+
+    /// Takes out the MAP leases that this one overlaps, and the one with its key if it has ended: none
+    /// of them is live at `m`.
+    pub(crate) fn make_way_for_map<L: Ledger>(
+        &mut self,
+        m: Moment,
+        lease: &MapLease,
+        steps: &mut Steps<L>,
+    )
+        requires tabled { AreTabled self.old }
+        requires after { Sound (table_changed (Map lease.now) (live self.old m)) }
+        ensures way { HasWayForMap m lease.now self.new }
+        ensures live { live self.new m ≡ live self.old m }
+    {
+        self.drop_overlapped_maps(m, lease, steps);
+        let there = self.keeps_map(m, &lease.first_endpoint(), steps);
+        self.make_room_unless(m, there);
+    }
+
+    /// The same for a PEER lease; those of its endpoint that have ended go too.
+    pub(crate) fn make_way_for_peer<L: Ledger>(
+        &mut self,
+        m: Moment,
+        lease: &PeerLease,
+        steps: &mut Steps<L>,
+    )
+        requires tabled { AreTabled self.old }
+        requires after { Sound (table_changed (Peer lease.now) (live self.old m)) }
+        ensures way { HasWayForPeer m lease.now self.new }
+        ensures live { live self.new m ≡ live self.old m }
+    {
+        self.drop_overlapped_peers(m, lease, steps);
+        self.drop_ended_of(m, &lease.endpoint, steps);
+        let there = self.keeps_peer(m, lease, steps);
+        self.make_room_unless(m, there);
+    }
+}
