@@ -8,6 +8,7 @@ use Rattle.pcp_base.specs.declared.leases.Endpoint.{Endpoint}
 use Rattle.pcp_base.specs.declared.leases.Filter.{Filter}
 use Rattle.pcp_base.specs.declared.leases.MapLease.{MapLease}
 use Rattle.pcp_base.specs.declared.leases.PeerLease.{PeerLease}
+use Rattle.pcp_base.specs.declared.asks.Ask.TheVariants as Asks
 use Rattle.pcp_base.specs.declared.asks.MapAsk.{MapAsk}
 use Rattle.pcp_base.specs.declared.asks.PeerAsk.{PeerAsk}
 use Rattle.pcp_base.specs.declared.asks.PortSet.{PortSet}
@@ -19,6 +20,7 @@ use Rattle.lease_store.specs.declared.terms.Terms.{Terms}
 use Rattle.lease_store.specs.Lookups.{next_inside}
 use Rattle.lease_store.specs.Picks.{pick}
 use Rattle.lease_core.specs.Answers.{answered, answered_with, refused, refused_until}
+use Rattle.lease_core.specs.Decide.{inside_asked, is_picked, picking}
 use Rattle.lease_core.specs.DecideMap.{decide_map}
 use Rattle.lease_core.specs.DecidePeer.{decide_peer}
 
@@ -311,6 +313,44 @@ peer_renewed : decide_peer (terms 1024 1030 64) (with [] (peer 1026 4610 ∷ [])
     ≡ answered_with 1020 (Peered 3600 1026 (host 1)) (Peer (peer 1026 4620))
 unfolding decide_peer pick
 peer_renewed = refl
+
+-- ---- what it takes
+
+-- ports are picked for a new lease
+new_is_picked : is_picked (with [] []) 1010 (Asks.Map (ask 5 3600 0)) ≡ true
+new_is_picked = refl
+
+new_peer_is_picked : is_picked (with [] []) 1010 (Asks.Peer (peer_ask 3600)) ≡ true
+new_peer_is_picked = refl
+
+-- and none for a renewal, a deletion, or an endpoint that has a port
+renewal_picks_none : is_picked (with (lease 5 1 1024 4610 ∷ []) []) 1010 (Asks.Map (ask 5 3600 0)) ≡ false
+renewal_picks_none = refl
+
+peer_renewal_picks_none : is_picked (with [] (peer 1026 4610 ∷ [])) 1010 (Asks.Peer (peer_ask 3600)) ≡ false
+peer_renewal_picks_none = refl
+
+deletion_picks_none : is_picked (with [] []) 1010 (Asks.Map (ask 5 0 0)) ≡ false
+deletion_picks_none = refl
+
+peer_deletion_picks_none : is_picked (with [] []) 1010 (Asks.Peer (peer_ask 0)) ≡ false
+peer_deletion_picks_none = refl
+
+named_picks_none : is_picked (with [] (peer 1026 4610 ∷ [])) 1010 (Asks.Map (ask 5 3600 0)) ≡ false
+named_picks_none = refl
+
+covered_picks_none : is_picked (with (lease 5 1 1024 4610 ∷ []) []) 1010 (Asks.Peer (peer_ask 3600)) ≡ false
+covered_picks_none = refl
+
+-- one port is looked up nowhere inside, a set at each of its ports, up to 4,096
+one_port_picked : picking 10 100 (Asks.Map (ask 5 3600 0)) ≡ 101
+one_port_picked = refl
+
+set_picked : picking 10 100 (Asks.Map (record (ask 5 3600 0) { set = Some (set 8 65530) })) ≡ 188
+set_picked = refl
+
+most_inside : inside_asked (Asks.Map (record (ask 5 3600 0) { set = Some (set 65535 65530) })) ≡ 4096
+most_inside = refl
 
 -- ---- lookups
 

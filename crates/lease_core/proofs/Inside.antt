@@ -12,8 +12,8 @@ use Rattle.pcp_base.specs.Asks.{IsMapAsk}
 use Rattle.pcp_base.specs.Tables.{Table, live, covers, names}
 use Rattle.pcp_base.specs.States.{State}
 use Rattle.pcp_base.proofs.Members.{All-IsIn, IsIn, any-none, find-none, IsIn-range}
-use Rattle.lease_store.specs.Lookups.{is_taken_inside, next_inside, with_port}
-use Rattle.lease_core.specs.DecideMap.{room_inside, size_asked, up_to_next}
+use Rattle.lease_store.specs.Lookups.{is_taken_inside, next_inside, up_to_next, with_port}
+use Rattle.lease_core.specs.DecideMap.{room_inside, size_asked}
 use Rattle.lease_core.proofs.RoomLemmas.{room-few}
 
 -- what comes before the first of a range that passes doesn't

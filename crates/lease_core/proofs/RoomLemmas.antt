@@ -16,8 +16,8 @@ use Rattle.pcp_base.proofs.Members.{All-IsIn, IsIn, IsIn-filter, find-some, rang
 use Rattle.pcp_base.proofs.TableLemmas.{IsCovered-from_covers}
 use Rattle.external_pool.specs.Calls.{IsAsk}
 use Rattle.lease_store.specs.declared.terms.Terms.{Terms}
-use Rattle.lease_store.specs.Lookups.{covering, is_taken_inside, next_inside}
-use Rattle.lease_core.specs.DecideMap.{room_inside, size_asked, up_to_next}
+use Rattle.lease_store.specs.Lookups.{covering, is_taken_inside, next_inside, up_to_next}
+use Rattle.lease_core.specs.DecideMap.{room_inside, size_asked}
 use Rattle.lease_core.specs.Chosen.{pick_ask}
 
 pub next-above : (t : Table) (m : ℕ) (e : Endpoint) (next : ℕ) → next_inside t m e ≡ Some next → e.port < next
@@ -59,7 +59,8 @@ room-few s m ask formed =
     (omega arith, omega arith)
 
 -- one port has room
-pub room-one : (s : State) (m : ℕ) (ask : MapAsk) → IsMapAsk ask → size_asked ask ≡ 1 → 1 ≡ room_inside s m ask
+pub room-one : (s : State) (m : ℕ) (ask : MapAsk) → IsMapAsk ask → min (size_asked ask) MOST_PORTS ≡ 1 →
+    1 ≡ room_inside s m ask
 room-one s m ask formed one =
     let some = room-some s m ask formed in
     let few : room_inside s m ask ≤ min (size_asked ask) (min MOST_PORTS (65536 - ask.endpoint.port)) =

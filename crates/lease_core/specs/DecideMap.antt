@@ -17,7 +17,7 @@ use Rattle.pcp_base.specs.Cases.{Case, first_case}
 use Rattle.filter_rules.specs.Filters.{fold_filters}
 use Rattle.external_pool.specs.declared.asks.Picked.{Picked}
 use Rattle.lease_store.specs.declared.terms.Terms.{Terms}
-use Rattle.lease_store.specs.Lookups.{covering, named_port, next_inside}
+use Rattle.lease_store.specs.Lookups.{covering, named_port, next_inside, up_to_next}
 use Rattle.lease_store.specs.Picks.{pick}
 use Rattle.lease_core.specs.declared.decided.Decided.{Decided}
 use Rattle.lease_core.specs.Answers.{granted_lifetime, answered, answered_with, refused, refused_until, gone, is_port_met, is_address_met, is_full, port_within}
@@ -38,11 +38,6 @@ abbrev pub parity_asked : MapAsk → Option ℕ
 parity_asked ask = parity_of ask.set ask.endpoint.port
 
 -- ---- which ports are given
-
--- no more ports than up to the next internal port in use
-abbrev pub up_to_next : Option ℕ → ℕ → ℕ → ℕ
-up_to_next None internal room = room
-up_to_next (Some next) internal room = min room (next - internal)
 
 -- how many ports may be given from the endpoint on, apart from the quota
 abbrev pub room_inside : State → ℕ → MapAsk → ℕ

@@ -1,5 +1,6 @@
 //! What is decided on MAP requests (RFC 6887, sections 11.3, 13 and 15; sets of ports: RFC 7753).
-ghost use Rattle.std.specs.Prelude.{◌≡◌, ◌+◌, ◌-◌, ◌*◌, ◌<◌, ◌≤◌, ◌^◌, ◌&&◌, ℕ, [], None, Some, if◌then◌else◌};
+ghost use Rattle.std.specs.Prelude.{◌≡◌, ◌+◌, ◌-◌, ◌*◌, ◌<◌, ◌≤◌, ◌^◌, ◌&&◌, ◌==◌, not, is_none, ℕ, [], None, Some, Ok, if◌then◌else◌};
+ghost use Rattle.pcp_base.specs.declared.asks.Ask.TheVariants.{Map};
 ghost use Rattle.pcp_base.specs.States.{State};
 ghost use Rattle.pcp_base.specs.Asks.{IsMapAsk};
 ghost use Rattle.pcp_base.specs.Reached.{IsReached};
@@ -9,8 +10,9 @@ ghost use Rattle.lease_store.specs.LeaseTerms.{AreTerms};
 ghost use Rattle.lease_store.specs.Lookups.{named_port};
 ghost use Rattle.pcp_base.specs.declared.codes.Code.TheVariants.{ExcessiveRemotePeers};
 ghost use Rattle.lease_core.specs.Answers.{is_address_met, is_port_met, port_within, refused};
-ghost use Rattle.lease_core.specs.DecideMap.{covered, decide_map, has_excess, is_wanted, mapped, new_lease, parity_of, port_told, renewed, room_inside, set_told, size_asked, uncovered, up_to_next};
+ghost use Rattle.lease_core.specs.DecideMap.{covered, decide_map, has_excess, is_wanted, mapped, new_lease, parity_of, port_told, renewed, room_inside, set_told, size_asked, uncovered};
 ghost use Rattle.lease_core.specs.Chosen.{chosen, chosen_by, granted_by, pick_ask};
+ghost use Rattle.lease_core.specs.Decide.{inside_asked, is_picked, picking, ports_asked};
 
 use crate::answers::{
     answered, answered_with, code_of, expiry_of, gone, granted_lifetime, is_address_met,
@@ -20,9 +22,7 @@ use crate::decided::Decided;
 use external_pool::{PickAsk, Picked};
 use filter_rules::fold_filters;
 use lease_store::{LeaseStore, Terms};
-use pcp_base::{
-    Answer, Change, Code, Filters, MOST_LEASES, MOST_PORTS, MapAsk, MapLease, Moment, PortSet,
-};
+use pcp_base::{Answer, Change, Code, Filters, MOST_PORTS, MapAsk, MapLease, Moment, PortSet};
 use std::sync::ledger::Ledger;
 use step_count::Steps;
 
@@ -138,16 +138,6 @@ fn parity_of(set: Option<PortSet>, internal: u16) -> Option<u8>
     }
 }
 
-/// No more ports than up to the next internal port in use.
-fn up_to_next(next: Option<u16>, internal: u16, room: u32) -> u32
-    ensures { result ≡ up_to_next next internal room }
-{
-    match next {
-        None => room,
-        Some(next) => room.min(u32::from(next.saturating_sub(internal))),
-    }
-}
-
 /// How many ports may be given from the endpoint on, apart from the quota.
 fn room_inside<S: LeaseStore, L: Ledger>(
     store: &S,
@@ -159,18 +149,16 @@ fn room_inside<S: LeaseStore, L: Ledger>(
     requires reached { S.reached store.now ≡ m }
     requires ask { IsMapAsk ask.now }
     ensures room { result ≡ room_inside (S.state store.now) m ask.now }
-    ensures few { result ≤ size_asked ask.now }
-    ensures steps { steps.new ≤ steps.old + S.look_steps (S.state store.now) }
+    ensures few { result ≤ ports_asked (Map ask.now) }
+    ensures steps { steps.new
+        ≤ steps.old + inside_asked (Map ask.now) * S.look_steps (S.state store.now) }
 {
-    let internal = ask.endpoint.port;
-    let size = size_asked(ask);
+    let size = size_asked(ask).min(u32::from(MOST_PORTS));
     if size == 1 {
         return 1;
     }
-    let room = size
-        .min(u32::from(MOST_PORTS))
-        .min(65536 - u32::from(internal));
-    up_to_next(store.next_inside(&ask.endpoint, steps), internal, room)
+    let most = size.min(65536 - u32::from(ask.endpoint.port));
+    store.room_inside(&ask.endpoint, most, steps)
 }
 
 /// What a pool is asked for.
@@ -184,8 +172,9 @@ fn pick_ask<S: LeaseStore, L: Ledger>(
     requires reached { S.reached store.now ≡ m }
     requires ask { IsMapAsk ask.now }
     ensures asks { result ≡ pick_ask (S.terms store.now) (S.state store.now) m ask.now }
-    ensures few { result.room ≤ size_asked ask.now }
-    ensures steps { steps.new ≤ steps.old + S.look_steps (S.state store.now) }
+    ensures few { result.room ≤ ports_asked (Map ask.now) }
+    ensures steps { steps.new
+        ≤ steps.old + inside_asked (Map ask.now) * S.look_steps (S.state store.now) }
 {
     let address = store.terms().external.address;
     PickAsk {
@@ -201,17 +190,20 @@ fn pick_ask<S: LeaseStore, L: Ledger>(
 
 /// The ports that are picked, or why none are.
 fn pick_ports<S: LeaseStore, L: Ledger>(
-    store: &S,
+    store: &mut S,
     m: Moment,
     ask: &MapAsk,
     steps: &mut Steps<L>,
 ) -> Result<Picked, Code>
-    requires sound { IsReached (S.state store.now) }
-    requires reached { S.reached store.now ≡ m }
+    requires sound { IsReached (S.state store.old) }
+    requires reached { S.reached store.old ≡ m }
     requires ask { IsMapAsk ask.now }
-    ensures ports { result ≡ chosen_by None (S.terms store.now) (S.state store.now) m ask.now }
-    ensures steps { steps.new
-        ≤ steps.old + 2 * S.look_steps (S.state store.now) + size_asked ask.now }
+    ensures ports { result ≡ chosen_by None (S.terms store.old) (S.state store.old) m ask.now }
+    ensures state { S.state store.new ≡ S.state store.old }
+    ensures reached { S.reached store.new ≡ m }
+    ensures terms { S.terms store.new ≡ S.terms store.old }
+    ensures steps { let s = S.state store.old in steps.new
+        ≤ steps.old + picking (S.look_steps s) (S.pick_steps s) (Map ask.now) }
 {
     let port_ask = pick_ask(store, m, ask, steps);
     match store.pick(&ask.endpoint, &port_ask, steps) {
@@ -245,17 +237,21 @@ fn judge_named(terms: &Terms, ask: &MapAsk, port: u16) -> Result<Picked, Code>
 
 /// The ports that a new lease is given, or why there are none.
 fn choose<S: LeaseStore, L: Ledger>(
-    store: &S,
+    store: &mut S,
     m: Moment,
     ask: &MapAsk,
     steps: &mut Steps<L>,
 ) -> Result<Picked, Code>
-    requires sound { IsReached (S.state store.now) }
-    requires reached { S.reached store.now ≡ m }
+    requires sound { IsReached (S.state store.old) }
+    requires reached { S.reached store.old ≡ m }
     requires ask { IsMapAsk ask.now }
-    ensures ports { result ≡ chosen (S.terms store.now) (S.state store.now) m ask.now }
-    ensures steps { steps.new
-        ≤ steps.old + 3 * S.look_steps (S.state store.now) + size_asked ask.now }
+    ensures ports { result ≡ chosen (S.terms store.old) (S.state store.old) m ask.now }
+    ensures state { S.state store.new ≡ S.state store.old }
+    ensures reached { S.reached store.new ≡ m }
+    ensures terms { S.terms store.new ≡ S.terms store.old }
+    ensures steps { let s = S.state store.old in steps.new ≤ steps.old + S.look_steps s
+        + (if is_none (named_port s.table m ask.now.endpoint)
+        then picking (S.look_steps s) (S.pick_steps s) (Map ask.now) else 0) }
 {
     match store.named_port(&ask.endpoint, steps) {
         Some(port) => judge_named(&store.terms(), ask, port),
@@ -286,45 +282,70 @@ fn grant_new(terms: &Terms, m: Moment, ask: &MapAsk, run: Picked) -> Decided
     mapped(terms, m, ask, lease)
 }
 
-/// What is decided on a MAP request that no live lease covers, and that is no deletion.
-fn grant<S: LeaseStore, L: Ledger>(
+/// A lease of these ports, unless there is no room for it or it would have too many filters.
+fn grant_with_room<S: LeaseStore, L: Ledger>(
     store: &S,
     m: Moment,
     ask: &MapAsk,
+    run: Picked,
     steps: &mut Steps<L>,
 ) -> Decided
     requires sound { IsReached (S.state store.now) }
     requires reached { S.reached store.now ≡ m }
-    requires ask { IsMapAsk ask.now }
-    ensures decided { result ≡ granted_by (S.terms store.now) (S.state store.now) m ask.now
-        (chosen (S.terms store.now) (S.state store.now) m ask.now) }
-    ensures steps { steps.new
-        ≤ steps.old + 4 * S.look_steps (S.state store.now) + size_asked ask.now }
+    requires few { run.count < 2 ^ 16 }
+    ensures decided { result
+        ≡ granted_by (S.terms store.now) (S.state store.now) m ask.now (Ok run) }
+    ensures steps { steps.new ≤ steps.old + S.look_steps (S.state store.now) }
 {
-    let run = match choose(store, m, ask, steps) {
-        Ok(run) => run,
-        Err(code) => return refused(code),
-    };
-    if store.lease_count(steps) as usize >= MOST_LEASES {
+    if !store.has_room(steps) {
         return refused(Code::NoResources);
     }
     grant_new(&store.terms(), m, ask, run)
 }
 
-/// What is decided on a MAP request that no live lease covers.
-fn decide_uncovered<S: LeaseStore, L: Ledger>(
-    store: &S,
+/// What is decided on a MAP request that no live lease covers, and that is no deletion.
+fn grant<S: LeaseStore, L: Ledger>(
+    store: &mut S,
     m: Moment,
     ask: &MapAsk,
     steps: &mut Steps<L>,
 ) -> Decided
-    requires sound { IsReached (S.state store.now) }
-    requires reached { S.reached store.now ≡ m }
+    requires sound { IsReached (S.state store.old) }
+    requires reached { S.reached store.old ≡ m }
     requires ask { IsMapAsk ask.now }
-    ensures decided { result ≡ uncovered (S.terms store.now) (S.state store.now) m ask.now
-        (named_port (S.state store.now).table m ask.now.endpoint) }
-    ensures steps { steps.new
-        ≤ steps.old + 4 * S.look_steps (S.state store.now) + size_asked ask.now }
+    ensures decided { result ≡ granted_by (S.terms store.old) (S.state store.old) m ask.now
+        (chosen (S.terms store.old) (S.state store.old) m ask.now) }
+    ensures state { S.state store.new ≡ S.state store.old }
+    ensures reached { S.reached store.new ≡ m }
+    ensures terms { S.terms store.new ≡ S.terms store.old }
+    ensures steps { let s = S.state store.old in steps.new ≤ steps.old + 2 * S.look_steps s
+        + (if is_none (named_port s.table m ask.now.endpoint)
+        then picking (S.look_steps s) (S.pick_steps s) (Map ask.now) else 0) }
+{
+    match choose(store, m, ask, steps) {
+        Ok(run) => grant_with_room(store, m, ask, run, steps),
+        Err(code) => refused(code),
+    }
+}
+
+/// What is decided on a MAP request that no live lease covers.
+fn decide_uncovered<S: LeaseStore, L: Ledger>(
+    store: &mut S,
+    m: Moment,
+    ask: &MapAsk,
+    steps: &mut Steps<L>,
+) -> Decided
+    requires sound { IsReached (S.state store.old) }
+    requires reached { S.reached store.old ≡ m }
+    requires ask { IsMapAsk ask.now }
+    ensures decided { result ≡ uncovered (S.terms store.old) (S.state store.old) m ask.now
+        (named_port (S.state store.old).table m ask.now.endpoint) }
+    ensures state { S.state store.new ≡ S.state store.old }
+    ensures reached { S.reached store.new ≡ m }
+    ensures terms { S.terms store.new ≡ S.terms store.old }
+    ensures steps { let s = S.state store.old in steps.new ≤ steps.old + 2 * S.look_steps s
+        + (if not (ask.now.lifetime == 0) && is_none (named_port s.table m ask.now.endpoint)
+        then picking (S.look_steps s) (S.pick_steps s) (Map ask.now) else 0) }
 {
     if ask.lifetime == 0 {
         return answered(Answer::Gone);
@@ -334,17 +355,21 @@ fn decide_uncovered<S: LeaseStore, L: Ledger>(
 
 /// What is decided on a MAP request at the moment reached.
 pub(crate) fn decide_map<S: LeaseStore, L: Ledger>(
-    store: &S,
+    store: &mut S,
     m: Moment,
     ask: &MapAsk,
     steps: &mut Steps<L>,
 ) -> Decided
-    requires sound { IsReached (S.state store.now) }
-    requires reached { S.reached store.now ≡ m }
+    requires sound { IsReached (S.state store.old) }
+    requires reached { S.reached store.old ≡ m }
     requires ask { IsMapAsk ask.now }
-    ensures decided { result ≡ decide_map (S.terms store.now) (S.state store.now) m ask.now }
-    ensures steps { steps.new
-        ≤ steps.old + 5 * S.look_steps (S.state store.now) + size_asked ask.now }
+    ensures decided { result ≡ decide_map (S.terms store.old) (S.state store.old) m ask.now }
+    ensures state { S.state store.new ≡ S.state store.old }
+    ensures reached { S.reached store.new ≡ m }
+    ensures terms { S.terms store.new ≡ S.terms store.old }
+    ensures steps { let s = S.state store.old in steps.new ≤ steps.old + 3 * S.look_steps s
+        + (if is_picked s m (Map ask.now)
+        then picking (S.look_steps s) (S.pick_steps s) (Map ask.now) else 0) }
 {
     match store.covering(&ask.endpoint, steps) {
         Some(lease) => decide_covered(&store.terms(), m, ask, &lease),

@@ -1,9 +1,9 @@
 //! What is decided on PEER requests (RFC 6887, sections 12.3 and 15).
-ghost use Rattle.std.specs.Prelude.{◌≡◌, ◌+◌, ◌-◌, ◌*◌, ◌<◌, ◌≤◌, ◌^◌, ℕ, None, Some, Ok, Err, if◌then◌else◌};
-ghost use Rattle.pcp_base.specs.Asks.{IsPeerAsk};
-ghost use Rattle.pcp_base.specs.States.{State};
+ghost use Rattle.std.specs.Prelude.{◌≡◌, ◌+◌, ◌*◌, ◌≤◌, is_none, Ok, if◌then◌else◌};
+ghost use Rattle.pcp_base.specs.declared.asks.Ask.TheVariants.{Peer};
 ghost use Rattle.pcp_base.specs.Reached.{IsReached};
-ghost use Rattle.lease_core.specs.DecidePeer.{decide_peer, given_port, known, new_peer, peered, renewed_peer, unknown};
+ghost use Rattle.lease_core.specs.Decide.{is_picked};
+ghost use Rattle.lease_core.specs.DecidePeer.{decide_peer, given_port, known, new_peer, peered, unknown};
 ghost use Rattle.lease_core.specs.ChosenPeer.{picked_port, port_chosen, port_granted_by};
 
 use crate::answers::{
@@ -13,9 +13,7 @@ use crate::answers::{
 use crate::decided::Decided;
 use external_pool::PickAsk;
 use lease_store::{LeaseStore, Terms};
-use pcp_base::{
-    Answer, Change, Code, Endpoint, MOST_LEASES, MOST_PEERS, Moment, PeerAsk, PeerLease,
-};
+use pcp_base::{Answer, Change, Code, Endpoint, MOST_PEERS, Moment, PeerAsk, PeerLease};
 use std::sync::ledger::Ledger;
 use step_count::Steps;
 
@@ -87,15 +85,18 @@ fn given_port<S: LeaseStore, L: Ledger>(
 
 /// The port that is picked, or why none is.
 fn pick_port<S: LeaseStore, L: Ledger>(
-    store: &S,
+    store: &mut S,
     m: Moment,
     ask: &PeerAsk,
     steps: &mut Steps<L>,
 ) -> Result<u16, Code>
-    requires sound { IsReached (S.state store.now) }
-    requires reached { S.reached store.now ≡ m }
-    ensures port { result ≡ picked_port (S.terms store.now) (S.state store.now) m ask.now }
-    ensures steps { steps.new ≤ steps.old + S.look_steps (S.state store.now) + 1 }
+    requires sound { IsReached (S.state store.old) }
+    requires reached { S.reached store.old ≡ m }
+    ensures port { result ≡ picked_port (S.terms store.old) (S.state store.old) m ask.now }
+    ensures state { S.state store.new ≡ S.state store.old }
+    ensures reached { S.reached store.new ≡ m }
+    ensures terms { S.terms store.new ≡ S.terms store.old }
+    ensures steps { steps.new ≤ steps.old + S.pick_steps (S.state store.old) + 1 }
 {
     let port_ask = PickAsk {
         internal: ask.endpoint.port,
@@ -114,15 +115,20 @@ fn pick_port<S: LeaseStore, L: Ledger>(
 
 /// The port that a new lease is given, or why there is none.
 fn choose_port<S: LeaseStore, L: Ledger>(
-    store: &S,
+    store: &mut S,
     m: Moment,
     ask: &PeerAsk,
     steps: &mut Steps<L>,
 ) -> Result<u16, Code>
-    requires sound { IsReached (S.state store.now) }
-    requires reached { S.reached store.now ≡ m }
-    ensures port { result ≡ port_chosen (S.terms store.now) (S.state store.now) m ask.now }
-    ensures steps { steps.new ≤ steps.old + 3 * S.look_steps (S.state store.now) + 1 }
+    requires sound { IsReached (S.state store.old) }
+    requires reached { S.reached store.old ≡ m }
+    ensures port { result ≡ port_chosen (S.terms store.old) (S.state store.old) m ask.now }
+    ensures state { S.state store.new ≡ S.state store.old }
+    ensures reached { S.reached store.new ≡ m }
+    ensures terms { S.terms store.new ≡ S.terms store.old }
+    ensures steps { let s = S.state store.old in steps.new ≤ steps.old + 2 * S.look_steps s
+        + (if is_none (given_port s.table m ask.now.endpoint)
+        then S.pick_steps s + 1 else 0) }
 {
     match given_port(store, m, &ask.endpoint, steps) {
         Some(port) => Ok(port),
@@ -130,41 +136,66 @@ fn choose_port<S: LeaseStore, L: Ledger>(
     }
 }
 
-/// A lease of a chosen port, unless there is no room for it.
-fn grant<S: LeaseStore, L: Ledger>(
+/// A lease of this port, unless there is no room for it.
+fn grant_with_room<S: LeaseStore, L: Ledger>(
     store: &S,
     m: Moment,
     ask: &PeerAsk,
+    port: u16,
     steps: &mut Steps<L>,
 ) -> Decided
     requires sound { IsReached (S.state store.now) }
     requires reached { S.reached store.now ≡ m }
-    ensures decided { result ≡ port_granted_by (S.terms store.now) (S.state store.now) m ask.now
-        (port_chosen (S.terms store.now) (S.state store.now) m ask.now) }
-    ensures steps { steps.new ≤ steps.old + 4 * S.look_steps (S.state store.now) + 1 }
+    ensures decided { result
+        ≡ port_granted_by (S.terms store.now) (S.state store.now) m ask.now (Ok port) }
+    ensures steps { steps.new ≤ steps.old + S.look_steps (S.state store.now) }
 {
-    let port = match choose_port(store, m, ask, steps) {
-        Ok(port) => port,
-        Err(code) => return refused(code),
-    };
-    if store.lease_count(steps) as usize >= MOST_LEASES {
+    if !store.has_room(steps) {
         return refused(Code::NoResources);
     }
     grant_port(&store.terms(), m, ask, port)
 }
 
-/// What is decided where there is no live lease of the endpoint and remote.
-fn decide_unknown<S: LeaseStore, L: Ledger>(
-    store: &S,
+/// A lease of a chosen port, unless there is no room for it.
+fn grant<S: LeaseStore, L: Ledger>(
+    store: &mut S,
     m: Moment,
     ask: &PeerAsk,
     steps: &mut Steps<L>,
 ) -> Decided
-    requires sound { IsReached (S.state store.now) }
-    requires reached { S.reached store.now ≡ m }
-    ensures decided { result ≡ unknown (S.terms store.now) (S.state store.now) m ask.now
-        (given_port (S.state store.now).table m ask.now.endpoint) }
-    ensures steps { steps.new ≤ steps.old + 5 * S.look_steps (S.state store.now) + 1 }
+    requires sound { IsReached (S.state store.old) }
+    requires reached { S.reached store.old ≡ m }
+    ensures decided { result ≡ port_granted_by (S.terms store.old) (S.state store.old) m ask.now
+        (port_chosen (S.terms store.old) (S.state store.old) m ask.now) }
+    ensures state { S.state store.new ≡ S.state store.old }
+    ensures reached { S.reached store.new ≡ m }
+    ensures terms { S.terms store.new ≡ S.terms store.old }
+    ensures steps { let s = S.state store.old in steps.new ≤ steps.old + 3 * S.look_steps s
+        + (if is_none (given_port s.table m ask.now.endpoint)
+        then S.pick_steps s + 1 else 0) }
+{
+    match choose_port(store, m, ask, steps) {
+        Ok(port) => grant_with_room(store, m, ask, port, steps),
+        Err(code) => refused(code),
+    }
+}
+
+/// What is decided where there is no live lease of the endpoint and remote.
+fn decide_unknown<S: LeaseStore, L: Ledger>(
+    store: &mut S,
+    m: Moment,
+    ask: &PeerAsk,
+    steps: &mut Steps<L>,
+) -> Decided
+    requires sound { IsReached (S.state store.old) }
+    requires reached { S.reached store.old ≡ m }
+    ensures decided { result ≡ unknown (S.terms store.old) (S.state store.old) m ask.now
+        (given_port (S.state store.old).table m ask.now.endpoint) }
+    ensures state { S.state store.new ≡ S.state store.old }
+    ensures reached { S.reached store.new ≡ m }
+    ensures terms { S.terms store.new ≡ S.terms store.old }
+    ensures steps { let s = S.state store.old in steps.new ≤ steps.old + 4 * S.look_steps s
+        + (if is_picked s m (Peer ask.now) then S.pick_steps s + 1 else 0) }
 {
     if ask.lifetime == 0 {
         return answered(Answer::Gone);
@@ -178,15 +209,19 @@ fn decide_unknown<S: LeaseStore, L: Ledger>(
 /// What is decided on a PEER request at the moment reached.
 #[inline(never)]
 pub(crate) fn decide_peer<S: LeaseStore, L: Ledger>(
-    store: &S,
+    store: &mut S,
     m: Moment,
     ask: &PeerAsk,
     steps: &mut Steps<L>,
 ) -> Decided
-    requires sound { IsReached (S.state store.now) }
-    requires reached { S.reached store.now ≡ m }
-    ensures decided { result ≡ decide_peer (S.terms store.now) (S.state store.now) m ask.now }
-    ensures steps { steps.new ≤ steps.old + 6 * S.look_steps (S.state store.now) + 1 }
+    requires sound { IsReached (S.state store.old) }
+    requires reached { S.reached store.old ≡ m }
+    ensures decided { result ≡ decide_peer (S.terms store.old) (S.state store.old) m ask.now }
+    ensures state { S.state store.new ≡ S.state store.old }
+    ensures reached { S.reached store.new ≡ m }
+    ensures terms { S.terms store.new ≡ S.terms store.old }
+    ensures steps { let s = S.state store.old in steps.new ≤ steps.old + 5 * S.look_steps s
+        + (if is_picked s m (Peer ask.now) then S.pick_steps s + 1 else 0) }
 {
     match store.peering(&ask.endpoint, &ask.remote, ask.remote_port, steps) {
         Some(lease) => decide_known(&store.terms(), m, ask, &lease),

@@ -2,7 +2,7 @@ use Rattle.std.proofs.Common.{◌∙◌, sym}
 use Rattle.lease_core.proofs.MapSteps.{chosen-few}
 use Rattle.lease_core.proofs.mapping.grant.Goals as goal
 
-pub grant_new-requires : goal.grant_new-requires
-grant_new-requires g c =
+pub grant_with_room-requires-clause-few : goal.grant_with_room-requires-clause-few
+grant_with_room-requires-clause-few g c =
     chosen-few (g.S.LeaseStore.terms c.args.store.now) (g.S.LeaseStore.state c.args.store.now) c.args.m c.args.ask.now
-    c.in-Ok.run' c.requires.ask (sym c.choose.ensures.ports ∙ c.in-Ok.is)
+    _ c.requires.ask (sym c.choose.ensures.ports ∙ c.in-Ok.is)
