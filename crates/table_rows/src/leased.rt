@@ -13,7 +13,7 @@ use Protocol::{Tcp, Udp};
 use Wish::{Any, Away, First, Must};
 use external_pool::{PickAsk, PickRefused, Picked};
 use leased_ports::LeasedPorts;
-use pcp_base::{End, Endpoint, Memory, Moment, Protocol, REST_SECONDS};
+use pcp_base::{End, Endpoint, Memory, Moment, Protocol};
 use std::alloc::Global;
 use std::marker::Brand;
 use std::sync::ledger::{Blank, Ledger};
@@ -224,7 +224,7 @@ static RUNS: [Call; 29] = [
     Pick(6, Udp, 5000, 1029, 9, Must, Ok((1029, 9))),
 ];
 
-static RESTING_RUNS: [Call; 16] = [
+static RESTING_RUNS: [Call; 21] = [
     PutRun(5, Udp, 5000, 1030, 4, 300),
     Reach(299),
     Pick(5, Udp, 5001, 1031, 1, Must, Err(CannotProvide)),
@@ -239,10 +239,17 @@ static RESTING_RUNS: [Call; 16] = [
     Pick(7, Tcp, 7001, 2001, 2, Must, Ok((2001, 2))),
     Pick(6, Tcp, 7001, 2001, 1, Must, Err(CannotProvide)),
     Reach(370),
-    PieceOf(Tcp, 1999, 5, None, 5),
+    // What is over is a piece of its own.
+    PieceOf(Tcp, 1999, 5, None, 1),
+    PieceOf(Tcp, 2000, 5, None, 3),
     PieceOf(Udp, 1030, 9, Some((5, 5000, 300)), 4),
     Reach(420),
-    PieceOf(Udp, 1030, 9, None, 9),
+    PieceOf(Udp, 1030, 9, None, 4),
+    // It gets others, in place and in part.
+    PutRun(5, Udp, 5000, 1030, 4, 900),
+    Pick(6, Udp, 5000, 1030, 1, Must, Err(CannotProvide)),
+    PutRun(8, Tcp, 7000, 2001, 1, 410),
+    Pick(7, Tcp, 7000, 2000, 3, Must, Err(CannotProvide)),
 ];
 
 // Of all ports: the last ones of TCP, and the first ones of UDP.
@@ -257,29 +264,62 @@ static EDGES: [Call; 8] = [
     PieceOf(Tcp, 0, 65536, None, 65536),
 ];
 
-/// Whether a port may have this last end at `now`.
-fn is_last_end(now: u32, last: &End) -> bool
-    ensures { OnTrue result (IsLastEnd now last.now) }
+// Of the ports from 1024 on; more runs fall due at once than `reach` sees to.
+static UNSEEN: [Call; 22] = [
+    Put(1, Udp, 2000, 2000, 70, 5),
+    PutRun(1, Tcp, 1, 1024, 64512, 2000),
+    // It begins below the range.
+    PutRun(2, Udp, 5000, 1000, 30, 10),
+    PutRun(2, Udp, 6000, 1030, 970, 2000),
+    Reach(125),
+    // 64 of the 70 ports are free, and the others too, though nobody saw to them.
+    Pick(3, Udp, 9000, 0, 1, Any, Ok((2000, 1))),
+    Pick(3, Udp, 9000, 2069, 1, Must, Ok((2069, 1))),
+    Put(3, Udp, 9000, 2000, 64, 3000),
+    Pick(3, Udp, 9000, 0, 1, Any, Ok((2064, 1))),
+    // A port that rests is open to its own endpoint alone.
+    Pick(2, Udp, 5026, 1026, 1, Must, Ok((1026, 1))),
+    Pick(2, Udp, 5000, 1026, 1, Must, Err(CannotProvide)),
+    Pick(3, Udp, 5026, 1026, 1, Any, Ok((2064, 1))),
+    Reach(129),
+    Pick(3, Udp, 9000, 0, 1, Any, Ok((2064, 1))),
+    // They are due before the run that begins below the range.
+    Put(1, Udp, 300, 300, 70, 10),
+    Reach(130),
+    Pick(3, Udp, 9000, 0, 1, Any, Ok((1024, 1))),
+    Pick(3, Udp, 9000, 1029, 1, Must, Ok((1029, 1))),
+    Pick(3, Udp, 9000, 1023, 1, Any, Ok((1024, 1))),
+    Pick(3, Tcp, 9000, 0, 1, Any, Err(NoPort)),
+    Pick(3, Tcp, 9000, 0, 1, Must, Err(CannotProvide)),
+    Pick(3, Udp, 9000, 0, 2, First(1), Ok((1025, 2))),
+];
+
+// Of a quota of 70; what the counts say is more than is held.
+static LATE: [Call; 6] = [
+    Put(2, Udp, 3000, 1100, 64, 5),
+    Put(1, Udp, 2000, 2000, 70, 5),
+    Pick(1, Udp, 9000, 0, 1, Any, Err(Quota(70))),
+    Reach(125),
+    Pick(1, Udp, 9000, 2069, 1, Must, Ok((2069, 1))),
+    Pick(1, Udp, 9000, 0, 1, Any, Ok((1024, 1))),
+];
+
+/// Whether a port may have this last end.
+fn is_last_end(last: &End) -> bool
+    ensures { OnTrue result (IsLastEnd last.now) }
 {
-    last.external >= 1 && last.end < 1 << 41 && u64::from(now) < last.end + REST_SECONDS
+    last.external >= 1 && last.end < 1 << 41
 }
 
 /// Gives `n` ports, from this one on, the last end of it.
-fn put_all(
-    alloc: Global,
-    ports: &mut LeasedPorts,
-    now: u32,
-    first: &End,
-    n: u16,
-) -> Result<bool, Memory>
-    requires { ports.old.reached ≡ now }
-    ensures { OnOk result (ports.new.reached ≡ now) }
+fn put_all(alloc: Global, ports: &mut LeasedPorts, first: &End, n: u16) -> Result<bool, Memory>
+    ensures { OnOk result (ports.new.reached ≡ ports.old.reached) }
 {
     for i in 0..n {
         let mut last = *first;
         last.external = first.external.wrapping_add(i);
         last.endpoint.port = first.endpoint.port.wrapping_add(i);
-        if !is_last_end(now, &last) {
+        if !is_last_end(&last) {
             return Ok(false);
         }
         ports.put(alloc, &last)?;
@@ -294,28 +334,21 @@ fn ports_from(start: u16) -> u32
     65536 - u32::from(start)
 }
 
-/// Whether so many ports may have this last end and those along it at `now`.
-fn are_last_ends(now: u32, first: &End, count: u32) -> bool
-    ensures { OnTrue result (AreLastEnds now first.now count) }
+/// Whether so many ports may have this last end and those along it.
+fn are_last_ends(first: &End, count: u32) -> bool
+    ensures { OnTrue result (AreLastEnds first.now count) }
 {
-    is_last_end(now, first)
+    is_last_end(first)
         && count >= 1
         && count <= ports_from(first.external)
         && count <= ports_from(first.endpoint.port)
 }
 
 /// Gives `count` ports, from this one on, the last end of it and those along it.
-fn put_run(
-    alloc: Global,
-    ports: &mut LeasedPorts,
-    now: u32,
-    first: &End,
-    count: u32,
-) -> Result<bool, Memory>
-    requires { ports.old.reached ≡ now }
-    ensures { OnOk result (ports.new.reached ≡ now) }
+fn put_run(alloc: Global, ports: &mut LeasedPorts, first: &End, count: u32) -> Result<bool, Memory>
+    ensures { OnOk result (ports.new.reached ≡ ports.old.reached) }
 {
-    if !are_last_ends(now, first, count) {
+    if !are_last_ends(first, count) {
         return Ok(false);
     }
     ports.put_run(alloc, first, count)?;
@@ -356,7 +389,7 @@ fn is_piece(
 
 /// What is picked for a caller that counts no steps.
 fn pick_from<L: Ledger>(
-    ports: &LeasedPorts,
+    ports: &mut LeasedPorts,
     endpoint: &Endpoint,
     ask: &PickAsk,
     blank: Blank,
@@ -366,19 +399,21 @@ fn pick_from<L: Ledger>(
     requires some { 0 < L.parts }
     requires ask { IsAsk ask.now }
     requires internal { ask.now.internal ≡ endpoint.now.port }
+    ensures { ports.new.reached ≡ ports.old.reached }
 {
     ports.pick(endpoint, ask, &mut Steps::<L>::begin(blank))
 }
 
 /// What is picked for the endpoint, with room for as many ports as are asked for.
 fn pick(
-    ports: &LeasedPorts,
+    ports: &mut LeasedPorts,
     endpoint: &Endpoint,
     suggested: u16,
     asked: u32,
     wish: Wish,
 ) -> Result<(u16, u32), PickRefused>
     requires { 1 ≤ asked }
+    ensures { ports.new.reached ≡ ports.old.reached }
 {
     let ask = PickAsk {
         internal: endpoint.port,
@@ -448,7 +483,7 @@ fn is_answered(
                 external,
                 end: u64::from(end),
             };
-            put_all(alloc, ports, *now, &first, n)?
+            put_all(alloc, ports, &first, n)?
         }
         Reach(m) => reaches(ports, now, m),
         Pick(host, protocol, internal, suggested, asked, wish, wanted) => {
@@ -462,7 +497,7 @@ fn is_answered(
                 external,
                 end: u64::from(end),
             };
-            put_run(alloc, ports, *now, &first, n)?
+            put_run(alloc, ports, &first, n)?
         }
         FreeRun(protocol, start, n) => free_run(alloc, ports, protocol, start, n)?,
         PieceOf(protocol, start, most, row, count) => {
@@ -557,6 +592,19 @@ fn runs_rest_and_awake(rt: HostRuntime) {
 #[test]
 fn no_run_crosses_from_tcp_to_udp(rt: HostRuntime) {
     all_are_so(&rt, first_other_of_new(rt.alloc(), 1, 65535, 100, &EDGES));
+}
+
+#[test]
+fn one_port_is_picked_though_nobody_saw_to_it(rt: HostRuntime) {
+    all_are_so(
+        &rt,
+        first_other_of_new(rt.alloc(), 1024, 65535, 2000, &UNSEEN),
+    );
+}
+
+#[test]
+fn a_quota_by_counts_that_lag_is_no_refusal(rt: HostRuntime) {
+    all_are_so(&rt, first_other_of_new(rt.alloc(), 1024, 65535, 70, &LATE));
 }
 
 #[test]

@@ -5,7 +5,9 @@ use pcp_base::{Address, Endpoint, Filters, MapLease, Memory, Moment, Nonce, Peer
 use std::process::Abort;
 
 /// An endpoint of the host 10.0.0.H.
-pub(crate) fn at(protocol: Protocol, host: u8, port: u16) -> Endpoint {
+pub(crate) fn at(protocol: Protocol, host: u8, port: u16) -> Endpoint
+    ensures { result.port ≡ port }
+{
     Endpoint {
         address: Address::v4(10, 0, 0, host),
         protocol,

@@ -4,7 +4,7 @@ ghost use Rattle.std.specs.Prelude.{◌≡◌, ◌<◌, OnOk};
 
 use crate::making::{all_are_so, at, map_of, moment, remote};
 use crate::sound_maps::are_sound_with;
-use Call::{Allowed, Copied, External, Filtered, Find, Live, Next, NextAt, Put, Reach, Remove};
+use Call::{Allowed, Copied, Ended, External, Filtered, Find, Live, Next, NextAt, Put, Remove};
 use mapping_table::MapTable;
 use mapping_table::plain::PlainMapTable;
 use pcp_base::Protocol::{Tcp, Udp};
@@ -27,11 +27,11 @@ enum Call {
     External(u16, Option<u16>),
     /// While all leases are live.
     Next(u8, u16, Option<u16>),
-    /// At the moment that was reached last.
-    NextAt(u8, u16, u32, Option<u16>),
+    /// Host, port, the end, and the moment.
+    NextAt(u8, u16, u32, u32, Option<u16>),
     Remove(u8, u16, Option<u16>),
     Live(u32, u32),
-    Reach(u32),
+    Ended(u32, bool),
     /// The moments at which the one body and the plain one copy leases, and which come.
     Copied(u32, u32, &'static [u16]),
 }
@@ -80,30 +80,34 @@ static RENEWED: [Call; 12] = [
     Live(1139, 2),
 ];
 
-// A set of 100 ports ends, and a single one stays.
-static REACHED: [Call; 19] = [
+// A set of 100 ports and a single one end, and others stay.
+static ENDED: [Call; 23] = [
+    Ended(1119, false),
     Put(Udp, 5, 5000, 100, 1024, 1120),
+    Put(Udp, 5, 5500, 1, 1180, 1100),
     Put(Udp, 5, 6000, 1, 1200, 4610),
-    Reach(1119),
-    Live(1119, 2),
-    NextAt(5, 5000, 1119, Some(5001)),
-    Reach(1120),
-    Live(1120, 1),
-    NextAt(5, 4000, 1120, Some(6000)),
-    NextAt(5, 5000, 1120, Some(6000)),
-    // It is in the list still.
-    Live(1119, 2),
+    Put(Udp, 6, 5000, 1, 1210, 4610),
+    Ended(1099, false),
+    Live(1099, 4),
+    NextAt(5, 5000, 65536, 1099, Some(5001)),
+    NextAt(5, 5200, 65536, 1099, Some(5500)),
+    Ended(1120, true),
+    Live(1120, 2),
+    // Both are passed.
+    NextAt(5, 4000, 65536, 1120, Some(6000)),
+    NextAt(5, 5000, 6001, 1120, Some(6000)),
+    NextAt(5, 5000, 6000, 1120, None),
+    NextAt(5, 5000, 5001, 0, None),
+    NextAt(5, 6000, 65536, 1120, None),
+    // They are in the list still.
+    Live(1099, 4),
     Find(5, 5050, Some(1024)),
-    // Put anew, it is live.
+    // Put anew, the set is live.
     Put(Udp, 5, 5000, 100, 1024, 1300),
-    Live(1120, 2),
-    NextAt(5, 4000, 1120, Some(5000)),
-    // No moment comes again.
-    Reach(1000),
-    Live(1120, 2),
+    NextAt(5, 4000, 65536, 1120, Some(5000)),
     Remove(5, 5000, Some(1024)),
-    Live(1120, 1),
-    NextAt(5, 4000, 1120, Some(6000)),
+    Live(1120, 2),
+    NextAt(5, 4000, 65536, 1120, Some(6000)),
 ];
 
 // In the order granted.
@@ -170,8 +174,8 @@ fn put_both(
     plain: &mut PlainMapTable,
     lease: &MapLease,
 ) -> Result<bool, Memory>
-    requires { table.old.leases ≡ plain.old.leases }
-    ensures { OnOk result (table.new.leases ≡ plain.new.leases) }
+    requires { table.old ≡ plain.old }
+    ensures { OnOk result (table.new ≡ plain.new) }
 {
     if !are_sound_with(alloc, plain.leases(), lease)? {
         return Ok(false);
@@ -188,8 +192,8 @@ fn is_removed(
     key: &Endpoint,
     wanted: Option<u16>,
 ) -> bool
-    requires { table.old.leases ≡ plain.old.leases }
-    ensures { table.new.leases ≡ plain.new.leases }
+    requires { table.old ≡ plain.old }
+    ensures { table.new ≡ plain.new }
 {
     let (removed, plainly) = (table.remove(key), plain.remove(key));
     (told(removed.as_ref()), told(plainly.as_ref())) == (wanted, wanted)
@@ -241,17 +245,21 @@ fn are_covered<L: Ledger>(
     (covered, plain.covers(endpoint, moment(0), steps)) == (wanted.is_some(), wanted.is_some())
 }
 
-/// Whether both bodies tell this port as the next one that is covered at a moment.
+/// Whether both bodies tell this port as the next one before the end that is covered at a moment.
 fn are_next<L: Ledger>(
     table: &MapTable,
     plain: &PlainMapTable,
     endpoint: &Endpoint,
-    m: u32,
+    within: (u32, u32),
     wanted: Option<u16>,
     steps: &mut Steps<L>,
 ) -> bool {
-    let next = table.next_internal(endpoint, moment(m), steps);
-    (next, plain.next_internal(endpoint, moment(m), steps)) == (wanted, wanted)
+    let (end, m) = within;
+    if end <= u32::from(endpoint.port) || 65536 < end {
+        return false;
+    }
+    let next = table.next_internal(endpoint, end, moment(m), steps);
+    (next, plain.next_internal(endpoint, end, moment(m), steps)) == (wanted, wanted)
 }
 
 /// Whether both bodies answer so a call that changes nothing and copies nothing.
@@ -277,13 +285,22 @@ fn is_told<L: Ledger>(
             are_allowed(table, plain, &at(Udp, host, 5000), external, wanted, steps)
         }
         Next(host, port, wanted) => {
-            are_next(table, plain, &at(Udp, host, port), 0, wanted, steps)
+            are_next(
+                table,
+                plain,
+                &at(Udp, host, port),
+                (65536, 0),
+                wanted,
+                steps,
+            )
         }
-        NextAt(host, port, m, wanted) => {
-            are_next(table, plain, &at(Udp, host, port), m, wanted, steps)
+        NextAt(host, port, end, m, wanted) => {
+            are_next(table, plain, &at(Udp, host, port), (end, m), wanted, steps)
         }
-        Live(m, wanted) => {
-            (table.live(moment(m), steps), plain.live(moment(m), steps)) == (wanted, wanted)
+        Live(m, wanted) => (table.live(moment(m)), plain.live(moment(m))) == (wanted, wanted),
+        Ended(m, wanted) => {
+            let ended = table.has_ended(moment(m), steps);
+            (ended, plain.has_ended(moment(m), steps)) == (wanted, wanted)
         }
         _ => false,
     }
@@ -297,8 +314,8 @@ fn is_answered<L: Ledger>(
     call: &Call,
     steps: &mut Steps<L>,
 ) -> Result<bool, Memory>
-    requires { table.old.leases ≡ plain.old.leases }
-    ensures { OnOk result (table.new.leases ≡ plain.new.leases) }
+    requires { table.old ≡ plain.old }
+    ensures { OnOk result (table.new ≡ plain.new) }
 {
     Ok(match *call {
         Put(protocol, host, internal, count, external, expiry) => {
@@ -313,11 +330,6 @@ fn is_answered<L: Ledger>(
         Copied(first, second, wanted) => {
             are_copied(alloc, table, plain, (first, second), wanted)?
         }
-        Reach(m) => {
-            table.reach(moment(m), steps);
-            plain.reach(moment(m), steps);
-            true
-        }
         _ => is_told(table, plain, call, steps),
     })
 }
@@ -325,7 +337,7 @@ fn is_answered<L: Ledger>(
 /// Whether the table forgets its leases.
 fn forgets<L: Ledger>(table: &mut MapTable, steps: &mut Steps<L>) -> bool {
     table.clear();
-    table.find(&at(Tcp, 5, 5000), steps).is_none() && table.live(moment(0), steps) == 0
+    table.find(&at(Tcp, 5, 5000), steps).is_none() && table.live(moment(0)) == 0
 }
 
 /// Makes calls, one after the other, of bodies that hold the same, and clears the one then. The
@@ -337,7 +349,7 @@ fn first_other<L: Ledger>(
     calls: &[Call],
     steps: &mut Steps<L>,
 ) -> Result<Option<usize>, Memory>
-    requires { table.old.leases ≡ plain.old.leases }
+    requires { table.old ≡ plain.old }
 {
     for (number, call) in calls.iter().enumerate() {
         if !is_answered(alloc, table, plain, call, steps)? {
@@ -383,10 +395,10 @@ fn a_renewal_keeps_its_place(rt: HostRuntime) {
 }
 
 #[test]
-fn ended_leases_leave_the_live_ones(rt: HostRuntime) {
+fn ended_leases_are_passed(rt: HostRuntime) {
     all_are_so(
         &rt,
-        first_other_of_new::<Brand>(rt.alloc(), Blank::new(1), &REACHED),
+        first_other_of_new::<Brand>(rt.alloc(), Blank::new(1), &ENDED),
     );
 }
 

@@ -5,7 +5,7 @@ ghost use Rattle.std.specs.Prelude.{◌≡◌, ◌<◌, OnOk};
 use crate::making::{all_are_so, at, moment, peer_of, remote};
 use crate::sound_peers::are_sound_with;
 use Call::{
-    Copied, External, Find, Last, Live, Next, NextAt, OfEndpoint, Owned, Put, Reach, Remove,
+    Copied, EndedOf, External, Find, HasEnded, Last, Live, Next, OfEndpoint, Owned, Put, Remove,
     Unsound,
 };
 use pcp_base::Protocol::{Tcp, Udp};
@@ -27,11 +27,11 @@ enum Call {
     Unsound(u8, u16, u16, u8, u16, u32),
     Find(u8, u16, u8, u16, Option<u64>),
     External(u16, u8, u16, Option<u64>),
-    /// While all leases are live.
-    Next(u8, u16, Option<u16>),
-    /// At a moment that was reached last.
-    NextAt(u8, u16, u32, Option<u16>),
-    Reach(u32),
+    /// A host and its port, the end, a moment, and the next port.
+    Next(u8, u16, u32, u32, Option<u16>),
+    /// A host and its port, a moment, and the one lease of them that has ended.
+    EndedOf(u8, u16, u32, Option<u64>),
+    HasEnded(u32, bool),
     /// A host and its port, a moment, and the external port and count.
     OfEndpoint(u8, u16, u32, Option<(u16, u32)>),
     Remove(u8, u16, u8, u16, Option<u64>),
@@ -62,11 +62,11 @@ static OPENED: [Call; 26] = [
     Put(5, 5001, 1025, 7, 53, 1200),
     Put(6, 5000, 1026, 7, 53, 1200),
     OfEndpoint(5, 5000, 1010, Some((1024, 2))),
-    Next(5, 4999, Some(5000)),
-    Next(5, 5000, Some(5001)),
-    Next(5, 5001, None),
-    Next(5, 65535, None),
-    Next(6, 0, Some(5000)),
+    Next(5, 4999, 65536, 1010, Some(5000)),
+    Next(5, 5000, 65536, 1010, Some(5001)),
+    Next(5, 5001, 65536, 1010, None),
+    Next(5, 65535, 65536, 1010, None),
+    Next(6, 0, 65536, 1010, Some(5000)),
     Remove(5, 5000, 7, 54, None),
     Remove(5, 5000, 7, 53, Some(4610)),
     External(1024, 7, 53, None),
@@ -91,22 +91,36 @@ static RENEWED: [Call; 12] = [
     Live(1139, 2),
 ];
 
-static REACHED: [Call; 13] = [
+static ENDED: [Call; 26] = [
+    HasEnded(1120, false),
     Put(5, 5000, 1024, 7, 53, 1120),
+    Put(5, 5000, 1024, 8, 53, 1300),
     Put(5, 6000, 1025, 7, 53, 4610),
-    Reach(1120),
-    Live(1120, 1),
-    NextAt(5, 4000, 1120, Some(6000)),
-    // It is in the list still.
-    Live(1119, 2),
-    Find(5, 5000, 7, 53, Some(1120)),
-    // Put anew, it is live.
-    Put(5, 5000, 1024, 7, 53, 1300),
+    HasEnded(1119, false),
+    EndedOf(5, 5000, 1119, None),
+    Live(1119, 3),
+    // A lease that has ended stays.
+    HasEnded(1120, true),
+    EndedOf(5, 5000, 1120, Some(1120)),
+    EndedOf(5, 6000, 1120, None),
+    EndedOf(6, 5000, 1120, None),
     Live(1120, 2),
-    NextAt(5, 4000, 1120, Some(5000)),
-    Remove(5, 5000, 7, 53, Some(1300)),
-    Live(1120, 1),
-    NextAt(5, 4000, 1120, Some(6000)),
+    Find(5, 5000, 7, 53, Some(1120)),
+    // A port is passed over once all its leases have ended.
+    Next(5, 4000, 65536, 1120, Some(5000)),
+    Next(5, 4000, 65536, 1300, Some(6000)),
+    Next(5, 4000, 6001, 1300, Some(6000)),
+    Next(5, 4000, 6000, 1300, None),
+    Next(5, 4000, 65536, 4610, None),
+    // Put anew, one is live.
+    Put(5, 5000, 1024, 7, 53, 1400),
+    Next(5, 4000, 65536, 1300, Some(5000)),
+    EndedOf(5, 5000, 1300, Some(1300)),
+    Live(1300, 2),
+    Remove(5, 5000, 8, 53, Some(1300)),
+    EndedOf(5, 5000, 1300, None),
+    HasEnded(1300, false),
+    HasEnded(1400, true),
 ];
 
 // An endpoint has no more leases than sixteen.
@@ -138,7 +152,7 @@ static COPIED: [Call; 4] = [
     Last(1024, Some(4610)),
 ];
 
-static OWNED: [Call; 22] = [
+static OWNED: [Call; 21] = [
     Owned(Udp, 0, None),
     Put(5, 5000, 1024, 7, 53, 1130),
     Put(6, 5000, 1030, 7, 53, 1120),
@@ -157,7 +171,6 @@ static OWNED: [Call; 22] = [
     Remove(6, 5000, 7, 53, Some(1120)),
     Owned(Udp, 1025, Some(1030)),
     // A lease that has ended owns its port until it goes.
-    Reach(1130),
     Owned(Udp, 1023, Some(1024)),
     Remove(5, 5000, 7, 53, Some(1130)),
     Owned(Udp, 1023, Some(1030)),
@@ -254,15 +267,20 @@ fn is_told<L: Ledger>(
             let plainly = told(plain.by_external(Udp, port, &remote, remote_port));
             (found, plainly) == (wanted, wanted)
         }
-        Next(host, port, wanted) => {
+        Next(host, port, end, m, wanted) => {
             let endpoint = at(Udp, host, port);
-            let next = table.next_internal(&endpoint, moment(0), steps);
-            (next, plain.next_internal(&endpoint, moment(0), steps)) == (wanted, wanted)
+            let next = table.next_internal(&endpoint, end, moment(m), steps);
+            (next, plain.next_internal(&endpoint, end, moment(m), steps)) == (wanted, wanted)
         }
-        NextAt(host, port, m, wanted) => {
+        EndedOf(host, port, m, wanted) => {
             let endpoint = at(Udp, host, port);
-            let next = table.next_internal(&endpoint, moment(m), steps);
-            (next, plain.next_internal(&endpoint, moment(m), steps)) == (wanted, wanted)
+            let found = told(table.ended_of(&endpoint, moment(m), steps));
+            let plainly = told(plain.ended_of(&endpoint, moment(m), steps));
+            (found, plainly) == (wanted, wanted)
+        }
+        HasEnded(m, wanted) => {
+            let ended = table.has_ended(moment(m), steps);
+            (ended, plain.has_ended(moment(m), steps)) == (wanted, wanted)
         }
         OfEndpoint(host, port, m, wanted) => {
             let endpoint = at(Udp, host, port);
@@ -270,10 +288,7 @@ fn is_told<L: Ledger>(
             let plainly = use_told(plain.of_endpoint(&endpoint, moment(m), steps));
             (found, plainly) == (wanted, wanted)
         }
-        Live(m, wanted) => {
-            let live = table.live(moment(m), steps);
-            (live, plain.live(moment(m), steps)) == (wanted, wanted)
-        }
+        Live(m, wanted) => { (table.live(moment(m)), plain.live(moment(m))) == (wanted, wanted) }
         Last(port, wanted) => table.last_expiry(Udp, port) == wanted,
         Owned(protocol, port, wanted) => table.next_owned(protocol, port) == wanted,
         _ => false,
@@ -292,19 +307,6 @@ fn is_told_uncounted<L: Ledger>(
     requires some { 0 < L.parts }
 {
     is_told(table, plain, call, &mut Steps::<L>::begin(blank))
-}
-
-/// Lets both bodies reach a moment.
-fn reach_both<L: Ledger>(table: &mut PeerTable, plain: &mut PlainPeerTable, m: u32, blank: Blank)
-    requires name { blank.name ≡ L.name }
-    requires parts { blank.parts ≡ L.parts }
-    requires some { 0 < L.parts }
-    requires same { table.old ≡ plain.old }
-    ensures { table.new ≡ plain.new }
-{
-    let mut steps = Steps::<L>::begin(blank);
-    table.reach(moment(m), &mut steps);
-    plain.reach(moment(m), &mut steps);
 }
 
 /// Makes a call of both bodies. Whether both give the answer that is wanted.
@@ -337,27 +339,14 @@ fn is_answered(
             )
         }
         Copied(first, second, count) => copied(alloc, table, plain, (first, second))? == count,
-        Reach(m) => {
-            reach_both::<Brand>(table, plain, m, Blank::new(1));
-            true
-        }
         _ => is_told_uncounted::<Brand>(table, plain, call, Blank::new(1)),
     })
-}
-
-/// How many leases are live at 0.
-fn live_uncounted<L: Ledger>(table: &PeerTable, blank: Blank) -> u32
-    requires name { blank.name ≡ L.name }
-    requires parts { blank.parts ≡ L.parts }
-    requires some { 0 < L.parts }
-{
-    table.live(moment(0), &mut Steps::<L>::begin(blank))
 }
 
 /// Whether the table forgets its leases.
 fn forgets(table: &mut PeerTable) -> bool {
     table.clear();
-    table.last_expiry(Udp, 1024) == None && live_uncounted::<Brand>(table, Blank::new(1)) == 0
+    table.last_expiry(Udp, 1024) == None && table.live(moment(0)) == 0
 }
 
 /// Makes calls, one after the other, of bodies that hold the same, and clears the one then. The
@@ -404,8 +393,8 @@ fn an_endpoint_has_sixteen_leases(rt: HostRuntime) {
 }
 
 #[test]
-fn ended_leases_leave_the_live_ones(rt: HostRuntime) {
-    all_are_so(&rt, first_other_of_new(rt.alloc(), &REACHED));
+fn ended_leases_stay_until_they_are_taken_out(rt: HostRuntime) {
+    all_are_so(&rt, first_other_of_new(rt.alloc(), &ENDED));
 }
 
 #[test]

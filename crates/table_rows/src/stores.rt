@@ -187,8 +187,10 @@ fn picked_of(row: Result<(u16, u32), PickRefused>) -> Result<Picked, PickRefused
 }
 
 /// Whether the ask is answered so.
-fn is_answered<L: Ledger>(store: &PlainStore, ask: &Ask, steps: &mut Steps<L>) -> bool
-    requires { IsReached store.now.state }
+fn is_answered<L: Ledger>(store: &mut PlainStore, ask: &Ask, steps: &mut Steps<L>) -> bool
+    requires { IsReached store.old.state }
+    ensures state { store.new.state ≡ store.old.state }
+    ensures reached { store.new.reached ≡ store.old.reached }
 {
     if ask.4 == 0 {
         return false;
@@ -290,13 +292,13 @@ fn tells_leases<L: Ledger>(store: &PlainStore, steps: &mut Steps<L>) -> bool
     requires { IsReached store.now.state }
 {
     let first = at(Udp, 5, 5000);
-    let next = store.next_inside(&at(Udp, 5, 4000), steps);
-    let second = store.next_inside(&first, steps);
-    let inside = (next, second, store.next_inside(&at(Udp, 5, 5001), steps));
+    let next = store.room_inside(&at(Udp, 5, 4000), 4096, steps);
+    let second = store.room_inside(&first, 8, steps);
+    let inside = (next, second, store.room_inside(&at(Udp, 5, 5001), 8, steps));
     let (live, over) = (moment(1139), moment(1140));
     let covered = (store.covered(&first, live), store.covered(&first, over));
-    let counts = (store.lease_count(steps), store.leases(over));
-    inside == (Some(5000), Some(5001), None) && covered == (true, false) && counts == (5, 3)
+    let counts = (store.leases(store.last()), store.leases(over));
+    inside == (1000, 1, 8) && covered == (true, false) && counts == (5, 3) && store.has_room(steps)
 }
 
 /// Whether the lists are those of the records.
@@ -391,21 +393,11 @@ fn admits_first(alloc: Global, store: &mut PlainStore, act: Act) -> Result<bool,
     store.admit_first(alloc, &kept)
 }
 
-/// Whether no lease is live, for a caller that counts no steps.
-fn is_empty_from<L: Ledger>(store: &PlainStore, blank: Blank) -> bool
-    requires name { blank.name ≡ L.name }
-    requires parts { blank.parts ≡ L.parts }
-    requires some { 0 < L.parts }
-    requires reached { IsReached store.now.state }
-{
-    store.lease_count(&mut Steps::<L>::begin(blank)) == 0
-}
-
 /// Whether the store forgets its state, and admits a Start by the first format then, and no second
 /// record, which names the external address.
 fn forgets(alloc: Global, store: &mut PlainStore) -> Result<bool, Memory> {
     store.clear();
-    let none = is_empty_from::<Brand>(store, Blank::new(1)) && store.last().get() == 0;
+    let none = store.leases(moment(0)) == 0 && store.last().get() == 0;
     let begins = admits_first(alloc, store, Act::Start)?;
     let renumbers = admits_first(alloc, store, Act::Renumber(1))?;
     Ok(none && begins && !renumbers && store.base().get() == 5 && store.address() == None)

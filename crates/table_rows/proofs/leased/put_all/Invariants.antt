@@ -2,4 +2,4 @@ use Rattle.std.proofs.Common.{◌≡◌}
 use Rattle.table_rows.proofs.leased.put_all.Given as goal
 
 abbrev pub invariant-loop-i : goal.invariant-loop-i
-invariant-loop-i l = l.ports.reached ≡ l.now
+invariant-loop-i l = l.ports.reached ≡ l.fn.ports.reached
