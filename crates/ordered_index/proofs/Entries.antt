@@ -224,3 +224,11 @@ same_tests false b f g = sym (false_by b (λ t. let both : false ≡ true = g t 
 pub some_of : {X : Type 0} (o : Option X) → IsSome o → (x : X) × (o ≡ Some x)
 some_of None h = absurd (let no : false ≡ true = h in cc)
 some_of (Some x) h = (x, refl)
+
+-- what stands in the list has a number
+pub value-entry : {X : Type 0} (es : List (ℕ × X)) (y : X) → IsIn y (values_of es) → (n : ℕ) × IsIn (n, y) es
+value-entry [] y h = absurd h
+value-entry {X} (e ∷ es) y h = elim h [
+  | inl same ↦ (e.0, inl (ap (λ (z : X). (e.0, z)) same))
+  | inr later ↦ (let r = value-entry es y later in (r.0, inr r.1))
+]

@@ -8,5 +8,4 @@ pub mod Keeping
 pub mod Endings
 pub mod FirstAndRest
 pub mod PlaceCounts
-pub mod Lives
-pub mod Passing
+pub mod PutCounts

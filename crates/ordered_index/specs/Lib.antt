@@ -5,4 +5,3 @@ pub mod Lesser
 pub mod Kept
 pub mod Orders
 pub mod Sieves
-pub mod Live

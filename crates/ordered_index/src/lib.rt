@@ -4,7 +4,6 @@
 mod changes;
 mod expiries;
 mod keys;
-mod live;
 mod maps;
 mod numbered;
 mod places;
@@ -12,7 +11,6 @@ mod ports;
 mod sieves;
 
 pub use keys::{Port, first_from, last_up_to, port_at};
-pub use live::LiveKeys;
 pub use numbered::Numbered;
 pub use places::{Place, is_beside, place_of, port_in};
 pub use ports::lesser;
