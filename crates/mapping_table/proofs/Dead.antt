@@ -1,22 +1,25 @@
 -- Whether a lease isn't live.
-use Rattle.std.proofs.Common.{◌≡◌, ℕ, not, Bool, List, Option, Some, None, refl, sym, ap}
-use Rattle.std.specs.Prelude.{is_some, option_copied}
-use Rattle.std.specs.Borrow.{Bor}
+use Rattle.std.proofs.Common.{◌≡◌, ℕ, not, Bool, List, Option, Some, None, sym, ap}
+use Rattle.std.specs.Prelude.{is_some}
 use Rattle.std.specs.List.{list_any}
+use Rattle.std.specs.BTreeMap.{values}
 use Rattle.pcp_base.specs.declared.leases.MapLease.{MapLease}
 use Rattle.pcp_base.proofs.Members.{IsIn-from_Contains, some-any, none-any, find-none}
-use Rattle.mapping_table.specs.MapLists.{is_live_map, IsDeadMap}
+use Rattle.ordered_index.specs.declared.numbered.Numbered.{Numbered}
+use Rattle.ordered_index.specs.Ended.{IsOneEnded}
+use Rattle.ordered_index.specs.Orders.{Place}
+use Rattle.ordered_index.proofs.Endings.{one-none, one-stands, one-among}
+use Rattle.mapping_table.specs.MapLists.{is_live_map}
+use Rattle.mapping_table.specs.Kept.{map_keying, AreKeptMaps}
+use Rattle.mapping_table.proofs.MapKeeping.{map_laws}
 
--- to look at what is told
-pub copied-some : {X : Type 0} (o : Option (Bor X)) → is_some o ≡ is_some (option_copied o)
-copied-some None = refl
-copied-some (Some x) = refl
-
-module _ (m : ℕ) (ls : List MapLease) where
+module _ (m : ℕ) (it : Numbered MapLease Place (ℕ × ℕ)) (h : AreKeptMaps it) where
   abbrev dead : MapLease → Bool
   dead l = not (is_live_map m l)
 
-  -- where one that isn't live is told
-  pub some-dead : (o : Option MapLease) → IsDeadMap m ls o → is_some o ≡ list_any dead ls
-  some-dead None h = sym (none-any dead ls (find-none dead ls h.none))
-  some-dead (Some l) h = sym (some-any dead ls l (IsIn-from_Contains ls l h.among) (ap not h.dead))
+  -- where the number of one that isn't live is told
+  pub some-ended : (o : Option ℕ) → IsOneEnded m it.expiries o → is_some o ≡ list_any dead (values it.leases)
+  some-ended None ended = sym (none-any dead (values it.leases) (find-none dead (values it.leases) (one-none map_keying map_laws it h.kept m ended)))
+  some-ended (Some n) ended =
+      let y = one-stands map_keying map_laws it h.kept m n ended in
+      sym (some-any dead (values it.leases) y.0 (IsIn-from_Contains (values it.leases) y.0 (one-among map_keying map_laws it h.kept m n y.0 y.1)) (ap not y.2))

@@ -13,3 +13,4 @@ pub mod Bares
 pub mod Meetings
 pub mod OneMore
 pub mod Nearest
+pub mod LevelLemmas

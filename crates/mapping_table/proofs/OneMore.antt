@@ -11,7 +11,7 @@ use Rattle.pcp_base.proofs.Puts.{put_All}
 use Rattle.pcp_base.proofs.TableLemmas.{covers-first, key-same}
 use Rattle.ordered_index.proofs.Entries.{false_by}
 use Rattle.ordered_index.proofs.EntryLaws.{count-cons}
-use Rattle.ordered_index.proofs.Lives.{tally_found, count-put}
+use Rattle.ordered_index.proofs.PutCounts.{tally_found, count-put}
 use Rattle.mapping_table.specs.MapLists.{map_with_key, meet_inside, meet_outside, overlaps, with_map, AreSeparate, AreSoundMaps}
 use Rattle.mapping_table.proofs.Meetings.{separate-flip}
 use Rattle.mapping_table.proofs.Separates.{cover_apart}

@@ -16,7 +16,7 @@ use Rattle.ordered_index.proofs.EntryLaws.{count-some, count-removed}
 use Rattle.ordered_index.proofs.Endings.{count-values}
 use Rattle.ordered_index.proofs.Entries.{false_by}
 use Rattle.ordered_index.proofs.Keeping.{none-found, key-found, same-values}
-use Rattle.ordered_index.proofs.Lives.{tally_found, count-put}
+use Rattle.ordered_index.proofs.PutCounts.{tally_found, count-put}
 use Rattle.ordered_index.proofs.Mirrorings.{at-entry}
 use Rattle.mapping_table.specs.Kept.{place_of_lease, map_keying, is_set, sets_of, AreKeptMaps, AreCountedMaps}
 use Rattle.mapping_table.specs.MapLists.{with_map}

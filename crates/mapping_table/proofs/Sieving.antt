@@ -23,7 +23,7 @@ use Rattle.ordered_index.proofs.PlaceCounts.{slot_of-below, no_places-none}
 use Rattle.mapping_table.specs.Kept.{place_of_lease, map_keying, falls_on, AreKeptMaps, SievesMaps}
 use Rattle.mapping_table.specs.MapLists.{with_map}
 use Rattle.mapping_table.proofs.MapKeeping.{map_laws, map_tells}
-use Rattle.ordered_index.proofs.Lives.{tally_found, count-put}
+use Rattle.ordered_index.proofs.PutCounts.{tally_found, count-put}
 
 -- what a number has after another was set
 set_step : (counts : List ℕ) (s n slot : ℕ) → s < length counts → (b : Bool) → (s == slot) ≡ b → slice_index (slice_set counts s n) slot ≡ cond b n (slice_index counts slot)

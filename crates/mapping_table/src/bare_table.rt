@@ -22,7 +22,8 @@ use std::alloc::{AllocError, Global};
 use std::collections::BTreeMap;
 use std::marker::Model;
 use std::sync::ledger::Ledger;
-use step_count::Steps;
+use step_count::laws::levels_grow;
+use step_count::{Steps, levels};
 
 /// MAP leases without their filters, seen as a list in the order granted.
 #[derive(Drop)]
@@ -113,20 +114,24 @@ fn is_live_at(found: Option<&BareLease>, m: Moment) -> bool
 }
 
 /// Puts a lease in the place of the one with its key, or at the end.
-fn put_kept(
+fn put_kept<L: Ledger>(
     kept: &mut Numbered<BareLease, Place, Port>,
     sieve: &mut Sieve,
     sets: &mut u32,
     lease: BareLease,
+    steps: &mut Steps<L>,
 ) -> Result<(), Memory>
     requires sieved { AreSievedMaps kept.old sets.old sieve.old }
     requires sound { AreSoundMaps (with_map lease (values kept.old.leases)) }
     ensures sieved { AreSievedMaps kept.new sets.new sieve.new }
     ensures put { PutsMap (values kept.old.leases) lease result (values kept.new.leases) }
+    ensures steps { steps.new ≤ steps.old + 8 * levels (length (values kept.old.leases) + 1) }
 {
+    levels_grow();
+    look(kept, steps);
     match number_at(sieve, kept, &lease.place()) {
-        Some(number) => replace(kept, sets, number, lease),
-        None => append(kept, sieve, sets, lease),
+        Some(number) => replace(kept, sets, number, lease, steps),
+        None => append(kept, sieve, sets, lease, steps),
     }
 }
 
@@ -338,24 +343,42 @@ impl BareTable {
 
     /// Puts a lease in the place of the one with its key, or at the end. The one error is want of
     /// memory, which changes nothing.
-    pub(crate) fn put(&mut self, lease: BareLease) -> Result<(), Memory>
+    pub(crate) fn put<L: Ledger>(
+        &mut self,
+        lease: BareLease,
+        steps: &mut Steps<L>,
+    ) -> Result<(), Memory>
         requires { AreSoundMaps (with_map lease self.old) }
-        ensures { PutsMap self.old lease result self.new }
+        ensures put { PutsMap self.old lease result self.new }
+        ensures steps { steps.new ≤ steps.old + 8 * levels (length self.old + 1) }
     {
-        put_kept(&mut self.kept, &mut self.sieve, &mut self.sets, lease)
+        put_kept(
+            &mut self.kept,
+            &mut self.sieve,
+            &mut self.sets,
+            lease,
+            steps,
+        )
     }
 
-    /// Takes out the lease with this first endpoint.
-    pub(crate) fn remove(&mut self, key: &Endpoint) -> Option<BareLease>
-        ensures { RemovesMap self.old key.now result self.new }
+    /// Takes out the lease with this first endpoint, and an entry of each of four maps.
+    pub(crate) fn remove<L: Ledger>(
+        &mut self,
+        key: &Endpoint,
+        steps: &mut Steps<L>,
+    ) -> Option<BareLease>
+        ensures removed { RemovesMap self.old key.now result self.new }
+        ensures steps { steps.new ≤ steps.old + 6 * levels (length self.old) }
     {
+        look(&self.kept, steps);
         let place = place_of(key);
         let Some(number) = number_at(&self.sieve, &self.kept, &place) else {
             return None;
         };
-        let Some(lease) = self.kept.leases.get(&number).copied() else {
+        let Some(lease) = lease_at(&self.kept, number, steps).copied() else {
             return None;
         };
+        steps.take(4 * levels(self.kept.leases.len()));
         self.kept
             .forget(number, place, lease.port(), lease.expiry());
         self.sets -= lease.sets();
@@ -369,17 +392,20 @@ impl BareTable {
         ensures steps { steps.new ≤ steps.old + levels (length self.now) }
     {
         look(&self.kept, steps);
-        self.one_ended(m).is_some()
+        self.kept.one_ended(m).is_some()
     }
 
     /// One of the leases that aren't live at `m` and expired first. It looks at that one alone.
-    pub(crate) fn one_ended(&self, m: Moment) -> Option<&BareLease>
-        ensures { IsDeadMap m self.now (option_copied result) }
+    pub(crate) fn one_ended<L: Ledger>(&self, m: Moment, steps: &mut Steps<L>) -> Option<&BareLease>
+        ensures ended { IsDeadMap m self.now (option_copied result) }
+        ensures steps { steps.new ≤ steps.old + 2 * levels (length self.now) }
     {
-        let Some(number) = self.kept.one_ended(m) else {
+        let kept = &self.kept;
+        look(kept, steps);
+        let Some(number) = kept.one_ended(m) else {
             return None;
         };
-        self.kept.leases.get(&number)
+        lease_at(kept, number, steps)
     }
 
     /// Appends the leases that are live at `m`, in the order granted, with their filters. The one

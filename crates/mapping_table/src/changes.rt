@@ -1,7 +1,8 @@
 //! Leases that come and change.
 
-ghost use Rattle.std.specs.Prelude.{◌≡◌, ℕ, List, Some, None};
+ghost use Rattle.std.specs.Prelude.{◌≡◌, ◌≤◌, ◌+◌, ◌*◌, ℕ, List, Some, None, length};
 ghost use Rattle.std.specs.BTreeMap.{get, values};
+ghost use Rattle.step_count.specs.Levels.{levels};
 ghost use Rattle.ordered_index.specs.Orders.{place_cmp};
 ghost use Rattle.mapping_table.specs.MapLists.{AreSoundMaps, with_map, PutsMap};
 ghost use Rattle.mapping_table.specs.Kept.{place_of_lease, AreCountedMaps, SievesMaps};
@@ -9,13 +10,17 @@ ghost use Rattle.mapping_table.specs.Kept.{place_of_lease, AreCountedMaps, Sieve
 use crate::bare::BareLease;
 use ordered_index::{Numbered, Place, Port, Sieve};
 use pcp_base::Memory;
+use std::sync::ledger::Ledger;
+use step_count::{Steps, levels};
 
-/// Appends a lease whose key has no number.
-pub(crate) fn append(
+/// Appends a lease whose key has no number. It puts an entry into each of four maps; where the last
+/// one fails, it takes out the three others.
+pub(crate) fn append<L: Ledger>(
     kept: &mut Numbered<BareLease, Place, Port>,
     sieve: &mut Sieve,
     sets: &mut u32,
     lease: BareLease,
+    steps: &mut Steps<L>,
 ) -> Result<(), Memory>
     requires counted { AreCountedMaps kept.old sets.old }
     requires sieved { SievesMaps sieve.old (values kept.old.leases) }
@@ -24,7 +29,9 @@ pub(crate) fn append(
     ensures counted { AreCountedMaps kept.new sets.new }
     ensures sieved { SievesMaps sieve.new (values kept.new.leases) }
     ensures put { PutsMap (values kept.old.leases) lease result (values kept.new.leases) }
+    ensures steps { steps.new ≤ steps.old + 7 * levels (length (values kept.old.leases) + 1) }
 {
+    steps.take(7 * levels(kept.leases.len() + 1));
     let place = lease.place();
     kept.append(lease, place, lease.port(), lease.expiry())?;
     *sets += lease.sets();
@@ -32,12 +39,14 @@ pub(crate) fn append(
     Ok(())
 }
 
-/// Puts a lease in the place of the one with its key, which has this number.
-pub(crate) fn replace(
+/// Puts a lease in the place of the one with its key, which has this number. It looks at that one,
+/// puts a port and an expiry in, takes two out, and writes the lease.
+pub(crate) fn replace<L: Ledger>(
     kept: &mut Numbered<BareLease, Place, Port>,
     sets: &mut u32,
     number: u64,
     lease: BareLease,
+    steps: &mut Steps<L>,
 ) -> Result<(), Memory>
     requires counted { AreCountedMaps kept.old sets.old }
     requires key { get place_cmp kept.old.keys (place_of_lease lease) ≡ Some number }
@@ -46,7 +55,9 @@ pub(crate) fn replace(
     ensures sieved { (sieve : List ℕ) → SievesMaps sieve (values kept.old.leases)
         → SievesMaps sieve (values kept.new.leases) }
     ensures put { PutsMap (values kept.old.leases) lease result (values kept.new.leases) }
+    ensures steps { steps.new ≤ steps.old + 6 * levels (length (values kept.old.leases) + 1) }
 {
+    steps.take(6 * levels(kept.leases.len() + 1));
     let old = kept.leases[&number];
     let ports = (old.port(), lease.port());
     kept.replace(number, lease, ports, (old.expiry(), lease.expiry()))?;

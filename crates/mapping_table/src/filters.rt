@@ -33,20 +33,8 @@ pub(crate) fn whole(filters: &BTreeMap<Place, Filters>, lease: &BareLease) -> Ma
     lease.with(filters_of(filters, lease))
 }
 
-/// The lease that was found, with its filters.
-pub(crate) fn whole_found(
-    filters: &BTreeMap<Place, Filters>,
-    found: Option<&BareLease>,
-) -> Option<MapLease>
-    ensures { result ≡ option_map (whole (filters_at filters.now)) (option_copied found.entry) }
-{
-    match found {
-        Some(lease) => Some(whole(filters, lease)),
-        None => None,
-    }
-}
-
-/// The same by one look more, into a map that has no more entries than there are leases.
+/// The lease that was found, with its filters, by a look into a map that has no more entries than
+/// there are leases.
 pub(crate) fn whole_by_look<L: Ledger>(
     filters: &BTreeMap<Place, Filters>,
     found: Option<&BareLease>,

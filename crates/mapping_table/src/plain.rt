@@ -15,8 +15,8 @@ use std::marker::Model;
 use std::sync::ledger::Ledger;
 use step_count::Steps;
 
-/// MAP leases in the order granted, with the same clauses as `MapTable`. It has no ordered map, so
-/// it takes no steps.
+/// MAP leases in the order granted. Each call that `MapTable` has too has the same clauses. It has
+/// no ordered map, so it takes no steps.
 #[derive(Drop)]
 pub struct PlainMapTable {
     leases: Vec<MapLease>,
@@ -239,17 +239,24 @@ impl PlainMapTable {
 
     /// Puts a lease in the place of the one with its key, or at the end. The one error is want of
     /// memory, which changes nothing.
-    pub fn put(&mut self, _alloc: Global, lease: MapLease) -> Result<(), Memory>
+    pub fn put<L: Ledger>(
+        &mut self,
+        _alloc: Global,
+        lease: MapLease,
+        _steps: &mut Steps<L>,
+    ) -> Result<(), Memory>
         requires { AreSoundMaps (with_map lease self.old) }
-        ensures { PutsMap self.old lease result self.new }
+        ensures put { PutsMap self.old lease result self.new }
+        ensures steps { _steps.new ≡ _steps.old }
     {
         put_into(&mut self.leases, lease)?;
         Ok(())
     }
 
     /// Takes out the lease with this first endpoint.
-    pub fn remove(&mut self, key: &Endpoint) -> Option<MapLease>
-        ensures { RemovesMap self.old key.now result self.new }
+    pub fn remove<L: Ledger>(&mut self, key: &Endpoint, _steps: &mut Steps<L>) -> Option<MapLease>
+        ensures removed { RemovesMap self.old key.now result self.new }
+        ensures steps { _steps.new ≡ _steps.old }
     {
         let found = lease_with(&self.leases, key).copied();
         drop_from(&mut self.leases, key);

@@ -8,14 +8,14 @@ ghost use Rattle.mapping_table.specs.MapLists.{is_live_map, some_live_map, map_c
 
 use crate::bare::BareLease;
 use crate::bare_table::BareTable;
-use crate::filters::{leave_room, make_room, whole, whole_by_look, whole_found, write};
+use crate::filters::{leave_room, make_room, whole, whole_by_look, write};
 use ordered_index::{Place, place_of};
 use pcp_base::{Endpoint, Filters, MapLease, Memory, Moment, Protocol, Record};
 use std::alloc::Global;
 use std::collections::BTreeMap;
 use std::marker::Model;
 use std::sync::ledger::Ledger;
-use step_count::Steps;
+use step_count::{Steps, levels};
 
 /// MAP leases, seen as a list in the order granted. Those that have ended stay until they are taken
 /// out.
@@ -135,14 +135,21 @@ impl MapTable {
     }
 
     /// Puts a lease in the place of the one with its key, or at the end. The one error is want of
-    /// memory, which changes nothing.
-    pub fn put(&mut self, _alloc: Global, lease: MapLease) -> Result<(), Memory>
+    /// memory, which changes nothing. Four of its looks are at filters.
+    pub fn put<L: Ledger>(
+        &mut self,
+        _alloc: Global,
+        lease: MapLease,
+        steps: &mut Steps<L>,
+    ) -> Result<(), Memory>
         requires { AreSoundMaps (with_map lease self.old) }
-        ensures { PutsMap self.old lease result self.new }
+        ensures put { PutsMap self.old lease result self.new }
+        ensures steps { steps.new ≤ steps.old + 12 * levels (length self.old + 1) }
     {
+        steps.take(4 * levels(self.leases.len() + 1));
         let place = place_of(&lease.first_endpoint());
         make_room(&mut self.filters, place, &lease.filters)?;
-        let Err(refused) = self.leases.put(BareLease::of(&lease)) else {
+        let Err(refused) = self.leases.put(BareLease::of(&lease), steps) else {
             write(&mut self.filters, place, lease.filters);
             return Ok(());
         };
@@ -150,11 +157,13 @@ impl MapTable {
         Err(refused)
     }
 
-    /// Takes out the lease with this first endpoint.
-    pub fn remove(&mut self, key: &Endpoint) -> Option<MapLease>
-        ensures { RemovesMap self.old key.now result self.new }
+    /// Takes out the lease with this first endpoint. Two of its looks are at filters.
+    pub fn remove<L: Ledger>(&mut self, key: &Endpoint, steps: &mut Steps<L>) -> Option<MapLease>
+        ensures removed { RemovesMap self.old key.now result self.new }
+        ensures steps { steps.new ≤ steps.old + 8 * levels (length self.old) }
     {
-        let Some(bare) = self.leases.remove(key) else {
+        steps.take(2 * levels(self.leases.len()));
+        let Some(bare) = self.leases.remove(key, steps) else {
             return None;
         };
         let lease = whole(&self.filters, &bare);
@@ -171,10 +180,12 @@ impl MapTable {
     }
 
     /// One of the leases that aren't live at `m` and expired first. It looks at that one alone.
-    pub fn one_ended(&self, m: Moment) -> Option<MapLease>
-        ensures { IsDeadMap m self.now result }
+    pub fn one_ended<L: Ledger>(&self, m: Moment, steps: &mut Steps<L>) -> Option<MapLease>
+        ensures ended { IsDeadMap m self.now result }
+        ensures steps { steps.new ≤ steps.old + 3 * levels (length self.now) }
     {
-        whole_found(&self.filters, self.leases.one_ended(m))
+        let found = self.leases.one_ended(m, steps);
+        whole_by_look(&self.filters, found, self.leases.len(), steps)
     }
 
     /// Appends the leases that are live at `m`, in the order granted. The one error is want of

@@ -5,4 +5,4 @@ use Rattle.mapping_table.proofs.Sounds.{AreSoundMaps-filter}
 use Rattle.mapping_table.proofs.plain.PlainMapTable.remove.Goals as goal
 
 pub invariant_of-self : goal.invariant_of-self
-invariant_of-self c = subst AreSoundMaps (sym c.drop_from.ensures) (AreSoundMaps-filter (λ l. not (is_map_of c.args.key.now l)) _ c.self.invariant)
+invariant_of-self g c = subst AreSoundMaps (sym c.drop_from.ensures) (AreSoundMaps-filter (λ l. not (is_map_of c.args.key.now l)) _ c.self.invariant)

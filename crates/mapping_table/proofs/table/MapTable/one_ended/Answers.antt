@@ -6,8 +6,8 @@ use Rattle.mapping_table.specs.MapLists.{IsDeadMap}
 use Rattle.mapping_table.proofs.Wholes.{dead_whole}
 use Rattle.mapping_table.proofs.table.MapTable.one_ended.Goals as goal
 
-pub returns : goal.returns
-returns c =
+pub returns-clause-ended : goal.returns-clause-ended
+returns-clause-ended g c =
     let kept = filters_at c.self.inside.filters in let m = c.args.m in
-    subst (λ (v : List MapLease). IsDeadMap m v c.whole_found.result) c.self.view_is
-    (subst (IsDeadMap m _) (sym c.whole_found.ensures) (dead_whole kept c.self.inside.leases m (option_copied c.one_ended.result) c.one_ended.ensures))
+    subst (λ (v : List MapLease). IsDeadMap m v c.whole_by_look.result) c.self.view_is
+    (subst (IsDeadMap m _) (sym c.whole_by_look.ensures.lease) (dead_whole kept c.self.inside.leases m (option_copied c.one_ended-found.result) c.one_ended-found.ensures.ended))

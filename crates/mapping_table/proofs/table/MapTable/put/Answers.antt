@@ -9,45 +9,45 @@ use Rattle.mapping_table.proofs.Wholes.{whole_same, put_whole}
 use Rattle.mapping_table.proofs.table.MapTable.put.Goals as goal
 
 pub put-requires : goal.put-requires
-put-requires c =
+put-requires g c =
     let l = c.args.lease in let ls = c.self.inside.leases in
     subst (λ (x : MapLease). AreSoundMaps (with_map x ls)) (sym c.of.ensures)
     (bare_put (filters_at c.self.inside.filters) l ls c.self.invariant.sound (subst (λ (v : List MapLease). AreSoundMaps (with_map l v)) (sym c.self.view_is) c.requires))
 
 pub write-requires : goal.write-requires
-write-requires c = has_room c.self.inside.filters c.place_of-place.result c.args.lease.filters c.make_room.new.filters c.in_ok-make_room.ensures.ok
+write-requires g c = has_room c.self.inside.filters c.place_of-place.result c.args.lease.filters c.make_room.new.filters c.in_ok-make_room.ensures.ok
 
 pub invariant_of-self-in_default : goal.invariant_of-self-in_default
-invariant_of-self-in_default c =
+invariant_of-self-in_default g c =
     let l = c.args.lease in let ls = c.self.inside.leases in let old = c.self.inside.filters in let k = c.place_of-place.result in
     let writes = room_written old k l.filters c.make_room.new.filters c.in_ok-make_room.ensures.ok l.filters c.write.new.filters c.write.ensures in
-    subst (λ (v : List MapLease). AreWholeMaps v c.write.new.filters) (sym (c.in_default.ensures.ok ∙ ap (λ (x : MapLease). with_map x ls) c.of.ensures)) (record {
+    subst (λ (v : List MapLease). AreWholeMaps v c.write.new.filters) (sym (c.in_default.ensures.put.ok ∙ ap (λ (x : MapLease). with_map x ls) c.of.ensures)) (record {
       sound = bare_put (filters_at old) l ls c.self.invariant.sound (subst (λ (v : List MapLease). AreSoundMaps (with_map l v)) (sym c.self.view_is) c.requires);
       filters = own_put old ls c.self.invariant.filters l k (c.place_of-place.ensures ∙ ap place_of c.first_endpoint.ensures) c.write.new.filters writes;
     })
 
-pub returns-in_default : goal.returns-in_default
-returns-in_default c =
+pub returns-in_default-clause-put : goal.returns-in_default-clause-put
+returns-in_default-clause-put g c =
     let l = c.args.lease in let ls = c.self.inside.leases in let old = c.self.inside.filters in let k = c.place_of-place.result in let new = c.write.new.filters in
     let writes = room_written old k l.filters c.make_room.new.filters c.in_ok-make_room.ensures.ok l.filters new c.write.ensures in
     record {
-      ok = ap (map (whole (filters_at new))) (c.in_default.ensures.ok ∙ ap (λ (x : MapLease). with_map x ls) c.of.ensures)
+      ok = ap (map (whole (filters_at new))) (c.in_default.ensures.put.ok ∙ ap (λ (x : MapLease). with_map x ls) c.of.ensures)
           ∙ put_whole l k (c.place_of-place.ensures ∙ ap place_of c.first_endpoint.ensures) old new writes ls c.self.invariant.sound.leases c.self.invariant.sound.separate
           ∙ ap (with_map l) c.self.view_is;
       err = tt;
     }
 
 pub invariant_of-self-2 : goal.invariant_of-self-2
-invariant_of-self-2 c =
+invariant_of-self-2 g c =
     let ls = c.self.inside.leases in let old = c.self.inside.filters in let k = c.place_of-place.result in let new = c.leave_room.new.filters in
     let same : HasSameFilters old new = room_left old k c.args.lease.filters c.make_room.new.filters c.in_ok-make_room.ensures.ok new c.leave_room.ensures (c.self.invariant.filters.some k) in
-    subst (λ (v : List MapLease). AreWholeMaps v new) (sym c.in-Err.ensures.err) (record { sound = c.self.invariant.sound; filters = own_same old ls c.self.invariant.filters new same })
+    subst (λ (v : List MapLease). AreWholeMaps v new) (sym c.in-Err.ensures.put.err) (record { sound = c.self.invariant.sound; filters = own_same old ls c.self.invariant.filters new same })
 
-pub returns : goal.returns
-returns c =
+pub returns-clause-put : goal.returns-clause-put
+returns-clause-put g c =
     let ls = c.self.inside.leases in let old = c.self.inside.filters in let k = c.place_of-place.result in let new = c.leave_room.new.filters in
     let same : HasSameFilters old new = room_left old k c.args.lease.filters c.make_room.new.filters c.in_ok-make_room.ensures.ok new c.leave_room.ensures (c.self.invariant.filters.some k) in
     record {
       ok = tt;
-      err = ap (map (whole (filters_at new))) c.in-Err.ensures.err ∙ whole_same (filters_at old) (filters_at new) (λ q. ap listed (same q)) ls ∙ c.self.view_is;
+      err = ap (map (whole (filters_at new))) c.in-Err.ensures.put.err ∙ whole_same (filters_at old) (filters_at new) (λ q. ap listed (same q)) ls ∙ c.self.view_is;
     }

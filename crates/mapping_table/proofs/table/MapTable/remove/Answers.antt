@@ -11,35 +11,35 @@ use Rattle.mapping_table.proofs.Wholes.{find_whole, filter_whole, removed_whole}
 use Rattle.mapping_table.proofs.table.MapTable.remove.Goals as goal
 
 pub invariant_of-self : goal.invariant_of-self
-invariant_of-self c =
+invariant_of-self g c =
     let e = c.args.key.now in let ls = c.self.inside.leases in let old = c.self.inside.filters in
-    subst (λ (v : List MapLease). AreWholeMaps v old) (sym c.remove.ensures.removed) (record {
+    subst (λ (v : List MapLease). AreWholeMaps v old) (sym c.remove.ensures.removed.removed) (record {
       sound = AreSoundMaps-filter (λ l. not (is_map_of e l)) ls c.self.invariant.sound;
-      filters = own_none old ls c.self.invariant.filters e (sym c.in_default.ensures.answer);
+      filters = own_none old ls c.self.invariant.filters e (sym c.in_default.ensures.removed.answer);
     })
 
-pub returns-in_default : goal.returns-in_default
-returns-in_default c =
+pub returns-in_default-clause-removed : goal.returns-in_default-clause-removed
+returns-in_default-clause-removed g c =
     let e = c.args.key.now in let ls = c.self.inside.leases in let kept = filters_at c.self.inside.filters in
     record {
-      answer = ap (option_map (whole kept)) c.in_default.ensures.answer ∙ sym (find_whole kept (is_map_of e) (λ fs l. refl) ls) ∙ ap (map_with_key e) c.self.view_is;
-      removed = ap (map (whole kept)) c.remove.ensures.removed ∙ sym (filter_whole kept (λ l. not (is_map_of e l)) (λ fs l. refl) ls) ∙ ap (filter (λ l. not (is_map_of e l))) c.self.view_is;
+      answer = ap (option_map (whole kept)) c.in_default.ensures.removed.answer ∙ sym (find_whole kept (is_map_of e) (λ fs l. refl) ls) ∙ ap (map_with_key e) c.self.view_is;
+      removed = ap (map (whole kept)) c.remove.ensures.removed.removed ∙ sym (filter_whole kept (λ l. not (is_map_of e l)) (λ fs l. refl) ls) ∙ ap (filter (λ l. not (is_map_of e l))) c.self.view_is;
     }
 
 pub invariant_of-self-2 : goal.invariant_of-self-2
-invariant_of-self-2 c =
+invariant_of-self-2 g c =
     let e = c.args.key.now in let ls = c.self.inside.leases in let old = c.self.inside.filters in let new = c.write.new.filters in
-    subst (λ (v : List MapLease). AreWholeMaps v new) (sym c.remove.ensures.removed) (record {
+    subst (λ (v : List MapLease). AreWholeMaps v new) (sym c.remove.ensures.removed.removed) (record {
       sound = AreSoundMaps-filter (λ l. not (is_map_of e l)) ls c.self.invariant.sound;
       filters = own_removed old ls c.self.invariant.filters e c.place_of.result c.place_of.ensures new (subst (λ (fs : List Filter). WritesFilters old c.place_of.result fs new) c.none.ensures c.write.ensures);
     })
 
-pub returns : goal.returns
-returns c =
+pub returns-clause-removed : goal.returns-clause-removed
+returns-clause-removed g c =
     let e = c.args.key.now in let ls = c.self.inside.leases in let old = c.self.inside.filters in let new = c.write.new.filters in
     record {
-      answer = ap Some c.whole-lease.ensures ∙ ap (option_map (whole (filters_at old))) c.in-Some.ensures.answer
+      answer = ap Some c.whole-lease.ensures ∙ ap (option_map (whole (filters_at old))) c.in-Some.ensures.removed.answer
           ∙ sym (find_whole (filters_at old) (is_map_of e) (λ fs l. refl) ls) ∙ ap (map_with_key e) c.self.view_is;
-      removed = ap (map (whole (filters_at new))) c.remove.ensures.removed
+      removed = ap (map (whole (filters_at new))) c.remove.ensures.removed.removed
           ∙ removed_whole e c.place_of.result c.place_of.ensures c.none.result old new c.write.ensures ls ∙ ap (filter (λ l. not (is_map_of e l))) c.self.view_is;
     }
