@@ -25,7 +25,7 @@ use Rattle.peer_table.proofs.LastExpiries.{owning_within}
 use Rattle.peer_table.proofs.PeerKeeping.{peer_laws, key_total, key_exact, opening_total, opening_exact}
 use Rattle.peer_table.proofs.PortUses.{within_names}
 
-clash : (b : Bool) → b ≡ true → b ≡ false → ⊥
+pub clash : (b : Bool) → b ≡ true → b ≡ false → ⊥
 clash b h k = let no : true ≡ false = sym h ∙ k in cc
 
 not-true : (b : Bool) → not b ≡ true → b ≡ false
@@ -79,10 +79,10 @@ module _ (l : PeerLease) where
   abbrev remote_of : PeerLease → Bool
   remote_of x = has_remote l.remote l.remote_port (key_of_lease x)
 
-  key_parts : (x : PeerLease) → names x l.endpoint ≡ true → remote_of x ≡ true → has_key x ≡ true
+  pub key_parts : (x : PeerLease) → names x l.endpoint ≡ true → remote_of x ≡ true → has_key x ≡ true
   key_parts x named remote = let p = and_parts _ _ remote in and_from _ _ (and_from _ _ named p.0) p.1
 
-  remote_parts : (x : PeerLease) → has_key x ≡ true → remote_of x ≡ true
+  pub remote_parts : (x : PeerLease) → has_key x ≡ true → remote_of x ≡ true
   remote_parts x t =
       let p = and_parts (same_endpoint x.endpoint l.endpoint && same_address x.remote l.remote) (x.remote_port == l.remote_port) t in
       let q = and_parts (same_endpoint x.endpoint l.endpoint) (same_address x.remote l.remote) p.0 in

@@ -9,4 +9,6 @@ pub mod LastExpiries
 pub mod NextOwned
 mod Spending
 pub mod Fellows
+mod FewOpenings
+mod OneRemote
 pub mod OneMore

@@ -16,9 +16,8 @@ use Rattle.pcp_base.proofs.Same.{same_endpoint-Decides}
 use Rattle.ordered_index.specs.declared.numbered.Numbered.{Numbered}
 use Rattle.ordered_index.specs.Orders.{Place, place_of, place_cmp, IsFirst}
 use Rattle.ordered_index.proofs.Endings.{one-among}
-use Rattle.ordered_index.proofs.Entries.{entry_at, false_by, some_of, same_tests}
+use Rattle.ordered_index.proofs.Entries.{entry_at, false_by, some_of, same_tests, value-entry}
 use Rattle.ordered_index.proofs.Keeping.{key-to, key-from}
-use Rattle.ordered_index.proofs.Lives.{value-entry}
 use Rattle.ordered_index.proofs.OrderLaws.{place_of-one, place_total, places_between, places_less, less_places}
 use Rattle.peer_table.specs.PeerLists.{is_live_peer, is_live_of, is_named, IsNextNamed}
 use Rattle.peer_table.specs.Kept.{PeerKey, Opening, place_in, key_cmp, key_of_lease, peer_keying, AreKeptPeers, IsBound}

@@ -18,9 +18,8 @@ use Rattle.pcp_base.proofs.Members.{IsIn, map-IsIn, any-some, some-any}
 use Rattle.pcp_base.proofs.Same.{same_protocol-Decides}
 use Rattle.ordered_index.specs.declared.numbered.Numbered.{Numbered}
 use Rattle.ordered_index.specs.Orders.{port_at, port_cmp, IsFirst}
-use Rattle.ordered_index.proofs.Entries.{entry_at, false_by, some_of}
+use Rattle.ordered_index.proofs.Entries.{entry_at, false_by, some_of, value-entry}
 use Rattle.ordered_index.proofs.Keeping.{port-from, port-to}
-use Rattle.ordered_index.proofs.Lives.{value-entry}
 use Rattle.ordered_index.proofs.Mirrorings.{at-entry}
 use Rattle.ordered_index.proofs.OrderLaws.{not_gt_first, port_total, ports_between, ports_up_to}
 use Rattle.peer_table.specs.PeerLists.{is_peer_owned, IsNextOwned}

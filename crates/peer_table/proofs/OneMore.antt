@@ -12,7 +12,7 @@ use Rattle.pcp_base.proofs.Puts.{put_All}
 use Rattle.pcp_base.proofs.Same.{same_address-Decides, same_endpoint-Decides, same_protocol-Decides}
 use Rattle.ordered_index.proofs.Entries.{false_by, same_tests}
 use Rattle.ordered_index.proofs.EntryLaws.{tally, count-cons}
-use Rattle.ordered_index.proofs.Lives.{tally_found, count-put}
+use Rattle.ordered_index.proofs.PutCounts.{tally_found, count-put}
 use Rattle.peer_table.specs.Laws.{HaveRoomFor}
 use Rattle.peer_table.specs.PeerLists.{peer_with_key, overlaps, with_peer, AreFellows, AreSoundPeers}
 

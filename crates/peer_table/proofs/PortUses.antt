@@ -43,7 +43,7 @@ found_nowhere {K} test it whole is same =
     ap (option_map (λ (e : K × ℕ). e.1)) (sym none)
 
 -- tests that agree at all items count as many
-count_same : {X : Type 0} (p q : X → Bool) (xs : List X) → ((x : X) → IsIn x xs → p x ≡ q x) → count_by p xs ≡ count_by q xs
+pub count_same : {X : Type 0} (p q : X → Bool) (xs : List X) → ((x : X) → IsIn x xs → p x ≡ q x) → count_by p xs ≡ count_by q xs
 count_same p q [] h = refl
 count_same p q (x ∷ xs) h =
     let a = count-cons p x xs in let b = count-cons q x xs in
@@ -56,7 +56,7 @@ filter_step : {X : Type 0} (p q : X → Bool) (x : X) (xs : List X) (b : Bool) �
 filter_step p q x xs true e rest = let a = count-cons p x (filter q xs) in omega (arith, a, rest)
 filter_step p q x xs false e rest = let none : tally (false && p x) ≡ 0 = refl in omega (arith, none, rest)
 
-count_filtered : {X : Type 0} (p q : X → Bool) (xs : List X) → count_by p (filter q xs) ≡ count_by (λ y. q y && p y) xs
+pub count_filtered : {X : Type 0} (p q : X → Bool) (xs : List X) → count_by p (filter q xs) ≡ count_by (λ y. q y && p y) xs
 count_filtered p q [] = refl
 count_filtered p q (x ∷ xs) =
     let a = count-cons (λ y. q y && p y) x xs in

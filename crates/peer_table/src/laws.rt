@@ -11,8 +11,8 @@ pub fn fewer_peers_are_sound()
     ensures { FewerPeersAreSound }
 {}
 
-/// Sound leases are sound with one more that overlaps none of them, where one of them has its key, or
-/// they and those of its endpoint are fewer than may be.
+/// Sound leases are sound with one more that overlaps none of them, where one of them has its key,
+/// or they and those of its endpoint are fewer than may be.
 pub fn peers_are_sound_with_one_more()
     ensures { PeersAreSoundWithOneMore }
 {}

@@ -1,11 +1,11 @@
 //! Looks into the maps of a table, counted.
 
-ghost use Rattle.std.specs.Prelude.{◌≡◌, ◌+◌, length};
+ghost use Rattle.std.specs.Prelude.{◌≡◌, ◌+◌, ◌*◌, length};
 ghost use Rattle.std.specs.Option.{option_copied};
 ghost use Rattle.std.specs.Ordering.{nat_cmp};
 ghost use Rattle.std.specs.BTreeMap.{get, values};
 ghost use Rattle.step_count.specs.Levels.{levels};
-ghost use Rattle.peer_table.specs.Kept.{key_cmp};
+ghost use Rattle.peer_table.specs.Kept.{key_cmp, AreKeptPeers};
 
 use crate::keys::{Key, Opening};
 use ordered_index::Numbered;
@@ -18,6 +18,18 @@ pub(crate) fn look<L: Ledger>(kept: &Numbered<PeerLease, Key, Opening>, steps: &
     ensures { steps.new ≡ steps.old + levels (length (values kept.now.leases)) }
 {
     steps.take(levels(kept.leases.len()));
+}
+
+/// Counts looks into maps that may get a lease more.
+pub(crate) fn look_beside_one_more<L: Ledger>(
+    kept: &Numbered<PeerLease, Key, Opening>,
+    looks: u32,
+    steps: &mut Steps<L>,
+)
+    requires { AreKeptPeers kept.now }
+    ensures { steps.new ≡ steps.old + looks * levels (length (values kept.now.leases) + 1) }
+{
+    steps.take(u64::from(looks) * levels(kept.leases.len() + 1));
 }
 
 /// The number under a key, by one look.

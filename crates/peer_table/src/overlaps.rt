@@ -1,6 +1,6 @@
 //! Leases of a table that another one may overlap.
 
-ghost use Rattle.std.specs.Prelude.{◌≡◌, ◌≤◌, ◌+◌, ◌*◌, ◌&&◌, ◌==◌, false, not, length, find};
+ghost use Rattle.std.specs.Prelude.{◌≡◌, ◌≤◌, ◌+◌, ◌*◌, ◌&&◌, ◌==◌, false, not, length, find, count_by};
 ghost use Rattle.std.specs.Option.{option_copied, option_map};
 ghost use Rattle.std.specs.Ordering.{is_gt};
 ghost use Rattle.std.specs.BTreeMap.{values};
@@ -84,7 +84,7 @@ fn has_remote(key: Key, lease: &PeerLease) -> bool
 }
 
 /// The first number from one key to before another whose key hasn't the remote of the lease. As one
-/// key at most has it, that is the first or the second.
+/// key at most has it, that is the first or the second, which takes one look more.
 fn first_elsewhere<L: Ledger>(
     kept: &Numbered<PeerLease, Key, Opening>,
     from: Key,
@@ -92,17 +92,20 @@ fn first_elsewhere<L: Ledger>(
     lease: &PeerLease,
     steps: &mut Steps<L>,
 ) -> Option<u64>
-    requires { is_gt (key_cmp from to) ≡ false }
+    requires forward { is_gt (key_cmp from to) ≡ false }
+    requires one { count_by (λ e. has_remote lease.now.remote lease.now.remote_port e.0)
+        (entries_between key_cmp (Included from) (Excluded to) kept.now.keys.entries) ≤ 1 }
     ensures first { result ≡ option_map (λ e. e.1)
         (find (λ e. not (has_remote lease.now.remote lease.now.remote_port e.0))
         (entries_between key_cmp (Included from) (Excluded to) kept.now.keys.entries)) }
-    ensures steps { steps.new ≡ steps.old + levels (length (values kept.now.leases)) }
+    ensures steps { steps.new ≤ steps.old + 2 * levels (length (values kept.now.leases)) }
 {
     look(kept, steps);
     for (key, number) in kept.keys.range(from..to) {
         if !has_remote(*key, lease) {
             return Some(*number);
         }
+        look(kept, steps);
     }
     None
 }
@@ -135,7 +138,7 @@ pub(crate) fn of_endpoint<'a, L: Ledger>(
     requires { AreKeptPeers kept.now }
     ensures told { TellsOther has_other_port lease.now (values kept.now.leases)
         (option_copied result) }
-    ensures steps { steps.new ≤ steps.old + 2 * levels (length (values kept.now.leases)) }
+    ensures steps { steps.new ≤ steps.old + 3 * levels (length (values kept.now.leases)) }
 {
     let from = bound_at(&lease.endpoint, 0);
     let to = bound_at(&lease.endpoint, 2);

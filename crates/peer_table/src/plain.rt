@@ -16,8 +16,8 @@ use std::marker::Model;
 use std::sync::ledger::Ledger;
 use step_count::Steps;
 
-/// PEER leases in the order granted, with the same clauses as `PeerTable`. It has no ordered map, so it
-/// takes no steps.
+/// PEER leases in the order granted. Each call that `PeerTable` has too has the same clauses. It has
+/// no ordered map, so it takes no steps.
 #[derive(Drop)]
 pub struct PlainPeerTable {
     leases: Vec<PeerLease>,
@@ -239,15 +239,17 @@ impl PlainPeerTable {
     }
 
     /// The lease that owns the external port and has exactly this remote.
-    pub fn by_external(
+    pub fn by_external<L: Ledger>(
         &self,
         protocol: Protocol,
         port: u16,
         remote: &Address,
         remote_port: u16,
+        _steps: &mut Steps<L>,
     ) -> Option<&PeerLease>
-        ensures { option_copied result ≡
-            peer_opening protocol port remote.now remote_port self.now }
+        ensures lease { option_copied result
+            ≡ peer_opening protocol port remote.now remote_port self.now }
+        ensures steps { _steps.new ≡ _steps.old }
     {
         self.leases
             .iter()
@@ -284,17 +286,30 @@ impl PlainPeerTable {
 
     /// Puts a lease in the place of the one with its key, or at the end. The one error is want of
     /// memory, which changes nothing.
-    pub fn put(&mut self, _alloc: Global, lease: PeerLease) -> Result<(), Memory>
+    pub fn put<L: Ledger>(
+        &mut self,
+        _alloc: Global,
+        lease: PeerLease,
+        _steps: &mut Steps<L>,
+    ) -> Result<(), Memory>
         requires { AreSoundPeers (with_peer lease self.old) }
         ensures put { PutsPeer self.old lease result self.new }
+        ensures steps { _steps.new ≡ _steps.old }
     {
         put_into(&mut self.leases, lease)?;
         Ok(())
     }
 
     /// Takes out the lease with this endpoint, remote address and remote port.
-    pub fn remove(&mut self, endpoint: &Endpoint, remote: &Address, port: u16) -> Option<PeerLease>
+    pub fn remove<L: Ledger>(
+        &mut self,
+        endpoint: &Endpoint,
+        remote: &Address,
+        port: u16,
+        _steps: &mut Steps<L>,
+    ) -> Option<PeerLease>
         ensures removed { RemovesPeer self.old endpoint.now remote.now port result self.new }
+        ensures steps { _steps.new ≡ _steps.old }
     {
         let found = lease_with(&self.leases, endpoint, remote, port).copied();
         drop_from(&mut self.leases, endpoint, remote, port);

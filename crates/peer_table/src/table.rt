@@ -27,7 +27,8 @@ use std::alloc::{AllocError, Global};
 use std::collections::BTreeMap;
 use std::marker::Model;
 use std::sync::ledger::Ledger;
-use step_count::Steps;
+use step_count::laws::levels_grow;
+use step_count::{Steps, levels};
 
 /// PEER leases, seen as a list in the order granted. Those that have ended stay until they are
 /// taken out.
@@ -96,15 +97,21 @@ fn append_records(
 }
 
 /// Puts a lease in the place of the one with its key, or at the end.
-fn put_kept(kept: &mut Numbered<PeerLease, Key, Opening>, lease: PeerLease) -> Result<(), Memory>
+fn put_kept<L: Ledger>(
+    kept: &mut Numbered<PeerLease, Key, Opening>,
+    lease: PeerLease,
+    steps: &mut Steps<L>,
+) -> Result<(), Memory>
     requires kept { AreKeptPeers kept.old }
     requires sound { AreSoundPeers (with_peer lease (values kept.old.leases)) }
     ensures kept { AreKeptPeers kept.new }
     ensures put { PutsPeer (values kept.old.leases) lease result (values kept.new.leases) }
+    ensures steps { steps.new ≤ steps.old + 8 * levels (length (values kept.old.leases) + 1) }
 {
-    match kept.keys.get(&key_of(&lease)).copied() {
-        Some(number) => replace(kept, number, lease),
-        None => append(kept, lease),
+    levels_grow();
+    match number_under(kept, key_of(&lease), steps) {
+        Some(number) => replace(kept, number, lease, steps),
+        None => append(kept, lease, steps),
     }
 }
 
@@ -190,21 +197,25 @@ impl PeerTable {
     }
 
     /// The lease that owns the external port and has exactly this remote.
-    pub fn by_external(
+    pub fn by_external<L: Ledger>(
         &self,
         protocol: Protocol,
         port: u16,
         remote: &Address,
         remote_port: u16,
+        steps: &mut Steps<L>,
     ) -> Option<&PeerLease>
-        ensures { option_copied result ≡
-            peer_opening protocol port remote.now remote_port self.now }
+        ensures lease { option_copied result
+            ≡ peer_opening protocol port remote.now remote_port self.now }
+        ensures steps { steps.new ≤ steps.old + 2 * levels (length self.now) }
     {
+        let kept = &self.kept;
         let opening = opening_at(protocol, port, remote, remote_port);
-        let Some(number) = self.kept.ports.get(&opening).copied() else {
+        look(kept, steps);
+        let Some(number) = kept.ports.get(&opening).copied() else {
             return None;
         };
-        self.kept.leases.get(&number)
+        lease_at(kept, number, steps)
     }
 
     /// One of the leases that this one overlaps, live or not: those that have its endpoint, another
@@ -216,7 +227,7 @@ impl PeerTable {
         steps: &mut Steps<L>,
     ) -> Option<&PeerLease>
         ensures overlapped { IsOverlapped lease.now self.now (option_copied result) }
-        ensures steps { steps.new ≤ steps.old + 4 * levels (length self.now) }
+        ensures steps { steps.new ≤ steps.old + 5 * levels (length self.now) }
     {
         let kept = &self.kept;
         if let Some(other) = overlapped(lease, of_endpoint(kept, lease, steps)) {
@@ -226,23 +237,34 @@ impl PeerTable {
     }
 
     /// The latest expiry of the leases that own the external port, in seconds. It looks at these
-    /// leases alone.
-    pub fn last_expiry(&self, protocol: Protocol, port: u16) -> Option<u64>
-        ensures { IsLastExpiry protocol port self.now result }
+    /// leases alone, and they are few, as all of them have one endpoint.
+    pub fn last_expiry<L: Ledger>(
+        &self,
+        protocol: Protocol,
+        port: u16,
+        steps: &mut Steps<L>,
+    ) -> Option<u64>
+        ensures last { IsLastExpiry protocol port self.now result }
+        ensures steps { steps.new ≤ steps.old + (1 + MOST_PEERS) * levels (length self.now) }
     {
-        last_expiry(
-            &self.kept.leases,
-            &self.kept.ports,
-            opening_bound(protocol, port, 0),
-            opening_bound(protocol, port, 2),
-        )
+        let kept = &self.kept;
+        let from = opening_bound(protocol, port, 0);
+        let to = opening_bound(protocol, port, 2);
+        last_expiry(kept, from, to, steps)
     }
 
     /// The least external port from this one on, itself among them, that a lease owns, live or not.
     /// It looks at one lease alone.
-    pub fn next_owned(&self, protocol: Protocol, port: u16) -> Option<u16>
-        ensures { IsNextOwned protocol port self.now result }
+    pub fn next_owned<L: Ledger>(
+        &self,
+        protocol: Protocol,
+        port: u16,
+        steps: &mut Steps<L>,
+    ) -> Option<u16>
+        ensures next { IsNextOwned protocol port self.now result }
+        ensures steps { steps.new ≤ steps.old + levels (length self.now) }
     {
+        look(&self.kept, steps);
         let Some(first) = first_from(&self.kept.ports, opening_bound(protocol, port, 0)) else {
             return None;
         };
@@ -268,24 +290,39 @@ impl PeerTable {
 
     /// Puts a lease in the place of the one with its key, or at the end. The one error is want of
     /// memory, which changes nothing.
-    pub fn put(&mut self, _alloc: Global, lease: PeerLease) -> Result<(), Memory>
+    pub fn put<L: Ledger>(
+        &mut self,
+        _alloc: Global,
+        lease: PeerLease,
+        steps: &mut Steps<L>,
+    ) -> Result<(), Memory>
         requires { AreSoundPeers (with_peer lease self.old) }
         ensures put { PutsPeer self.old lease result self.new }
+        ensures steps { steps.new ≤ steps.old + 8 * levels (length self.old + 1) }
     {
-        put_kept(&mut self.kept, lease)
+        put_kept(&mut self.kept, lease, steps)
     }
 
     /// Takes out the lease with this endpoint, remote address and remote port.
-    pub fn remove(&mut self, endpoint: &Endpoint, remote: &Address, port: u16) -> Option<PeerLease>
+    pub fn remove<L: Ledger>(
+        &mut self,
+        endpoint: &Endpoint,
+        remote: &Address,
+        port: u16,
+        steps: &mut Steps<L>,
+    ) -> Option<PeerLease>
         ensures removed { RemovesPeer self.old endpoint.now remote.now port result self.new }
+        ensures steps { steps.new ≤ steps.old + 6 * levels (length self.old) }
     {
         let key = key_at(endpoint, remote, port);
-        let Some(number) = self.kept.keys.get(&key).copied() else {
+        let Some(number) = number_under(&self.kept, key, steps) else {
             return None;
         };
-        let Some(lease) = self.kept.leases.get(&number).copied() else {
+        let Some(lease) = lease_at(&self.kept, number, steps).copied() else {
             return None;
         };
+        // The lease leaves each of the four maps.
+        steps.take(4 * levels(self.kept.leases.len()));
         self.kept
             .forget(number, key, opening_of(&lease), lease.expiry);
         Some(lease)
@@ -315,13 +352,16 @@ impl PeerTable {
     }
 
     /// One of the leases that aren't live at `m` and expired first. It looks at that one alone.
-    pub fn one_ended(&self, m: Moment) -> Option<&PeerLease>
-        ensures { IsDeadPeer m self.now (option_copied result) }
+    pub fn one_ended<L: Ledger>(&self, m: Moment, steps: &mut Steps<L>) -> Option<&PeerLease>
+        ensures ended { IsDeadPeer m self.now (option_copied result) }
+        ensures steps { steps.new ≤ steps.old + 2 * levels (length self.now) }
     {
-        let Some(number) = self.kept.one_ended(m) else {
+        let kept = &self.kept;
+        look(kept, steps);
+        let Some(number) = kept.one_ended(m) else {
             return None;
         };
-        self.kept.leases.get(&number)
+        lease_at(kept, number, steps)
     }
 
     /// Appends the leases that are live at `m`, in the order granted. The one error is want of
@@ -344,8 +384,8 @@ impl PeerTable {
         Err(refused.into())
     }
 
-    /// Appends a record at `m` for each lease that is live then, in the order granted. The one error
-    /// is want of memory.
+    /// Appends a record at `m` for each lease that is live then, in the order granted. The one
+    /// error is want of memory.
     pub fn add_records(&self, m: Moment, out: &mut Vec<Record>) -> Result<(), Memory>
         ensures { OnOk result (out.new.items
             ≡ out.old.items ++ map (peer_record m) (filter (is_live_peer m) self.now)) }

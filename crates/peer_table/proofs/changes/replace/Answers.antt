@@ -6,16 +6,16 @@ use Rattle.peer_table.proofs.PeerKeeping.{key_has, peer_replaced}
 use Rattle.peer_table.proofs.changes.replace.Goals as goal
 
 pub index-requires : goal.index-requires
-index-requires c = key_has c.args.kept.now c.requires.kept (key_of_lease c.args.lease) c.args.number c.requires.key
+index-requires g c = key_has c.args.kept.now c.requires.kept (key_of_lease c.args.lease) c.args.number c.requires.key
 
 pub returns-clause-kept : goal.returns-clause-kept
-returns-clause-kept c =
+returns-clause-kept g c =
     let at_n : get nat_cmp c.args.kept.now.leases c.args.number ≡ Some c.index.result.now = search rules in
     (peer_replaced c.args.kept.now c.requires.kept c.args.lease c.requires.sound c.replace.new.self c.replace.result
     c.args.number c.index.result.now c.opening_of.result c.opening_of-2.result c.requires.key at_n c.opening_of.ensures c.opening_of-2.ensures c.replace.ensures.ok c.replace.ensures.err).0
 
 pub returns-clause-put : goal.returns-clause-put
-returns-clause-put c =
+returns-clause-put g c =
     let at_n : get nat_cmp c.args.kept.now.leases c.args.number ≡ Some c.index.result.now = search rules in
     (peer_replaced c.args.kept.now c.requires.kept c.args.lease c.requires.sound c.replace.new.self c.replace.result
     c.args.number c.index.result.now c.opening_of.result c.opening_of-2.result c.requires.key at_n c.opening_of.ensures c.opening_of-2.ensures c.replace.ensures.ok c.replace.ensures.err).1

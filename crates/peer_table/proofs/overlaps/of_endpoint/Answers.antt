@@ -1,5 +1,6 @@
 use Rattle.std.specs.Option.{option_copied}
 use Rattle.peer_table.proofs.Fellows.{endpoint_tells, endpoint_none}
+use Rattle.peer_table.proofs.OneRemote.{one_remote}
 use Rattle.peer_table.proofs.PeerKeys.{bounds_forward}
 use Rattle.peer_table.proofs.overlaps.of_endpoint.Goals as goal
 
@@ -12,5 +13,8 @@ returns-clause-told g c =
     endpoint_tells c.args.lease.now c.args.kept.now c.requires c.bound_at-from.result c.bound_at-to.result c.bound_at-from.ensures c.bound_at-to.ensures
     (option_copied c.lease_at.result) c.in-Some.number c.in-Some.ensures.first c.lease_at.ensures.lease
 
-pub first_elsewhere-requires : goal.first_elsewhere-requires
-first_elsewhere-requires g c = bounds_forward c.args.lease.now.endpoint c.bound_at-from.result c.bound_at-to.result c.bound_at-from.ensures c.bound_at-to.ensures
+pub first_elsewhere-requires-clause-forward : goal.first_elsewhere-requires-clause-forward
+first_elsewhere-requires-clause-forward g c = bounds_forward c.args.lease.now.endpoint c.bound_at-from.result c.bound_at-to.result c.bound_at-from.ensures c.bound_at-to.ensures
+
+pub first_elsewhere-requires-clause-one : goal.first_elsewhere-requires-clause-one
+first_elsewhere-requires-clause-one g c = one_remote c.args.lease.now c.args.kept.now c.requires c.bound_at-from.result c.bound_at-to.result c.bound_at-from.ensures c.bound_at-to.ensures

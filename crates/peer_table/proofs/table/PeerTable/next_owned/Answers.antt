@@ -4,13 +4,13 @@ use Rattle.peer_table.specs.PeerLists.{IsNextOwned}
 use Rattle.peer_table.proofs.NextOwned.{owned_nowhere, owned_first}
 use Rattle.peer_table.proofs.table.PeerTable.next_owned.Goals as goal
 
-pub returns-in_default : goal.returns-in_default
-returns-in_default c =
+pub returns-in_default-clause-next : goal.returns-in_default-clause-next
+returns-in_default-clause-next g c =
     subst (λ (v : List PeerLease). IsNextOwned c.args.protocol c.args.port v None) c.self.view_is
     (owned_nowhere c.args.protocol c.args.port c.opening_bound.result c.opening_bound.ensures c.self.inside.kept c.self.invariant c.in_default.ensures)
 
-pub returns : goal.returns
-returns c =
+pub returns-clause-next : goal.returns-clause-next
+returns-clause-next g c =
     subst (λ (v : List PeerLease). IsNextOwned c.args.protocol c.args.port v c.port_of.result) c.self.view_is
     (owned_first c.args.protocol c.args.port c.opening_bound.result c.opening_bound.ensures c.self.inside.kept c.self.invariant c.in-Some.first c.in-Some.ensures
     c.port_of.result c.port_of.ensures.some c.port_of.ensures.none)

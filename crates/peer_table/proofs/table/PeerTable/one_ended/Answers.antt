@@ -6,18 +6,18 @@ use Rattle.ordered_index.proofs.Endings.{one-none, one-stands, one-among}
 use Rattle.peer_table.proofs.PeerKeeping.{peer_laws}
 use Rattle.peer_table.proofs.table.PeerTable.one_ended.Goals as goal
 
-pub returns-in_default : goal.returns-in_default
-returns-in_default c = record {
+pub returns-in_default-clause-ended : goal.returns-in_default-clause-ended
+returns-in_default-clause-ended g c = record {
   among = tt;
   dead = tt;
   none = ap (first_dead_peer c.args.m) (sym c.self.view_is) ∙ one-none peer_keying peer_laws c.self.inside.kept c.self.invariant.kept c.args.m c.in_default.ensures;
 }
 
-pub returns : goal.returns
-returns c =
+pub returns-clause-ended : goal.returns-clause-ended
+returns-clause-ended g c =
     let t = c.self.inside.kept in
     let y = one-stands peer_keying peer_laws t c.self.invariant.kept c.args.m c.in-Some.number c.in-Some.ensures in
-    subst (λ (o : Option PeerLease). IsDeadPeer c.args.m c.args.self.now o) (sym (c.get.ensures.value ∙ y.1)) (record {
+    subst (λ (o : Option PeerLease). IsDeadPeer c.args.m c.args.self.now o) (sym (c.lease_at.ensures.lease ∙ y.1)) (record {
       among = subst (λ (ls : List PeerLease). Contains ls y.0) c.self.view_is (one-among peer_keying peer_laws t c.self.invariant.kept c.args.m c.in-Some.number y.0 y.1);
       dead = y.2;
       none = tt;
