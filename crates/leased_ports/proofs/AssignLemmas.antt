@@ -14,11 +14,11 @@ use Rattle.expiry_wheel.proofs.Maps.{below_or_not}
 use Rattle.external_pool.specs.Holdings.{Holdings}
 use Rattle.port_spans.specs.declared.runs.Run.{Run}
 use Rattle.port_spans.specs.Runs.{has_place, run_at, AreRuns, with_value}
-use Rattle.port_spans.specs.Along.{end_along, spot, end_told}
+use Rattle.port_spans.specs.Along.{end_along, spot, spot_of, end_told}
 use Rattle.leased_ports.specs.declared.phases.Phase.{Phase}
 use Rattle.leased_ports.specs.declared.phases.Phase.TheVariants.{Holds, Rests, Over}
 use Rattle.leased_ports.specs.Kept.{end_by, use_in, since, until, phase_at, IsSet, AreInStep, HaveBegun}
-use Rattle.leased_ports.specs.Steps.{GivesUses, Waits, AreAssigned, AreFreed, last_along, no_last}
+use Rattle.leased_ports.specs.Steps.{GivesUses, Waits, AreAssigned, AreFreed, IsOwnRun, last_along, no_last}
 use Rattle.leased_ports.proofs.SpotLemmas.{run_of_low, run_of_high, place_off}
 use Rattle.leased_ports.proofs.BlockLemmas.{IsBlock, block_in_step, block_begun, block_ends, inserted_block, renewed_block}
 use Rattle.leased_ports.proofs.PhaseLemmas.{phase-begun}
@@ -84,6 +84,15 @@ module _ (r : Run End) (last : End) (same : r.value ≡ record last { end = r.va
       let made = block_assigned m runs new pool later waits next r renewed p is set refl external begun now block in
       subst (λ (x : ℕ). AreAssigned m runs last.endpoint.protocol x r.count (last_along last) new later next) (sym external)
       (subst (λ (q : Protocol). AreAssigned m runs q r.value.external r.count (last_along last) new later next) protocol made)
+
+-- the run of exactly these ports stands where they do
+pub own-at : (runs : List (Run End)) (first : End) (n : ℕ) (r : Run End) → IsOwnRun runs first n r → (from : ℕ) → from ≡ spot_of first → run_at runs from ≡ Some r
+own-at runs first n r own from e = ap (run_at runs) (e ∙ sym own.at_first) ∙ own.there
+
+pub run-as : (runs : List (Run End)) (v : End) (a b m n : ℕ) → a ≡ b → m ≡ n → run_at runs a ≡ Some (record { first = a; count = m; value = v }) → run_at runs b ≡ Some (record { first = b; count = n; value = v })
+run-as runs v a b m n e f h =
+    subst (λ (x : ℕ). run_at runs x ≡ Some (record { first = x; count = n; value = v })) e
+    (subst (λ (x : ℕ). run_at runs a ≡ Some (record { first = a; count = x; value = v })) f h)
 
 -- ---- ports that are freed
 

@@ -14,10 +14,9 @@ use Rattle.port_spans.specs.Along.{end_along, end_told, spot, BeginsAt}
 use Rattle.port_spans.proofs.RunLemmas.{in_to, in_by}
 use Rattle.port_spans.proofs.SpotLemmas.{if-some, some-if, run_has, run_from, run_first, begins_from, none_between}
 use Rattle.leased_ports.specs.Leased.{Leased, leased, end_of}
-use Rattle.leased_ports.specs.Kept.{IsSet, end_by, ends_of}
+use Rattle.leased_ports.specs.Kept.{IsSet, end_by}
 use Rattle.leased_ports.specs.Listed.{listed, spot_end, has_come, ends_come}
-use Rattle.leased_ports.proofs.SpotLemmas.{run_of_low, run_of_high, run_low}
-use Rattle.leased_ports.proofs.ViewLemmas.{ends_of-place, length-ends_of}
+use Rattle.leased_ports.proofs.SpotLemmas.{run_of_low, run_low}
 use Rattle.leased_ports.proofs.ListedLemmas.{listed-nil, listed-same, listed-empty, listed-split, listed-more, listed-shift, listed-filter}
 
 -- the last ends of a run's ports
@@ -198,26 +197,15 @@ spot_told runs p i less = ap (end_told (spot p i)) (sym (run_of_low runs p i les
 
 module _ (low high quota settled reached : ℕ) (runs : List (Run End)) where
   abbrev view : Leased
-  view = leased low high quota settled reached (ends_of runs 131072)
+  view = leased low high quota settled reached runs
 
-  seen : (p : Protocol) (i : ℕ) → i < 65536 → spot_end runs (spot p i) ≡ end_of view p i
-  seen p i less = spot_told runs p i less ∙ sym (ends_of-place runs p i)
-
-  seen_none : (p : Protocol) (i : ℕ) → 65536 ≤ i → end_of view p i ≡ None
-  seen_none p i high = ends_of-place runs p i ∙ ap (end_told (spot p i)) (run_of_high runs p i high)
-
-  -- the ports of a protocol, and none behind them
-  row_seen : (p : Protocol) → listed (λ i. spot_end runs (spot p i)) 0 65536 ≡ listed (end_of view p) 0 131072
-  row_seen p =
-      listed-same (λ i. spot_end runs (spot p i)) (end_of view p) 0 65536 (λ i a b. seen p i b)
-      ∙ sym (append-nil (listed (end_of view p) 0 65536))
-      ∙ ap (λ (xs : List End). listed (end_of view p) 0 65536 ++ xs) (sym (listed-empty (end_of view p) 65536 65536 (λ i a b. seen_none p i a)))
-      ∙ sym (listed-split (end_of view p) 0 65536 65536 131072 refl)
+  -- the ports of a protocol
+  row_seen : (p : Protocol) → listed (λ i. spot_end runs (spot p i)) 0 65536 ≡ listed (end_of view p) 0 65536
+  row_seen p = listed-same (λ i. spot_end runs (spot p i)) (end_of view p) 0 65536 (λ i a b. spot_told runs p i b)
 
   pub come_seen : (m : ℕ) → filter (has_come m) (listed (spot_end runs) 0 131072) ≡ ends_come m view
   come_seen m =
       ap (filter (has_come m)) (
       listed-split (spot_end runs) 0 65536 65536 131072 refl
       ∙ ap (λ (xs : List End). xs ++ listed (spot_end runs) 65536 65536) (row_seen Tcp)
-      ∙ ap (λ (xs : List End). listed (end_of view Tcp) 0 131072 ++ xs) (sym (listed-shift (spot_end runs) 65536 0 65536) ∙ row_seen Udp)
-      ∙ ap (λ (n : ℕ). listed (end_of view Tcp) 0 n ++ listed (end_of view Udp) 0 n) (sym (length-ends_of runs 131072)))
+      ∙ ap (λ (xs : List End). listed (end_of view Tcp) 0 65536 ++ xs) (sym (listed-shift (spot_end runs) 65536 0 65536) ∙ row_seen Udp))

@@ -7,10 +7,10 @@ use Rattle.expiry_wheel.proofs.Maps.{same_or_not}
 use Rattle.leased_ports.specs.Falling.{is_due, due_below}
 use Rattle.leased_ports.specs.Counts.{count_below}
 
-abbrev one : Bool → ℕ
+abbrev pub one : Bool → ℕ
 one b = cond {A = ℕ} b 1 0
 
-one_le : (a b : Bool) → (a ≡ true → b ≡ true) → one a ≤ one b
+pub one_le : (a b : Bool) → (a ≡ true → b ≡ true) → one a ≤ one b
 one_le true b h = let is : one b ≡ 1 = ap one (h refl) in omega (arith, is)
 one_le false b h = omega arith
 

@@ -12,15 +12,14 @@ use Rattle.port_spans.specs.Runs.{run_at}
 use Rattle.leased_ports.specs.declared.phases.Phase.{Phase}
 use Rattle.leased_ports.specs.declared.phases.Phase.TheVariants.{Holds, Rests, Over}
 use Rattle.leased_ports.specs.Leased.{Leased, leased, end_of}
-use Rattle.leased_ports.specs.Kept.{end_by, ends_of, until, phase_at, phase_by, wait_told, AreScheduled}
+use Rattle.leased_ports.specs.Kept.{end_by, until, phase_at, phase_by, wait_told, AreScheduled}
 use Rattle.leased_ports.specs.Falling.{NoneDue, is_due, due_below}
 use Rattle.leased_ports.specs.Counts.{count_below, falls_due, ports_due}
 use Rattle.leased_ports.proofs.PhaseLemmas.{at-holds, at-rests}
 use Rattle.leased_ports.proofs.CountLemmas.{due-counted, count-same, count-split}
-use Rattle.leased_ports.proofs.ViewLemmas.{ends_of-place}
 use Rattle.port_spans.specs.Along.{spot, end_told}
 
-told_step : (from m e : ℕ) (b : Bool) (p : Phase) → ((expiry : ℕ) → cond b (until p e) None ≡ Some expiry → from < expiry) → is_due m (cond b (until p e) None) ≡ true → is_due m (until (phase_at from e) e) ≡ true
+pub told_step : (from m e : ℕ) (b : Bool) (p : Phase) → ((expiry : ℕ) → cond b (until p e) None ≡ Some expiry → from < expiry) → is_due m (cond b (until p e) None) ≡ true → is_due m (until (phase_at from e) e) ≡ true
 told_step from m e false p late h = absurd (let no : false ≡ true = h in cc)
 told_step from m e true Holds late h = ap (λ (f : Phase). is_due m (until f e)) (at-holds from e (late e refl)) ∙ h
 told_step from m e true Rests late h = elim (below_or_not from e) [
@@ -36,12 +35,12 @@ due-told from m s waits (Some r) late h = told_step from m r.value.end (r.first 
 
 module _ (low high quota seen m : ℕ) (runs : List (Run End)) where
   abbrev view : Leased
-  view = leased low high quota seen m (ends_of runs 131072)
+  view = leased low high quota seen m runs
 
   port_told : (p : Protocol) (i : ℕ) → i < 65536 → falls_due seen m (end_told (spot p i) (run_at runs (spot p i))) ≡ falls_due seen m (end_of view p i)
   port_told p i less =
       let by : end_by runs p i ≡ end_told (spot p i) (run_at runs (spot p i)) = ap (λ b. end_told (spot p i) (cond b (run_at runs (spot p i)) None)) (lt-ltb i 65536 less) in
-      ap (falls_due seen m) (sym (ends_of-place runs p i ∙ by))
+      ap (falls_due seen m) (sym by)
 
   -- no more runs fall due than ports
   pub due-ports : (waits : FinMap nat_cmp ℕ) → AreScheduled runs waits → NoneDue seen waits → due_below m waits 131072 ≤ ports_due view

@@ -4,6 +4,7 @@ pub mod LastEndLemmas
 pub mod PoolLemmas
 pub mod SpotLemmas
 pub mod StepLemmas
+pub mod AmongLemmas
 pub mod TimedLemmas
 pub mod PhaseLemmas
 pub mod BlockLemmas
@@ -13,6 +14,7 @@ pub mod FreeLemmas
 pub mod FallLemmas
 pub mod CountLemmas
 pub mod EndedLemmas
+pub mod SettledLemmas
 pub mod AssignLemmas
 pub mod ViewLemmas
 pub mod PlainLemmas

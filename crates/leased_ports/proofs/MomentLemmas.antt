@@ -8,9 +8,9 @@ use Rattle.pcp_base.specs.Ends.{is_recent}
 use Rattle.pcp_base.specs.States.{State, empty_state}
 use Rattle.pcp_base.specs.Sound.{SoundState}
 use Rattle.leased_ports.specs.LastEnds.{last_end}
-use Rattle.leased_ports.specs.Leased.{Leased, IsPortsOf, place, end_of, while_recent, at_moment, fresh_ports}
+use Rattle.leased_ports.specs.Leased.{Leased, IsPortsOf, end_of, while_recent, at_moment, fresh_ports}
+use Rattle.leased_ports.proofs.SpotLemmas.{empty_by}
 use Rattle.leased_ports.proofs.LastEndLemmas.{last-some, last-at}
-use Rattle.leased_ports.proofs.StepLemmas.{end_in-no_ends}
 
 module _ (s : State) (sound : SoundState s) (n m : ℕ) (later : n ≤ m) (protocol : Protocol) (port : ℕ) where
   earlier : (e : End) → last_end s m protocol port ≡ Some e → last_end s n protocol port ≡ Some e
@@ -56,4 +56,4 @@ ports-told v s m protocol port sound is later =
     twice-recent s.last m later (end_of v protocol port) ∙ ap (while_recent m) (is.same protocol port) ∙ sym (last_end-later s sound s.last m later protocol port)
 
 pub ports-new : (low high quota : ℕ) → IsPortsOf (fresh_ports low high quota) empty_state
-ports-new low high quota = record { passed = omega arith; same = λ protocol port. ap (while_recent 0) (end_in-no_ends 131072 (place protocol port)) }
+ports-new low high quota = record { passed = omega arith; same = λ protocol port. ap (while_recent 0) (empty_by protocol port) }

@@ -40,7 +40,7 @@ use Rattle.port_spans.proofs.SpotLemmas.{some-if}
 use Rattle.leased_ports.specs.declared.phases.Phase.{Phase}
 use Rattle.leased_ports.specs.declared.phases.Phase.TheVariants.{Holds, Rests, Over}
 use Rattle.leased_ports.specs.Leased.{Leased, leased, end_of, IsPortsOf, IsOnTerms}
-use Rattle.leased_ports.specs.Kept.{port_run, end_by, ends_of, since, until, phase_at, phase_by, use_in, use_by, use_told, IsOn, AreInStep, HaveBegun}
+use Rattle.leased_ports.specs.Kept.{port_run, end_by, since, until, phase_at, phase_by, use_in, use_by, use_told, IsOn, AreInStep, HaveBegun}
 use Rattle.leased_ports.specs.Falling.{NoneDue}
 use Rattle.leased_ports.specs.Counts.{count_below, is_held_after, held_since}
 use Rattle.leased_ports.specs.Frees.{IsFirst, is_over}
@@ -50,7 +50,7 @@ use Rattle.leased_ports.proofs.PhaseLemmas.{at-holds, at-rests, at-over, run_wai
 use Rattle.leased_ports.proofs.PoolLemmas.{held-by}
 use Rattle.leased_ports.proofs.PickLemmas.{picks-state}
 use Rattle.leased_ports.proofs.CountLemmas.{count-same, count-split, count-some}
-use Rattle.leased_ports.proofs.ViewLemmas.{by_high, ends_of-place, used_pool}
+use Rattle.leased_ports.proofs.ViewLemmas.{by_high, used_pool}
 
 -- ---- the first number that passes one of two tests
 
@@ -240,7 +240,7 @@ module _ (low high quota m : ℕ) (runs : List (Run End)) where
   use_same : (p : Protocol) (port : ℕ) → use_of (pool_by low high quota m runs) p port ≡ use_by m (end_by runs p port)
   use_same p port = ap (λ (u : PortUses). use_at u.each port) (uses_same p) ∙ each-at m runs p port
 
-  pub by-terms : (seen : ℕ) (terms : Terms) → IsOnTerms (leased low high quota seen m (ends_of runs 131072)) terms → IsPoolOnTerms (pool_by low high quota m runs) terms
+  pub by-terms : (seen : ℕ) (terms : Terms) → IsOnTerms (leased low high quota seen m runs) terms → IsPoolOnTerms (pool_by low high quota m runs) terms
   by-terms seen terms h = record {
     quota = h.quota;
     low = λ p. ap (λ (u : PortUses). u.low) (uses_same p) ∙ h.low;
@@ -367,15 +367,14 @@ module _ (low high quota m : ℕ) (runs : List (Run End)) (pool : Holdings) (wai
 
   module _ (seen : ℕ) (late : NoneDue seen waits) where
     abbrev view : Leased
-    view = leased low high quota seen m (ends_of runs 131072)
+    view = leased low high quota seen m runs
 
     held_of : (who : Address) (p : Protocol) (each : List Use) → length each ≡ 65536 → ((port : ℕ) → use_at each port ≡ use_told waits (spot p port) (port_run runs p port))
         → count_by (is_held_by who) each ≤ count_below (λ port. is_held_after seen who (end_of view p port)) 65536
     held_of who p each whole used =
         let then_ = count-uses (is_held_by who) each ∙ ap (count_below (λ i. is_held_by who (use_at each i))) whole in
         let some = count-some (λ port. is_held_after seen who (end_of view p port)) (λ i. is_held_by who (use_at each i)) 65536 (λ i less h.
-        ap (is_held_after seen who) (ends_of-place runs p i)
-        ∙ after_step seen (spot p i) who waits (port_run runs p i) (waits_of i) (sym (ap (is_held_by who) (used i)) ∙ h)) in
+        after_step seen (spot p i) who waits (port_run runs p i) (waits_of i) (sym (ap (is_held_by who) (used i)) ∙ h)) in
         omega (arith, then_, some)
       where
         waits_of : (i : ℕ) → IfSome (port_run runs p i) (λ r. (expiry : ℕ) → until (phase_by waits r) r.value.end ≡ Some expiry → seen < expiry)
@@ -419,7 +418,7 @@ module _ (low high quota m : ℕ) (runs : List (Run End)) (pool : Holdings) (wai
           → answer_to ask choice ≡ pick_answer terms s m e ask
       judged choice is_pick terms s reached ports of_terms asks =
           picks-state now terms s m e ask (answer_to ask choice)
-          (used_pool low high quota seen m runs now (λ p port. use_same low high quota m runs p port ∙ ap (use_by m) (sym (ends_of-place runs p port))) s reached ports)
+          (used_pool low high quota seen m runs now (λ p port. use_same low high quota m runs p port) s reached ports)
           (by-terms low high quota m runs seen terms of_terms) asks internal (record {
             quota = λ full. let fewer = held-now e.address in absurd (omega (arith, full, fewer, below));
             pick = λ less. record {

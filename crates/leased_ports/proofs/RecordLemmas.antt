@@ -33,8 +33,8 @@ use Rattle.pcp_base.proofs.StageLaws.{unlike, two_ways, with_left-unowned, expir
 use Rattle.pcp_base.proofs.StepLaws.{ends_3-by, put-or, put-new, found}
 use Rattle.pcp_base.proofs.ApplyLaws.{owners-kept, OneOwner-at, IsReached-apply}
 use Rattle.leased_ports.specs.LastEnds.{last_end}
-use Rattle.leased_ports.specs.Leased.{Leased, IsPortsOf, at_moment, end_of, fresh_ports, place, while_recent}
-use Rattle.leased_ports.proofs.StepLemmas.{end_in-no_ends}
+use Rattle.leased_ports.specs.Leased.{Leased, IsPortsOf, at_moment, end_of, fresh_ports, while_recent}
+use Rattle.leased_ports.proofs.SpotLemmas.{empty_by}
 use Rattle.leased_ports.specs.Recorded.{touched, latest, held_until, end_by_rest, end_after}
 use Rattle.leased_ports.proofs.ExpiryLemmas.{map_ends-end, later-live, live-any, dead-any, owner-leaves}
 use Rattle.leased_ports.proofs.LastEndLemmas.{later_or_not, last-some, last-from, latest-last, old-last, old-ended, last-rests, rests-last}
@@ -624,5 +624,5 @@ pub ports-anew : (low high quota : ℕ) (s : State) (r : Record) → empties r.c
 ports-anew low high quota s r forgets =
     let passed : r.moment ≤ r.moment = omega arith in record {
       passed = passed;
-      same = λ protocol port. ap (while_recent r.moment) (end_in-no_ends 131072 (place protocol port)) ∙ sym (nothing-kept s r protocol port forgets);
+      same = λ protocol port. ap (while_recent r.moment) (empty_by protocol port) ∙ sym (nothing-kept s r protocol port forgets);
     }

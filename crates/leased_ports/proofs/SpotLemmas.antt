@@ -1,5 +1,5 @@
 -- Where ports stand, and the ports of runs.
-use Rattle.std.proofs.Common.{◌≡◌, ℕ, ◌+◌, ◌-◌, ◌<◌, ◌≤◌, ◌&&◌, true, cond, List, None, refl, ap, ◌∙◌, arith}
+use Rattle.std.proofs.Common.{◌≡◌, ℕ, ◌+◌, ◌-◌, ◌<◌, ◌≤◌, ◌&&◌, nat_lt, Bool, true, false, cond, List, [], None, refl, ap, ◌∙◌, arith}
 use Rattle.std.proofs.lemmas.Bool.{lt-ltb, le-ltb}
 use Rattle.pcp_base.specs.declared.leases.Protocol.{Protocol}
 use Rattle.pcp_base.specs.declared.leases.Protocol.TheVariants.{Tcp, Udp}
@@ -10,8 +10,8 @@ use Rattle.port_spans.specs.declared.runs.Run.{Run}
 use Rattle.port_spans.specs.Runs.{has_place, run_at}
 use Rattle.port_spans.proofs.RunLemmas.{in_from, in_to, in_by}
 use Rattle.port_spans.proofs.SpotLemmas.{spot_in, spot_from, spot_up_to}
-use Rattle.port_spans.specs.Along.{spot}
-use Rattle.leased_ports.specs.Kept.{port_run, IsSet}
+use Rattle.port_spans.specs.Along.{spot, end_told}
+use Rattle.leased_ports.specs.Kept.{port_run, end_by, IsSet}
 
 pub spot_one : (p q : Protocol) (m n : ℕ) → m < 65536 → n < 65536 → spot p m ≡ spot q n → (p ≡ q) × (m ≡ n)
 spot_one Tcp Tcp m n a b e = (refl, e)
@@ -24,6 +24,14 @@ run_of_low runs protocol port low = ap (λ b. cond b (run_at runs (spot protocol
 
 pub run_of_high : (runs : List (Run End)) (protocol : Protocol) (port : ℕ) → 65536 ≤ port → port_run runs protocol port ≡ None
 run_of_high runs protocol port high = ap (λ b. cond b (run_at runs (spot protocol port)) None) (le-ltb port 65536 high)
+
+-- no port has a last end where there is no run
+pub empty_by : (p : Protocol) (n : ℕ) → end_by [] p n ≡ None
+empty_by p n = step (nat_lt n 65536)
+  where
+    step : (b : Bool) → end_told (spot p n) (cond b (run_at [] (spot p n)) None) ≡ None
+    step true = refl
+    step false = refl
 
 module _ (r : Run End) (set : IsSet r) where
   pub in_spots : (q : Protocol) (port : ℕ) → port < 65536 → has_place (spot q port) r ≡ (same_protocol r.value.endpoint.protocol q && is_in_run r.value.external r.count port)

@@ -1,7 +1,6 @@
 -- The ends of a state, told by its ports.
-use Rattle.std.proofs.Common.{◌≡◌, ℕ, zero, suc, ◌+◌, ◌<◌, ◌≤◌, ◌&&◌, ◌||◌, ◌==◌, nat_lt, nat_le, Bool, true, false, cond, List, [], ◌∷◌, ◌++◌, filter, find, length, Option, Some, None, IsSome, option_to_list, refl, sym, ap, ◌∙◌, subst, inl, inr, arith}
+use Rattle.std.proofs.Common.{◌≡◌, ℕ, zero, suc, ◌+◌, ◌<◌, ◌≤◌, ◌&&◌, ◌||◌, ◌==◌, nat_lt, nat_le, Bool, true, false, cond, List, [], ◌∷◌, ◌++◌, filter, find, Option, Some, None, IsSome, option_to_list, refl, sym, ap, ◌∙◌, subst, inl, inr, arith}
 use Rattle.std.proofs.lemmas.Bool.{lt-ltb}
-use Rattle.std.proofs.lemmas.List.{get_or_past}
 use Rattle.std.proofs.lemmas.List.Elements.{filter-append}
 use Rattle.pcp_base.specs.declared.leases.Protocol.{Protocol}
 use Rattle.pcp_base.specs.declared.leases.Protocol.TheVariants.{Tcp, Udp}
@@ -15,8 +14,10 @@ use Rattle.pcp_base.proofs.EndOrder.{InOrder, InOrder-one}
 use Rattle.pcp_base.proofs.RestLaws.{InOrder-same}
 use Rattle.expiry_wheel.proofs.Maps.{below_or_not}
 use Rattle.leased_ports.specs.LastEnds.{come}
-use Rattle.leased_ports.specs.Leased.{Leased, place, end_of, while_recent, IsPortsOf}
+use Rattle.leased_ports.specs.Leased.{Leased, end_of, while_recent, IsPortsOf}
 use Rattle.leased_ports.specs.Listed.{listed, has_come, ends_come}
+use Rattle.port_spans.specs.Along.{spot, end_told}
+use Rattle.leased_ports.proofs.SpotLemmas.{run_of_high}
 use Rattle.leased_ports.proofs.RecordLemmas.{of-port, port-of}
 use Rattle.leased_ports.proofs.CameLemmas.{ends-last}
 use Rattle.leased_ports.proofs.ListedLemmas.{listed-nil, listed-cons, listed-same, listed-filter, listed-IsIn, IsIn-listed, if_passing}
@@ -115,19 +116,15 @@ come-recent : (m : ℕ) (o : Option End) → if_passing (has_come m) o ≡ come 
 come-recent m None = refl
 come-recent m (Some e) = both_step m e (nat_le e.end m) (is_recent m e) refl
 
-past : (p : Protocol) (n i : ℕ) → n ≤ i → n ≤ place p i
-past Tcp n i h = omega (arith, h)
-past Udp n i h = omega (arith, h)
-
 module _ (v : Leased) (s : State) (reached : IsReached s) (ports : IsPortsOf v s) where
   come_at : (p : Protocol) (i : ℕ) → if_passing (has_come s.last) (end_of v p i) ≡ find (is_end_of p i) s.ends
   come_at p i = come-recent s.last (end_of v p i) ∙ ap (come s.last) (ports.same p i) ∙ sym (ends-last s reached p i)
 
-  none_past : (p : Protocol) (i : ℕ) → length v.ends ≤ i → find (is_end_of p i) s.ends ≡ None
-  none_past p i h = sym (come_at p i) ∙ ap (if_passing (has_come s.last)) (get_or_past v.ends (place p i) None (past p (length v.ends) i h))
+  none_past : (p : Protocol) (i : ℕ) → 65536 ≤ i → find (is_end_of p i) s.ends ≡ None
+  none_past p i h = sym (come_at p i) ∙ ap (if_passing (has_come s.last)) (ap (end_told (spot p i)) (run_of_high v.runs p i h))
 
-  low_port : (e : End) → IsIn e s.ends → e.external < length v.ends
-  low_port e there = elim (below_or_not e.external (length v.ends)) [
+  low_port : (e : End) → IsIn e s.ends → e.external < 65536
+  low_port e there = elim (below_or_not e.external 65536) [
     | inl low ↦ low
     | inr high ↦ absurd (
         let own : find (is_end_of e.endpoint.protocol e.external) s.ends ≡ Some e =
@@ -147,7 +144,7 @@ module _ (v : Leased) (s : State) (reached : IsReached s) (ports : IsPortsOf v s
 
   pub ends-told : s.ends ≡ ends_come s.last v
   ends-told =
-      let n = length v.ends in
+      let n : ℕ = 65536 in
       rows-told s.ends reached.sound.ordered n low_port
       ∙ ap (λ (zs : List End). zs ++ listed (λ i. find (is_end_of Udp i) s.ends) 0 n) (sym (row_told Tcp n))
       ∙ ap (λ (zs : List End). filter (has_come s.last) (listed (end_of v Tcp) 0 n) ++ zs) (sym (row_told Udp n))

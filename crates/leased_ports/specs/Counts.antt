@@ -28,8 +28,8 @@ abbrev pub is_held_after : ℕ → Address → Option End → Bool
 is_held_after m who None = false
 is_held_after m who (Some e) = nat_lt m e.end && same_address e.endpoint.address who
 
--- how many ports the address may hold by the counts: those whose last ends are its own and come after
--- the moment by which all that fell due is seen to
+-- how many ports the address may hold by the counts: those whose last ends are its own and come
+-- after the moment by which all that fell due is seen to
 abbrev pub held_since : Leased → Address → ℕ
 held_since v who = count_below (λ port. is_held_after v.settled who (end_of v Tcp port)) 65536
     + count_below (λ port. is_held_after v.settled who (end_of v Udp port)) 65536

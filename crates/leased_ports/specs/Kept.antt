@@ -1,12 +1,10 @@
 -- What is kept of the last ends: runs of ports that have theirs together, and beside them a pool,
 -- and a wheel that tells when each run goes to rest or awake (our own).
-use Rattle.std.specs.Prelude.{◌≡◌, ℕ, ◌+◌, ◌-◌, ◌/◌, ◌%◌, ◌<◌, ◌≤◌, ◌^◌, ◌==◌, nat_lt, List, map, Option, Some, None, IfSome, if◌then◌else◌}
-use Rattle.std.specs.List.{range_with_len}
+use Rattle.std.specs.Prelude.{◌≡◌, ℕ, ◌+◌, ◌-◌, ◌<◌, ◌≤◌, ◌^◌, ◌==◌, nat_lt, List, Option, Some, None, IfSome, if◌then◌else◌}
 use Rattle.std.specs.Ordering.{nat_cmp}
 use Rattle.std.specs.FinMap.{FinMap, get}
 use Rattle.pcp_base.specs.declared.leases.TheConstants.{REST_SECONDS}
 use Rattle.pcp_base.specs.declared.leases.Protocol.{Protocol}
-use Rattle.pcp_base.specs.declared.leases.Protocol.TheVariants.{Tcp, Udp}
 use Rattle.pcp_base.specs.declared.leases.End.{End}
 use Rattle.leased_ports.specs.Falling.{NoneDue}
 use Rattle.leased_ports.specs.declared.phases.Phase.{Phase}
@@ -26,12 +24,6 @@ port_run runs protocol port = if nat_lt port 65536 then run_at runs (spot protoc
 -- the last end of a port
 abbrev pub end_by : List (Run End) → Protocol → ℕ → Option End
 end_by runs protocol port = end_told (spot protocol port) (port_run runs protocol port)
-
--- the last ends at so many places, at which ports of both protocols take turns
-unfoldable pub ends_of : List (Run End) → ℕ → List (Option End)
-ends_of runs count =
-    map (λ at. if at % 2 == 0 then end_by runs Tcp (at / 2) else end_by runs Udp (at / 2))
-    (range_with_len 0 count)
 
 -- what a port is used for by its last end, in a phase
 abbrev pub use_in : Phase → End → Use
@@ -121,8 +113,8 @@ abbrev pub AreSettled : ℕ → List (Run End) → FinMap nat_cmp ℕ → Type 0
 AreSettled m runs waits =
     (at : ℕ) → IfSome (run_at runs at) (λ r. phase_by waits r ≡ phase_at m r.value.end)
 
--- a range and a quota, no phase that is to come yet at the moment reached, and none that was over by
--- the one before it by which all that fell due is seen to
+-- a range and a quota, no phase that is to come yet at the moment reached, and none that was over
+-- by the one before it by which all that fell due is seen to
 pub record IsKept (low high quota settled reached : ℕ) (runs : List (Run End)) (pool : Holdings)
     (waits : FinMap nat_cmp ℕ) : Type 0 where
   pub on : IsOn pool low high quota

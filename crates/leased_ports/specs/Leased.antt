@@ -1,14 +1,13 @@
 -- What is known of the ports of an external address at a moment (our own).
-use Rattle.std.specs.Prelude.{◌≡◌, ℕ, zero, suc, ◌+◌, ◌*◌, ◌<◌, ◌≤◌, ◌^◌, List, Option, Some, None, replicate, slice_index_or, slice_set, if◌then◌else◌}
+use Rattle.std.specs.Prelude.{◌≡◌, ℕ, ◌+◌, ◌<◌, ◌≤◌, ◌^◌, List, [], Option, Some, None, if◌then◌else◌}
 use Rattle.pcp_base.specs.declared.leases.Protocol.{Protocol}
-use Rattle.pcp_base.specs.declared.leases.Protocol.TheVariants.{Tcp, Udp}
 use Rattle.pcp_base.specs.declared.leases.End.{End}
 use Rattle.pcp_base.specs.Ends.{is_recent}
 use Rattle.pcp_base.specs.States.{State}
 use Rattle.lease_store.specs.declared.terms.Terms.{Terms}
-use Rattle.port_spans.specs.Along.{end_along}
+use Rattle.port_spans.specs.declared.runs.Run.{Run}
 use Rattle.leased_ports.specs.LastEnds.{last_end}
-use Rattle.port_spans.specs.declared.runs.TheConstants.{PLACES}
+use Rattle.leased_ports.specs.Kept.{end_by}
 
 pub record Leased : Type 0 where
   -- the range of ports that are given, and how many an address may own
@@ -18,37 +17,26 @@ pub record Leased : Type 0 where
   -- the moment by which all that fell due is seen to, and the one that is reached
   pub settled : ℕ
   pub reached : ℕ
-  -- the last end of each port, also one whose rest is over, at the port's place
-  pub ends : List (Option End)
+  -- the runs of ports that have their last ends together, also of those whose rest is over
+  pub runs : List (Run End)
 
-abbrev pub leased : (low high quota settled reached : ℕ) → List (Option End) → Leased
-leased low high quota settled reached ends = record {
+abbrev pub leased : (low high quota settled reached : ℕ) → List (Run End) → Leased
+leased low high quota settled reached runs = record {
   low = low;
   high = high;
   quota = quota;
   settled = settled;
   reached = reached;
-  ends = ends;
+  runs = runs;
 }
-
--- where the end of a port stands
-abbrev pub place : Protocol → ℕ → ℕ
-place Tcp port = 2 * port
-place Udp port = 2 * port + 1
-
-abbrev pub end_in : List (Option End) → ℕ → Option End
-end_in ends place = slice_index_or ends place None
 
 -- the last end of a port
 abbrev pub end_of : Leased → Protocol → ℕ → Option End
-end_of v protocol port = end_in v.ends (place protocol port)
-
-unfoldable pub no_ends : ℕ → List (Option End)
-no_ends count = replicate count None
+end_of v protocol port = end_by v.runs protocol port
 
 -- no port has a last end, and the moment is 0
 abbrev pub fresh_ports : ℕ → ℕ → ℕ → Leased
-fresh_ports low high quota = leased low high quota 0 0 (no_ends PLACES)
+fresh_ports low high quota = leased low high quota 0 0 []
 
 -- the same on the same range and quota
 abbrev pub vacated : Leased → Leased
@@ -67,23 +55,13 @@ at_moment m v = record v { reached = m }
 abbrev pub as_settled : Leased → Leased
 as_settled v = record v { settled = v.reached }
 
--- the last end of the end's port is this one
-abbrev pub with_last_end : End → Leased → Leased
-with_last_end e v = record v {
-  ends = slice_set v.ends (place e.endpoint.protocol e.external) (Some e);
-}
-
--- the last ends of the n ports from the end's port on are this one and those along it
-abbrev pub with_last_ends : End → ℕ → Leased → Leased
-with_last_ends e zero v = v
-with_last_ends e (suc n) v = with_last_end (end_along n e) (with_last_ends e n v)
-
--- the n ports from a port on have no last end
-abbrev pub without_last_ends : Protocol → ℕ → ℕ → Leased → Leased
-without_last_ends protocol port zero v = v
-without_last_ends protocol port (suc n) v = record (without_last_ends protocol port n v) {
-  ends = slice_set (without_last_ends protocol port n v).ends (place protocol (port + n)) None;
-}
+-- the same but for last ends
+pub record OnlyEndsChange (old new : Leased) : Type 0 where
+  pub low : new.low ≡ old.low
+  pub high : new.high ≡ old.high
+  pub quota : new.quota ≡ old.quota
+  pub settled : new.settled ≡ old.settled
+  pub reached : new.reached ≡ old.reached
 
 -- an end of a port of 1 to 65535
 pub record IsLastEnd (e : End) : Type 0 where

@@ -3,6 +3,7 @@ pub mod Leased
 pub mod Pieces
 pub mod Kept
 pub mod Steps
+pub mod Among
 pub mod Falling
 pub mod Counts
 pub mod Frees

@@ -1,5 +1,5 @@
 -- The last ends of ports, as lists (our own).
-use Rattle.std.specs.Prelude.{ℕ, zero, suc, ◌+◌, ◌&&◌, nat_le, Bool, List, [], ◌++◌, length, filter, Option, option_to_list}
+use Rattle.std.specs.Prelude.{ℕ, zero, suc, ◌+◌, ◌&&◌, nat_le, Bool, List, [], ◌++◌, filter, Option, option_to_list}
 use Rattle.pcp_base.specs.declared.leases.Protocol.TheVariants.{Tcp, Udp}
 use Rattle.pcp_base.specs.declared.leases.End.{End}
 use Rattle.pcp_base.specs.Ends.{is_recent}
@@ -24,4 +24,4 @@ has_come m e = nat_le e.end m && is_recent m e
 -- the last ends that came by m and are recent then, in the order of protocol number and port
 abbrev pub ends_come : ℕ → Leased → List End
 ends_come m v = filter (has_come m)
-    (listed (end_of v Tcp) 0 (length v.ends) ++ listed (end_of v Udp) 0 (length v.ends))
+    (listed (end_of v Tcp) 0 65536 ++ listed (end_of v Udp) 0 65536)

@@ -5,8 +5,8 @@ use Rattle.pcp_base.specs.declared.leases.End.{End}
 use Rattle.port_spans.specs.Along.{end_along}
 use Rattle.leased_ports.specs.declared.pieces.Piece.{Piece}
 
--- of the ports from one on, at least one and at most so many: the last ends of all are along that of
--- the first, whose internal ports are ports too, or none has one
+-- of the ports from one on, at least one and at most so many: the last ends of all are along that
+-- of the first, whose internal ports are ports too, or none has one
 pub record IsPiece (last_of : ℕ → Option End) (start most : ℕ) (p : Piece) : Type 0 where
   pub some : 1 ≤ p.count
   pub few : p.count ≤ most

@@ -18,9 +18,10 @@ use step_count::Steps;
 /// How many runs that are due a call of `reach` sees to at most.
 pub const MOST_RUNS: u64 = 64;
 
-/// How many steps it takes at most to see to a run, beside the 23 that find it: 39 moments and nodes
-/// of the wheel, one to tell its phase and 38 to move or take out what waits, and two looks at the
-/// count of its address, of 64 levels at most. What marks its ports, one by one, isn't counted.
+/// How many steps it takes at most to see to a run, beside the 23 that find it: 39 moments and
+/// nodes of the wheel, one to tell its phase and 38 to move or take out what waits, and two looks
+/// at the count of its address, of 64 levels at most. What marks its ports, one by one, isn't
+/// counted.
 pub const RUN_STEPS: u64 = 167;
 
 /// Sees to one run that falls due by `m`: one whose end came begins to rest, and the ports of one
@@ -42,7 +43,7 @@ fn fall<L: Ledger>(
     ensures fewer { OnTrue result (due_below m wheel.new PLACES < due_below m wheel.old PLACES) }
     ensures none { OnFalse result (NoneDue m wheel.new) }
     ensures more { OnTrue result (steps.new ≤ steps.old + 23 + RUN_STEPS) }
-    ensures last { OnFalse result (steps.new ≤ steps.old + 23) }
+    ensures last { OnFalse result (steps.new ≡ steps.old + 1) }
 {
     let Some(id) = next_due(wheel, m, steps) else {
         return false;
@@ -62,30 +63,40 @@ fn fall<L: Ledger>(
     true
 }
 
-/// Sees to some of the runs that fall due by `m`, whatever falls due.
+/// Sees to the first 64 runs at most that fall due by `m`, where none falls due by `settled` any
+/// more. By the moment that it gives none does then: `m`, where that was all.
 pub fn see_to_some<L: Ledger>(
     pool: &mut Pool,
     wheel: &mut Wheel,
     ends: &TimedEnds,
+    settled: u64,
     m: u64,
     steps: &mut Steps<L>,
-)
+) -> u64
     requires in_step { AreInStep ends.now pool.old wheel.old }
     requires begun { HaveBegun m ends.now wheel.old }
+    requires later { settled ≤ m }
+    requires late { NoneDue settled wheel.old }
     ensures on { (low high most : ℕ) →
         IsOn pool.old low high most → IsOn pool.new low high most }
     ensures in_step { AreInStep ends.now pool.new wheel.new }
     ensures begun { HaveBegun m ends.now wheel.new }
-    ensures late { (seen : ℕ) → seen ≤ m → NoneDue seen wheel.old → NoneDue seen wheel.new }
+    ensures from { settled ≤ result }
+    ensures most { result ≤ m }
+    ensures late { NoneDue result wheel.new }
+    ensures all { due_below m wheel.old PLACES < MOST_RUNS → result ≡ m }
     ensures steps { steps.new ≤ steps.old + (23 + RUN_STEPS) * MOST_RUNS }
+    ensures few { steps.new
+        ≤ steps.old + 1 + (23 + RUN_STEPS) * due_below m wheel.old PLACES }
 {
     let mut left = MOST_RUNS;
     while left > 0 {
         if !fall(pool, wheel, ends, m, steps) {
-            return;
+            return m;
         }
         left -= 1;
     }
+    settled
 }
 
 /// Sees to all runs that fall due by `m`, where none falls due by `settled` any more.
@@ -107,7 +118,7 @@ pub fn see_to_all<L: Ledger>(
     ensures none { NoneDue m wheel.new }
     ensures settled { AreSettled m ends.now wheel.new }
     ensures steps { steps.new
-        ≤ steps.old + 23 + (23 + RUN_STEPS) * due_below m wheel.old PLACES }
+        ≤ steps.old + 1 + (23 + RUN_STEPS) * due_below m wheel.old PLACES }
 {
     if settled == m {
         return;

@@ -35,8 +35,8 @@ fn gap(ends: &TimedEnds, at: u32, most: u32) -> u32
     run.first - at
 }
 
-/// The ports from this one on, of `most`, that are of its run, or of none where it is of none. Those
-/// of a run whose rest is over at `m` have no last end any more.
+/// The ports from this one on, of `most`, that are of its run, or of none where it is of none.
+/// Those of a run whose rest is over at `m` have no last end any more.
 pub fn piece_at(ends: &TimedEnds, protocol: Protocol, start: u16, most: u32, m: u64) -> Piece
     requires apart { AreRuns ends.now }
     requires set { (at : ℕ) → IfSome (run_at ends.now at) IsSet }

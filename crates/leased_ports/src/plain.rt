@@ -20,8 +20,9 @@ use port_spans::spot;
 use std::sync::ledger::Ledger;
 use step_count::Steps;
 
-/// How many steps a pick of one port takes at most that doesn't see to what is due: 134 in the pool,
-/// one look at the run of the port that is suggested, and 44 for the first port whose rest is over.
+/// How many steps a pick of one port takes at most that doesn't see to what is due: 134 in the
+/// pool, one look at the run of the port that is suggested, and 44 for the first port whose rest is
+/// over.
 pub const PLAIN_STEPS: u64 = 179;
 
 /// Whether an ask is for one port of any parity.
@@ -31,8 +32,8 @@ pub fn is_plain(ask: &PickAsk) -> bool
     ask.room == 1 && ask.parity.is_none()
 }
 
-/// Whether a port of the endpoint's protocol is open to it at `m`: in the range, held by nobody, and
-/// at rest for no other endpoint.
+/// Whether a port of the endpoint's protocol is open to it at `m`: in the range, held by nobody,
+/// and at rest for no other endpoint.
 fn is_open(ends: &TimedEnds, low: u16, high: u16, m: u64, endpoint: &Endpoint, port: u16) -> bool
     requires { (at : ℕ) → IfSome (run_at ends.now at) IsSet }
     ensures { result ≡ (is_in_range low high port
@@ -101,8 +102,8 @@ pub fn first_over<L: Ledger>(
     Some(low + (at - from) as u16)
 }
 
-/// The vacant port that the pool's answer tells, if there is one; where the address has its quota, how
-/// many ports it has.
+/// The vacant port that the pool's answer tells, if there is one; where the address has its quota,
+/// how many ports it has.
 fn vacant_told(answer: Result<Picked, PickRefused>) -> Result<Option<u16>, u32>
     ensures { result ≡ the.vacant_told answer }
 {
@@ -117,8 +118,8 @@ fn vacant_told(answer: Result<Picked, PickRefused>) -> Result<Option<u16>, u32>
     }
 }
 
-/// The first port of the endpoint's protocol that is vacant by the pool's uses. Where its address has
-/// its quota by the pool's counts, how many ports these say.
+/// The first port of the endpoint's protocol that is vacant by the pool's uses. Where its address
+/// has its quota by the pool's counts, how many ports these say.
 pub fn first_vacant<L: Ledger>(
     pool: &Pool,
     endpoint: &Endpoint,

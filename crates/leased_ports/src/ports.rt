@@ -14,13 +14,19 @@ ghost use Rattle.external_pool.specs.Holdings.{emptied};
 ghost use Rattle.external_pool.specs.Calls.{IsAsk};
 ghost use Rattle.lease_store.specs.declared.terms.Terms.{Terms};
 ghost use Rattle.lease_store.specs.Picks.{pick_answer};
-ghost use Rattle.leased_ports.specs.Leased.{AreLastEnds, IsLastEnd, IsPortsOf, IsOnTerms, as_settled, at_moment, end_of, fresh_ports, vacated, while_recent, with_last_end, with_last_ends, without_last_ends};
+ghost use Rattle.leased_ports.specs.Leased.{AreLastEnds, IsLastEnd, IsPortsOf, IsOnTerms, OnlyEndsChange, as_settled, at_moment, end_of, fresh_ports, vacated, while_recent};
+ghost use Rattle.port_spans.specs.Along as the;
 ghost use Rattle.port_spans.specs.Along.{end_along};
+ghost use Rattle.port_spans.specs.Runs.{run_at};
+ghost use Rattle.port_spans.specs.declared.runs.Run.{Run};
+ghost use Rattle.pcp_base.specs.declared.leases.End.{End};
+ghost use Rattle.leased_ports.specs.Among.{runs_among};
 ghost use Rattle.leased_ports.specs.Counts.{held_since, ports_due};
 ghost use Rattle.leased_ports.specs.Plain.{is_plain};
 ghost use Rattle.leased_ports.specs.declared.plain.TheConstants.{PLAIN_STEPS};
 ghost use Rattle.leased_ports.specs.Falling.{NoneDue};
 ghost use Rattle.leased_ports.specs.declared.falls.TheConstants.{MOST_RUNS, RUN_STEPS};
+ghost use Rattle.leased_ports.specs.declared.steps.TheConstants.{FREE_STEPS, PUT_STEPS, TAKEN_STEPS};
 ghost use Rattle.leased_ports.specs.Listed.{ends_come};
 ghost use Rattle.leased_ports.specs.Pieces.{IsPiece};
 ghost use Rattle.leased_ports.specs.Kept.{IsOn, AreInStep, HaveBegun};
@@ -44,12 +50,12 @@ use step_count::Steps;
 
 /// The ports of an external address at the moment reached.
 ///
-/// It is seen as the range, the quota, the moment, the one by which all that fell due is seen to, and
-/// the last end of each port. A port is held by its last endpoint until the end, and for 120 seconds
-/// more it rests for it; then it is free, and its last end stays known until it gets another. Ports
-/// that are given their last ends together are kept as one run, also in memory, until a part of them
-/// gets others. What falls due is seen to a few runs at a time, and all of it before a pick
-/// that needs it.
+/// It is seen as the range, the quota, the moment, the one by which all that fell due is seen to,
+/// and the runs of ports with their last ends. A port is held by its last endpoint until the end,
+/// and for 120 seconds more it rests for it; then it is free, and its last end stays known until it
+/// gets another. Ports that are given their last ends together are kept as one run, also in memory,
+/// until a part of them gets others. What falls due is seen to a few runs at a time, and all of it
+/// before a pick that needs it.
 #[derive(Drop)]
 pub struct LeasedPorts {
     low: u16,
@@ -65,12 +71,11 @@ pub struct LeasedPorts {
 
 impl Model for LeasedPorts {
     ghost use Rattle.leased_ports.specs.Leased.{Leased, leased};
-    ghost use Rattle.leased_ports.specs.Kept.{IsKept, ends_of};
-    ghost use Rattle.port_spans.specs.declared.runs.TheConstants.{PLACES};
+    ghost use Rattle.leased_ports.specs.Kept.{IsKept};
 
     ghost Value = { Leased };
 
-    ghost view = { λ a. leased a.low a.high a.quota a.settled a.reached (ends_of a.ends PLACES) };
+    ghost view = { λ a. leased a.low a.high a.quota a.settled a.reached a.ends };
 
     ghost invariant = { λ a.
         IsKept a.low a.high a.quota a.settled a.reached a.ends a.pool a.wheel };
@@ -78,14 +83,17 @@ impl Model for LeasedPorts {
 
 /// Whether both last ends are of the same port and endpoint.
 fn same_port(before: &End, last: &End) -> bool
-    ensures { OnTrue result (before.now ≡ record last.now { end = before.now.end }) }
+    ensures same { OnTrue result (before.now ≡ record last.now { end = before.now.end }) }
+    ensures other { OnFalse result (before.now ≡ record last.now { end = before.now.end } → ⊥) }
 {
     before.endpoint == last.endpoint && before.external == last.external
 }
 
 /// The run of exactly these ports and endpoints, if there is one.
 fn own_run(ends: &TimedEnds, first: &End, count: u32) -> Option<Run<End>>
-    ensures { IfSome result (IsOwnRun ends.now first.now count) }
+    ensures some { IfSome result (IsOwnRun ends.now first.now count) }
+    ensures none { IfNone result ((run : Run End) →
+        IsOwnRun ends.now first.now count run → ⊥) }
 {
     let from = spot_of(first);
     let Some(run) = ends.run_at(from) else {
@@ -105,7 +113,7 @@ fn own_run(ends: &TimedEnds, first: &End, count: u32) -> Option<Run<End>>
 
 /// Gives ports in a row these last ends, and uses them so. Where memory is wanting, nothing is said
 /// but the pool's range.
-fn assign(
+fn assign<L: Ledger>(
     pool: &mut Pool,
     wheel: &mut Wheel,
     ends: &mut TimedEnds,
@@ -113,6 +121,7 @@ fn assign(
     first: &End,
     count: u32,
     reached: u64,
+    steps: &mut Steps<L>,
 ) -> Result<(), Memory>
     requires in_step { AreInStep ends.old pool.old wheel.old }
     requires begun { HaveBegun reached ends.old wheel.old }
@@ -123,21 +132,30 @@ fn assign(
         NoneDue seen wheel.old → NoneDue seen wheel.new) }
     ensures ok { OnOk result (AreAssigned reached ends.old first.now.endpoint.protocol
         first.now.external count (last_along first.now) ends.new pool.new wheel.new) }
+    ensures run { OnOk result (run_at ends.new (the.spot_of first.now)
+        ≡ Some (record { first = the.spot_of first.now; count = count; value = first.now })) }
+    ensures behind { OnOk result ((n : ℕ) → runs_among ends.new (the.spot_of first.now + count) n
+        ≡ runs_among ends.old (the.spot_of first.now + count) n) }
+    ensures own { (run : Run End) → IsOwnRun ends.old first.now count run →
+        steps.new ≤ steps.old + PUT_STEPS }
+    ensures steps { steps.new
+        ≤ steps.old + PUT_STEPS + TAKEN_STEPS * runs_among ends.old (the.spot_of first.now) count }
 {
+    steps.tick();
     if let Some(run) = own_run(ends, first, count) {
-        return renew(pool, wheel, ends, alloc, &run, first, reached);
+        return renew(pool, wheel, ends, alloc, &run, first, reached, steps);
     }
     let run = Run {
         first: spot_of(first),
         count,
         value: *first,
     };
-    free(pool, wheel, ends, alloc, run.first, count)?;
-    insert(pool, wheel, ends, alloc, &run, reached)
+    free(pool, wheel, ends, alloc, run.first, count, steps)?;
+    insert(pool, wheel, ends, alloc, &run, reached, steps)
 }
 
 /// Frees ports in a row. Where memory is wanting, nothing is said but the pool's range.
-fn release(
+fn release<L: Ledger>(
     pool: &mut Pool,
     wheel: &mut Wheel,
     ends: &mut TimedEnds,
@@ -145,6 +163,7 @@ fn release(
     protocol: Protocol,
     start: u16,
     count: u32,
+    steps: &mut Steps<L>,
 ) -> Result<(), Memory>
     requires in_step { AreInStep ends.old pool.old wheel.old }
     requires within { start + count ≤ 65536 }
@@ -155,8 +174,21 @@ fn release(
     ensures ok { (m : ℕ) → HaveBegun m ends.old wheel.old →
         OnOk result (AreAssigned m ends.old protocol start count no_last
         ends.new pool.new wheel.new) }
+    ensures behind { OnOk result ((n : ℕ) → runs_among ends.new (the.spot protocol start + count) n
+        ≡ runs_among ends.old (the.spot protocol start + count) n) }
+    ensures steps { steps.new
+        ≤ steps.old + FREE_STEPS
+        + TAKEN_STEPS * runs_among ends.old (the.spot protocol start) count }
 {
-    free(pool, wheel, ends, alloc, spot(protocol, start), count)
+    free(
+        pool,
+        wheel,
+        ends,
+        alloc,
+        spot(protocol, start),
+        count,
+        steps,
+    )
 }
 
 /// How many ports one is, of these external and internal ones.
@@ -208,25 +240,39 @@ impl LeasedPorts {
         self.reached = 0;
     }
 
-    /// Moves on to a moment that isn't below the one reached. Of the runs of ports that go to rest or
-    /// awake by then it sees to 64 at most, whatever falls due; the others wait for later calls. It
-    /// takes no memory.
+    /// Moves on to a moment that isn't below the one reached. Of the runs of ports that go to rest
+    /// or awake by then it sees to 64 at most, whatever falls due; the others wait for later calls.
+    /// Where something falls due at fewer ports, it sees to all. One step is taken where nothing
+    /// falls due, and steps for each run that is seen to. It takes no memory.
     pub fn reach<L: Ledger>(&mut self, m: Moment, steps: &mut Steps<L>)
         requires { self.old.reached ≤ m }
-        ensures moved { self.new ≡ at_moment m self.old }
+        ensures moved { self.new
+            ≡ record (at_moment m self.old) { settled = self.new.settled } }
+        ensures from { self.old.settled ≤ self.new.settled }
+        ensures all { ports_due (at_moment m self.old) < MOST_RUNS → self.new.settled ≡ m }
         ensures steps { steps.new ≤ steps.old + (23 + RUN_STEPS) * MOST_RUNS }
+        ensures few { steps.new
+            ≤ steps.old + 1 + (23 + RUN_STEPS) * ports_due (at_moment m self.old) }
     {
         let now = m.get();
-        see_to_some(&mut self.pool, &mut self.wheel, &self.ends, now, steps);
+        self.settled = see_to_some(
+            &mut self.pool,
+            &mut self.wheel,
+            &self.ends,
+            self.settled,
+            now,
+            steps,
+        );
         self.reached = now;
     }
 
-    /// Sees to all runs of ports that go to rest or awake by the moment reached, so that nothing is left
-    /// to [`LeasedPorts::pick`] at this moment. It takes no memory. Steps are taken for each
-    /// such run, so for no more runs than ports at which something fell due since all was seen to last.
+    /// Sees to all runs of ports that go to rest or awake by the moment reached, so that nothing is
+    /// left to [`LeasedPorts::pick`] at this moment. It takes no memory. One step is taken where
+    /// nothing is due, and steps for each such run, so for no more runs than ports at which
+    /// something fell due since all was seen to last.
     pub fn settle<L: Ledger>(&mut self, steps: &mut Steps<L>)
         ensures settled { self.new ≡ as_settled self.old }
-        ensures steps { steps.new ≤ steps.old + 23 + (23 + RUN_STEPS) * ports_due self.old }
+        ensures steps { steps.new ≤ steps.old + 1 + (23 + RUN_STEPS) * ports_due self.old }
     {
         see_to_all(
             &mut self.pool,
@@ -239,35 +285,60 @@ impl LeasedPorts {
         self.settled = self.reached;
     }
 
-    /// Gives a port this last end: it is held for the endpoint until then, and rests for it after. Where
-    /// memory is wanting, all ports are forgotten, as by `clear`.
-    pub fn put(&mut self, alloc: Global, last: &End) -> Result<(), Memory>
+    /// Gives a port this last end: it is held for the endpoint until then, and rests for it after.
+    /// Where memory is wanting, all ports are forgotten, as by `clear`. It takes a constant number
+    /// of steps.
+    pub fn put<L: Ledger>(
+        &mut self,
+        alloc: Global,
+        last: &End,
+        steps: &mut Steps<L>,
+    ) -> Result<(), Memory>
         requires { IsLastEnd last.now }
-        ensures ok { OnOk result (self.new ≡ with_last_end last.now self.old) }
+        ensures ok { OnOk result (OnlyEndsChange self.old self.new) }
         ensures ports { OnOk result ((protocol : Protocol) (port : ℕ) →
             end_of self.new protocol port
             ≡ (if is_end_of protocol port last.now then Some last.now
             else end_of self.old protocol port)) }
         ensures err { OnErr result (self.new ≡ vacated self.old) }
+        ensures steps { steps.new ≤ steps.old + PUT_STEPS + TAKEN_STEPS }
     {
-        self.put_run(alloc, last, one_port(last.external, last.endpoint.port))
+        let one = one_port(last.external, last.endpoint.port);
+        self.put_run(alloc, last, one, steps)
     }
 
     /// Gives `count` ports in a row their last ends: the first this one, and each behind it the one
-    /// whose ports are as many behind those of the first. So they are held for their endpoints until
-    /// then, and rest for them after. Where these ports and endpoints are a run already, only its moment
-    /// changes, however many they are. Where memory is wanting, all ports are forgotten, as by
-    /// `clear`.
-    pub fn put_run(&mut self, alloc: Global, first: &End, count: u32) -> Result<(), Memory>
+    /// whose ports are as many behind those of the first. So they are held for their endpoints
+    /// until then, and rest for them after. Where these ports and endpoints are a run already, it
+    /// gets another moment in a constant number of steps, however many they are; its ports are
+    /// marked anew, which isn't counted, where it comes into another phase. Else steps are taken
+    /// for each run that has one of these ports. Where memory is wanting, all ports are forgotten,
+    /// as by `clear`.
+    pub fn put_run<L: Ledger>(
+        &mut self,
+        alloc: Global,
+        first: &End,
+        count: u32,
+        steps: &mut Steps<L>,
+    ) -> Result<(), Memory>
         requires { AreLastEnds first.now count }
-        ensures ok { OnOk result (self.new ≡ with_last_ends first.now count self.old) }
+        ensures ok { OnOk result (OnlyEndsChange self.old self.new) }
         ensures ports { OnOk result ((protocol : Protocol) (port : ℕ) →
             end_of self.new protocol port
             ≡ (if same_protocol first.now.endpoint.protocol protocol
             && is_in_run first.now.external count port
             then Some (end_along (port - first.now.external) first.now)
             else end_of self.old protocol port)) }
+        ensures run { OnOk result (run_at self.new.runs (the.spot_of first.now)
+            ≡ Some (record { first = the.spot_of first.now; count = count; value = first.now })) }
+        ensures behind { OnOk result ((n : ℕ) →
+            runs_among self.new.runs (the.spot_of first.now + count) n
+            ≡ runs_among self.old.runs (the.spot_of first.now + count) n) }
         ensures err { OnErr result (self.new ≡ vacated self.old) }
+        ensures own { (run : Run End) → IsOwnRun self.old.runs first.now count run →
+            steps.new ≤ steps.old + PUT_STEPS }
+        ensures steps { steps.new ≤ steps.old + PUT_STEPS
+            + TAKEN_STEPS * runs_among self.old.runs (the.spot_of first.now) count }
     {
         let Err(refused) = assign(
             &mut self.pool,
@@ -277,6 +348,7 @@ impl LeasedPorts {
             first,
             count,
             self.reached,
+            steps,
         ) else {
             return Ok(());
         };
@@ -286,22 +358,29 @@ impl LeasedPorts {
         Err(refused)
     }
 
-    /// Takes the last ends from `count` ports in a row: they are free. Where memory is wanting, all
-    /// ports are forgotten, as by `clear`.
-    pub fn free_run(
+    /// Takes the last ends from `count` ports in a row: they are free. Steps are taken for each run
+    /// that has one of these ports. Where memory is wanting, all ports are forgotten, as by
+    /// `clear`.
+    pub fn free_run<L: Ledger>(
         &mut self,
         alloc: Global,
         protocol: Protocol,
         start: u16,
         count: u32,
+        steps: &mut Steps<L>,
     ) -> Result<(), Memory>
         requires { start + count ≤ 65536 }
-        ensures ok { OnOk result (self.new ≡ without_last_ends protocol start count self.old) }
+        ensures ok { OnOk result (OnlyEndsChange self.old self.new) }
         ensures ports { OnOk result ((other : Protocol) (port : ℕ) →
             end_of self.new other port
             ≡ (if same_protocol protocol other && is_in_run start count port then None
             else end_of self.old other port)) }
+        ensures behind { OnOk result ((n : ℕ) →
+            runs_among self.new.runs (the.spot protocol start + count) n
+            ≡ runs_among self.old.runs (the.spot protocol start + count) n) }
         ensures err { OnErr result (self.new ≡ vacated self.old) }
+        ensures steps { steps.new ≤ steps.old + FREE_STEPS
+            + TAKEN_STEPS * runs_among self.old.runs (the.spot protocol start) count }
     {
         let Err(refused) = release(
             &mut self.pool,
@@ -311,6 +390,7 @@ impl LeasedPorts {
             protocol,
             start,
             count,
+            steps,
         ) else {
             return Ok(());
         };
@@ -327,16 +407,16 @@ impl LeasedPorts {
         recent_end(&self.ends, protocol, port, self.reached)
     }
 
-    /// The last ends that came by `m` and are recent then, in the order of protocol number and port.
-    /// The one error is want of memory.
+    /// The last ends that came by `m` and are recent then, in the order of protocol number and
+    /// port. The one error is want of memory.
     pub fn copy_ends(&self, alloc: Global, m: Moment) -> Result<Vec<End>, Memory>
         ensures { IfOk result (λ all. all.items ≡ ends_come m self.now) }
     {
         copy(&self.ends, alloc, m)
     }
 
-    /// Appends a record at `m` for each last end that came by `m` and is recent then, in the order of
-    /// protocol number and port. The one error is want of memory.
+    /// Appends a record at `m` for each last end that came by `m` and is recent then, in the order
+    /// of protocol number and port. The one error is want of memory.
     pub fn add_end_records(&self, m: Moment, out: &mut Vec<Record>) -> Result<(), Memory>
         ensures { OnOk result (out.new.items
             ≡ out.old.items ++ map (end_record m) (ends_come m self.now)) }
@@ -345,8 +425,8 @@ impl LeasedPorts {
     }
 
     /// The ports from `start` on, at least it and at most `most`, whose last ends are along that of
-    /// `start`, or which aren't held and don't rest. A run is told by one look, however many ports it
-    /// has; where `start` is of none, the ports up to the next run are looked at one by one.
+    /// `start`, or which aren't held and don't rest. A run is told by one look, however many ports
+    /// it has; where `start` is of none, the ports up to the next run are looked at one by one.
     pub fn piece(&self, protocol: Protocol, start: u16, most: u32) -> Piece
         requires some { 1 ≤ most }
         requires within { start + most ≤ 65536 }
@@ -356,8 +436,9 @@ impl LeasedPorts {
         piece_at(&self.ends, protocol, start, most, self.reached)
     }
 
-    /// The answer to an ask for one port of any parity, though what is due isn't seen to. None where
-    /// the counts have the endpoint's address at its quota, of which some ports may rest by now.
+    /// The answer to an ask for one port of any parity, though what is due isn't seen to. None
+    /// where the counts have the endpoint's address at its quota, of which some ports may rest by
+    /// now.
     fn plain_answer<L: Ledger>(
         &self,
         endpoint: &Endpoint,
@@ -408,11 +489,11 @@ impl LeasedPorts {
     /// The ports that would be given, the first one to this endpoint, by the rules of
     /// [`Pool::pick`](external_pool::Pool::pick). It takes no memory.
     ///
-    /// An ask for one port of any parity is answered in a constant number of steps, whatever is due,
-    /// where the address has fewer ports than its quota by the counts: at most those whose last ends
-    /// are its own and come after the moment by which all was seen to. Any other ask first sees to
-    /// what is due, as [`LeasedPorts::settle`] does; where nothing is, that is one step. Of the steps
-    /// `room` are for ports that are suggested, so none of these where none is.
+    /// An ask for one port of any parity is answered in a constant number of steps, whatever is
+    /// due, where the address has fewer ports than its quota by the counts: at most those whose
+    /// last ends are its own and come after the moment by which all was seen to. Any other ask
+    /// first sees to what is due, as [`LeasedPorts::settle`] does; where nothing is, that is one
+    /// step at most. The bound has `room` steps for ports that are suggested, also where none is.
     pub fn pick<L: Ledger>(
         &mut self,
         endpoint: &Endpoint,
@@ -429,7 +510,9 @@ impl LeasedPorts {
         ensures plain { OnTrue (is_plain ask.now)
             (held_since self.old endpoint.now.address < self.old.quota →
             steps.new ≤ steps.old + PLAIN_STEPS) }
-        ensures steps { steps.new ≤ steps.old + 156 + ask.now.room
+        ensures kept { OnTrue (is_plain ask.now)
+            (held_since self.old endpoint.now.address < self.old.quota → self.new ≡ self.old) }
+        ensures steps { steps.new ≤ steps.old + 134 + ask.now.room
             + (if is_plain ask.now then PLAIN_STEPS else 0)
             + (23 + RUN_STEPS) * ports_due self.old }
     {

@@ -1,6 +1,6 @@
 //! When runs fall due.
 
-ghost use Rattle.std.specs.Prelude.{◌≡◌, ◌<◌, ◌≤◌, ◌+◌, ◌^◌, ℕ, true, Some, None, OnOk, IfSome, IfNone};
+ghost use Rattle.std.specs.Prelude.{◌≡◌, ◌<◌, ◌≤◌, ◌+◌, ℕ, true, Some, None, OnOk, IfSome, IfNone};
 ghost use Rattle.std.specs.FinMap as fin;
 ghost use Rattle.expiry_wheel.specs.Due.{IsNextDue};
 ghost use Rattle.expiry_wheel.specs.declared.TheConstants.{NEVER};
@@ -55,6 +55,7 @@ pub fn next_due<L: Ledger>(wheel: &Wheel, m: u64, steps: &mut Steps<L>) -> Optio
     ensures next { IfSome result (IsNextDue wheel.now m) }
     ensures none { IfNone result (
         (id expiry : ℕ) → fin.get wheel.now id ≡ Some expiry → m < expiry) }
+    ensures root { IfNone result (steps.new ≡ steps.old + 1) }
     ensures steps { steps.new ≤ steps.old + 23 }
 {
     wheel.next_due(m, steps)

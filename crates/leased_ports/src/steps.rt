@@ -1,6 +1,6 @@
 //! Runs that come, change and go, with their uses and what falls due.
 
-ghost use Rattle.std.specs.Prelude.{◌≡◌, ◌≤◌, ◌<◌, ◌+◌, ◌^◌, ℕ, List, Some, None, IfSome, OnOk, true, unwrap_or};
+ghost use Rattle.std.specs.Prelude.{◌≡◌, ◌≢◌, ◌≤◌, ◌<◌, ◌+◌, ◌-◌, ◌*◌, ◌^◌, ℕ, List, Some, None, IfSome, IfNone, OnOk, true, unwrap_or};
 ghost use Rattle.std.specs.Ordering.{nat_cmp};
 ghost use Rattle.std.specs.FinMap.{FinMap};
 ghost use Rattle.pcp_base.specs.declared.leases.End.{End};
@@ -9,6 +9,7 @@ ghost use Rattle.port_spans.specs.Runs.{AreRuns, but_from, has_place, run_at};
 ghost use Rattle.external_pool.specs.declared.uses.Use.TheVariants.{Free};
 ghost use Rattle.leased_ports.specs.Kept.{IsOn, IsSet, AreScheduled, AreInStep, HaveBegun, phase_by, use_told, use_in};
 ghost use Rattle.leased_ports.specs.Falling.{NoneDue};
+ghost use Rattle.leased_ports.specs.Among.{starts_at, starts_among, runs_among};
 ghost use Rattle.leased_ports.specs.Steps.{GivesUses, AreUsedBy, Waits, AreAssigned, AreFreed, AreFreeing, last_along};
 ghost use Rattle.port_spans.specs.Along.{end_told, BeginsAt};
 
@@ -22,6 +23,36 @@ use external_pool::Pool;
 use pcp_base::{End, Memory};
 use port_spans::{Run, end_along};
 use std::alloc::Global;
+use std::sync::ledger::Ledger;
+use step_count::Steps;
+
+/// How many steps it takes at most to take out a run: one look at the run, one to tell its phase,
+/// 38 moments and nodes of the wheel by which it falls due, two looks at the count of its address,
+/// of 64 levels at most, and 39 for the run and when its rest is over. What marks its ports, one by
+/// one, isn't counted.
+pub const TAKEN_STEPS: u64 = 207;
+
+/// How many steps it takes at most to part the run that has a spot: four looks at runs, two at
+/// moments, 37 and 38 moments and nodes for when both rests are over, 38 for when the part behind
+/// falls due, and one for its value.
+pub const PART_STEPS: u64 = 120;
+
+/// How many steps it takes at most to free ports in a row, beside those for each run among them:
+/// two runs are parted, and a last look finds no more.
+pub const FREE_STEPS: u64 = 241;
+
+/// How many steps it takes at most to give ports that have none their last ends: 128 for the count
+/// of their address, 38 for when they fall due, and 76 for the run and when its rest is over.
+const INSERT_STEPS: u64 = 242;
+
+/// How many steps it takes at most to give a run another moment: one to tell its phase, 128 for the
+/// count of its address, 38 for when it falls due, and 39 for the run and when its rest is over.
+const RENEW_STEPS: u64 = 206;
+
+/// How many steps it takes at most to give ports in a row their last ends, beside those for each
+/// run among them: one look for their own run, and then to free them and to insert one run, which
+/// is more than to renew theirs.
+pub const PUT_STEPS: u64 = 484;
 
 /// Takes out a run: its ports are free then.
 fn take_out(pool: &mut Pool, wheel: &mut Wheel, ends: &mut TimedEnds, run: &Run<End>)
@@ -38,8 +69,15 @@ fn take_out(pool: &mut Pool, wheel: &mut Wheel, ends: &mut TimedEnds, run: &Run<
     ends.remove(run.first);
 }
 
-/// Parts the run that has a spot, so that one begins there. Each port keeps its last end and its use.
-fn part(wheel: &mut Wheel, ends: &mut TimedEnds, alloc: Global, at: u32) -> Result<(), Memory>
+/// Parts the run that has a spot, so that one begins there. Each port keeps its last end and its
+/// use.
+fn part<L: Ledger>(
+    wheel: &mut Wheel,
+    ends: &mut TimedEnds,
+    alloc: Global,
+    at: u32,
+    steps: &mut Steps<L>,
+) -> Result<(), Memory>
     requires { AreScheduled ends.old wheel.old }
     ensures scheduled { OnOk result (AreScheduled ends.new wheel.new) }
     ensures begun { OnOk result ((m : ℕ) →
@@ -53,7 +91,11 @@ fn part(wheel: &mut Wheel, ends: &mut TimedEnds, alloc: Global, at: u32) -> Resu
     ensures uses { OnOk result ((spot : ℕ) →
         use_told wheel.new spot (run_at ends.new spot)
         ≡ use_told wheel.old spot (run_at ends.old spot)) }
+    ensures starts { OnOk result ((other : ℕ) → other ≢ at →
+        starts_at other (run_at ends.new other) ≡ starts_at other (run_at ends.old other)) }
+    ensures steps { steps.new ≡ steps.old + PART_STEPS }
 {
+    steps.take(PART_STEPS);
     let Some(run) = ends.run_at(at) else {
         return Ok(());
     };
@@ -69,12 +111,13 @@ fn part(wheel: &mut Wheel, ends: &mut TimedEnds, alloc: Global, at: u32) -> Resu
 
 /// Takes out the first run that begins at a spot, over which no run goes on, or between it and
 /// another. The spot behind it; None where none begins there.
-fn take_next(
+fn take_next<L: Ledger>(
     pool: &mut Pool,
     wheel: &mut Wheel,
     ends: &mut TimedEnds,
     at: u32,
     to: u32,
+    steps: &mut Steps<L>,
 ) -> Option<u32>
     requires in_step { AreInStep ends.old pool.old wheel.old }
     requires at_begins { BeginsAt at ends.old }
@@ -87,16 +130,29 @@ fn take_next(
     ensures freeing { (from : ℕ) (start : List (Run End)) (before : FinMap nat_cmp ℕ) →
         from ≤ at → AreFreeing from at to start before ends.old pool.old wheel.old →
         AreFreeing from (unwrap_or result to) to start before ends.new pool.new wheel.new }
+    ensures taken { IfSome result (λ next.
+        steps.new + TAKEN_STEPS * starts_among ends.new next (to - next)
+        ≤ steps.old + TAKEN_STEPS * starts_among ends.old at (to - at)) }
+    ensures last { IfNone result (steps.new ≤ steps.old + 1) }
 {
     let Some(run) = ends.next_run(at, to) else {
+        steps.tick();
         return None;
     };
+    steps.take(TAKEN_STEPS);
     take_out(pool, wheel, ends, &run);
     Some(run.first + run.count)
 }
 
 /// Takes out all runs between two spots, over which no run goes on.
-fn take_between(pool: &mut Pool, wheel: &mut Wheel, ends: &mut TimedEnds, from: u32, to: u32)
+fn take_between<L: Ledger>(
+    pool: &mut Pool,
+    wheel: &mut Wheel,
+    ends: &mut TimedEnds,
+    from: u32,
+    to: u32,
+    steps: &mut Steps<L>,
+)
     requires in_step { AreInStep ends.old pool.old wheel.old }
     requires from_begins { BeginsAt from ends.old }
     requires to_begins { BeginsAt to ends.old }
@@ -104,22 +160,25 @@ fn take_between(pool: &mut Pool, wheel: &mut Wheel, ends: &mut TimedEnds, from: 
         IsOn pool.old low high most → IsOn pool.new low high most }
     ensures late { (seen : ℕ) → NoneDue seen wheel.old → NoneDue seen wheel.new }
     ensures freeing { AreFreeing from to to ends.old wheel.old ends.new pool.new wheel.new }
+    ensures steps { steps.new
+        ≤ steps.old + 1 + TAKEN_STEPS * starts_among ends.old from (to - from) }
 {
     let mut at = from;
-    while let Some(next) = take_next(pool, wheel, ends, at, to) {
+    while let Some(next) = take_next(pool, wheel, ends, at, to, steps) {
         at = next;
     }
 }
 
-/// Frees the ports of a run, which may be parts of runs or of several ones. Where memory is wanting,
-/// nothing is said but the pool's range.
-pub fn free(
+/// Frees the ports of a run, which may be parts of runs or of several ones. Where memory is
+/// wanting, nothing is said but the pool's range.
+pub fn free<L: Ledger>(
     pool: &mut Pool,
     wheel: &mut Wheel,
     ends: &mut TimedEnds,
     alloc: Global,
     from: u32,
     count: u32,
+    steps: &mut Steps<L>,
 ) -> Result<(), Memory>
     requires in_step { AreInStep ends.old pool.old wheel.old }
     requires within { from + count < 2 ^ 32 }
@@ -129,21 +188,26 @@ pub fn free(
         NoneDue seen wheel.old → NoneDue seen wheel.new) }
     ensures ok { OnOk result (AreFreed from count ends.old wheel.old
         ends.new pool.new wheel.new) }
+    ensures behind { OnOk result ((n : ℕ) →
+        runs_among ends.new (from + count) n ≡ runs_among ends.old (from + count) n) }
+    ensures steps { steps.new
+        ≤ steps.old + FREE_STEPS + TAKEN_STEPS * runs_among ends.old from count }
 {
-    part(wheel, ends, alloc, from)?;
-    part(wheel, ends, alloc, from + count)?;
-    take_between(pool, wheel, ends, from, from + count);
+    part(wheel, ends, alloc, from, steps)?;
+    part(wheel, ends, alloc, from + count, steps)?;
+    take_between(pool, wheel, ends, from, from + count, steps);
     Ok(())
 }
 
 /// Gives the ports of a run, which have none, their last ends.
-pub fn insert(
+pub fn insert<L: Ledger>(
     pool: &mut Pool,
     wheel: &mut Wheel,
     ends: &mut TimedEnds,
     alloc: Global,
     run: &Run<End>,
     reached: u64,
+    steps: &mut Steps<L>,
 ) -> Result<(), Memory>
     requires set { IsSet run.now }
     requires in_step { AreInStep ends.old pool.old wheel.old }
@@ -156,7 +220,12 @@ pub fn insert(
     ensures ok { OnOk result (AreAssigned reached ends.old run.now.value.endpoint.protocol
         run.now.value.external run.now.count (last_along run.now.value)
         ends.new pool.new wheel.new) }
+    ensures run { OnOk result (run_at ends.new run.now.first ≡ Some run.now) }
+    ensures behind { OnOk result ((n : ℕ) → runs_among ends.new (run.now.first + run.now.count) n
+        ≡ runs_among ends.old (run.now.first + run.now.count) n) }
+    ensures steps { steps.new ≡ steps.old + INSERT_STEPS }
 {
+    steps.take(INSERT_STEPS);
     let phase = phase_at(reached, run.value.end);
     change_use(pool, alloc, run, Phase::Over, phase)?;
     schedule::set(wheel, alloc, run.first, until(phase, run.value.end))?;
@@ -164,9 +233,9 @@ pub fn insert(
     Ok(())
 }
 
-/// Gives a run last ends of the same endpoints that come at another moment. The run isn't parted, and
-/// its ports are only marked anew where they come into another phase.
-pub fn renew(
+/// Gives a run last ends of the same endpoints that come at another moment. The run isn't parted,
+/// and its ports are only marked anew where they come into another phase.
+pub fn renew<L: Ledger>(
     pool: &mut Pool,
     wheel: &mut Wheel,
     ends: &mut TimedEnds,
@@ -174,6 +243,7 @@ pub fn renew(
     run: &Run<End>,
     last: &End,
     reached: u64,
+    steps: &mut Steps<L>,
 ) -> Result<(), Memory>
     requires in_step { AreInStep ends.old pool.old wheel.old }
     requires begun { HaveBegun reached ends.old wheel.old }
@@ -186,7 +256,12 @@ pub fn renew(
         NoneDue seen wheel.old → NoneDue seen wheel.new) }
     ensures ok { OnOk result (AreAssigned reached ends.old last.now.endpoint.protocol
         last.now.external run.now.count (last_along last.now) ends.new pool.new wheel.new) }
+    ensures run { OnOk result (run_at ends.new run.now.first
+        ≡ Some (record { first = run.now.first; count = run.now.count; value = last.now })) }
+    ensures among { OnOk result ((at n : ℕ) → runs_among ends.new at n ≡ runs_among ends.old at n) }
+    ensures steps { steps.new ≡ steps.old + RENEW_STEPS }
 {
+    steps.take(RENEW_STEPS);
     let phase = phase_at(reached, last.end);
     change_use(pool, alloc, run, phase_of(wheel, run), phase)?;
     schedule::set(wheel, alloc, run.first, until(phase, last.end))?;

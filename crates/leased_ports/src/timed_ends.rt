@@ -15,8 +15,8 @@ use std::marker::Model;
 use std::sync::ledger::Ledger;
 use step_count::Steps;
 
-/// Runs of ports with their last ends, as [`Ends`] keeps them, and a wheel that tells which of them is
-/// the first whose rest is over.
+/// Runs of ports with their last ends, as [`Ends`] keeps them, and a wheel that tells which of them
+/// is the first whose rest is over.
 ///
 /// It is seen as the list of runs.
 #[derive(Drop)]
@@ -151,8 +151,8 @@ impl TimedEnds {
         self.ends.next_run(at, end)
     }
 
-    /// The first spot from this one on that is of a run whose rest is over at `m`. It takes at most 44
-    /// steps.
+    /// The first spot from this one on that is of a run whose rest is over at `m`. It takes at most
+    /// 44 steps.
     pub fn first_over<L: Ledger>(&self, from: u32, m: u64, steps: &mut Steps<L>) -> Option<u32>
         ensures first { IsFirst (is_over_from from m self.now) result }
         ensures steps { steps.new ≤ steps.old + 44 }
@@ -160,8 +160,8 @@ impl TimedEnds {
         first_over(&self.ends, &self.frees, from, m, steps)
     }
 
-    /// Parts the run that has a spot, so that one begins there, as [`Spans::cut`] does. The one error is
-    /// want of memory.
+    /// Parts the run that has a spot, so that one begins there, as [`Spans::cut`] does. The one
+    /// error is want of memory.
     pub fn cut(&mut self, alloc: Global, at: u32) -> Result<(), Memory>
         ensures runs { AreRuns self.new }
         ensures ok { OnOk result ((other : ℕ) → the.run_at self.new other
@@ -170,8 +170,8 @@ impl TimedEnds {
         cut(&mut self.ends, &mut self.frees, alloc, at)
     }
 
-    /// Gives a run of spots that have no last end its own, as [`Spans::insert`] does. The one error is
-    /// want of memory.
+    /// Gives a run of spots that have no last end its own, as [`Spans::insert`] does. The one error
+    /// is want of memory.
     pub fn insert(&mut self, alloc: Global, run: Run<End>) -> Result<(), Memory>
         requires some { 1 ≤ run.count }
         requires small { run.first + run.count ≤ PLACES }
@@ -184,7 +184,8 @@ impl TimedEnds {
         insert(&mut self.ends, &mut self.frees, alloc, run)
     }
 
-    /// Gives the run that begins at a spot another last end, if one begins there. It takes no memory.
+    /// Gives the run that begins at a spot another last end, if one begins there. It takes no
+    /// memory.
     pub fn set_value(&mut self, first: u32, value: End)
         requires near { value.end < 2 ^ 41 }
         ensures runs { AreRuns self.new }
@@ -195,7 +196,8 @@ impl TimedEnds {
         self.ends.set_value(first, value);
     }
 
-    /// Takes the last ends from the run that begins at a spot, if one begins there. It takes no memory.
+    /// Takes the last ends from the run that begins at a spot, if one begins there. It takes no
+    /// memory.
     pub fn remove(&mut self, first: u32)
         ensures runs { AreRuns self.new }
         ensures ok { (at : ℕ) → the.run_at self.new at ≡ but_from first (the.run_at self.old at) }

@@ -1,6 +1,6 @@
 //! Giving the ports of a run another use.
 
-ghost use Rattle.std.specs.Prelude.{◌≡◌, ℕ, OnOk};
+ghost use Rattle.std.specs.Prelude.{ℕ, OnOk};
 ghost use Rattle.external_pool.specs.declared.uses.Use.TheVariants.{Free, Held, Resting};
 ghost use Rattle.leased_ports.specs.Kept.{IsOn, IsSet, use_in};
 ghost use Rattle.leased_ports.specs.Steps.{GivesUses, AreUsedBy};

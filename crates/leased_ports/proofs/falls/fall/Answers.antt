@@ -13,6 +13,10 @@ pub returns-in_default-run_at-clause-none : goal.returns-in_default-run_at-claus
 returns-in_default-run_at-clause-none g c =
     absurd (no_due_run c.args.m c.args.ends.now c.args.pool.now c.args.wheel.now c.requires.in_step c.in-Some.id c.in-Some.ensures.next (sym c.run_at.ensures.run ∙ c.in_default-run_at.is))
 
+pub returns-in_default-run_at-clause-last : goal.returns-in_default-run_at-clause-last
+returns-in_default-run_at-clause-last g c =
+    absurd (no_due_run c.args.m c.args.ends.now c.args.pool.now c.args.wheel.now c.requires.in_step c.in-Some.id c.in-Some.ensures.next (sym c.run_at.ensures.run ∙ c.in_default-run_at.is))
+
 pub overflow_add-over : goal.overflow_add-over
 overflow_add-over g c =
     let r = c.in-Some-run_at.run' in

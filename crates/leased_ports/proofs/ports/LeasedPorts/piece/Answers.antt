@@ -1,6 +1,5 @@
 use Rattle.std.proofs.Common.{◌+◌, sym, ap, ◌∙◌}
 use Rattle.leased_ports.specs.Leased.{Leased, end_of, while_recent}
-use Rattle.leased_ports.proofs.ViewLemmas.{ends_of-place}
 use Rattle.leased_ports.proofs.ports.LeasedPorts.piece.Goals as goal
 
 pub returns : goal.returns
@@ -13,5 +12,5 @@ returns c =
       internal = is.internal;
       along = λ i less.
           ap (λ (v : Leased). while_recent v.reached (end_of v c.args.protocol (c.args.start + i))) (sym c.self.view_is)
-          ∙ ap (while_recent a.reached) (ends_of-place a.ends c.args.protocol (c.args.start + i)) ∙ is.along i less;
+          ∙ is.along i less;
     }

@@ -1,6 +1,5 @@
 use Rattle.std.proofs.Common.{◌≡◌, ap, arith}
 use Rattle.leased_ports.specs.Leased.{as_settled, leased}
-use Rattle.leased_ports.specs.Kept.{ends_of}
 use Rattle.leased_ports.specs.Counts.{ports_due}
 use Rattle.leased_ports.proofs.EndedLemmas.{due-ports}
 use Rattle.leased_ports.proofs.ports.LeasedPorts.settle.Goals as goal
@@ -26,6 +25,6 @@ pub returns-clause-steps : goal.returns-clause-steps
 returns-clause-steps g c =
     let a = c.self.inside in
     let due = due-ports a.low a.high a.quota a.settled a.reached a.ends a.wheel c.self.invariant.in_step.scheduled c.self.invariant.late in
-    let seen : ports_due (leased a.low a.high a.quota a.settled a.reached (ends_of a.ends 131072)) ≡ ports_due c.args.self.now = ap ports_due c.self.view_is in
+    let seen : ports_due (leased a.low a.high a.quota a.settled a.reached a.ends) ≡ ports_due c.args.self.now = ap ports_due c.self.view_is in
     let steps = c.see_to_all.ensures.steps in
     omega (arith, due, seen, steps)

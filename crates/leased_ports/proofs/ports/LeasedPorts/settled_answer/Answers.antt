@@ -1,7 +1,6 @@
 use Rattle.std.proofs.Common.{◌≡◌, ℕ, ap, sym, subst, ◌∙◌}
 use Rattle.lease_store.specs.Picks.{pick_answer}
 use Rattle.leased_ports.specs.Leased.{Leased, leased, IsPortsOf, IsOnTerms}
-use Rattle.leased_ports.specs.Kept.{ends_of}
 use Rattle.leased_ports.specs.Falling.{NoneDue}
 use Rattle.leased_ports.proofs.FallLemmas.{all_settled}
 use Rattle.leased_ports.proofs.PickLemmas.{picks-state}
@@ -11,7 +10,7 @@ use Rattle.leased_ports.proofs.ports.LeasedPorts.settled_answer.Goals as goal
 pub returns-clause-pick : goal.returns-clause-pick
 returns-clause-pick g c terms s reached ports on =
     let a = c.self.inside in
-    let seen : leased a.low a.high a.quota a.settled a.reached (ends_of a.ends 131072) ≡ c.args.self.now = c.self.view_is in
+    let seen : leased a.low a.high a.quota a.settled a.reached a.ends ≡ c.args.self.now = c.self.view_is in
     let same : a.settled ≡ a.reached = ap (λ (v : Leased). v.settled) seen ∙ c.requires.settled ∙ sym (ap (λ (v : Leased). v.reached) seen) in
     let none : NoneDue a.reached a.wheel = subst (λ (n : ℕ). NoneDue n a.wheel) same c.self.invariant.late in
     let settled = all_settled a.reached a.ends a.pool a.wheel c.self.invariant.in_step c.self.invariant.begun none in
