@@ -1,5 +1,5 @@
 -- Which ports are picked in a state (our own).
-use Rattle.std.specs.Prelude.{ℕ, zero, suc, ◌+◌, ◌-◌, ◌%◌, ◌&&◌, ◌==◌, nat_le, min, not, Bool, true, find, Option, Some, None, Result, Err, if◌then◌else◌}
+use Rattle.std.specs.Prelude.{ℕ, zero, suc, ◌+◌, ◌-◌, ◌%◌, ◌&&◌, ◌==◌, nat_le, min, not, Bool, true, find, Option, Some, None, is_none, Result, Err, if◌then◌else◌}
 use Rattle.std.specs.List.{list_any, list_all, range_with_len}
 use Rattle.std.specs.Option.{option_map, option_or}
 use Rattle.pcp_base.specs.declared.leases.Protocol.{Protocol}
@@ -16,6 +16,10 @@ use Rattle.external_pool.specs.declared.asks.PickRefused.{PickRefused}
 use Rattle.external_pool.specs.declared.asks.PickRefused.TheVariants.{Quota}
 use Rattle.lease_store.specs.declared.terms.Terms.{Terms}
 use Rattle.lease_store.specs.Lookups.{with_port}
+
+-- whether an ask is plain: for one port, of any parity
+abbrev pub is_plain : PickAsk → Bool
+is_plain ask = ask.room == 1 && is_none ask.parity
 
 -- whether the port is in the range, and no live lease of its protocol owns it
 abbrev pub is_unowned_at : Terms → State → ℕ → Protocol → ℕ → Bool

@@ -1,6 +1,8 @@
 //! The state that records made, as decisions ask for it.
-ghost use Rattle.std.specs.Prelude.{◌≡◌, ◌++◌, ℕ, ◌≤◌, ◌+◌, ◌*◌, nat_lt, Ok, true, false, is_some, OnOk, IfOk};
+ghost use Rattle.std.specs.Prelude.{◌≡◌, ◌++◌, ℕ, ◌≤◌, ◌+◌, ◌*◌, nat_lt, Bool, Ok, true, false, is_some, OnOk, IfOk};
+ghost use Rattle.pcp_base.specs.declared.addresses.Address.{Address};
 ghost use Rattle.pcp_base.specs.declared.leases.TheConstants.{MOST_LEASES};
+ghost use Rattle.pcp_base.specs.declared.records.Record.{Record};
 ghost use Rattle.pcp_base.specs.Tables.{live};
 ghost use Rattle.pcp_base.specs.States.{State, empty_state};
 ghost use Rattle.pcp_base.specs.Apply.{apply, apply_first};
@@ -13,7 +15,7 @@ ghost use Rattle.lease_store.specs.LeaseTerms.{AreTerms};
 ghost use Rattle.lease_store.specs.HeldRecords.{held_records};
 ghost use Rattle.lease_store.specs.Lookups.{covering, peering, named_port, peer_count, lease_count, next_inside, up_to_next};
 ghost use Rattle.lease_store.specs.OwnerOrder.{owners_in_order};
-ghost use Rattle.lease_store.specs.Picks.{pick_answer};
+ghost use Rattle.lease_store.specs.Picks.{is_plain, pick_answer};
 
 use crate::terms::Terms;
 use external_pool::{PickAsk, PickRefused, Picked};
@@ -45,11 +47,19 @@ pub trait LeaseStore {
     /// How many steps one look-up in a state takes at most.
     ghost look_steps: { State → ℕ };
 
-    /// How many steps a pick takes at most in a state, beside one for each port that is suggested.
-    ghost pick_steps: { State → ℕ };
+    /// How many steps a pick takes at most at a moment, for an address, and whether the ask is for one
+    /// port of any parity, beside one for each port that is suggested.
+    ghost pick_steps: { Self → ℕ → Address → Bool → ℕ };
+
+    // An ask for one port of any parity takes no more than another.
+    ghost picks_grow: { (store : Self) (m : ℕ) (who : Address) →
+        pick_steps store m who true ≤ pick_steps store m who false };
 
     /// How many steps `reach` takes at most, whatever fell due.
     ghost reach_steps: { ℕ };
+
+    /// How many steps it takes at most to apply a record.
+    ghost apply_steps: { Self → Record → ℕ };
 
     /// It is new or was cleared, and nothing but `admit` changed it since.
     ghost replaying: { Self → Type 0 };
@@ -95,21 +105,30 @@ pub trait LeaseStore {
         ensures ready { OnOk result (replaying_first self.new) };
 
     /// Applies a record that fits, and whose moment isn't below the one reached.
-    fn apply(&mut self, alloc: Global, kept: &Record) -> Result<(), Memory>
+    fn apply<L: Ledger>(
+        &mut self,
+        alloc: Global,
+        kept: &Record,
+        steps: &mut Steps<L>,
+    ) -> Result<(), Memory>
         requires sound { IsReached (state self.old) }
         requires fits { Fits (state self.old) kept.now }
         requires later { reached self.old ≤ kept.now.moment }
         ensures applied { OnOk result (state self.new ≡ apply (state self.old) kept.now) }
         ensures reached { OnOk result (reached self.new ≡ kept.now.moment) }
-        ensures terms { terms self.new ≡ terms self.old };
+        ensures terms { terms self.new ≡ terms self.old }
+        ensures steps { steps.new ≤ steps.old + apply_steps self.old kept.now };
 
-    /// Moves on to a moment that isn't below the one reached. The state stays.
+    /// Moves on to a moment that isn't below the one reached. The state stays, and no pick takes more
+    /// steps than before.
     fn reach<L: Ledger>(&mut self, m: Moment, steps: &mut Steps<L>)
         requires sound { IsReached (state self.old) }
         requires later { reached self.old ≤ m }
         ensures state { state self.new ≡ state self.old }
         ensures reached { reached self.new ≡ m }
         ensures terms { terms self.new ≡ terms self.old }
+        ensures picks { (who : Address) (plain : Bool) →
+            pick_steps self.new m who plain ≤ pick_steps self.old m who plain }
         ensures steps { steps.new ≤ steps.old + reach_steps };
 
     /// The terms on which ports are leased.
@@ -185,7 +204,9 @@ pub trait LeaseStore {
         ensures state { state self.new ≡ state self.old }
         ensures reached { reached self.new ≡ reached self.old }
         ensures terms { terms self.new ≡ terms self.old }
-        ensures steps { steps.new ≤ steps.old + pick_steps (state self.old) + ask.now.room };
+        ensures steps { steps.new ≤ steps.old
+            + pick_steps self.old (reached self.old) endpoint.now.address (is_plain ask.now)
+            + ask.now.room };
 
     /// The endpoint to which a remote peer may send through this external port. A moment below the
     /// last one counts as that.

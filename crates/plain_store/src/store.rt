@@ -60,6 +60,7 @@ impl PlainStore {
 }
 
 impl LeaseStore for PlainStore {
+    ghost use Rattle.std.proofs.Common.{arith};
     ghost use Rattle.pcp_base.specs.Reached.{IsReached, IsReachedFirst};
 
     ghost state = { λ s. s.state };
@@ -70,9 +71,13 @@ impl LeaseStore for PlainStore {
 
     ghost look_steps = { λ s. 0 };
 
-    ghost pick_steps = { λ s. 0 };
+    ghost pick_steps = { λ s m who plain. 0 };
+
+    ghost picks_grow = { λ s m who. omega arith };
 
     ghost reach_steps = { 0 };
+
+    ghost apply_steps = { λ s kept. 0 };
 
     ghost replaying = { λ s. IsReached s.state };
 
@@ -99,7 +104,12 @@ impl LeaseStore for PlainStore {
         fits
     }
 
-    fn apply(&mut self, alloc: Global, kept: &Record) -> Result<(), Memory> {
+    fn apply<L: Ledger>(
+        &mut self,
+        alloc: Global,
+        kept: &Record,
+        _steps: &mut Steps<L>,
+    ) -> Result<(), Memory> {
         let fits = self.replay.admit(alloc, kept);
         self.reached = self.replay.last();
         fits.map(|_| ())
