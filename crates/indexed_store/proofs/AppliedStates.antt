@@ -80,7 +80,7 @@ begun s m Mark v h = absurd (let never : false ≡ true = h in cc)
 begun s m (Rest e port end) v h = absurd (let never : false ≡ true = h in cc)
 begun s m (Renumber a) v h = absurd (let never : false ≡ true = h in cc)
 
-module _ (anew : PortsBeginAnew) (s : State) (r : Record) (forgets : empties r.change ≡ true) (t : Table) (v old : Leased) (none : t ≡ empty_table) (is : v ≡ at_moment r.moment (vacated old)) where
+module _ (anew : PortsBeginAnew) (s : State) (r : Record) (forgets : empties r.change ≡ true) (t : Table) (v old : Leased) (none : t ≡ empty_table) (is : v ≡ record (at_moment r.moment (vacated old)) { settled = v.settled }) where
   begin-noted : noted t v s r ≡ apply s r
   begin-noted = ap (λ (u : Table). noted u v s r) none ∙ ap (λ (x : Leased). noted empty_table x s r) is ∙ begun s r.moment r.change old forgets
 
@@ -90,4 +90,4 @@ module _ (anew : PortsBeginAnew) (s : State) (r : Record) (forgets : empties r.c
 
     pub begin-kept : new.leases ≡ t → new.ports ≡ v → IsKept new
     begin-kept leases ports = noted-kept t v s r new begin-noted state leases ports (subst AreTabled (sym none) tabled-empty)
-        (subst (λ (x : Leased). IsPortsOf x (apply s r)) (sym is) (anew old.low old.high old.quota s r forgets))
+        (subst (λ (x : Leased). IsPortsOf x (apply s r)) (sym is) (let of = anew old.low old.high old.quota s r forgets in record { passed = of.passed; same = of.same }))

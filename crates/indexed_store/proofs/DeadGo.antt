@@ -92,7 +92,7 @@ maps-rest fewer m t tabled q dead =
       peers_from = λ l c. c;
     }
 
-own-key : (l : PeerLease) → is_peer_of l.endpoint l.remote l.remote_port l ≡ true
+pub own-key : (l : PeerLease) → is_peer_of l.endpoint l.remote l.remote_port l ≡ true
 own-key l =
     let endpoint = (same_endpoint-Decides l.endpoint l.endpoint).1 refl in
     let remote = (same_address-Decides l.remote l.remote).1 refl in

@@ -1,5 +1,5 @@
 -- A state in tables after a record of the first format.
-use Rattle.std.proofs.Common.{◌≡◌, ◌≤◌, ◌||◌, cond, List, sym, ap, ◌∙◌, subst, arith}
+use Rattle.std.proofs.Common.{◌≡◌, ℕ, ◌≤◌, ◌||◌, cond, List, sym, ap, ◌∙◌, subst, arith}
 use Rattle.pcp_base.specs.declared.leases.End.{End}
 use Rattle.pcp_base.specs.declared.records.Record.{Record}
 use Rattle.pcp_base.specs.Tables.{Table, live}
@@ -17,6 +17,7 @@ use Rattle.leased_ports.specs.Laws.{EndsAreTold, PortsFollowMoments}
 use Rattle.indexed_store.specs.Tabled.{AreTabled, TabledState, state_in}
 use Rattle.indexed_store.specs.Holding.{AreEndsOf, AreLiveAt, AreNearAt, AreReadyFor}
 use Rattle.indexed_store.specs.Indexed.{IsKept}
+use Rattle.indexed_store.proofs.KeptStates.{settled-ports}
 use Rattle.indexed_store.proofs.Uniques.{live-live}
 use Rattle.indexed_store.proofs.FirstLemmas.{first-live, live-near, near-again, ports-follow, reached-near}
 
@@ -34,8 +35,10 @@ next-inside inside r is kept first fits = record {
 }
 
 -- at its moment the ports are still the state's
-pub next-ports : PortsFollowMoments → (s : TabledState) (r : Record) → IsNextFirst s r → s.ports.reached ≤ r.moment → (v : Leased) → v ≡ at_moment r.moment s.ports → IsPortsOf v s.state
-next-ports follow s r next later v is = subst (λ (x : Leased). IsPortsOf x s.state) (sym is) (follow s.ports s.state r.moment later next.kept.ports)
+pub next-ports : PortsFollowMoments → (s : TabledState) (r : Record) → IsNextFirst s r → s.ports.reached ≤ r.moment → (v : Leased) (n : ℕ)
+    → v ≡ record (at_moment r.moment s.ports) { settled = n } → IsPortsOf v s.state
+next-ports follow s r next later v n is = subst (λ (x : Leased). IsPortsOf x s.state) (sym is)
+    (settled-ports (at_moment r.moment s.ports) n s.state (follow s.ports s.state r.moment later next.kept.ports))
 
 -- what is noted of a record, beside these leases and ports
 abbrev noted : Table → Leased → State → Record → State

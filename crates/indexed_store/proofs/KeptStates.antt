@@ -1,6 +1,7 @@
 -- What a state in tables keeps where it is new, after a record, and at a later moment.
-use Rattle.std.proofs.Common.{◌≡◌, ◌⊎◌, ℕ, ◌≤◌, Bool, false, List, [], ◌++◌, filter, length, Option, None, inl, inr, sym, ap, ◌∙◌, subst, arith}
+use Rattle.std.proofs.Common.{◌≡◌, ◌⊎◌, ℕ, ◌≤◌, nat_lt, Bool, true, false, cond, List, [], ◌++◌, filter, Option, None, inl, inr, refl, sym, ap, ◌∙◌, subst, arith}
 use Rattle.pcp_base.specs.declared.addresses.Address.{Address}
+use Rattle.pcp_base.specs.declared.leases.Protocol.{Protocol}
 use Rattle.pcp_base.specs.declared.leases.Protocol.TheVariants.{Tcp, Udp}
 use Rattle.pcp_base.specs.declared.leases.End.{End}
 use Rattle.pcp_base.specs.Tables.{Table, empty_table, live}
@@ -9,21 +10,28 @@ use Rattle.pcp_base.specs.Reached.{IsReached}
 use Rattle.pcp_base.specs.Laws.{RecordsReach}
 use Rattle.lease_store.specs.declared.terms.Terms.{Terms}
 use Rattle.lease_store.specs.LeaseTerms.{AreTerms}
-use Rattle.port_spans.specs.declared.runs.TheConstants.{PLACES}
-use Rattle.leased_ports.specs.Leased.{Leased, IsPortsOf, IsOnTerms, as_settled, at_moment, end_of, fresh_ports, no_ends, place}
+use Rattle.port_spans.specs.Along.{end_told, spot}
+use Rattle.leased_ports.specs.Leased.{Leased, IsPortsOf, IsOnTerms, as_settled, at_moment, end_of, fresh_ports}
+use Rattle.leased_ports.specs.Kept.{end_by}
 use Rattle.leased_ports.specs.Listed.{ends_come, has_come, listed}
 use Rattle.leased_ports.specs.Laws.{NewPortsAreFree, PortsFollowMoments}
-use Rattle.leased_ports.proofs.StepLemmas.{end_in-no_ends}
 use Rattle.leased_ports.proofs.ListedLemmas.{listed-empty}
 use Rattle.indexed_store.specs.Tabled.{AreTabled, IsNew, TabledState, state_in}
 use Rattle.indexed_store.specs.Indexed.{IsIndexed, IsKept}
 
 -- no end came by ports that have none
+pub none-ends : (protocol : Protocol) (port : ℕ) → end_by [] protocol port ≡ None
+none-ends protocol port = step (nat_lt port 65536)
+  where
+    step : (b : Bool) → end_told (spot protocol port) (cond b None None) ≡ None
+    step true = refl
+    step false = refl
+
 pub none-come : (m low high quota : ℕ) → ends_come m (fresh_ports low high quota) ≡ []
 none-come m low high quota =
-    let v = fresh_ports low high quota in let n = length (no_ends PLACES) in
-    ap (λ (es : List End). filter (has_come m) (es ++ listed (end_of v Udp) 0 n)) (listed-empty (end_of v Tcp) 0 n (λ i a b. end_in-no_ends PLACES (place Tcp i)))
-    ∙ ap (filter (has_come m)) (listed-empty (end_of v Udp) 0 n (λ i a b. end_in-no_ends PLACES (place Udp i)))
+    let v = fresh_ports low high quota in
+    ap (λ (es : List End). filter (has_come m) (es ++ listed (end_of v Udp) 0 65536)) (listed-empty (end_of v Tcp) 0 65536 (λ i a b. none-ends Tcp i))
+    ∙ ap (filter (has_come m)) (listed-empty (end_of v Udp) 0 65536 (λ i a b. none-ends Udp i))
 
 -- no leases, and ports that have no last ends, make the state of no record
 pub fresh-new : (t : Table) (v : Leased) (base last low high quota : ℕ) → t ≡ empty_table → v ≡ fresh_ports low high quota → base ≡ 0 → last ≡ 0
@@ -53,12 +61,20 @@ new-kept free s low high quota new ports = record {
   ports = subst (λ (x : State). IsPortsOf s.ports x) (sym new.state) (subst (λ (v : Leased). IsPortsOf v empty_state) (sym ports) (free low high quota));
 }
 
-pub later-kept : PortsFollowMoments → (old new : TabledState) (m : ℕ) → old.ports.reached ≤ m → new.state ≡ old.state → new.leases ≡ old.leases → new.ports ≡ at_moment m old.ports
-    → IsKept old → IsKept new
-later-kept follow old new m later state leases ports kept = record {
+-- what is seen to, nor the moment, changes anything of the ports of a state
+pub settled-ports : (v : Leased) (n : ℕ) (s : State) → IsPortsOf v s → IsPortsOf (record v { settled = n }) s
+settled-ports v n s are = record { passed = are.passed; same = are.same }
+
+pub on-settled : (v : Leased) (m n : ℕ) (terms : Terms) → IsOnTerms v terms → IsOnTerms (record (at_moment m v) { settled = n }) terms
+on-settled v m n terms on = record { low = on.low; high = on.high; quota = on.quota }
+
+pub later-kept : PortsFollowMoments → (old new : TabledState) (m n : ℕ) → old.ports.reached ≤ m → new.state ≡ old.state → new.leases ≡ old.leases
+    → new.ports ≡ record (at_moment m old.ports) { settled = n } → IsKept old → IsKept new
+later-kept follow old new m n later state leases ports kept = record {
   tabled = subst AreTabled (sym leases) kept.tabled;
   live = ap (λ (x : State). x.table) state ∙ kept.live ∙ ap (λ (x : State). live old.leases x.last) (sym state) ∙ ap (λ (t : Table). live t new.state.last) (sym leases);
-  ports = subst (λ (x : State). IsPortsOf new.ports x) (sym state) (subst (λ (v : Leased). IsPortsOf v old.state) (sym ports) (follow old.ports old.state m later kept.ports));
+  ports = subst (λ (x : State). IsPortsOf new.ports x) (sym state) (subst (λ (v : Leased). IsPortsOf v old.state) (sym ports)
+      (settled-ports (at_moment m old.ports) n old.state (follow old.ports old.state m later kept.ports)));
 }
 
 -- a state that is new, on terms that are allowed

@@ -4,6 +4,7 @@ pub mod EndPorts
 pub mod DeadGo
 pub mod OverlappedDead
 pub mod WayLemmas
+pub mod DropSteps
 pub mod SortLemmas
 pub mod LookLemmas
 pub mod InsideLemmas
@@ -15,12 +16,13 @@ pub mod LeavingLemmas
 pub mod EvenLemmas
 pub mod ChangeLemmas
 pub mod HoldingLemmas
+pub mod HoldSteps
 pub mod HeldLive
 pub mod PortsAfter
 pub mod KeptStates
 pub mod AppliedStates
 pub mod LaterLive
-pub mod DueWithin
+pub mod PickSteps
 pub mod JudgeLemmas
 pub mod FirstLemmas
 pub mod FirstStates

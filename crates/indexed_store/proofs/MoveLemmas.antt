@@ -1,5 +1,5 @@
 -- Small steps of ports and tables.
-use Rattle.std.proofs.Common.{◌≡◌, ℕ, zero, suc, true, false, cond, Bool, List, [], ◌∷◌, ◌++◌, map, flat_map, filter, find, Some, None, Result, Ok, Err, OnOk, OnErr, refl, sym, ap, ◌∙◌, subst, append-nil}
+use Rattle.std.proofs.Common.{◌≡◌, ℕ, zero, suc, true, false, cond, Bool, List, [], ◌∷◌, ◌++◌, map, flat_map, filter, find, Option, Some, None, IfSome, Result, Ok, Err, OnOk, OnErr, refl, sym, ap, ◌∙◌, subst, append-nil}
 use Rattle.std.specs.Prelude.{◌≤◌, max}
 use Rattle.std.specs.List.{AllByRecursion}
 use Rattle.std.proofs.Math.Nat.{max-eq_right}
@@ -19,31 +19,29 @@ use Rattle.pcp_base.proofs.Members.{All-IsIn, All-from_IsIn, find-none}
 use Rattle.pcp_base.proofs.Same.{same_endpoint-Decides}
 use Rattle.pcp_base.proofs.TableLemmas.{covers-first}
 use Rattle.lease_store.specs.declared.terms.Terms.{Terms}
-use Rattle.leased_ports.specs.Leased.{Leased, IsOnTerms, at_moment, vacated, with_last_ends, without_last_ends}
+use Rattle.leased_ports.specs.Leased.{Leased, IsOnTerms, OnlyEndsChange, at_moment, vacated}
 use Rattle.indexed_store.proofs.Uniques.{keys-apart, two-weaker}
 
-pub on_later : (v : Leased) (m : ℕ) (terms : Terms) → IsOnTerms v terms → IsOnTerms (at_moment m v) terms
-on_later v m terms h = record { low = h.low; high = h.high; quota = h.quota }
+-- ports that moved on to a moment, by which some fell due, stay on their terms
+pub on_moved : (v w : Leased) (m : ℕ) (terms : Terms) → w ≡ record (at_moment m v) { settled = w.settled } → IsOnTerms v terms → IsOnTerms w terms
+on_moved v w m terms moved h = record {
+  low = ap (λ (x : Leased). x.low) moved ∙ h.low;
+  high = ap (λ (x : Leased). x.high) moved ∙ h.high;
+  quota = ap (λ (x : Leased). x.quota) moved ∙ h.quota;
+}
+
+pub runs_moved : (v w : Leased) (m : ℕ) → w ≡ record (at_moment m v) { settled = w.settled } → w.runs ≡ v.runs
+runs_moved v w m moved = ap (λ (x : Leased). x.runs) moved
+
+pub moved_from : (v w old : Leased) (m : ℕ) → w ≡ record (at_moment m v) { settled = w.settled } → v ≡ old → w ≡ record (at_moment m old) { settled = w.settled }
+moved_from v w old m moved same = moved ∙ ap (λ (x : Leased). record (at_moment m x) { settled = w.settled }) same
 
 pub on_anew : (v : Leased) (terms : Terms) → IsOnTerms v terms → IsOnTerms (vacated v) terms
 on_anew v terms h = record { low = h.low; high = h.high; quota = h.quota }
 
--- ports in a row that get last ends, or lose theirs, stay on their terms and at their moment
-pub on_put : (e : End) (n : ℕ) (v : Leased) (terms : Terms) → IsOnTerms v terms → IsOnTerms (with_last_ends e n v) terms
-on_put e zero v terms h = h
-on_put e (suc n) v terms h = let on = on_put e n v terms h in record { low = on.low; high = on.high; quota = on.quota }
-
-pub on_free : (protocol : Protocol) (port n : ℕ) (v : Leased) (terms : Terms) → IsOnTerms v terms → IsOnTerms (without_last_ends protocol port n v) terms
-on_free protocol port zero v terms h = h
-on_free protocol port (suc n) v terms h = let on = on_free protocol port n v terms h in record { low = on.low; high = on.high; quota = on.quota }
-
-pub put_then : (e : End) (n : ℕ) (v : Leased) → (with_last_ends e n v).reached ≡ v.reached
-put_then e zero v = refl
-put_then e (suc n) v = put_then e n v
-
-pub free_then : (protocol : Protocol) (port n : ℕ) (v : Leased) → (without_last_ends protocol port n v).reached ≡ v.reached
-free_then protocol port zero v = refl
-free_then protocol port (suc n) v = free_then protocol port n v
+-- so do ports of which only the last ends change
+pub on_changed : (v w : Leased) (terms : Terms) → IsOnTerms v terms → OnlyEndsChange v w → IsOnTerms w terms
+on_changed v w terms h only = record { low = only.low ∙ h.low; high = only.high ∙ h.high; quota = only.quota ∙ h.quota }
 
 -- what stands behind a call that is refused, too
 pub either_way : {T E : Type 0} (r : Result T E) (P Q R : Type 0) → (P → R) → (Q → R) → OnOk r P → OnErr r Q → R
@@ -57,6 +55,10 @@ both_ok (Err e) P Q R f p q = tt
 pub any_ok : {T E : Type 0} (r : Result T E) (P : Type 0) → P → OnOk r P
 any_ok (Ok x) P p = p
 any_ok (Err e) P p = tt
+
+pub any_if : {T : Type 0} (o : Option T) (P : Type 0) → P → IfSome o (λ x. P)
+any_if None P p = tt
+any_if (Some x) P p = p
 
 -- ---- the one lease with a key
 

@@ -25,10 +25,10 @@ use Rattle.indexed_store.proofs.Uniques.{AtMostOne, none-within, one-key}
 -- ---- how many there are where one is put
 
 -- 1 for what passes
-abbrev tally : Bool → ℕ
+abbrev pub tally : Bool → ℕ
 tally b = cond {A = ℕ} b 1 0
 
-count-cons : {X : Type 0} (p : X → Bool) (x : X) (xs : List X) → count_by p (x ∷ xs) ≡ tally (p x) + count_by p xs
+pub count-cons : {X : Type 0} (p : X → Bool) (x : X) (xs : List X) → count_by p (x ∷ xs) ≡ tally (p x) + count_by p xs
 count-cons p x xs = sum_by-cons (λ y. cond {A = ℕ} (p y) 1 0) x xs
 
 module _ {X : Type 0} (has q : X → Bool) (y : X) where
@@ -56,7 +56,7 @@ module _ {X : Type 0} (has q : X → Bool) (y : X) where
 -- ---- those that pass a test in a part of a list
 
 module _ {X : Type 0} (p q : X → Bool) where
-  abbrev left_out : X → Bool
+  abbrev pub left_out : X → Bool
   left_out x = p x && not (q x)
 
   parts-step : (x : X) (xs : List X) (a b : Bool) → p x ≡ a → q x ≡ b → count_by p (filter q xs) + count_by left_out xs ≡ count_by p xs
@@ -75,7 +75,7 @@ module _ {X : Type 0} (p q : X → Bool) where
       same true = refl
       same false = refl
 
-  count-parts : (xs : List X) → count_by p (filter q xs) + count_by left_out xs ≡ count_by p xs
+  pub count-parts : (xs : List X) → count_by p (filter q xs) + count_by left_out xs ≡ count_by p xs
   count-parts [] = refl
   count-parts (x ∷ xs) =
       let all = count-cons p x xs in let out = count-cons left_out x xs in

@@ -5,18 +5,25 @@ use Rattle.pcp_base.specs.Tables.{live}
 use Rattle.pcp_base.specs.Reached.{IsReached, IsReachedFirst}
 use Rattle.lease_store.specs.declared.terms.Terms.{Terms}
 use Rattle.lease_store.specs.LeaseTerms.{AreTerms}
-use Rattle.lease_store.specs.Stores.{Stored}
 use Rattle.leased_ports.specs.Leased.{IsPortsOf, IsOnTerms}
 
+-- what the store is seen as
+pub record Indexed : Type 0 where
+  -- the state, with the tables and ports that have it
+  pub kept : TabledState
+  -- the moment that is reached
+  pub reached : ℕ
+  pub terms : Terms
+
 -- records that fit have made the state, and no later moment is reached
-pub record IsReplaying (s : Stored) : Type 0 where
-  pub reached : IsReached s.state
-  pub at_last : s.reached ≡ s.state.last
+pub record IsReplaying (s : Indexed) : Type 0 where
+  pub reached : IsReached s.kept.state
+  pub at_last : s.reached ≡ s.kept.state.last
 
 -- the same in the first format
-pub record IsReplayingFirst (s : Stored) : Type 0 where
-  pub reached : IsReachedFirst s.state
-  pub at_last : s.reached ≡ s.state.last
+pub record IsReplayingFirst (s : Indexed) : Type 0 where
+  pub reached : IsReachedFirst s.kept.state
+  pub at_last : s.reached ≡ s.kept.state.last
 
 -- the leases of the tables that are live at the last moment are those of the state, and the ports
 -- are the state's

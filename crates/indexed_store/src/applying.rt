@@ -1,16 +1,18 @@
 //! A record that fits, applied to the state.
-ghost use Rattle.std.specs.Prelude.{◌≡◌, ◌≤◌, ℕ, true, false, IfSome, IfOk, OnOk};
+ghost use Rattle.std.specs.Prelude.{◌≡◌, ◌≤◌, ◌+◌, ℕ, true, false, IfSome, IfOk, OnOk};
 ghost use Rattle.pcp_base.specs.declared.leases.Protocol.{Protocol};
 ghost use Rattle.pcp_base.specs.States.{State};
-ghost use Rattle.pcp_base.specs.Tables.{live};
+ghost use Rattle.pcp_base.specs.Tables.{Table, live};
 ghost use Rattle.pcp_base.specs.Records.{IsWellFormedChange};
 ghost use Rattle.pcp_base.specs.Reached.{IsReached};
 ghost use Rattle.pcp_base.specs.Fits.{Fits};
 ghost use Rattle.pcp_base.specs.Apply.{table_1, table_2};
 ghost use Rattle.pcp_base.specs.Apply as by_apply;
 ghost use Rattle.lease_store.specs.declared.terms.Terms.{Terms};
+ghost use Rattle.leased_ports.specs.declared.steps.TheConstants.{PUT_STEPS, TAKEN_STEPS};
 ghost use Rattle.leased_ports.specs.Leased.{IsPortsOf, IsOnTerms, end_of};
 ghost use Rattle.leased_ports.specs.Recorded.{end_by_rest};
+ghost use Rattle.indexed_store.specs.Looks.{apply_steps, reach_steps, touched_steps};
 ghost use Rattle.indexed_store.specs.Runs.{touched_run};
 ghost use Rattle.indexed_store.specs.Holding.{AreNearAt, IsEvenRun};
 ghost use Rattle.indexed_store.specs.Indexed.{IsKept};
@@ -27,12 +29,13 @@ use std::alloc::Global;
 use std::sync::ledger::Ledger;
 use step_count::Steps;
 
-/// Lets a port rest, where the change is a Rest.
-fn hold_rest(
+/// Lets a port rest, where the change is a Rest; the ports stay where it touches those of a lease.
+fn hold_rest<L: Ledger>(
     ports: &mut LeasedPorts,
     alloc: Global,
     m: Moment,
     change: &Change,
+    steps: &mut Steps<L>,
 ) -> Result<(), Memory>
     requires formed { IsWellFormedChange m change.now }
     requires reached { ports.old.reached ≡ m }
@@ -41,6 +44,9 @@ fn hold_rest(
     ensures ports { OnOk result ((protocol : Protocol) (port : ℕ) →
         end_of ports.new protocol port
         ≡ end_by_rest change.now protocol port (end_of ports.old protocol port)) }
+    ensures stay { (t : Table) → IfSome (touched_run change.now t) (λ run.
+        ports.new ≡ ports.old) }
+    ensures steps { steps.new ≤ steps.old + (PUT_STEPS + TAKEN_STEPS) }
 {
     let Change::Rest(endpoint, external, end) = change else {
         return Ok(());
@@ -50,7 +56,7 @@ fn hold_rest(
         external: *external,
         end: *end,
     };
-    ports.put(alloc, &rest)
+    ports.put(alloc, &rest, steps)
 }
 
 /// Brings the ports of a state to those after the record, beside its leases then.
@@ -73,11 +79,14 @@ fn move_ports<L: Ledger>(
         → live leases.now kept.now.moment ≡ table_2 s kept.now
         → touched ≡ touched_run kept.now.change (table_1 s kept.now)
         → IsPortsOf ports.new (by_apply.apply s kept.now)) }
+    ensures steps { (t : Table) → touched ≡ touched_run kept.now.change t →
+        steps.new ≤ steps.old + (reach_steps + (PUT_STEPS + TAKEN_STEPS)
+        + touched_steps ports.old leases.now.peers touched) }
 {
     ports_follow_states();
     records_tell_last_ends();
     ports.reach(kept.moment, steps);
-    hold_rest(ports, alloc, kept.moment, &kept.change)?;
+    hold_rest(ports, alloc, kept.moment, &kept.change, steps)?;
     hold_touched(
         ports,
         alloc,
@@ -106,6 +115,7 @@ fn change<L: Ledger>(
     ensures applied { OnOk result (state.new.state ≡ by_apply.apply state.old.state kept.now) }
     ensures kept { OnOk result (IsKept state.new) }
     ensures reached { OnOk result (state.new.ports.reached ≡ kept.now.moment) }
+    ensures steps { steps.new ≤ steps.old + apply_steps state.old kept.now }
 {
     states_are_sound();
     ends_are_last_ends();
@@ -113,7 +123,7 @@ fn change<L: Ledger>(
         .leases
         .change(alloc, kept.moment, &kept.change, steps)?;
     move_ports(&mut state.ports, alloc, &state.leases, kept, touched, steps)?;
-    state.leases.drop_some(kept.moment);
+    state.leases.drop_some(kept.moment, steps);
     state.note(kept);
     Ok(())
 }
@@ -126,6 +136,7 @@ pub(crate) fn begin<L: Ledger>(state: &mut IndexedState, kept: &Record, steps: &
     ensures applied { state.new.state ≡ by_apply.apply state.old.state kept.now }
     ensures kept { IsKept state.new }
     ensures reached { state.new.ports.reached ≡ kept.now.moment }
+    ensures steps { steps.new ≤ steps.old + reach_steps }
 {
     records_tell_last_ends();
     state.leases.clear();
@@ -150,6 +161,7 @@ pub(crate) fn apply<L: Ledger>(
     ensures applied { OnOk result (state.new.state ≡ by_apply.apply state.old.state kept.now) }
     ensures kept { OnOk result (IsKept state.new) }
     ensures reached { OnOk result (state.new.ports.reached ≡ kept.now.moment) }
+    ensures steps { steps.new ≤ steps.old + apply_steps state.old kept.now }
 {
     if empties(&kept.change) {
         begin(state, kept, steps);

@@ -1,5 +1,6 @@
 //! What a change makes of the leases.
-ghost use Rattle.std.specs.Prelude.{◌≡◌, ◌<◌, false, IfSome, IfOk, OnOk};
+ghost use Rattle.std.specs.Prelude.{◌≡◌, ◌<◌, ◌≤◌, ◌+◌, ◌*◌, false, Contains, IfSome, IfOk, OnOk};
+ghost use Rattle.pcp_base.specs.declared.leases.PeerLease.{PeerLease};
 ghost use Rattle.pcp_base.specs.Tables.{IsMapLease, IsPeerLease, empty_table, live};
 ghost use Rattle.pcp_base.specs.declared.records.Change.TheVariants.{Map, Peer, DropMap, DropPeer};
 ghost use Rattle.pcp_base.specs.Sound.{Sound};
@@ -10,6 +11,7 @@ ghost use Rattle.pcp_base.specs.Fits.{IsAllowed};
 ghost use Rattle.indexed_store.specs.Holding.{IsEvenRun};
 ghost use Rattle.indexed_store.specs.Tabled.{AreTabled};
 ghost use Rattle.indexed_store.specs.Runs.{touched_run};
+ghost use Rattle.indexed_store.specs.Looks.{change_steps, most_levels, puts_peer};
 
 use crate::leases::Leases;
 use crate::owning::{OwnerRun, run_of_map, run_of_peer};
@@ -19,6 +21,7 @@ use peer_table::laws::{fewer_peers_are_sound, peers_are_sound_with_one_more};
 use std::alloc::Global;
 use std::sync::ledger::Ledger;
 use step_count::Steps;
+use step_count::laws::levels_grow;
 
 impl Leases {
     /// No leases.
@@ -47,10 +50,15 @@ impl Leases {
         ensures touched { IfOk result (λ run.
             run ≡ touched_run (Map lease.now) (live self.old m)) }
         ensures formed { IfOk result (λ run. IfSome run (IsEvenRun self.new.maps)) }
+        ensures peers_from { OnOk result ((l : PeerLease) → Contains self.new.peers l
+            → Contains self.old.peers l) }
+        ensures steps { steps.new ≤ steps.old
+            + change_steps m (Map lease.now) self.old }
     {
+        levels_grow();
         maps_are_sound_with_one_more();
         self.make_way_for_map(m, lease, steps);
-        self.maps.put(alloc, *lease)?;
+        self.maps.put(alloc, *lease, steps)?;
         Ok(Some(run_of_map(lease)))
     }
 
@@ -72,15 +80,23 @@ impl Leases {
         ensures touched { IfOk result (λ run.
             run ≡ touched_run (Peer lease.now) (live self.old m)) }
         ensures formed { IfOk result (λ run. IfSome run (IsEvenRun self.new.maps)) }
+        ensures steps { steps.new ≤ steps.old
+            + change_steps m (Peer lease.now) self.old }
     {
+        levels_grow();
         peers_are_sound_with_one_more();
         self.make_way_for_peer(m, lease, steps);
-        self.peers.put(alloc, *lease)?;
+        self.peers.put(alloc, *lease, steps)?;
         Ok(Some(run_of_peer(lease)))
     }
 
     /// Takes out a MAP lease that is live at `m`. Tells its ports.
-    fn delete_map(&mut self, m: Moment, key: &Endpoint) -> Option<OwnerRun>
+    fn delete_map<L: Ledger>(
+        &mut self,
+        m: Moment,
+        key: &Endpoint,
+        steps: &mut Steps<L>,
+    ) -> Option<OwnerRun>
         requires tabled { AreTabled self.old }
         requires there { IsAllowed (live self.old m) (DropMap key.now) }
         ensures tabled { AreTabled self.new }
@@ -88,21 +104,25 @@ impl Leases {
             ≡ table_changed (DropMap key.now) (live self.old m) }
         ensures touched { result ≡ touched_run (DropMap key.now) (live self.old m) }
         ensures formed { IfSome result (IsEvenRun self.new.maps) }
+        ensures peers { self.new.peers ≡ self.old.peers }
+        ensures steps { steps.new ≤ steps.old + 8 * most_levels }
     {
+        levels_grow();
         fewer_maps_are_sound();
-        let Some(lease) = self.maps.remove(key) else {
+        let Some(lease) = self.maps.remove(key, steps) else {
             return None;
         };
         Some(run_of_map(&lease))
     }
 
     /// Takes out a PEER lease that is live at `m`. Tells its port.
-    fn delete_peer(
+    fn delete_peer<L: Ledger>(
         &mut self,
         m: Moment,
         endpoint: &Endpoint,
         remote: &Address,
         port: u16,
+        steps: &mut Steps<L>,
     ) -> Option<OwnerRun>
         requires tabled { AreTabled self.old }
         requires there { IsAllowed (live self.old m)
@@ -113,9 +133,13 @@ impl Leases {
         ensures touched { result
             ≡ touched_run (DropPeer endpoint.now remote.now port) (live self.old m) }
         ensures formed { IfSome result (IsEvenRun self.new.maps) }
+        ensures peers_from { (l : PeerLease) → Contains self.new.peers l
+            → Contains self.old.peers l }
+        ensures steps { steps.new ≤ steps.old + 6 * most_levels }
     {
+        levels_grow();
         fewer_peers_are_sound();
-        let Some(lease) = self.peers.remove(endpoint, remote, port) else {
+        let Some(lease) = self.peers.remove(endpoint, remote, port, steps) else {
             return None;
         };
         Some(run_of_peer(&lease))
@@ -141,13 +165,16 @@ impl Leases {
         ensures touched { IfOk result (λ run.
             run ≡ touched_run change.now (live self.old m)) }
         ensures formed { IfOk result (λ run. IfSome run (IsEvenRun self.new.maps)) }
+        ensures peers_from { OnOk result (puts_peer change.now ≡ false → (l : PeerLease) →
+            Contains self.new.peers l → Contains self.old.peers l) }
+        ensures steps { steps.new ≤ steps.old + change_steps m change.now self.old }
     {
         match change {
             Change::Map(lease) => self.put_map(alloc, m, lease, steps),
             Change::Peer(lease) => self.put_peer(alloc, m, lease, steps),
-            Change::DropMap(key) => Ok(self.delete_map(m, key)),
+            Change::DropMap(key) => Ok(self.delete_map(m, key, steps)),
             Change::DropPeer(endpoint, remote, port) => {
-                Ok(self.delete_peer(m, endpoint, remote, *port))
+                Ok(self.delete_peer(m, endpoint, remote, *port, steps))
             }
             _ => Ok(None),
         }

@@ -104,8 +104,8 @@ fn drop_dead<L: Ledger>(
     sound_tables_have_sound_maps();
     sound_tables_have_sound_peers();
     ports_follow_states();
-    let _ended = leases.drop_dead(alloc, last)?;
-    let left = leases.drop_dead(alloc, m)?;
+    let _ended = leases.drop_dead(alloc, last, steps)?;
+    let left = leases.drop_dead(alloc, m, steps)?;
     hold_all(ports, alloc, leases, m, &left, steps)
 }
 

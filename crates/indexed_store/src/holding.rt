@@ -1,11 +1,15 @@
 //! Until when leases hold ports.
-ghost use Rattle.std.specs.Prelude.{◌≡◌, ℕ, ◌≤◌, ◌<◌, ◌+◌, ◌^◌, IfSome, IfOk, OnOk, if◌then◌else◌};
+ghost use Rattle.std.specs.Prelude.{◌≡◌, ℕ, ◌≤◌, ◌<◌, ◌+◌, ◌*◌, ◌^◌, false, length, IfSome, IfOk, OnOk, if◌then◌else◌};
 ghost use Rattle.std.specs.Option.{option_map};
+ghost use Rattle.step_count.specs.Levels.{levels};
 ghost use Rattle.pcp_base.specs.declared.leases.Protocol.{Protocol};
 ghost use Rattle.pcp_base.specs.Ends.{end_at};
 ghost use Rattle.mapping_table.specs.MapLists.{map_owning};
 ghost use Rattle.lease_store.specs.declared.terms.Terms.{Terms};
+ghost use Rattle.leased_ports.specs.declared.steps.TheConstants.{PUT_STEPS, TAKEN_STEPS};
 ghost use Rattle.leased_ports.specs.Leased.{IsOnTerms, end_of};
+ghost use Rattle.indexed_store.specs.declared.holding.Unowned.TheVariants.{Rests};
+ghost use Rattle.indexed_store.specs.Looks.{hold_steps, is_parted, most_levels, piece_steps, run_steps, touched_steps};
 ghost use Rattle.indexed_store.specs.Runs.{IsOwnerRun, has_port, owner_in, up_to};
 ghost use Rattle.indexed_store.specs.Holding.{AreNearAt, Holds, HoldsIf, IsEvenRun, IsHold, end_held, held_by_map, later_by};
 ghost use Rattle.indexed_store.specs.Holding as the;
@@ -18,6 +22,7 @@ use peer_table::PeerTable;
 use std::alloc::Global;
 use std::sync::ledger::Ledger;
 use step_count::Steps;
+use step_count::laws::levels_grow;
 
 /// What becomes of a port that no lease owns any more.
 #[derive(Clone, Copy)]
@@ -55,7 +60,9 @@ impl Leases {
         port: u16,
         steps: &mut Steps<L>,
     ) -> Option<u64>
-        ensures { result ≡ option_map (λ l. l.expiry) (map_owning protocol port self.now.maps) }
+        ensures expiry { result
+            ≡ option_map (λ l. l.expiry) (map_owning protocol port self.now.maps) }
+        ensures steps { steps.new ≤ steps.old + 4 * levels (length self.now.maps) }
     {
         let Some(lease) = self.maps.by_external(protocol, port, steps) else {
             return None;
@@ -74,19 +81,23 @@ impl Leases {
         requires { AreNearAt m self.now }
         ensures value { result ≡ held_by_map m self.now.maps protocol port }
         ensures bounds { (m ≤ result) × (result < 2 ^ 41) }
+        ensures steps { steps.new ≤ steps.old + 4 * most_levels }
     {
+        levels_grow();
         later(m.get(), self.map_expiry(protocol, port, steps))
     }
 }
 
 /// How many ports of the run, from its first on, are held until the same moment, where MAP leases
 /// hold all of them until `from`: those before the next one that a PEER lease owns, or that one.
-fn hold_along(peers: &PeerTable, run: &OwnerRun, from: u64) -> Hold
+fn hold_along<L: Ledger>(peers: &PeerTable, run: &OwnerRun, from: u64, steps: &mut Steps<L>) -> Hold
     requires { IsOwnerRun run.now }
-    ensures { IsHold from peers.now run.now result }
+    ensures hold { IsHold from peers.now run.now result }
+    ensures whole { is_parted peers.now run.now ≡ false → result.count ≡ run.now.count }
+    ensures steps { steps.new ≤ steps.old + 18 * levels (length peers.now) }
 {
     let first = &run.first;
-    let Some(next) = peers.next_owned(first.protocol, first.external) else {
+    let Some(next) = peers.next_owned(first.protocol, first.external, steps) else {
         return Hold {
             count: run.count,
             until: from,
@@ -95,7 +106,7 @@ fn hold_along(peers: &PeerTable, run: &OwnerRun, from: u64) -> Hold
     if next == first.external {
         return Hold {
             count: 1,
-            until: later(from, peers.last_expiry(first.protocol, next)),
+            until: later(from, peers.last_expiry(first.protocol, next, steps)),
         };
     }
     Hold {
@@ -127,13 +138,14 @@ fn has_end(unowned: Unowned, m: Moment, until: u64) -> bool
 
 /// Holds ports in a row until then, or lets them rest or be free. Where memory is wanting, all ports
 /// are forgotten.
-fn give(
+fn give<L: Ledger>(
     ports: &mut LeasedPorts,
     alloc: Global,
     m: Moment,
     run: &OwnerRun,
     until: u64,
     unowned: Unowned,
+    steps: &mut Steps<L>,
 ) -> Result<(), Memory>
     requires run { IsOwnerRun run.now }
     requires until { (m ≤ until) × (until < 2 ^ 41) }
@@ -144,17 +156,18 @@ fn give(
         end_of ports.new protocol port ≡ (if has_port protocol port run.now
         then end_held unowned m until (owner_in run.now port)
         else end_of ports.old protocol port)) }
+    ensures steps { unowned ≡ Rests → steps.new ≤ steps.old + run_steps ports.old run.now }
 {
     let first = &run.first;
     if has_end(unowned, m, until) {
-        return ports.put_run(alloc, &end_at(first, until), run.count);
+        return ports.put_run(alloc, &end_at(first, until), run.count, steps);
     }
-    ports.free_run(alloc, first.protocol, first.external, run.count)
+    ports.free_run(alloc, first.protocol, first.external, run.count, steps)
 }
 
 /// Gives ports of a run their last ends, from the first on as far as these are of the same moment,
 /// where MAP leases hold all of the run until `from`. Tells how many.
-fn hold_piece(
+fn hold_piece<L: Ledger>(
     ports: &mut LeasedPorts,
     alloc: Global,
     leases: &Leases,
@@ -162,6 +175,7 @@ fn hold_piece(
     run: &OwnerRun,
     from: u64,
     unowned: Unowned,
+    steps: &mut Steps<L>,
 ) -> Result<u32, Memory>
     requires near { AreNearAt m leases.now }
     requires run { IsOwnerRun run.now }
@@ -174,13 +188,20 @@ fn hold_piece(
     ensures count { IfOk result (λ n. (1 ≤ n) × (n ≤ run.now.count)) }
     ensures ports { IfOk result (λ n.
         Holds unowned m leases.now (up_to n run.now) ports.old ports.new) }
+    ensures whole { IfOk result (λ n.
+        is_parted leases.now.peers run.now ≡ false → n ≡ run.now.count) }
+    ensures each { IfOk result (λ n. unowned ≡ Rests → steps.new ≤ steps.old
+        + n * (18 * most_levels + PUT_STEPS + TAKEN_STEPS)) }
+    ensures steps { unowned ≡ Rests →
+        steps.new ≤ steps.old + piece_steps ports.old leases.now.peers run.now }
 {
-    let hold = hold_along(&leases.peers, run, from);
+    levels_grow();
+    let hold = hold_along(&leases.peers, run, from, steps);
     let piece = OwnerRun {
         first: run.first,
         count: hold.count,
     };
-    give(ports, alloc, m, &piece, hold.until, unowned)?;
+    give(ports, alloc, m, &piece, hold.until, unowned, steps)?;
     Ok(hold.count)
 }
 
@@ -201,11 +222,14 @@ pub(crate) fn hold_run<L: Ledger>(
     ensures terms { (terms : Terms) → IsOnTerms ports.old terms → IsOnTerms ports.new terms }
     ensures reached { OnOk result (ports.new.reached ≡ m) }
     ensures ports { OnOk result (Holds unowned m leases.now run.now ports.old ports.new) }
+    ensures steps { unowned ≡ Rests →
+        steps.new ≤ steps.old + hold_steps ports.old leases.now.peers run.now }
 {
     let from = leases.held_by_map(m, run.first.protocol, run.first.external, steps);
     let mut done = 0;
     while done < run.count {
-        let count = hold_piece(ports, alloc, leases, m, &run.behind(done), from, unowned)?;
+        let rest = run.behind(done);
+        let count = hold_piece(ports, alloc, leases, m, &rest, from, unowned, steps)?;
         done += count;
     }
     Ok(())
@@ -227,6 +251,8 @@ pub(crate) fn hold_touched<L: Ledger>(
     ensures terms { (terms : Terms) → IsOnTerms ports.old terms → IsOnTerms ports.new terms }
     ensures reached { OnOk result (ports.new.reached ≡ m) }
     ensures ports { OnOk result (HoldsIf unowned m leases.now touched ports.old ports.new) }
+    ensures steps { unowned ≡ Rests →
+        steps.new ≤ steps.old + touched_steps ports.old leases.now.peers touched }
 {
     match touched {
         Some(run) => hold_run(ports, alloc, leases, m, &run, unowned, steps),

@@ -325,7 +325,8 @@ fn peer_is_rested(state: &IndexedState, m: Moment, lease: &PeerLease) -> bool
 fn is_rested(state: &IndexedState, alloc: Global, kept: &Record) -> Result<bool, Memory>
     requires current { IsCurrent state.now kept.now.moment }
     requires formed { IsWellFormedRecord kept.now }
-    ensures { IfOk result (λ b. IsTrue b ↔ IsRested state.now.state kept.now.moment kept.now.change) }
+    ensures { IfOk result
+        (λ b. IsTrue b ↔ IsRested state.now.state kept.now.moment kept.now.change) }
 {
     let m = kept.moment;
     match &kept.change {

@@ -1,5 +1,5 @@
 //! Leases that have ended make way for one that is put.
-ghost use Rattle.std.specs.Prelude.{◌≡◌, ◌<◌, ◌+◌, length, count_by, find, is_some, nat_lt, true, false, Contains, IfSome};
+ghost use Rattle.std.specs.Prelude.{◌≡◌, ◌<◌, ◌≤◌, ◌+◌, ◌*◌, ◌⊎◌, length, count_by, find, is_some, nat_lt, Bool, true, false, Contains, IfSome};
 ghost use Rattle.std.specs.List.{list_any};
 ghost use Rattle.std.specs.Bool.{OnTrue, OnFalse};
 ghost use Rattle.pcp_base.specs.declared.leases.TheConstants.{MOST_LEASES};
@@ -9,10 +9,11 @@ ghost use Rattle.pcp_base.specs.declared.records.Change.TheVariants.{Map, Peer};
 ghost use Rattle.pcp_base.specs.Apply.{table_changed};
 ghost use Rattle.pcp_base.specs.Sound.{Sound};
 ghost use Rattle.pcp_base.specs.Tables.{is_map_of, is_peer_of, live, names};
-ghost use Rattle.mapping_table.specs.MapLists.{overlaps as overlaps_map, IsOverlapped as IsOverlappedMap};
-ghost use Rattle.peer_table.specs.PeerLists.{overlaps as overlaps_peer, IsOverlapped as IsOverlappedPeer};
+ghost use Rattle.mapping_table.specs.MapLists.{overlaps as overlaps_map};
+ghost use Rattle.peer_table.specs.PeerLists.{overlaps as overlaps_peer, is_ended_of};
 ghost use Rattle.indexed_store.specs.MakingWay.{HasWayForMap, HasWayForPeer};
 ghost use Rattle.indexed_store.specs.Tabled.{AreTabled};
+ghost use Rattle.indexed_store.specs.Looks.{most_levels};
 
 use crate::leases::Leases;
 use mapping_table::laws::{fewer_maps_are_sound, sound_tables_have_sound_maps};
@@ -20,13 +21,14 @@ use pcp_base::{Endpoint, MOST_LEASES, MapLease, Moment, PeerLease};
 use peer_table::laws::{fewer_peers_are_sound, sound_tables_have_sound_peers};
 use std::sync::ledger::Ledger;
 use step_count::Steps;
+use step_count::laws::levels_grow;
 
 /// How many leases that have ended a record takes out at most, beside those that are in the way of one.
 const MOST_DROPPED: u32 = 8;
 
 impl Leases {
     /// Takes out a lease that has ended by `m`; false where there is none.
-    pub(crate) fn drop_one(&mut self, m: Moment) -> bool
+    pub(crate) fn drop_one<L: Ledger>(&mut self, m: Moment, steps: &mut Steps<L>) -> bool
         requires { AreTabled self.old }
         ensures tabled { AreTabled self.new }
         ensures live { live self.new m ≡ live self.old m }
@@ -37,30 +39,36 @@ impl Leases {
             → Contains self.old.maps l }
         ensures peers_from { (l : PeerLease) → Contains self.new.peers l
             → Contains self.old.peers l }
+        ensures steps { steps.new ≤ steps.old + 11 * most_levels }
     {
+        levels_grow();
         fewer_maps_are_sound();
         fewer_peers_are_sound();
-        if let Some(lease) = self.maps.one_ended(m) {
-            self.maps.remove(&lease.first_endpoint());
+        if let Some(lease) = self.maps.one_ended(m, steps) {
+            self.maps.remove(&lease.first_endpoint(), steps);
             return true;
         }
-        let Some(lease) = self.peers.one_ended(m).copied() else {
+        let Some(lease) = self.peers.one_ended(m, steps).copied() else {
             return false;
         };
         self.peers
-            .remove(&lease.endpoint, &lease.remote, lease.remote_port);
+            .remove(&lease.endpoint, &lease.remote, lease.remote_port, steps);
         true
     }
 
-    /// Takes out up to 8 leases that have ended by `m`.
-    pub(crate) fn drop_some(&mut self, m: Moment)
+    /// Takes out 8 leases that have ended by `m`, or all where they are fewer.
+    pub(crate) fn drop_some<L: Ledger>(&mut self, m: Moment, steps: &mut Steps<L>)
         requires { AreTabled self.old }
         ensures tabled { AreTabled self.new }
         ensures live { live self.new m ≡ live self.old m }
+        ensures some { (self.new ≡ live self.new m)
+            ⊎ (length self.new.maps + length self.new.peers + 8
+            ≤ length self.old.maps + length self.old.peers) }
+        ensures steps { steps.new ≤ steps.old + 88 * most_levels }
     {
         let mut left = MOST_DROPPED;
         while left > 0 {
-            if !self.drop_one(m) {
+            if !self.drop_one(m, steps) {
                 return;
             }
             left -= 1;
@@ -69,7 +77,7 @@ impl Leases {
 
     /// Where there are as many leases as may be, takes out one that has ended by `m`: then fewer than
     /// that are live.
-    fn make_room(&mut self, m: Moment)
+    fn make_room<L: Ledger>(&mut self, m: Moment, steps: &mut Steps<L>)
         requires tabled { AreTabled self.old }
         requires some { length (live self.old m).maps + length (live self.old m).peers
             < MOST_LEASES }
@@ -80,15 +88,16 @@ impl Leases {
             → Contains self.old.maps l }
         ensures peers_from { (l : PeerLease) → Contains self.new.peers l
             → Contains self.old.peers l }
+        ensures steps { steps.new ≤ steps.old + 11 * most_levels }
     {
         if self.maps.len() + self.peers.len() < MOST_LEASES {
             return;
         }
-        self.drop_one(m);
+        self.drop_one(m, steps);
     }
 
     /// The same, where a lease isn't put in the place of another.
-    fn make_room_unless(&mut self, m: Moment, there: bool)
+    fn make_room_unless<L: Ledger>(&mut self, m: Moment, there: bool, steps: &mut Steps<L>)
         requires tabled { AreTabled self.old }
         requires some { OnFalse there (length (live self.old m).maps
             + length (live self.old m).peers < MOST_LEASES) }
@@ -101,9 +110,10 @@ impl Leases {
             → Contains self.old.maps l }
         ensures peers_from { (l : PeerLease) → Contains self.new.peers l
             → Contains self.old.peers l }
+        ensures steps { steps.new ≤ steps.old + 11 * most_levels }
     {
         if !there {
-            self.make_room(m);
+            self.make_room(m, steps);
         }
     }
 
@@ -114,11 +124,15 @@ impl Leases {
         ensures tabled { AreTabled self.new }
         ensures live { live self.new m ≡ live self.old m }
         ensures apart { list_any (overlaps_map lease.now) self.new.maps ≡ false }
+        ensures peers { self.new.peers ≡ self.old.peers }
+        ensures steps { steps.new ≤ steps.old + 6 * most_levels
+            + 14 * (count_by (overlaps_map lease.now) self.old.maps * most_levels) }
     {
+        levels_grow();
         sound_tables_have_sound_maps();
         fewer_maps_are_sound();
         while let Some(key) = self.maps.overlapping(lease, steps) {
-            self.maps.remove(&key);
+            self.maps.remove(&key, steps);
         }
     }
 
@@ -134,12 +148,17 @@ impl Leases {
         ensures tabled { AreTabled self.new }
         ensures live { live self.new m ≡ live self.old m }
         ensures apart { list_any (overlaps_peer lease.now) self.new.peers ≡ false }
+        ensures fewer { (test : PeerLease → Bool) →
+            count_by test self.new.peers ≤ count_by test self.old.peers }
+        ensures steps { steps.new ≤ steps.old + 5 * most_levels
+            + 11 * (count_by (overlaps_peer lease.now) self.old.peers * most_levels) }
     {
+        levels_grow();
         sound_tables_have_sound_peers();
         fewer_peers_are_sound();
         while let Some(other) = self.peers.overlapping(lease, steps).copied() {
             self.peers
-                .remove(&other.endpoint, &other.remote, other.remote_port);
+                .remove(&other.endpoint, &other.remote, other.remote_port, steps);
         }
     }
 
@@ -152,11 +171,14 @@ impl Leases {
             ≡ count_by (λ l. names l endpoint.now) (live self.new m).peers }
         ensures peers_from { (l : PeerLease) → Contains self.new.peers l
             → Contains self.old.peers l }
+        ensures steps { steps.new ≤ steps.old + 18 * most_levels
+            + 24 * (count_by (is_ended_of endpoint.now m) self.old.peers * most_levels) }
     {
+        levels_grow();
         fewer_peers_are_sound();
         while let Some(other) = self.peers.ended_of(endpoint, m, steps).copied() {
             self.peers
-                .remove(&other.endpoint, &other.remote, other.remote_port);
+                .remove(&other.endpoint, &other.remote, other.remote_port, steps);
         }
     }
 
@@ -170,27 +192,32 @@ impl Leases {
         ensures there { result ≡ is_some (find (is_map_of key.now) self.new.maps) }
         ensures maps_from { (l : MapLease) → Contains self.new.maps l
             → Contains self.old.maps l }
+        ensures peers { self.new.peers ≡ self.old.peers }
+        ensures steps { steps.new ≤ steps.old + 12 * most_levels }
     {
+        levels_grow();
         fewer_maps_are_sound();
         if self.map_of_counted(m, key, steps).is_some() {
             return true;
         }
-        self.maps.remove(key);
+        self.maps.remove(key, steps);
         false
     }
 
     /// Whether there is a PEER lease with this key, where none of its endpoint has ended by `m`.
     fn keeps_peer<L: Ledger>(&self, m: Moment, lease: &PeerLease, steps: &mut Steps<L>) -> bool
         requires { AreTabled self.now }
-        ensures { result ≡ is_some (find (is_peer_of lease.now.endpoint lease.now.remote
+        ensures there { result ≡ is_some (find (is_peer_of lease.now.endpoint lease.now.remote
             lease.now.remote_port) (live self.now m).peers) }
+        ensures steps { steps.new ≤ steps.old + 2 * most_levels }
     {
+        levels_grow();
         self.peering_counted(m, &lease.endpoint, &lease.remote, lease.remote_port, steps)
             .is_some()
     }
 
     /// Takes out the MAP leases that this one overlaps, and the one with its key if it has ended: none
-    /// of them is live at `m`.
+    /// of them is live at `m`. Where as many leases are kept as may be, another one goes that has ended.
     pub(crate) fn make_way_for_map<L: Ledger>(
         &mut self,
         m: Moment,
@@ -201,10 +228,14 @@ impl Leases {
         requires after { Sound (table_changed (Map lease.now) (live self.old m)) }
         ensures way { HasWayForMap m lease.now self.new }
         ensures live { live self.new m ≡ live self.old m }
+        ensures peers_from { (l : PeerLease) → Contains self.new.peers l
+            → Contains self.old.peers l }
+        ensures steps { steps.new ≤ steps.old + 29 * most_levels
+            + 14 * (count_by (overlaps_map lease.now) self.old.maps * most_levels) }
     {
         self.drop_overlapped_maps(m, lease, steps);
         let there = self.keeps_map(m, &lease.first_endpoint(), steps);
-        self.make_room_unless(m, there);
+        self.make_room_unless(m, there, steps);
     }
 
     /// The same for a PEER lease; those of its endpoint that have ended go too.
@@ -218,10 +249,13 @@ impl Leases {
         requires after { Sound (table_changed (Peer lease.now) (live self.old m)) }
         ensures way { HasWayForPeer m lease.now self.new }
         ensures live { live self.new m ≡ live self.old m }
+        ensures steps { steps.new ≤ steps.old + 36 * most_levels
+            + 11 * (count_by (overlaps_peer lease.now) self.old.peers * most_levels)
+            + 24 * (count_by (is_ended_of lease.now.endpoint m) self.old.peers * most_levels) }
     {
         self.drop_overlapped_peers(m, lease, steps);
         self.drop_ended_of(m, &lease.endpoint, steps);
         let there = self.keeps_peer(m, lease, steps);
-        self.make_room_unless(m, there);
+        self.make_room_unless(m, there, steps);
     }
 }

@@ -71,10 +71,10 @@ impl Leases {
             (filter (is_with remote.now remote_port)
             (filter (λ l. nat_lt m l.expiry) self.now.peers)) }
     {
-        let Some(lease) = self.peers.by_external(protocol, port, remote, remote_port) else {
+        let Some(lease) = self.peer_opening(protocol, port, remote, remote_port) else {
             return None;
         };
-        if lease.is_live(m) { Some(*lease) } else { None }
+        if lease.is_live(m) { Some(lease) } else { None }
     }
 
     /// The endpoint of the MAP lease through which the remote peer may send.
@@ -108,7 +108,8 @@ impl Leases {
     ) -> Option<Endpoint>
         requires { AreTabled self.now }
         ensures { result ≡ option_map (λ l. l.endpoint)
-            (find (λ l. is_port protocol port (peer_owner l)) (filter (is_with remote.now remote_port)
+            (find (λ l. is_port protocol port (peer_owner l))
+            (filter (is_with remote.now remote_port)
             (filter (λ l. nat_lt m l.expiry) self.now.peers))) }
     {
         self.peer_through(m, protocol, port, remote, remote_port)

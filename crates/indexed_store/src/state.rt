@@ -95,7 +95,9 @@ impl IndexedState {
         requires { self.old.ports.reached ≤ m }
         ensures state { self.new.state ≡ self.old.state }
         ensures leases { self.new.leases ≡ self.old.leases }
-        ensures ports { self.new.ports ≡ at_moment m self.old.ports }
+        ensures ports { self.new.ports
+            ≡ record (at_moment m self.old.ports) { settled = self.new.ports.settled } }
+        ensures from { self.old.ports.settled ≤ self.new.ports.settled }
         ensures steps { steps.new ≤ steps.old + reach_steps }
     {
         self.ports.reach(m, steps);

@@ -1,5 +1,5 @@
 //! The store: a state in tables, its ports, the terms, and the moment that is reached.
-ghost use Rattle.std.specs.Prelude.{◌≡◌, ◌<◌, ◌≤◌, ℕ, max, OnOk, OnErr, IfOk};
+ghost use Rattle.std.specs.Prelude.{◌≡◌, ◌<◌, ◌≤◌, ◌+◌, ℕ, max, OnOk, OnErr, IfOk};
 ghost use Rattle.pcp_base.specs.States.{empty_state};
 ghost use Rattle.pcp_base.specs.Reached.{IsReached, IsReachedFirst};
 ghost use Rattle.pcp_base.specs.Fits.{Fits, FitsFirst};
@@ -9,6 +9,7 @@ ghost use Rattle.lease_store.specs.LeaseTerms.{AreTerms};
 ghost use Rattle.leased_ports.specs.Leased.{IsOnTerms};
 ghost use Rattle.indexed_store.specs.Tabled.{IsNew};
 ghost use Rattle.indexed_store.specs.Indexed.{IsKept, IsReplaying, IsReplayingFirst};
+ghost use Rattle.indexed_store.specs.Looks.{apply_steps};
 
 use crate::applying::apply;
 use crate::first::{apply_first, suits_first};
@@ -27,12 +28,13 @@ use std::sync::ledger::{Blank, Ledger};
 use step_count::Steps;
 
 /// The state that records made, at a moment that is reached. What is looked up, picked and applied
-/// takes logarithmic time in the number of leases and of runs of their ports, for each of those that
-/// it touches: the ports of a MAP lease are one run, parted where PEER leases own some of them. What
-/// has ended is seen to a few leases and runs at a time, and what is left waits for later calls; but
-/// a pick sees to all runs that are due. `admit_first` takes out all leases that have ended.
-/// `admit` and `admit_first` look at each port of a new lease besides. Calls that copy lists, or count
-/// at another moment than the one reached, take more.
+/// takes logarithmic time in the number of leases, for each lease and each run of ports that it
+/// touches, and for each lease that has ended and is in the way of one that is put: the ports of a MAP
+/// lease are one run, parted where PEER leases own some of them. What has ended is seen to a few leases
+/// and runs at a time, and what is left waits for later calls. But a pick of a set, with a parity, or
+/// for an address that by the counts is at its quota sees to all runs that are due. `admit_first` takes
+/// out all leases that have ended. `admit` and `admit_first` look at each port of a new lease besides.
+/// Room inside takes a look for each port. Calls that copy lists or count leases take more.
 #[derive(Drop)]
 pub struct IndexedStore {
     state: IndexedState,
@@ -41,12 +43,11 @@ pub struct IndexedStore {
 }
 
 impl Model for IndexedStore {
-    ghost use Rattle.lease_store.specs.Stores.{Stored};
-    ghost use Rattle.indexed_store.specs.Indexed.{IsIndexed};
+    ghost use Rattle.indexed_store.specs.Indexed.{Indexed, IsIndexed};
 
-    ghost Value = { Stored };
+    ghost Value = { Indexed };
 
-    ghost view = { λ s. record { state = s.state.state; reached = s.reached; terms = s.terms } };
+    ghost view = { λ s. record { kept = s.state; reached = s.reached; terms = s.terms } };
 
     ghost invariant = { λ s. IsIndexed s.state s.reached s.terms };
 }
@@ -67,6 +68,32 @@ fn take<L: Ledger>(
     state: &mut IndexedState,
     alloc: Global,
     kept: &Record,
+    steps: &mut Steps<L>,
+) -> Result<(), Memory>
+    requires sound { IsReached state.old.state }
+    requires kept { IsKept state.old }
+    requires fits { Fits state.old.state kept.now }
+    requires later { state.old.ports.reached ≤ kept.now.moment }
+    ensures terms { (terms : Terms) → IsOnTerms state.old.ports terms
+        → IsOnTerms state.new.ports terms }
+    ensures applied { OnOk result (state.new.state ≡ by_apply.apply state.old.state kept.now) }
+    ensures kept { IsKept state.new }
+    ensures reached { OnOk result (state.new.ports.reached ≡ kept.now.moment) }
+    ensures new { OnErr result (IsNew state.new) }
+    ensures steps { steps.new ≤ steps.old + apply_steps state.old kept.now }
+{
+    let Err(refused) = apply(state, alloc, kept, steps) else {
+        return Ok(());
+    };
+    vacate(state);
+    Err(refused)
+}
+
+/// The same, where nobody counts.
+fn take_uncounted<L: Ledger>(
+    state: &mut IndexedState,
+    alloc: Global,
+    kept: &Record,
     blank: Blank,
 ) -> Result<(), Memory>
     requires name { blank.name ≡ L.name }
@@ -83,15 +110,10 @@ fn take<L: Ledger>(
     ensures reached { OnOk result (state.new.ports.reached ≡ kept.now.moment) }
     ensures new { OnErr result (IsNew state.new) }
 {
-    let mut steps = Steps::<L>::begin(blank);
-    let Err(refused) = apply(state, alloc, kept, &mut steps) else {
-        return Ok(());
-    };
-    vacate(state);
-    Err(refused)
+    take(state, alloc, kept, &mut Steps::<L>::begin(blank))
 }
 
-/// The same in the first format.
+/// The same in the first format, where nobody counts.
 fn take_first<L: Ledger>(
     state: &mut IndexedState,
     alloc: Global,
@@ -132,8 +154,9 @@ impl IndexedStore {
     /// The store of no record, on these terms. The one error is want of memory.
     pub fn new(alloc: Global, terms: Terms) -> Result<IndexedStore, Memory>
         requires { AreTerms terms }
-        ensures value { IfOk result
-            (λ s. s ≡ record { state = empty_state; reached = 0; terms = terms }) }
+        ensures state { IfOk result (λ s. s.kept.state ≡ empty_state) }
+        ensures reached { IfOk result (λ s. s.reached ≡ 0) }
+        ensures terms { IfOk result (λ s. s.terms ≡ terms) }
         ensures ready { IfOk result IsReplaying }
         ensures ready_first { IfOk result IsReplayingFirst }
     {
@@ -150,9 +173,9 @@ impl IndexedStore {
 
 impl LeaseStore for IndexedStore {
     ghost use Rattle.indexed_store.specs.Indexed.{IsReplaying, IsReplayingFirst};
-    ghost use Rattle.indexed_store.specs.Looks.{look_steps, pick_steps, reach_steps};
+    ghost use Rattle.indexed_store.specs.Looks.{apply_steps, look_steps, pick_steps, plain-fewer, reach_steps};
 
-    ghost state = { λ s. s.state };
+    ghost state = { λ s. s.kept.state };
 
     ghost reached = { λ s. s.reached };
 
@@ -160,9 +183,13 @@ impl LeaseStore for IndexedStore {
 
     ghost look_steps = { look_steps };
 
-    ghost pick_steps = { pick_steps };
+    ghost pick_steps = { λ s m who plain. pick_steps s.kept.ports m who plain };
+
+    ghost picks_grow = { λ s m who. plain-fewer s.kept.ports m who };
 
     ghost reach_steps = { reach_steps };
+
+    ghost apply_steps = { λ s kept. apply_steps s.kept kept };
 
     ghost replaying = { IsReplaying };
 
@@ -185,7 +212,8 @@ impl LeaseStore for IndexedStore {
         if !suits(&self.state, alloc, kept)? {
             return Ok(false);
         }
-        let Err(refused) = take::<Brand>(&mut self.state, alloc, kept, Blank::new(1)) else {
+        let Err(refused) = take_uncounted::<Brand>(&mut self.state, alloc, kept, Blank::new(1))
+        else {
             self.reached = kept.moment;
             return Ok(true);
         };
@@ -208,9 +236,14 @@ impl LeaseStore for IndexedStore {
         Err(refused)
     }
 
-    fn apply(&mut self, alloc: Global, kept: &Record) -> Result<(), Memory> {
+    fn apply<L: Ledger>(
+        &mut self,
+        alloc: Global,
+        kept: &Record,
+        steps: &mut Steps<L>,
+    ) -> Result<(), Memory> {
         states_are_sound();
-        let Err(refused) = take::<Brand>(&mut self.state, alloc, kept, Blank::new(1)) else {
+        let Err(refused) = take(&mut self.state, alloc, kept, steps) else {
             self.reached = kept.moment;
             return Ok(());
         };

@@ -4,6 +4,7 @@ ghost use Rattle.pcp_base.specs.declared.leases.TheConstants.{MOST_LEASES};
 ghost use Rattle.indexed_store.specs.Tabled.{AreTabled};
 ghost use Rattle.lease_store.specs.Lookups.{covering, peering, named_port, peer_count, lease_count};
 ghost use Rattle.mapping_table.specs.MapLists.{map_owning};
+ghost use Rattle.peer_table.specs.PeerLists.{peer_opening};
 
 use crate::leases::Leases;
 use pcp_base::{Address, Endpoint, MapLease, Moment, PeerLease, Protocol};
@@ -167,5 +168,37 @@ impl Leases {
         ensures { result ≡ map_owning protocol port self.now.maps }
     {
         self.map_owning_from::<Brand>(protocol, port, Blank::new(1))
+    }
+
+    fn peer_opening_from<L: Ledger>(
+        &self,
+        protocol: Protocol,
+        port: u16,
+        remote: &Address,
+        remote_port: u16,
+        blank: Blank,
+    ) -> Option<PeerLease>
+        requires name { blank.name ≡ L.name }
+        requires parts { blank.parts ≡ L.parts }
+        requires some { 0 < L.parts }
+        ensures { result ≡ peer_opening protocol port remote.now remote_port self.now.peers }
+    {
+        let mut steps = Steps::<L>::begin(blank);
+        self.peers
+            .by_external(protocol, port, remote, remote_port, &mut steps)
+            .copied()
+    }
+
+    /// The PEER lease that owns the port and has exactly this remote, live or not.
+    pub(crate) fn peer_opening(
+        &self,
+        protocol: Protocol,
+        port: u16,
+        remote: &Address,
+        remote_port: u16,
+    ) -> Option<PeerLease>
+        ensures { result ≡ peer_opening protocol port remote.now remote_port self.now.peers }
+    {
+        self.peer_opening_from::<Brand>(protocol, port, remote, remote_port, Blank::new(1))
     }
 }

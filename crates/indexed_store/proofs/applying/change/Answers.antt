@@ -1,11 +1,13 @@
-use Rattle.std.proofs.Common.{◌≤◌, sym, ap, ◌∙◌, subst}
+use Rattle.std.proofs.Common.{◌≤◌, ◌+◌, sym, ap, ◌∙◌, subst, arith}
 use Rattle.pcp_base.specs.Reached.{IsReached}
 use Rattle.pcp_base.specs.Fits.{Fits}
 use Rattle.pcp_base.specs.Apply.{apply}
 use Rattle.leased_ports.specs.Leased.{Leased, IsOnTerms}
-use Rattle.indexed_store.specs.Tabled.{TabledState}
+use Rattle.indexed_store.specs.Tabled.{TabledState, state_in}
 use Rattle.indexed_store.specs.Indexed.{IsKept}
+use Rattle.indexed_store.specs.Looks.{apply_steps}
 use Rattle.indexed_store.proofs.AppliedStates.{allowed-then, change-kept, near-then, noted-applied, sound-then, table-then, touched-then}
+use Rattle.indexed_store.proofs.HoldSteps.{moved-within}
 use Rattle.indexed_store.proofs.applying.change.Goals as goal
 
 pub change-requires-clause-tabled : goal.change-requires-clause-tabled
@@ -65,3 +67,25 @@ returns-clause-kept g c =
 
 pub returns-clause-reached : goal.returns-clause-reached
 returns-clause-reached g c = ap (λ (v : Leased). v.reached) c.note.ensures.ports ∙ c.in_ok-move_ports.ensures.reached
+
+pub returns-in_err-touched-clause-steps : goal.returns-in_err-touched-clause-steps
+returns-in_err-touched-clause-steps g c =
+    let i = c.state.inside in let r = c.args.kept.now in let changed = c.change.ensures.steps in
+    let within : c.change.new.steps ≤ c.args.steps.now + apply_steps (record { state = state_in i.leases i.ports i.base i.address i.last i.started; leases = i.leases; ports = i.ports }) r = omega (arith, changed) in
+    subst (λ (x : TabledState). c.change.new.steps ≤ c.args.steps.now + apply_steps x r) c.state.view_is within
+
+pub returns-in_err-move_ports-clause-steps : goal.returns-in_err-move_ports-clause-steps
+returns-in_err-move_ports-clause-steps g c =
+    let i = c.state.inside in let r = c.args.kept.now in let is = c.in_ok-touched.ensures.touched in
+    let moved = moved-within i.leases c.change.new.self i.ports r c.in_ok-touched.touched is c.in_ok-touched.ensures.peers_from c.args.steps.now c.change.new.steps c.move_ports.new.steps
+    c.change.ensures.steps (c.move_ports.ensures.steps _ is) in
+    let within : c.move_ports.new.steps ≤ c.args.steps.now + apply_steps (record { state = state_in i.leases i.ports i.base i.address i.last i.started; leases = i.leases; ports = i.ports }) r = omega (arith, moved) in
+    subst (λ (x : TabledState). c.move_ports.new.steps ≤ c.args.steps.now + apply_steps x r) c.state.view_is within
+
+pub returns-clause-steps : goal.returns-clause-steps
+returns-clause-steps g c =
+    let i = c.state.inside in let r = c.args.kept.now in let is = c.in_ok-touched.ensures.touched in let dropped = c.drop_some.ensures.steps in
+    let moved = moved-within i.leases c.change.new.self i.ports r c.in_ok-touched.touched is c.in_ok-touched.ensures.peers_from c.args.steps.now c.change.new.steps c.move_ports.new.steps
+    c.change.ensures.steps (c.move_ports.ensures.steps _ is) in
+    let within : c.drop_some.new.steps ≤ c.args.steps.now + apply_steps (record { state = state_in i.leases i.ports i.base i.address i.last i.started; leases = i.leases; ports = i.ports }) r = omega (arith, moved, dropped) in
+    subst (λ (x : TabledState). c.drop_some.new.steps ≤ c.args.steps.now + apply_steps x r) c.state.view_is within

@@ -4,7 +4,7 @@ use Rattle.pcp_base.specs.Apply.{apply_first}
 use Rattle.leased_ports.specs.Leased.{Leased, IsOnTerms}
 use Rattle.indexed_store.specs.Tabled.{TabledState}
 use Rattle.indexed_store.specs.Holding.{AreEndsOf}
-use Rattle.indexed_store.proofs.MoveLemmas.{on_later}
+use Rattle.indexed_store.proofs.KeptStates.{on-settled}
 use Rattle.indexed_store.proofs.FirstStates.{kept-first, left-ready, next-inside, next-ports, noted-first, old-near}
 use Rattle.indexed_store.proofs.first.change.Goals as goal
 
@@ -33,7 +33,7 @@ make_change-requires-clause-ports g c =
     let next = next-inside _ r c.state.view_is c.requires.kept c.requires.sound c.requires.fits in
     let later = subst (λ (x : TabledState). x.ports.reached ≤ r.moment) (sym c.state.view_is) c.requires.later in
     subst (λ (t : Table). AreEndsOf r.moment t c.drop_dead.new.ports) (sym c.in_ok-drop_dead.ensures.table)
-    (c.in_ok-drop_dead.ensures.ports _ next.first next.kept.live next.fits.later (next-ports c.ports_follow_states.ensures.later _ r next later c.reach.new.self c.reach.ensures.moved))
+    (c.in_ok-drop_dead.ensures.ports _ next.first next.kept.live next.fits.later (next-ports c.ports_follow_states.ensures.later _ r next later c.reach.new.self c.reach.new.self.settled c.reach.ensures.moved))
 
 pub returns-clause-applied : goal.returns-clause-applied
 returns-clause-applied g c =
@@ -56,14 +56,14 @@ returns-clause-reached g c = ap (λ (v : Leased). v.reached) c.note.ensures.port
 pub returns-in_err-drop_dead-clause-terms : goal.returns-in_err-drop_dead-clause-terms
 returns-in_err-drop_dead-clause-terms g c = λ terms h.
     c.drop_dead.ensures.terms terms (subst (λ (v : Leased). IsOnTerms v terms) (sym c.reach.ensures.moved)
-    (on_later _ c.args.kept.now.moment terms (subst (λ (x : TabledState). IsOnTerms x.ports terms) (sym c.state.view_is) h)))
+    (on-settled _ c.args.kept.now.moment c.reach.new.self.settled terms (subst (λ (x : TabledState). IsOnTerms x.ports terms) (sym c.state.view_is) h)))
 
 pub returns-in_err-make_change-clause-terms : goal.returns-in_err-make_change-clause-terms
 returns-in_err-make_change-clause-terms g c = λ terms h.
     c.make_change.ensures.terms terms (c.drop_dead.ensures.terms terms (subst (λ (v : Leased). IsOnTerms v terms) (sym c.reach.ensures.moved)
-    (on_later _ c.args.kept.now.moment terms (subst (λ (x : TabledState). IsOnTerms x.ports terms) (sym c.state.view_is) h))))
+    (on-settled _ c.args.kept.now.moment c.reach.new.self.settled terms (subst (λ (x : TabledState). IsOnTerms x.ports terms) (sym c.state.view_is) h))))
 
 pub returns-clause-terms : goal.returns-clause-terms
 returns-clause-terms g c = λ terms h.
     subst (λ (v : Leased). IsOnTerms v terms) (sym c.note.ensures.ports) (c.make_change.ensures.terms terms (c.drop_dead.ensures.terms terms (subst (λ (v : Leased). IsOnTerms v terms) (sym c.reach.ensures.moved)
-    (on_later _ c.args.kept.now.moment terms (subst (λ (x : TabledState). IsOnTerms x.ports terms) (sym c.state.view_is) h)))))
+    (on-settled _ c.args.kept.now.moment c.reach.new.self.settled terms (subst (λ (x : TabledState). IsOnTerms x.ports terms) (sym c.state.view_is) h)))))

@@ -1,9 +1,14 @@
-use Rattle.std.proofs.Common.{length}
+use Rattle.std.proofs.Common.{◌≡◌, ◌+◌, ◌*◌, ◌≤◌, count_by, length}
+use Rattle.mapping_table.specs.MapLists.{overlaps}
+use Rattle.indexed_store.specs.Looks.{most_levels}
 use Rattle.indexed_store.proofs.DeadGo.{IsRest}
 use Rattle.indexed_store.proofs.leases.Leases.drop_overlapped_maps.Given as goal
 
 abbrev pub invariant-loop-key : goal.invariant-loop-key
 invariant-loop-key g l = IsRest l.fn.m l.fn.self (record { maps = l.self-inside.maps; peers = l.self-inside.peers })
+    × (l.self-inside.peers ≡ l.fn.self.peers)
+    × (l.steps + 14 * (count_by (overlaps l.fn.lease) l.self-inside.maps * most_levels)
+    ≤ l.fn.steps + 14 * (count_by (overlaps l.fn.lease) l.fn.self.maps * most_levels))
 
 abbrev pub decreases-loop-key : goal.decreases-loop-key
 decreases-loop-key g l = length l.self-inside.maps

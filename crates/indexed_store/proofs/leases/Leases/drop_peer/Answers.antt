@@ -9,19 +9,19 @@ use Rattle.indexed_store.proofs.LeavingLemmas.{all_live, leaving_same, pushed, l
 use Rattle.indexed_store.proofs.leases.Leases.drop_peer.Goals as goal
 
 pub returns-in_default-clause-all : goal.returns-in_default-clause-all
-returns-in_default-clause-all c = λ _.
+returns-in_default-clause-all g c = λ _.
     all_live (λ (l : PeerLease). nat_lt c.args.m l.expiry) c.args.self.now.peers
     c.in_default.ensures.none
 
 pub run_of_peer-requires : goal.run_of_peer-requires
-run_of_peer-requires c =
+run_of_peer-requires g c =
     let ls = c.args.self.now.peers in
     let is = All-IsIn IsPeerLease ls c.in-Some.lease c.requires.peers.leases
     (IsIn-from_Contains ls c.in-Some.lease c.in-Some.ensures.among) in
     let some = is.external in omega (arith, some)
 
 pub returns-clause-leaving : goal.returns-clause-leaving
-returns-clause-leaving c = λ start h.
+returns-clause-leaving g c = λ start h.
     let m = c.args.m in let t = c.args.self.now in let l = c.in-Some.lease in
     let left = c.args.left.now.items in
     let gone = seen_without_peer l.endpoint l.remote l.remote_port t _ _ c.self.view_is c.remove.ensures.removed.removed in
@@ -32,13 +32,13 @@ returns-clause-leaving c = λ start h.
     (leave_peer m t c.requires l c.in-Some.ensures.among c.in-Some.ensures.dead start left formed h)
 
 pub returns-clause-sound : goal.returns-clause-sound
-returns-clause-sound c =
+returns-clause-sound g c =
     let t = c.args.self.now in let l = c.in-Some.lease in
     let gone = seen_without_peer l.endpoint l.remote l.remote_port t _ _ c.self.view_is c.remove.ensures.removed.removed in
     subst AreTabled (sym gone) (peer_gone_tabled c.args.m l.endpoint l.remote l.remote_port t c.requires c.fewer_peers_are_sound.ensures)
 
 pub returns-clause-fewer : goal.returns-clause-fewer
-returns-clause-fewer c = λ _.
+returns-clause-fewer g c = λ _.
     let m = c.args.m in let t = c.args.self.now in let l = c.in-Some.lease in
     let gone = seen_without_peer l.endpoint l.remote l.remote_port t _ _ c.self.view_is c.remove.ensures.removed.removed in
     subst (λ (x : Table). length x.peers < length t.peers) (sym gone)

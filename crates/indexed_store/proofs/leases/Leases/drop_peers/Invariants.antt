@@ -5,7 +5,7 @@ use Rattle.indexed_store.specs.Tabled.{AreTabled}
 use Rattle.indexed_store.proofs.leases.Leases.drop_peers.Given as goal
 
 abbrev pub invariant-loop : goal.invariant-loop
-invariant-loop l = AreTabled l.self × ((start : Table) → AreLeaving l.m start l.initial.self l.initial.left.items → AreLeaving l.m start l.self l.left.items) × (l.self.maps ≡ l.initial.self.maps)
+invariant-loop g l = AreTabled l.self × ((start : Table) → AreLeaving l.m start l.initial.self l.initial.left.items → AreLeaving l.m start l.self l.left.items) × (l.self.maps ≡ l.initial.self.maps)
 
 abbrev pub decreases-loop : goal.decreases-loop
-decreases-loop l = length l.self.peers
+decreases-loop g l = length l.self.peers

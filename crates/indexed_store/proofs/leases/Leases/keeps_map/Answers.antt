@@ -25,25 +25,25 @@ returns-clause-tabled g c =
     let key = c.args.key.now in
     let before : Table = record { maps = c.self.inside.maps; peers = c.self.inside.peers } in
     let none : find (is_map_of key) (live c.args.self.now c.args.m).maps ≡ None = sym c.map_of_counted.ensures.lease ∙ found-none c.map_of_counted.result (sym c.is_some.ensures ∙ c.if-is_some.false) in
-    (key-goes c.args.m before c.args.self.now c.self.view_is c.requires c.fewer_maps_are_sound.ensures key none c.remove.new.self c.remove.ensures.removed).tabled
+    (key-goes c.args.m before c.args.self.now c.self.view_is c.requires c.fewer_maps_are_sound.ensures key none c.remove.new.self c.remove.ensures.removed.removed).tabled
 
 pub returns-clause-live : goal.returns-clause-live
 returns-clause-live g c =
     let key = c.args.key.now in
     let before : Table = record { maps = c.self.inside.maps; peers = c.self.inside.peers } in
     let none : find (is_map_of key) (live c.args.self.now c.args.m).maps ≡ None = sym c.map_of_counted.ensures.lease ∙ found-none c.map_of_counted.result (sym c.is_some.ensures ∙ c.if-is_some.false) in
-    (key-goes c.args.m before c.args.self.now c.self.view_is c.requires c.fewer_maps_are_sound.ensures key none c.remove.new.self c.remove.ensures.removed).same
+    (key-goes c.args.m before c.args.self.now c.self.view_is c.requires c.fewer_maps_are_sound.ensures key none c.remove.new.self c.remove.ensures.removed.removed).same
 
 pub returns-clause-own : goal.returns-clause-own
 returns-clause-own g c =
-    subst (λ (o : Option MapLease). IfSome o (λ l. nat_lt c.args.m l.expiry ≡ true)) (sym (none-left (is_map_of c.args.key.now) c.self.inside.maps c.remove.new.self c.remove.ensures.removed)) tt
+    subst (λ (o : Option MapLease). IfSome o (λ l. nat_lt c.args.m l.expiry ≡ true)) (sym (none-left (is_map_of c.args.key.now) c.self.inside.maps c.remove.new.self c.remove.ensures.removed.removed)) tt
 
 pub returns-clause-there : goal.returns-clause-there
-returns-clause-there g c = ap is_some (sym (none-left (is_map_of c.args.key.now) c.self.inside.maps c.remove.new.self c.remove.ensures.removed))
+returns-clause-there g c = ap is_some (sym (none-left (is_map_of c.args.key.now) c.self.inside.maps c.remove.new.self c.remove.ensures.removed.removed))
 
 pub returns-clause-maps_from : goal.returns-clause-maps_from
 returns-clause-maps_from g c =
     let key = c.args.key.now in
     let before : Table = record { maps = c.self.inside.maps; peers = c.self.inside.peers } in
     let none : find (is_map_of key) (live c.args.self.now c.args.m).maps ≡ None = sym c.map_of_counted.ensures.lease ∙ found-none c.map_of_counted.result (sym c.is_some.ensures ∙ c.if-is_some.false) in
-    (key-goes c.args.m before c.args.self.now c.self.view_is c.requires c.fewer_maps_are_sound.ensures key none c.remove.new.self c.remove.ensures.removed).maps_from
+    (key-goes c.args.m before c.args.self.now c.self.view_is c.requires c.fewer_maps_are_sound.ensures key none c.remove.new.self c.remove.ensures.removed.removed).maps_from

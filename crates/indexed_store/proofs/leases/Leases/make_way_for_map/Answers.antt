@@ -1,5 +1,6 @@
-use Rattle.std.proofs.Common.{◌≡◌, find, is_some, nat_lt, true, IfSome, sym, ap, ◌∙◌, subst}
+use Rattle.std.proofs.Common.{◌≡◌, List, Contains, find, is_some, nat_lt, true, IfSome, sym, ap, ◌∙◌, subst}
 use Rattle.pcp_base.specs.declared.leases.Endpoint.{Endpoint}
+use Rattle.pcp_base.specs.declared.leases.PeerLease.{PeerLease}
 use Rattle.pcp_base.specs.declared.records.Change.TheVariants.{Map}
 use Rattle.pcp_base.specs.Apply.{table_changed}
 use Rattle.pcp_base.specs.Sound.{Sound}
@@ -21,3 +22,7 @@ returns-clause-way g c =
     let there = c.keeps_map-there.ensures.there ∙ ap (λ (e : Endpoint). is_some (find (is_map_of e) t.maps)) c.first_endpoint.ensures in
     map-way m l s t u c.keeps_map-there.result c.drop_overlapped_maps.ensures.apart c.keeps_map-there.ensures.tabled c.keeps_map-there.ensures.maps_from own there
     c.make_room_unless.ensures.tabled c.make_room_unless.ensures.maps_from c.make_room_unless.ensures.room c.make_room_unless.ensures.same
+
+pub returns-clause-peers_from : goal.returns-clause-peers_from
+returns-clause-peers_from g c = λ l i.
+    subst (λ (ps : List PeerLease). Contains ps l) (c.keeps_map-there.ensures.peers ∙ c.drop_overlapped_maps.ensures.peers) (c.make_room_unless.ensures.peers_from l i)

@@ -17,19 +17,19 @@ put-requires g c =
 pub returns-clause-tabled : goal.returns-clause-tabled
 returns-clause-tabled g c =
     let l = c.args.lease.now in let t = c.make_way_for_map.new.self in
-    subst AreTabled (sym (seen_with_map l t _ _ c.self.view_is c.in_ok-put.ensures.ok))
+    subst AreTabled (sym (seen_with_map l t _ _ c.self.view_is c.in_ok-put.ensures.put.ok))
     (map_tabled c.args.m l t c.make_way_for_map.ensures.way c.maps_are_sound_with_one_more.ensures c.requires.lease)
 
 pub returns-clause-table : goal.returns-clause-table
 returns-clause-table g c =
     let m = c.args.m in let l = c.args.lease.now in let t = c.make_way_for_map.new.self in
-    ap (λ (x : Table). live x m) (seen_with_map l t _ _ c.self.view_is c.in_ok-put.ensures.ok)
+    ap (λ (x : Table). live x m) (seen_with_map l t _ _ c.self.view_is c.in_ok-put.ensures.put.ok)
     ∙ map_live m l t c.make_way_for_map.ensures.way c.requires.later
     ∙ ap (table_changed (Map l)) c.make_way_for_map.ensures.live
 
 pub returns-clause-formed : goal.returns-clause-formed
 returns-clause-formed g c =
     let l = c.args.lease.now in let t = c.make_way_for_map.new.self in let r = c.run_of_map in
-    subst (λ (x : Table). IsEvenRun x.maps r.result) (sym (seen_with_map l t _ _ c.self.view_is c.in_ok-put.ensures.ok))
+    subst (λ (x : Table). IsEvenRun x.maps r.result) (sym (seen_with_map l t _ _ c.self.view_is c.in_ok-put.ensures.put.ok))
     (map_even c.args.m l t c.make_way_for_map.ensures.way c.maps_are_sound_with_one_more.ensures c.requires.lease
     r.result r.ensures.value r.ensures.formed)

@@ -10,13 +10,13 @@ invariant_of-self c =
     record {
       allowed = inv.allowed;
       sound = subst IsReached (sym c.in_default.ensures.applied) (c.states_are_sound.ensures.kept s r inv.sound fits);
-      kept = c.take.ensures.kept;
+      kept = c.take_uncounted.ensures.kept;
       now = c.in_default.ensures.reached;
-      on = c.take.ensures.terms c.self.inside.terms inv.on;
+      on = c.take_uncounted.ensures.terms c.self.inside.terms inv.on;
     }
 
 pub invariant_of-self-2 : goal.invariant_of-self-2
 invariant_of-self-2 c =
     let inv = c.self.invariant in
-    new-indexed c.states_are_sound.ensures.made c.take.new.state c.zero-self-inside.result c.self.inside.terms inv.allowed c.in-Err.ensures.new c.take.ensures.kept c.zero-self-inside.ensures
-    (c.take.ensures.terms c.self.inside.terms inv.on)
+    new-indexed c.states_are_sound.ensures.made c.take_uncounted.new.state c.zero-self-inside.result c.self.inside.terms inv.allowed c.in-Err.ensures.new c.take_uncounted.ensures.kept c.zero-self-inside.ensures
+    (c.take_uncounted.ensures.terms c.self.inside.terms inv.on)

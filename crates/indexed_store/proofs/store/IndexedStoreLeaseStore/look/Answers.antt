@@ -5,7 +5,7 @@ use Rattle.pcp_base.specs.declared.leases.Owner.{Owner}
 use Rattle.pcp_base.specs.Tables.{Table, live}
 use Rattle.pcp_base.specs.Owners.{is_port}
 use Rattle.filter_rules.specs.Lookups.{owners_for}
-use Rattle.lease_store.specs.Stores.{Stored}
+use Rattle.indexed_store.specs.Indexed.{Indexed}
 use Rattle.indexed_store.specs.declared.store.IndexedStore.TheInside.{Inside}
 use Rattle.indexed_store.proofs.Uniques.{live-live}
 use Rattle.indexed_store.proofs.store.IndexedStoreLeaseStore.look.Goals as goal
@@ -16,4 +16,4 @@ returns c =
     c.look.ensures
     ∙ ap (λ (t : Table). option_map (λ (o : Owner). o.endpoint) (find (is_port c.args.protocol c.args.port) (owners_for t c.args.remote.now c.args.remote_port)))
     (ap (live i.leases) c.later-m.ensures ∙ sym (live-live i.leases i.last (max m i.last) (le-max_right m i.last))
-    ∙ ap (λ (x : Inside). live x.state.state.table (max m x.state.state.last)) c.self-inside.view_is ∙ ap (λ (x : Stored). live x.state.table (max m x.state.last)) c.self.view_is)
+    ∙ ap (λ (x : Inside). live x.state.state.table (max m x.state.state.last)) c.self-inside.view_is ∙ ap (λ (x : Indexed). live x.kept.state.table (max m x.kept.state.last)) c.self.view_is)

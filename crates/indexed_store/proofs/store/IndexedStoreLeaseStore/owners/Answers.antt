@@ -2,7 +2,7 @@ use Rattle.std.proofs.Common.{◌≡◌, IfOk, sym, ap, ◌∙◌, subst}
 use Rattle.pcp_base.specs.Owners.{owners}
 use Rattle.pcp_base.specs.Tables.{Table, live}
 use Rattle.lease_store.specs.OwnerOrder.{in_order}
-use Rattle.lease_store.specs.Stores.{Stored}
+use Rattle.indexed_store.specs.Indexed.{Indexed}
 use Rattle.indexed_store.specs.declared.store.IndexedStore.TheInside.{Inside}
 use Rattle.indexed_store.proofs.LaterLive.{live-max}
 use Rattle.indexed_store.proofs.store.IndexedStoreLeaseStore.owners.Goals as goal
@@ -12,4 +12,4 @@ returns c =
     let i = c.self-inside.inside.0.0 in
     subst (λ (t : Table). IfOk c.owners_in_order.result (λ v. v.items ≡ in_order (owners t)))
     (ap (live i.leases) c.later-m.ensures ∙ sym (live-max i.leases i.last c.args.m)
-    ∙ ap (λ (x : Inside). live x.state.state.table c.args.m) c.self-inside.view_is ∙ ap (λ (x : Stored). live x.state.table c.args.m) c.self.view_is) c.owners_in_order.ensures
+    ∙ ap (λ (x : Inside). live x.state.state.table c.args.m) c.self-inside.view_is ∙ ap (λ (x : Indexed). live x.kept.state.table c.args.m) c.self.view_is) c.owners_in_order.ensures
