@@ -1,5 +1,5 @@
 -- What the definitions give for a few requests.
-use Rattle.std.specs.Prelude.{◌≡◌, refl, ℕ, true, false, List, [], ◌∷◌, Some, None, replicate}
+use Rattle.std.specs.Prelude.{◌≡◌, refl, ℕ, Bool, true, false, List, [], ◌∷◌, Some, None, replicate}
 use Rattle.pcp_base.specs.declared.addresses.Address.{Address}
 use Rattle.pcp_base.specs.declared.addresses.Nonce.{Nonce}
 use Rattle.pcp_base.specs.declared.codes.Code.TheVariants.{NotAuthorized, NoResources, UserExQuota, CannotProvideExternal, ExcessiveRemotePeers}
@@ -342,11 +342,22 @@ named_picks_none = refl
 covered_picks_none : is_picked (with (lease 5 1 1024 4610 ∷ []) []) 1010 (Asks.Peer (peer_ask 3600)) ≡ false
 covered_picks_none = refl
 
+-- what a pick takes here: one of one port of any parity less than others
+abbrev pick_by : Address → Bool → ℕ
+pick_by who true = 100
+pick_by who false = 1000
+
 -- one port is looked up nowhere inside, a set at each of its ports, up to 4,096
-one_port_picked : picking 10 100 (Asks.Map (ask 5 3600 0)) ≡ 101
+one_port_picked : picking 10 pick_by (Asks.Map (ask 5 3600 0)) ≡ 101
 one_port_picked = refl
 
-set_picked : picking 10 100 (Asks.Map (record (ask 5 3600 0) { set = Some (set 8 65530) })) ≡ 188
+peer_picked : picking 10 pick_by (Asks.Peer (peer_ask 3600)) ≡ 101
+peer_picked = refl
+
+parity_picked : picking 10 pick_by (Asks.Map (record (ask 5 3600 0) { set = Some (record (set 1 65530) { parity = true }) })) ≡ 1001
+parity_picked = refl
+
+set_picked : picking 10 pick_by (Asks.Map (record (ask 5 3600 0) { set = Some (set 8 65530) })) ≡ 1088
 set_picked = refl
 
 most_inside : inside_asked (Asks.Map (record (ask 5 3600 0) { set = Some (set 65535 65530) })) ≡ 4096

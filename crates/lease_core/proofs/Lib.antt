@@ -3,6 +3,7 @@ pub mod MapCases
 pub mod RoomLemmas
 pub mod MapSteps
 pub mod PeerSteps
+pub mod StepLemmas
 pub mod FilterLaws
 pub mod OpenPorts
 pub mod Inside

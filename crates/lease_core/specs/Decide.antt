@@ -1,5 +1,6 @@
 -- What is decided on an ask, in a state at a moment, and what it takes (our own).
-use Rattle.std.specs.Prelude.{ℕ, ◌+◌, ◌*◌, ◌==◌, ◌&&◌, nat_le, min, not, Bool, false, is_none, if◌then◌else◌}
+use Rattle.std.specs.Prelude.{ℕ, ◌+◌, ◌*◌, ◌==◌, ◌&&◌, nat_le, min, not, Bool, true, false, is_none, if◌then◌else◌}
+use Rattle.pcp_base.specs.declared.addresses.Address.{Address}
 use Rattle.pcp_base.specs.declared.leases.TheConstants.{MOST_PORTS}
 use Rattle.pcp_base.specs.declared.asks.Ask.{Ask}
 use Rattle.pcp_base.specs.declared.asks.Ask.TheVariants.{Known, Announce, Map, Peer}
@@ -8,7 +9,7 @@ use Rattle.pcp_base.specs.States.{State}
 use Rattle.lease_store.specs.declared.terms.Terms.{Terms}
 use Rattle.lease_core.specs.declared.decided.Decided.{Decided}
 use Rattle.lease_core.specs.Answers.{answered}
-use Rattle.lease_core.specs.DecideMap.{decide_map, size_asked}
+use Rattle.lease_core.specs.DecideMap.{decide_map, parity_asked, size_asked}
 use Rattle.lease_core.specs.DecidePeer.{decide_peer, given_port}
 
 abbrev pub decide : Terms → State → ℕ → Ask → Decided
@@ -46,6 +47,19 @@ is_picked s m (Map ask) =
 is_picked s m (Peer ask) =
     not (ask.lifetime == 0) && is_none (given_port s.table m ask.endpoint)
 
--- what a pick takes at most with the look-ups inside, by what a look-up and a pick alone take
-abbrev pub picking : ℕ → ℕ → Ask → ℕ
-picking look pick ask = inside_asked ask * look + pick + ports_asked ask
+-- whether one port of any parity is asked for
+abbrev pub asks_plain : Ask → Bool
+asks_plain (Known refusal) = true
+asks_plain Announce = true
+asks_plain (Map ask) = ports_asked (Map ask) == 1 && is_none (parity_asked ask)
+asks_plain (Peer ask) = true
+
+-- what a pick takes at most with the look-ups inside, by what a look-up takes, and a pick alone for
+-- an address, plain or not
+abbrev pub picking : ℕ → (Address → Bool → ℕ) → Ask → ℕ
+picking look pick (Known refusal) = 0
+picking look pick Announce = 0
+picking look pick (Map ask) = inside_asked (Map ask) * look
+    + pick ask.endpoint.address (asks_plain (Map ask)) + ports_asked (Map ask)
+picking look pick (Peer ask) =
+    pick ask.endpoint.address (asks_plain (Peer ask)) + ports_asked (Peer ask)

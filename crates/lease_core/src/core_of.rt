@@ -19,11 +19,11 @@ impl LeaseCore<IndexedStore> {
     pub fn new(alloc: Global, external: &External, config: &Config) -> Result<Core, Memory>
         requires external { IsExternal external.now }
         requires config { IsConfig config.now }
-        ensures state { IfOk result (λ core. core.state ≡ empty_state) }
+        ensures state { IfOk result (λ core. core.kept.state ≡ empty_state) }
         ensures reached { IfOk result (λ core. core.reached ≡ 0) }
         ensures terms { IfOk result (λ core. core.terms ≡ terms_of external.now config.now) }
-        ensures ready { IfOk result (λ core. IsReached core.state) }
-        ensures ready_first { IfOk result (λ core. IsReachedFirst core.state) }
+        ensures ready { IfOk result (λ core. IsReached core.kept.state) }
+        ensures ready_first { IfOk result (λ core. IsReachedFirst core.kept.state) }
     {
         let store = IndexedStore::new(alloc, Terms::of(external, config))?;
         Ok(LeaseCore::over(store))

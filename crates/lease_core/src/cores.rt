@@ -13,6 +13,7 @@ ghost use Rattle.lease_store.specs.Lookups.{covering, lease_count};
 ghost use Rattle.lease_store.specs.OwnerOrder.{owners_in_order};
 ghost use Rattle.lease_core.specs.Decide.{decide as decided};
 
+use crate::applying::apply_uncounted;
 use crate::decided::Decided;
 use crate::deciding::decide_uncounted;
 use lease_store::LeaseStore;
@@ -69,7 +70,7 @@ impl<S: LeaseStore> LeaseCore<S> {
         ensures reached { OnOk result (S.reached self.new ≡ kept.now.moment) }
         ensures terms { S.terms self.new ≡ S.terms self.old }
     {
-        self.store.apply(alloc, kept)
+        apply_uncounted::<S, Brand>(&mut self.store, alloc, kept, Blank::new(1))
     }
 
     /// The endpoint to which a remote peer may send through this external port. A moment below the

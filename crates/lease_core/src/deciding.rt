@@ -16,7 +16,8 @@ use step_count::Steps;
 /// What is decided on a request at a moment that isn't below the one reached, which it becomes. The
 /// state stays: a record that is told is for the caller to apply. No memory is taken. It is what
 /// `reach` takes, three look-ups for a MAP request and five for a PEER request, and, only where a new
-/// lease is asked for whose endpoint has no port, a pick with a look-up for each port of a set.
+/// lease is asked for whose endpoint has no port, a pick for its address with a look-up for each port
+/// of a set.
 #[inline(never)]
 pub fn decide<S: LeaseStore, L: Ledger>(
     store: &mut S,
@@ -34,7 +35,7 @@ pub fn decide<S: LeaseStore, L: Ledger>(
     ensures steps { let s = S.state store.old in steps.new ≤ steps.old + S.reach_steps
         + looks_asked ask.now * S.look_steps s
         + (if is_picked s m ask.now
-        then picking (S.look_steps s) (S.pick_steps s) ask.now else 0) }
+        then picking (S.look_steps s) (S.pick_steps store.old m) ask.now else 0) }
 {
     store.reach(m, steps);
     match ask {

@@ -2,6 +2,7 @@
 #![tactic(auto)]
 
 mod answers;
+mod applying;
 mod core_of;
 mod cores;
 mod decided;
@@ -10,6 +11,7 @@ mod laws;
 mod mapping;
 mod peering;
 
+pub use applying::apply;
 pub use core_of::Core;
 pub use cores::LeaseCore;
 pub use decided::Decided;

@@ -203,7 +203,7 @@ fn pick_ports<S: LeaseStore, L: Ledger>(
     ensures reached { S.reached store.new ≡ m }
     ensures terms { S.terms store.new ≡ S.terms store.old }
     ensures steps { let s = S.state store.old in steps.new
-        ≤ steps.old + picking (S.look_steps s) (S.pick_steps s) (Map ask.now) }
+        ≤ steps.old + picking (S.look_steps s) (S.pick_steps store.old m) (Map ask.now) }
 {
     let port_ask = pick_ask(store, m, ask, steps);
     match store.pick(&ask.endpoint, &port_ask, steps) {
@@ -251,7 +251,7 @@ fn choose<S: LeaseStore, L: Ledger>(
     ensures terms { S.terms store.new ≡ S.terms store.old }
     ensures steps { let s = S.state store.old in steps.new ≤ steps.old + S.look_steps s
         + (if is_none (named_port s.table m ask.now.endpoint)
-        then picking (S.look_steps s) (S.pick_steps s) (Map ask.now) else 0) }
+        then picking (S.look_steps s) (S.pick_steps store.old m) (Map ask.now) else 0) }
 {
     match store.named_port(&ask.endpoint, steps) {
         Some(port) => judge_named(&store.terms(), ask, port),
@@ -320,7 +320,7 @@ fn grant<S: LeaseStore, L: Ledger>(
     ensures terms { S.terms store.new ≡ S.terms store.old }
     ensures steps { let s = S.state store.old in steps.new ≤ steps.old + 2 * S.look_steps s
         + (if is_none (named_port s.table m ask.now.endpoint)
-        then picking (S.look_steps s) (S.pick_steps s) (Map ask.now) else 0) }
+        then picking (S.look_steps s) (S.pick_steps store.old m) (Map ask.now) else 0) }
 {
     match choose(store, m, ask, steps) {
         Ok(run) => grant_with_room(store, m, ask, run, steps),
@@ -345,7 +345,7 @@ fn decide_uncovered<S: LeaseStore, L: Ledger>(
     ensures terms { S.terms store.new ≡ S.terms store.old }
     ensures steps { let s = S.state store.old in steps.new ≤ steps.old + 2 * S.look_steps s
         + (if not (ask.now.lifetime == 0) && is_none (named_port s.table m ask.now.endpoint)
-        then picking (S.look_steps s) (S.pick_steps s) (Map ask.now) else 0) }
+        then picking (S.look_steps s) (S.pick_steps store.old m) (Map ask.now) else 0) }
 {
     if ask.lifetime == 0 {
         return answered(Answer::Gone);
@@ -369,7 +369,7 @@ pub(crate) fn decide_map<S: LeaseStore, L: Ledger>(
     ensures terms { S.terms store.new ≡ S.terms store.old }
     ensures steps { let s = S.state store.old in steps.new ≤ steps.old + 3 * S.look_steps s
         + (if is_picked s m (Map ask.now)
-        then picking (S.look_steps s) (S.pick_steps s) (Map ask.now) else 0) }
+        then picking (S.look_steps s) (S.pick_steps store.old m) (Map ask.now) else 0) }
 {
     match store.covering(&ask.endpoint, steps) {
         Some(lease) => decide_covered(&store.terms(), m, ask, &lease),

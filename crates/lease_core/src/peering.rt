@@ -1,5 +1,5 @@
 //! What is decided on PEER requests (RFC 6887, sections 12.3 and 15).
-ghost use Rattle.std.specs.Prelude.{◌≡◌, ◌+◌, ◌*◌, ◌≤◌, is_none, Ok, if◌then◌else◌};
+ghost use Rattle.std.specs.Prelude.{◌≡◌, ◌+◌, ◌*◌, ◌≤◌, true, is_none, Ok, if◌then◌else◌};
 ghost use Rattle.pcp_base.specs.declared.asks.Ask.TheVariants.{Peer};
 ghost use Rattle.pcp_base.specs.Reached.{IsReached};
 ghost use Rattle.lease_core.specs.Decide.{is_picked};
@@ -96,7 +96,8 @@ fn pick_port<S: LeaseStore, L: Ledger>(
     ensures state { S.state store.new ≡ S.state store.old }
     ensures reached { S.reached store.new ≡ m }
     ensures terms { S.terms store.new ≡ S.terms store.old }
-    ensures steps { steps.new ≤ steps.old + S.pick_steps (S.state store.old) + 1 }
+    ensures steps { steps.new ≤ steps.old
+        + S.pick_steps store.old m ask.now.endpoint.address true + 1 }
 {
     let port_ask = PickAsk {
         internal: ask.endpoint.port,
@@ -128,7 +129,7 @@ fn choose_port<S: LeaseStore, L: Ledger>(
     ensures terms { S.terms store.new ≡ S.terms store.old }
     ensures steps { let s = S.state store.old in steps.new ≤ steps.old + 2 * S.look_steps s
         + (if is_none (given_port s.table m ask.now.endpoint)
-        then S.pick_steps s + 1 else 0) }
+        then S.pick_steps store.old m ask.now.endpoint.address true + 1 else 0) }
 {
     match given_port(store, m, &ask.endpoint, steps) {
         Some(port) => Ok(port),
@@ -172,7 +173,7 @@ fn grant<S: LeaseStore, L: Ledger>(
     ensures terms { S.terms store.new ≡ S.terms store.old }
     ensures steps { let s = S.state store.old in steps.new ≤ steps.old + 3 * S.look_steps s
         + (if is_none (given_port s.table m ask.now.endpoint)
-        then S.pick_steps s + 1 else 0) }
+        then S.pick_steps store.old m ask.now.endpoint.address true + 1 else 0) }
 {
     match choose_port(store, m, ask, steps) {
         Ok(port) => grant_with_room(store, m, ask, port, steps),
@@ -195,7 +196,8 @@ fn decide_unknown<S: LeaseStore, L: Ledger>(
     ensures reached { S.reached store.new ≡ m }
     ensures terms { S.terms store.new ≡ S.terms store.old }
     ensures steps { let s = S.state store.old in steps.new ≤ steps.old + 4 * S.look_steps s
-        + (if is_picked s m (Peer ask.now) then S.pick_steps s + 1 else 0) }
+        + (if is_picked s m (Peer ask.now)
+        then S.pick_steps store.old m ask.now.endpoint.address true + 1 else 0) }
 {
     if ask.lifetime == 0 {
         return answered(Answer::Gone);
@@ -221,7 +223,8 @@ pub(crate) fn decide_peer<S: LeaseStore, L: Ledger>(
     ensures reached { S.reached store.new ≡ m }
     ensures terms { S.terms store.new ≡ S.terms store.old }
     ensures steps { let s = S.state store.old in steps.new ≤ steps.old + 5 * S.look_steps s
-        + (if is_picked s m (Peer ask.now) then S.pick_steps s + 1 else 0) }
+        + (if is_picked s m (Peer ask.now)
+        then S.pick_steps store.old m ask.now.endpoint.address true + 1 else 0) }
 {
     match store.peering(&ask.endpoint, &ask.remote, ask.remote_port, steps) {
         Some(lease) => decide_known(&store.terms(), m, ask, &lease),

@@ -275,8 +275,8 @@ impl<D: LeaseDisk + Drop> SoloHouse<D> {
         requires shard { shard < length self.now.config.externals }
         requires settled { IsSettledAt shard self.now }
         ensures state { option_map (λ s. s.state) (slice_get (plain_house self.now).shards shard)
-            ≡ Some result.now.state }
-        ensures reached { IsReached result.now.state }
+            ≡ Some result.now.kept.state }
+        ensures reached { IsReached result.now.kept.state }
     {
         self.books[shard as usize].core()
     }

@@ -7,7 +7,7 @@ returns-clause-state g c =
     let inside = c.self.inside in
     let b = c.index.result.now in
     let there = book-there d.tells d.seen d.may_leave c.args.self.now inside.config inside.books.items inside.spare.items c.args.shard b c.self.view_is c.self.invariant.0 c.requires.shard c.index.ensures in
-    state-there c.args.self.now c.args.shard b c.core.result.now.state there (c.core.ensures.state (c.requires.settled b there))
+    state-there c.args.self.now c.args.shard b c.core.result.now.kept.state there (c.core.ensures.state (c.requires.settled b there))
 
 pub returns-clause-reached : goal.returns-clause-reached
 returns-clause-reached g c =

@@ -6,6 +6,6 @@ use Rattle.lease_house.proofs.solo.SoloHouse.covered.Goals as goal
 
 pub returns : goal.returns
 returns g c =
-    let s = c.core_at-core.result.now.state in
+    let s = c.core_at-core.result.now.kept.state in
     let raised : c.later.result ≡ max c.args.m s.last = c.later.ensures ∙ ap (λ (n : ℕ). max c.args.m n) c.last.ensures.value in
     c.covered.ensures ∙ sym (covered-there c.args.endpoint.now (slice_get (plain_house c.args.self.now).shards c.args.shard) s c.args.m c.later.result c.core_at-core.ensures.state raised)
