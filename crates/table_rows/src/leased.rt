@@ -311,6 +311,22 @@ fn is_last_end(last: &End) -> bool
     last.external >= 1 && last.end < 1 << 41
 }
 
+/// Gives a port its last end for a caller that counts no steps.
+fn put_from<L: Ledger>(
+    alloc: Global,
+    ports: &mut LeasedPorts,
+    last: &End,
+    blank: Blank,
+) -> Result<(), Memory>
+    requires name { blank.name ≡ L.name }
+    requires parts { blank.parts ≡ L.parts }
+    requires some { 0 < L.parts }
+    requires last { IsLastEnd last.now }
+    ensures { OnOk result (ports.new.reached ≡ ports.old.reached) }
+{
+    ports.put(alloc, last, &mut Steps::<L>::begin(blank))
+}
+
 /// Gives `n` ports, from this one on, the last end of it.
 fn put_all(alloc: Global, ports: &mut LeasedPorts, first: &End, n: u16) -> Result<bool, Memory>
     ensures { OnOk result (ports.new.reached ≡ ports.old.reached) }
@@ -322,7 +338,7 @@ fn put_all(alloc: Global, ports: &mut LeasedPorts, first: &End, n: u16) -> Resul
         if !is_last_end(&last) {
             return Ok(false);
         }
-        ports.put(alloc, &last)?;
+        put_from::<Brand>(alloc, ports, &last, Blank::new(1))?;
     }
     Ok(true)
 }
@@ -344,6 +360,23 @@ fn are_last_ends(first: &End, count: u32) -> bool
         && count <= ports_from(first.endpoint.port)
 }
 
+/// Gives ports in a row their last ends for a caller that counts no steps.
+fn put_run_from<L: Ledger>(
+    alloc: Global,
+    ports: &mut LeasedPorts,
+    first: &End,
+    count: u32,
+    blank: Blank,
+) -> Result<(), Memory>
+    requires name { blank.name ≡ L.name }
+    requires parts { blank.parts ≡ L.parts }
+    requires some { 0 < L.parts }
+    requires ends { AreLastEnds first.now count }
+    ensures { OnOk result (ports.new.reached ≡ ports.old.reached) }
+{
+    ports.put_run(alloc, first, count, &mut Steps::<L>::begin(blank))
+}
+
 /// Gives `count` ports, from this one on, the last end of it and those along it.
 fn put_run(alloc: Global, ports: &mut LeasedPorts, first: &End, count: u32) -> Result<bool, Memory>
     ensures { OnOk result (ports.new.reached ≡ ports.old.reached) }
@@ -351,8 +384,26 @@ fn put_run(alloc: Global, ports: &mut LeasedPorts, first: &End, count: u32) -> R
     if !are_last_ends(first, count) {
         return Ok(false);
     }
-    ports.put_run(alloc, first, count)?;
+    put_run_from::<Brand>(alloc, ports, first, count, Blank::new(1))?;
     Ok(true)
+}
+
+/// Takes the last ends from ports in a row for a caller that counts no steps.
+fn free_run_from<L: Ledger>(
+    alloc: Global,
+    ports: &mut LeasedPorts,
+    protocol: Protocol,
+    start: u16,
+    count: u32,
+    blank: Blank,
+) -> Result<(), Memory>
+    requires name { blank.name ≡ L.name }
+    requires parts { blank.parts ≡ L.parts }
+    requires some { 0 < L.parts }
+    requires within { start + count ≤ 65536 }
+    ensures { OnOk result (ports.new.reached ≡ ports.old.reached) }
+{
+    ports.free_run(alloc, protocol, start, count, &mut Steps::<L>::begin(blank))
 }
 
 /// Takes the last ends from `count` ports.
@@ -368,7 +419,7 @@ fn free_run(
     if count > ports_from(start) {
         return Ok(false);
     }
-    ports.free_run(alloc, protocol, start, count)?;
+    free_run_from::<Brand>(alloc, ports, protocol, start, count, Blank::new(1))?;
     Ok(true)
 }
 

@@ -168,11 +168,12 @@ fn told(lease: Option<&MapLease>) -> Option<u16> {
 }
 
 /// Puts a lease into both bodies, where the leases after it are sound.
-fn put_both(
+fn put_both<L: Ledger>(
     alloc: Global,
     table: &mut MapTable,
     plain: &mut PlainMapTable,
     lease: &MapLease,
+    steps: &mut Steps<L>,
 ) -> Result<bool, Memory>
     requires { table.old ≡ plain.old }
     ensures { OnOk result (table.new ≡ plain.new) }
@@ -180,22 +181,23 @@ fn put_both(
     if !are_sound_with(alloc, plain.leases(), lease)? {
         return Ok(false);
     }
-    table.put(alloc, *lease)?;
-    plain.put(alloc, *lease)?;
+    table.put(alloc, *lease, steps)?;
+    plain.put(alloc, *lease, steps)?;
     Ok(true)
 }
 
 /// Takes a lease out of both bodies. Whether each tells the one that is wanted.
-fn is_removed(
+fn is_removed<L: Ledger>(
     table: &mut MapTable,
     plain: &mut PlainMapTable,
     key: &Endpoint,
     wanted: Option<u16>,
+    steps: &mut Steps<L>,
 ) -> bool
     requires { table.old ≡ plain.old }
     ensures { table.new ≡ plain.new }
 {
-    let (removed, plainly) = (table.remove(key), plain.remove(key));
+    let (removed, plainly) = (table.remove(key, steps), plain.remove(key, steps));
     (told(removed.as_ref()), told(plainly.as_ref())) == (wanted, wanted)
         && allowed(removed.as_ref()) == allowed(plainly.as_ref())
 }
@@ -320,13 +322,15 @@ fn is_answered<L: Ledger>(
     Ok(match *call {
         Put(protocol, host, internal, count, external, expiry) => {
             let new = lease(&at(protocol, host, internal), count, external, expiry);
-            put_both(alloc, table, plain, &new)?
+            put_both(alloc, table, plain, &new, steps)?
         }
         Filtered(host, external, port) => {
             let new = lease(&at(Udp, host, 5000), 1, external, 4610);
-            put_both(alloc, table, plain, &with_filter(new, port))?
+            put_both(alloc, table, plain, &with_filter(new, port), steps)?
         }
-        Remove(host, port, wanted) => is_removed(table, plain, &at(Udp, host, port), wanted),
+        Remove(host, port, wanted) => {
+            is_removed(table, plain, &at(Udp, host, port), wanted, steps)
+        }
         Copied(first, second, wanted) => {
             are_copied(alloc, table, plain, (first, second), wanted)?
         }

@@ -201,11 +201,12 @@ fn use_told(found: Option<PortUse>) -> Option<(u16, u32)> {
 }
 
 /// Puts a lease into both bodies, where the leases after it are sound.
-fn put_both(
+fn put_both<L: Ledger>(
     alloc: Global,
     table: &mut PeerTable,
     plain: &mut PlainPeerTable,
     lease: &PeerLease,
+    steps: &mut Steps<L>,
 ) -> Result<bool, Memory>
     requires { table.old ≡ plain.old }
     ensures { OnOk result (table.new ≡ plain.new) }
@@ -213,24 +214,25 @@ fn put_both(
     if !are_sound_with(alloc, plain.leases(), lease)? {
         return Ok(false);
     }
-    table.put(alloc, *lease)?;
-    plain.put(alloc, *lease)?;
+    table.put(alloc, *lease, steps)?;
+    plain.put(alloc, *lease, steps)?;
     Ok(true)
 }
 
 /// Takes a lease out of both bodies. Whether each tells the one that is wanted.
-fn is_removed(
+fn is_removed<L: Ledger>(
     table: &mut PeerTable,
     plain: &mut PlainPeerTable,
     endpoint: &Endpoint,
     remote: (&Address, u16),
     wanted: Option<u64>,
+    steps: &mut Steps<L>,
 ) -> bool
     requires { table.old ≡ plain.old }
     ensures { table.new ≡ plain.new }
 {
-    let removed = table.remove(endpoint, remote.0, remote.1);
-    let plainly = plain.remove(endpoint, remote.0, remote.1);
+    let removed = table.remove(endpoint, remote.0, remote.1, steps);
+    let plainly = plain.remove(endpoint, remote.0, remote.1, steps);
     (told(removed.as_ref()), told(plainly.as_ref())) == (wanted, wanted)
 }
 
@@ -263,8 +265,8 @@ fn is_told<L: Ledger>(
         }
         External(port, number, remote_port, wanted) => {
             let remote = remote(number);
-            let found = told(table.by_external(Udp, port, &remote, remote_port));
-            let plainly = told(plain.by_external(Udp, port, &remote, remote_port));
+            let found = told(table.by_external(Udp, port, &remote, remote_port, steps));
+            let plainly = told(plain.by_external(Udp, port, &remote, remote_port, steps));
             (found, plainly) == (wanted, wanted)
         }
         Next(host, port, end, m, wanted) => {
@@ -289,32 +291,19 @@ fn is_told<L: Ledger>(
             (found, plainly) == (wanted, wanted)
         }
         Live(m, wanted) => { (table.live(moment(m)), plain.live(moment(m))) == (wanted, wanted) }
-        Last(port, wanted) => table.last_expiry(Udp, port) == wanted,
-        Owned(protocol, port, wanted) => table.next_owned(protocol, port) == wanted,
+        Last(port, wanted) => table.last_expiry(Udp, port, steps) == wanted,
+        Owned(protocol, port, wanted) => table.next_owned(protocol, port, steps) == wanted,
         _ => false,
     }
 }
 
-/// The same of a caller that counts no steps.
-fn is_told_uncounted<L: Ledger>(
-    table: &PeerTable,
-    plain: &PlainPeerTable,
-    call: &Call,
-    blank: Blank,
-) -> bool
-    requires name { blank.name ≡ L.name }
-    requires parts { blank.parts ≡ L.parts }
-    requires some { 0 < L.parts }
-{
-    is_told(table, plain, call, &mut Steps::<L>::begin(blank))
-}
-
 /// Makes a call of both bodies. Whether both give the answer that is wanted.
-fn is_answered(
+fn is_answered<L: Ledger>(
     alloc: Global,
     table: &mut PeerTable,
     plain: &mut PlainPeerTable,
     call: &Call,
+    steps: &mut Steps<L>,
 ) -> Result<bool, Memory>
     requires { table.old ≡ plain.old }
     ensures { OnOk result (table.new ≡ plain.new) }
@@ -322,11 +311,11 @@ fn is_answered(
     Ok(match *call {
         Put(host, port, external, number, remote_port, expiry) => {
             let new = lease(host, port, external, (number, remote_port), expiry);
-            put_both(alloc, table, plain, &new)?
+            put_both(alloc, table, plain, &new, steps)?
         }
         Unsound(host, port, external, number, remote_port, expiry) => {
             let new = lease(host, port, external, (number, remote_port), expiry);
-            !put_both(alloc, table, plain, &new)?
+            !put_both(alloc, table, plain, &new, steps)?
         }
         Remove(host, port, number, remote_port, wanted) => {
             let remote = remote(number);
@@ -336,45 +325,61 @@ fn is_answered(
                 &at(Udp, host, port),
                 (&remote, remote_port),
                 wanted,
+                steps,
             )
         }
         Copied(first, second, count) => copied(alloc, table, plain, (first, second))? == count,
-        _ => is_told_uncounted::<Brand>(table, plain, call, Blank::new(1)),
+        _ => is_told(table, plain, call, steps),
     })
 }
 
 /// Whether the table forgets its leases.
-fn forgets(table: &mut PeerTable) -> bool {
+fn forgets<L: Ledger>(table: &mut PeerTable, steps: &mut Steps<L>) -> bool {
     table.clear();
-    table.last_expiry(Udp, 1024) == None && table.live(moment(0)) == 0
+    table.last_expiry(Udp, 1024, steps) == None && table.live(moment(0)) == 0
 }
 
 /// Makes calls, one after the other, of bodies that hold the same, and clears the one then. The
 /// first that is answered otherwise.
-fn first_other(
+fn first_other<L: Ledger>(
     alloc: Global,
     table: &mut PeerTable,
     plain: &mut PlainPeerTable,
     calls: &[Call],
+    steps: &mut Steps<L>,
 ) -> Result<Option<usize>, Memory>
     requires { table.old ≡ plain.old }
 {
     for (number, call) in calls.iter().enumerate() {
-        if !is_answered(alloc, table, plain, call)? {
+        if !is_answered(alloc, table, plain, call, steps)? {
             return Ok(Some(number));
         }
     }
-    if !forgets(table) {
+    if !forgets(table, steps) {
         return Ok(Some(calls.len()));
     }
     Ok(None)
 }
 
 /// The same of bodies without a lease.
-fn first_other_of_new(alloc: Global, calls: &[Call]) -> Result<Option<usize>, Memory> {
+fn first_other_from<L: Ledger>(
+    alloc: Global,
+    blank: Blank,
+    calls: &[Call],
+) -> Result<Option<usize>, Memory>
+    requires name { blank.name ≡ L.name }
+    requires parts { blank.parts ≡ L.parts }
+    requires some { 0 < L.parts }
+{
+    let mut steps = Steps::<L>::begin(blank);
     let mut plain = PlainPeerTable::new(alloc)?;
     let mut table = PeerTable::new(alloc)?;
-    first_other(alloc, &mut table, &mut plain, calls)
+    first_other(alloc, &mut table, &mut plain, calls, &mut steps)
+}
+
+/// The same of a caller that counts no steps.
+fn first_other_of_new(alloc: Global, calls: &[Call]) -> Result<Option<usize>, Memory> {
+    first_other_from::<Brand>(alloc, Blank::new(1), calls)
 }
 
 #[test]

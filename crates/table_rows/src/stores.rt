@@ -123,11 +123,12 @@ fn terms() -> Terms
 }
 
 /// Applies a record, where the other store, which stands for the same, admits it.
-fn applies(
+fn applies<L: Ledger>(
     alloc: Global,
     store: &mut PlainStore,
     other: &mut PlainStore,
     row: &(u32, Act),
+    steps: &mut Steps<L>,
 ) -> Result<bool, Memory>
     requires reached { IsReached store.old.state }
     requires same { other.old.state ≡ store.old.state }
@@ -143,25 +144,30 @@ fn applies(
     if !other.admit(alloc, &kept)? {
         return Ok(false);
     }
-    store.apply(alloc, &kept)?;
+    store.apply(alloc, &kept, steps)?;
     Ok(true)
 }
 
 /// Applies records, as long as they fit. Whether all did.
-fn apply_all(
+fn apply_all<L: Ledger>(
     alloc: Global,
     store: &mut PlainStore,
     other: &mut PlainStore,
     rows: &[(u32, Act)],
+    blank: Blank,
 ) -> Result<bool, Memory>
+    requires name { blank.name ≡ L.name }
+    requires parts { blank.parts ≡ L.parts }
+    requires some { 0 < L.parts }
     requires reached { IsReached store.old.state }
     requires same { other.old.state ≡ store.old.state }
     requires moment { store.old.reached ≡ store.old.state.last }
     ensures reached { OnOk result (IsReached store.new.state) }
     ensures moment { OnOk result (store.new.reached ≡ store.new.state.last) }
 {
+    let mut steps = Steps::<L>::begin(blank);
     for row in rows {
-        if !applies(alloc, store, other, row)? {
+        if !applies(alloc, store, other, row, &mut steps)? {
             return Ok(false);
         }
     }
@@ -175,7 +181,7 @@ fn made(alloc: Global, rows: &[(u32, Act)]) -> Result<Option<PlainStore>, Memory
 {
     let mut store = PlainStore::new(alloc, terms())?;
     let mut other = PlainStore::new(alloc, terms())?;
-    if !apply_all(alloc, &mut store, &mut other, rows)? {
+    if !apply_all::<Brand>(alloc, &mut store, &mut other, rows, Blank::new(1))? {
         return Ok(None);
     }
     Ok(Some(store))

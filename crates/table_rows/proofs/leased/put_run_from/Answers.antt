@@ -1,0 +1,5 @@
+use Rattle.std.proofs.lemmas.Result.{on_ok_weaker}
+use Rattle.table_rows.proofs.leased.put_run_from.Goals as goal
+
+pub returns : goal.returns
+returns g c = on_ok_weaker c.put_run.result (λ only. only.reached) c.put_run.ensures.ok
