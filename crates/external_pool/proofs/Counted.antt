@@ -15,8 +15,8 @@ use Rattle.pcp_base.specs.Tables.{same_address, same_protocol}
 use Rattle.port_runs.specs.Ports.{is_in_run}
 use Rattle.external_pool.specs.declared.uses.Use.{Use}
 use Rattle.external_pool.specs.declared.uses.Use.TheVariants.{Free, Held, Resting}
-use Rattle.external_pool.specs.PortUses.{all_free, use_at, use_along, uses_along, is_held, is_held_by, is_resting, with_run}
-use Rattle.external_pool.specs.Holdings.{Holdings, IsWhole, uses_of, use_of, ports_held, fresh_pool, with_use, NoneHeld, AllHeldBy, AllFree, AllRest}
+use Rattle.external_pool.specs.PortUses.{PortUses, all_free, use_at, use_along, uses_along, is_held, is_held_by, is_resting, with_run, is_free_use, AreUsed}
+use Rattle.external_pool.specs.Holdings.{Holdings, pool_of, IsWhole, uses_of, use_of, ports_held, fresh_pool, with_use, NoneHeld, AllHeldBy, AllFree, AllRest}
 use Rattle.external_pool.specs.Kept.{count_held, IsCounted}
 use Rattle.external_pool.proofs.Painted.{length-with_run, use_at-with_run, length-uses_along, use_at-uses_along, held_along}
 
@@ -194,3 +194,8 @@ rests_unheld (Resting last internal) h = refl
 
 pub none_held_rest : (pool : Holdings) (protocol : Protocol) (start n : ℕ) → AllRest pool protocol start n → NoneHeld pool protocol start n
 none_held_rest pool protocol start n rests port from to = rests_unheld (use_of pool protocol port) (rests port from to)
+
+-- ports that an address holds are used, whatever the quota
+pub used_held : (quota other : ℕ) (tcp udp : PortUses) (who : Address) (protocol : Protocol) (start n : ℕ) → AllHeldBy (pool_of quota tcp udp) who protocol start n → AreUsed (uses_of (pool_of other tcp udp) protocol).each start n
+used_held quota other tcp udp who Tcp start n all port from to = ap is_free_use (all port from to)
+used_held quota other tcp udp who Udp start n all port from to = ap is_free_use (all port from to)

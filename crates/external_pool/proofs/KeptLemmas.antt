@@ -1,9 +1,9 @@
 -- What is kept of the ports of one protocol, seen from outside.
-use Rattle.std.proofs.Common.{◌≡◌, ℕ, ◌+◌, ◌-◌, ◌<◌, ◌≤◌, min, max, ◌&&◌, not, nat_le, Bool, true, false, cond, List, [], length, Option, Some, None, IsTrue, refl, sym, ap, subst, ◌∙◌, arith}
+use Rattle.std.proofs.Common.{◌≡◌, ℕ, ◌+◌, ◌-◌, ◌<◌, ◌≤◌, min, max, ◌&&◌, not, nat_le, nat_lt, Bool, true, false, cond, List, [], length, Option, Some, None, IsTrue, refl, sym, ap, subst, ◌∙◌, arith}
 use Rattle.std.proofs.lemmas.Bool.Decides.{nat_tests}
 use Rattle.port_runs.specs.Ports.{Ports, is_taken, is_untaken, is_in_run, IsFittingRun, HasFittingRun, IsLeast, IsGreatest}
 use Rattle.external_pool.specs.declared.uses.Use.{Use}
-use Rattle.external_pool.specs.PortUses.{PortUses, use_at, use_along, is_in_range, is_free_use, is_vacant, with_run, all_free}
+use Rattle.external_pool.specs.PortUses.{PortUses, use_at, use_along, is_in_range, is_free_use, is_vacant, with_run, all_free, AreUsed}
 use Rattle.external_pool.specs.declared.uses.Use.TheVariants.{Free}
 use Rattle.external_pool.specs.Choosing.{IsVacantRun, HasVacantRun, IsLongest}
 use Rattle.external_pool.specs.Kept.{IsKept}
@@ -57,13 +57,6 @@ module _ (low high : ℕ) (runs : Ports) (each : List Use) (kept : IsKept low hi
       greatest = λ other run. is.greatest other (run.0, fitting other run.0 run.1);
     }
 
--- a part of a vacant run is one
-fewer_vacant : (uses : PortUses) (parity : Option ℕ) (n more start : ℕ) → n ≤ more → IsVacantRun uses more parity start → IsVacantRun uses n parity start
-fewer_vacant uses parity n more start few is = record {
-  vacant = λ port from to. is.vacant port from (omega (arith, to, few));
-  remainder = is.remainder;
-}
-
 module _ (uses : PortUses) (parity : Option ℕ) (room most count : ℕ) (is : IsGreatest (HasVacantRun uses parity) most) (count_is : count ≡ min most room) where
   no_more : (n : ℕ) → n ≤ room → HasVacantRun uses parity n → n ≤ count
   no_more n few run = omega (arith, few, is.greatest n run, count_is)
@@ -81,49 +74,46 @@ module _ (uses : PortUses) (parity : Option ℕ) (room most count : ℕ) (is : I
     greatest = no_more;
   }
 
-  pub found_some : 1 ≤ count → ¬ ((other : ℕ) → ¬ IsVacantRun uses count parity other)
-  found_some some none =
-      let run = is.fits (omega (arith, some, count_is)) in
-      none run.0 (fewer_vacant uses parity count most run.0 (omega (arith, count_is)) run.1)
-
 -- a use painted over the part of a run that lies in the range
 painted_tests : (r s : Bool) (value later old : Use) → is_free_use later ≡ is_free_use value → cond (r && s) (not (is_free_use value)) (r && not (is_free_use old)) ≡ (r && not (is_free_use (cond s later old)))
 painted_tests true true value later old same = ap not (sym same)
 painted_tests true false value later old same = refl
 painted_tests false s value later old same = refl
 
-outside_tests : (r s : Bool) (value old : Use) → (r && s) ≡ false → (r && not (is_free_use old)) ≡ (r && not (is_free_use (cond s value old)))
-outside_tests true true value old h = cc
-outside_tests true false value old h = refl
-outside_tests false s value old h = refl
-
-clipped : (low high start n from to port : ℕ) → from ≡ max start low → to ≡ min (start + n) (high + 1) → from < to → is_in_run from (to - from) port ≡ (is_in_range low high port && is_in_run start n port)
+pub clipped : (low high start n from to port : ℕ) → from ≡ max start low → to ≡ min (start + n) (high + 1) → from < to → is_in_run from (to - from) port ≡ (is_in_range low high port && is_in_run start n port)
 clipped low high start n from to port e f h = grind (arith, nat_tests)
 
-apart : (low high start n from to port : ℕ) → from ≡ max start low → to ≡ min (start + n) (high + 1) → to ≤ from → (is_in_range low high port && is_in_run start n port) ≡ false
+pub apart : (low high start n from to port : ℕ) → from ≡ max start low → to ≡ min (start + n) (high + 1) → to ≤ from → (is_in_range low high port && is_in_run start n port) ≡ false
 apart low high start n from to port e f h = grind (arith, nat_tests)
 
-module _ (low high : ℕ) (runs : Ports) (each : List Use) (kept : IsKept low high runs each) (start n from to : ℕ) (value : Use) (within : start + n ≤ length each) (from_is : from ≡ max start low) (to_is : to ≡ min (start + n) (high + 1)) where
-  pub kept_settled : (new : Ports) → from < to → new.low ≡ runs.low → new.high ≡ runs.high
-      → ((port : ℕ) → is_taken new port ≡ cond (is_in_run from (to - from) port) (not (is_free_use value)) (is_taken runs port)) → IsKept low high new (with_run start n value each)
-  kept_settled new some same_low same_high taken = record {
+module _ (low high : ℕ) (runs : Ports) (each : List Use) (kept : IsKept low high runs each) (start n : ℕ) (value : Use) (within : start + n ≤ length each) where
+  -- ports that were marked as vacant or not
+  pub kept_settled : (new : Ports) → new.low ≡ low → new.high ≡ high
+      → ((port : ℕ) → is_taken new port ≡ cond (is_in_range low high port && is_in_run start n port) (not (is_free_use value)) (is_taken runs port)) → IsKept low high new (with_run start n value each)
+  kept_settled new same_low same_high taken = record {
     all = length-with_run start n value each within ∙ kept.all;
-    same_low = same_low ∙ kept.same_low;
-    same_high = same_high ∙ kept.same_high;
+    same_low = same_low;
+    same_high = same_high;
     taken = λ port. taken port
-        ∙ ap (λ (b : Bool). cond b (not (is_free_use value)) (is_taken runs port)) (clipped low high start n from to port from_is to_is some)
         ∙ ap (cond (is_in_range low high port && is_in_run start n port) (not (is_free_use value))) (kept.taken port)
         ∙ painted_tests (is_in_range low high port) (is_in_run start n port) value (use_along (port - start) value) (use_at each port) (free_along (port - start) value)
         ∙ ap (λ (u : Use). is_in_range low high port && not (is_free_use u)) (sym (use_at-with_run start n value each within port));
   }
 
-  pub kept_outside : to ≤ from → IsKept low high runs (with_run start n value each)
-  kept_outside none = record {
+  still_used : AreUsed each start n → is_free_use value ≡ false → (b c : Bool) (port : ℕ) → nat_le start port ≡ b → nat_lt port (start + n) ≡ c
+      → is_free_use (use_at each port) ≡ is_free_use (cond (b && c) (use_along (port - start) value) (use_at each port))
+  still_used used stays true true port e f = used port (grind (arith, nat_tests)) (grind (arith, nat_tests)) ∙ sym (free_along (port - start) value ∙ stays)
+  still_used used stays true false port e f = refl
+  still_used used stays false c port e f = refl
+
+  -- used ports that got other uses
+  pub kept_noted : AreUsed each start n → is_free_use value ≡ false → IsKept low high runs (with_run start n value each)
+  kept_noted used stays = record {
     all = length-with_run start n value each within ∙ kept.all;
     same_low = kept.same_low;
     same_high = kept.same_high;
     taken = λ port. kept.taken port
-        ∙ outside_tests (is_in_range low high port) (is_in_run start n port) (use_along (port - start) value) (use_at each port) (apart low high start n from to port from_is to_is none)
+        ∙ ap (λ (b : Bool). is_in_range low high port && not b) (still_used used stays (nat_le start port) (nat_lt port (start + n)) port refl refl)
         ∙ ap (λ (u : Use). is_in_range low high port && not (is_free_use u)) (sym (use_at-with_run start n value each within port));
   }
 

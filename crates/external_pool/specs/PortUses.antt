@@ -1,5 +1,5 @@
 -- What the ports of one protocol are used for (our own).
-use Rattle.std.specs.Prelude.{ℕ, zero, suc, ◌+◌, ◌&&◌, ◌==◌, nat_le, Bool, true, false, List, [], ◌∷◌, ◌++◌, take, drop, replicate, slice_index_or}
+use Rattle.std.specs.Prelude.{◌≡◌, ℕ, zero, suc, ◌+◌, ◌<◌, ◌≤◌, ◌&&◌, ◌==◌, nat_le, Bool, true, false, List, [], ◌∷◌, ◌++◌, take, drop, replicate, slice_index_or}
 use Rattle.pcp_base.specs.declared.addresses.Address.{Address}
 use Rattle.pcp_base.specs.Tables.{same_address}
 use Rattle.external_pool.specs.declared.uses.Use.{Use}
@@ -93,3 +93,8 @@ abbrev pub is_resting_for : Address → ℕ → Use → Bool
 is_resting_for who internal Free = false
 is_resting_for who internal (Held holder) = false
 is_resting_for who internal (Resting last port) = same_address last who && port == internal
+
+-- none of the n ports from start on is free
+abbrev pub AreUsed : List Use → ℕ → ℕ → Type 0
+AreUsed each start n =
+    (port : ℕ) → start ≤ port → port < start + n → is_free_use (use_at each port) ≡ false

@@ -6,22 +6,23 @@ ghost use Rattle.port_runs.specs.Ports.{IsLeast};
 ghost use Rattle.external_pool.specs.PortUses.{uses_over, is_held_by, is_vacant, is_open};
 ghost use Rattle.external_pool.specs.Choosing.{IsVacantRun, IsLongest, IsPick};
 ghost use Rattle.external_pool.specs.PortUses.{internal_of};
-ghost use Rattle.external_pool.specs.Holdings.{use_of, fresh_pool, with_use};
+ghost use Rattle.external_pool.specs.Holdings.{use_of, fresh_pool, with_use, AllFree, AllRest};
 ghost use Rattle.external_pool.specs.Asking.{IsPickAnswer};
-ghost use Rattle.external_pool.specs.Calls.{IsAsk, MayHold, MayRelease, HoldsPorts, RestsPort, WakesPort};
+ghost use Rattle.external_pool.specs.Calls.{IsAsk, MayHold, MayRelease, HoldsPorts, RestsPort, RestsPorts, WakesPort};
 ghost use Rattle.external_pool.specs.Plain.{plainly};
-ghost use Rattle.external_pool.specs.declared.uses.Use.TheVariants.{Free};
+ghost use Rattle.external_pool.specs.declared.uses.Use.TheVariants.{Free, Resting};
 
 use crate::asks::{PickAsk, PickRefused, Picked, judge};
-use crate::side::meets;
 use crate::uses::{PORTS, Use, cleared, is_free_to, is_free_use, paint, resting};
+use crate::vacant::meets;
 use pcp_base::{Address, Endpoint, Memory, Protocol};
 use std::alloc::Global;
 use std::marker::Model;
 use std::sync::ledger::Ledger;
 use step_count::Steps;
 
-/// The external ports of one address, with the same clauses as [`Pool`](crate::Pool).
+/// The external ports of one address, with the same clauses as [`Pool`](crate::Pool) and
+/// [`Vacancies`](crate::Vacancies).
 #[derive(Drop)]
 pub struct PlainPool {
     low: u16,
@@ -239,6 +240,57 @@ impl PlainPool {
         ensures { self.new ≡ with_use protocol start n Free self.old }
     {
         mark(&mut self.tcp, &mut self.udp, protocol, start, n, Use::Free);
+    }
+
+    /// Ends the hold of `n` ports, and lets each rest for the endpoint that owned it.
+    pub fn retire(&mut self, external: u16, last: &Endpoint, n: u32)
+        requires held { MayRelease self.old last.now.address last.now.protocol external n }
+        requires internal { last.now.port + n ≤ 65536 }
+        ensures { self.new ≡ with_use last.now.protocol external n
+            (Resting last.now.address last.now.port) self.old }
+    {
+        mark(
+            &mut self.tcp,
+            &mut self.udp,
+            last.protocol,
+            external,
+            n,
+            Use::Resting(last.address, last.port),
+        );
+    }
+
+    /// Marks `n` ports as resting for the endpoints that owned them last.
+    pub fn rest_run(&mut self, external: u16, last: &Endpoint, n: u32) -> Result<(), Memory>
+        requires free { AllFree self.old last.now.protocol external n }
+        requires within { external + n ≤ 65536 }
+        requires internal { last.now.port + n ≤ 65536 }
+        ensures { RestsPorts self.old external last.now n result self.new }
+    {
+        mark(
+            &mut self.tcp,
+            &mut self.udp,
+            last.protocol,
+            external,
+            n,
+            Use::Resting(last.address, last.port),
+        );
+        Ok(())
+    }
+
+    /// Ends the rest of `n` ports.
+    pub fn wake_run(&mut self, protocol: Protocol, external: u16, n: u32)
+        requires rests { AllRest self.old protocol external n }
+        requires within { external + n ≤ 65536 }
+        ensures { self.new ≡ with_use protocol external n Free self.old }
+    {
+        mark(
+            &mut self.tcp,
+            &mut self.udp,
+            protocol,
+            external,
+            n,
+            Use::Free,
+        );
     }
 
     /// Marks a port as resting for the endpoint that owned it last.

@@ -2,9 +2,9 @@
 
 ghost use Rattle.std.specs.Prelude.{◌≡◌, ◌+◌, ◌≤◌, ℕ, IfOk};
 ghost use Rattle.external_pool.specs.PortUses.{internal_of};
-ghost use Rattle.external_pool.specs.Holdings.{uses_of, use_of, fresh_pool, emptied, with_use, pool_of, AllFree, AllRest};
+ghost use Rattle.external_pool.specs.Holdings.{uses_of, use_of, fresh_pool, emptied, with_use, pool_of};
 ghost use Rattle.external_pool.specs.Asking.{IsPickAnswer};
-ghost use Rattle.external_pool.specs.Calls.{IsAsk, MayHold, MayRelease, HoldsPorts, RestsPort, RestsPorts, WakesPort};
+ghost use Rattle.external_pool.specs.Calls.{IsAsk, MayHold, MayRelease, HoldsPorts, RestsPort, WakesPort};
 ghost use Rattle.external_pool.specs.declared.uses.Use.TheVariants.{Free, Resting};
 
 use crate::asks::{PickAsk, PickRefused, Picked, judge};
@@ -146,26 +146,6 @@ impl Pool {
         mark(&mut self.tcp, &mut self.udp, protocol, start, n, Use::Free);
     }
 
-    /// Ends the hold of the `n` ports from `external` on, and lets each rest for the endpoint that
-    /// owned it: the first for `last`, and those behind it for its ports behind that of `last`. It
-    /// takes no memory.
-    pub fn retire(&mut self, external: u16, last: &Endpoint, n: u32)
-        requires held { MayRelease self.old last.now.address last.now.protocol external n }
-        requires internal { last.now.port + n ≤ 65536 }
-        ensures { self.new ≡ with_use last.now.protocol external n
-            (Resting last.now.address last.now.port) self.old }
-    {
-        lower(&mut self.counts, &last.address, n);
-        mark(
-            &mut self.tcp,
-            &mut self.udp,
-            last.protocol,
-            external,
-            n,
-            Use::Resting(last.address, last.port),
-        );
-    }
-
     /// Marks a port that isn't held and doesn't rest as resting for the endpoint that owned it
     /// last. It takes no memory, and so is never refused.
     pub fn rest(&mut self, _alloc: Global, external: u16, last: &Endpoint) -> Result<(), Memory>
@@ -181,48 +161,6 @@ impl Pool {
             resting(last.address, last.port),
         );
         Ok(())
-    }
-
-    /// Marks the `n` ports from `external` on, which aren't held and don't rest, as resting for the
-    /// endpoints that owned them last, as [`Pool::retire`] does. It takes no memory, and so is never
-    /// refused.
-    pub fn rest_run(
-        &mut self,
-        _alloc: Global,
-        external: u16,
-        last: &Endpoint,
-        n: u32,
-    ) -> Result<(), Memory>
-        requires free { AllFree self.old last.now.protocol external n }
-        requires within { external + n ≤ 65536 }
-        requires internal { last.now.port + n ≤ 65536 }
-        ensures { RestsPorts self.old external last.now n result self.new }
-    {
-        mark(
-            &mut self.tcp,
-            &mut self.udp,
-            last.protocol,
-            external,
-            n,
-            Use::Resting(last.address, last.port),
-        );
-        Ok(())
-    }
-
-    /// Ends the rest of the `n` ports from `external` on, all of which rest.
-    pub fn wake_run(&mut self, protocol: Protocol, external: u16, n: u32)
-        requires rests { AllRest self.old protocol external n }
-        requires within { external + n ≤ 65536 }
-        ensures { self.new ≡ with_use protocol external n Free self.old }
-    {
-        mark(
-            &mut self.tcp,
-            &mut self.udp,
-            protocol,
-            external,
-            n,
-            Use::Free,
-        );
     }
 
     /// Ends the rest of a port; false where it doesn't rest.

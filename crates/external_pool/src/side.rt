@@ -1,12 +1,12 @@
 //! The ports of one protocol: what each is used for, and which of the range are vacant.
 
-ghost use Rattle.std.specs.Prelude.{◌≡◌, ◌+◌, ◌-◌, ◌≤◌, ◌<◌, ◌↔◌, ℕ, true, not, IsTrue, IfOk, IfSome, IfNone, if◌then◌else◌};
-ghost use Rattle.port_runs.specs.Ports.{is_taken, is_in_run, HasParity, IsLeast, IsGreatest};
+ghost use Rattle.std.specs.Prelude.{◌≡◌, ◌+◌, ◌≤◌, ◌↔◌, IsTrue, IfOk};
 ghost use Rattle.external_pool.specs.PortUses as the;
-ghost use Rattle.external_pool.specs.Choosing.{IsVacantRun, HasVacantRun, GoesBack, IsLongest, IsPick};
+ghost use Rattle.external_pool.specs.Choosing.{GoesBack, IsLongest, IsPick};
 
 use crate::asks::Picked;
 use crate::uses::{PORTS, Use, cleared, is_free_to, is_free_use, paint};
+use crate::vacant::{longest, meets, settle_in_range};
 use pcp_base::{Address, Memory};
 use port_runs::Runs;
 use std::alloc::Global;
@@ -34,50 +34,6 @@ impl Model for Side {
     ghost invariant = { λ a. IsKept a.low a.high a.runs a.each.items };
 }
 
-/// Takes a port of the range, unless it is taken already.
-fn take_one(runs: &mut Runs, port: u16)
-    requires low { runs.old.low ≤ port }
-    requires high { port ≤ runs.old.high }
-    ensures low { runs.new.low ≡ runs.old.low }
-    ensures high { runs.new.high ≡ runs.old.high }
-    ensures taken { (other : ℕ) → is_taken runs.new other
-        ≡ (if is_in_run port 1 other then true else is_taken runs.old other) }
-{
-    runs.take(port, 1);
-}
-
-/// Marks ports of the range as vacant or not. A port that isn't vacant and stays so costs one look.
-fn settle(runs: &mut Runs, start: u16, n: u32, vacant: bool)
-    requires some { 1 ≤ n }
-    requires low { runs.old.low ≤ start }
-    requires high { start + n ≤ runs.old.high + 1 }
-    ensures low { runs.new.low ≡ runs.old.low }
-    ensures high { runs.new.high ≡ runs.old.high }
-    ensures taken { (port : ℕ) → is_taken runs.new port
-        ≡ (if is_in_run start n port then not vacant else is_taken runs.old port) }
-{
-    if vacant {
-        runs.give(start, n);
-        return;
-    }
-    if n == 1 {
-        take_one(runs, start);
-        return;
-    }
-    runs.give(start, n);
-    runs.take(start, n);
-}
-
-/// Whether a port has the remainder by 2 that is asked, if one is.
-pub fn meets(port: u16, parity: Option<u8>) -> bool
-    ensures { IsTrue result ↔ HasParity parity port }
-{
-    match parity {
-        Some(remainder) => port % 2 == u16::from(remainder),
-        None => true,
-    }
-}
-
 impl Side {
     /// A range of which no port is used. The one error is want of memory.
     pub fn new(alloc: Global, low: u16, high: u16) -> Result<Side, Memory>
@@ -100,16 +56,14 @@ impl Side {
         ensures { self.new ≡ the.with_uses start n value self.old }
     {
         paint(&mut self.each, start as usize, n as usize, value);
-        let from = start.max(self.low);
-        let to = (u32::from(start) + n).min(u32::from(self.high) + 1);
-        if u32::from(from) < to {
-            settle(
-                &mut self.runs,
-                from,
-                to - u32::from(from),
-                is_free_use(value),
-            );
-        }
+        settle_in_range(
+            &mut self.runs,
+            self.low,
+            self.high,
+            start,
+            n,
+            is_free_use(value),
+        );
     }
 
     /// No port is used from now on. It takes no memory.
@@ -167,28 +121,6 @@ impl Side {
         true
     }
 
-    /// The least start of `n` vacant ports that meets the parity asked.
-    fn first_vacant<L: Ledger>(
-        &self,
-        n: u32,
-        parity: Option<u8>,
-        steps: &mut Steps<L>,
-    ) -> Option<u16>
-        requires { 1 ≤ n }
-        ensures first { IsLeast (IsVacantRun self.now n parity) result }
-        ensures steps { steps.new ≤ steps.old + 68 }
-    {
-        self.runs.first_run(n, parity, steps)
-    }
-
-    /// How many ports the longest run of vacant ones has whose start meets the parity asked.
-    fn most_vacant<L: Ledger>(&self, parity: Option<u8>, steps: &mut Steps<L>) -> u32
-        ensures most { IsGreatest (HasVacantRun self.now parity) result }
-        ensures steps { steps.new ≡ steps.old + 1 }
-    {
-        self.runs.longest_run(parity, steps)
-    }
-
     /// The longest run of vacant ports, of at most `room`, and of these the one with the least
     /// start.
     fn longest<L: Ledger>(
@@ -200,14 +132,7 @@ impl Side {
         ensures longest { IsLongest self.now parity room result }
         ensures steps { steps.new ≤ steps.old + 69 }
     {
-        let count = self.most_vacant(parity, steps).min(room);
-        if count == 0 {
-            return None;
-        }
-        let Some(start) = self.first_vacant(count, parity, steps) else {
-            return None;
-        };
-        Some(Picked { start, count })
+        longest(&self.runs, room, parity, steps)
     }
 
     /// The ports to pick: those suggested, where each can go back to its endpoint, and else the

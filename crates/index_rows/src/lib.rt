@@ -9,4 +9,6 @@ mod runs;
 #[cfg(test)]
 mod spans;
 #[cfg(test)]
+mod vacancies;
+#[cfg(test)]
 mod wheels;

@@ -1,8 +1,8 @@
 //! The calls of both bodies of a pool, by the way of a port from its lease to its rest and back. What
 //! is picked where others are held and rest is compared in the tests of the ports that follow a state.
-ghost use Rattle.std.specs.Prelude.{◌≡◌, ◌+◌, ◌<◌, ◌≤◌};
+ghost use Rattle.std.specs.Prelude.{◌≡◌, ◌<◌, ◌≤◌};
 ghost use Rattle.external_pool.specs.Calls.{ArePorts, IsAsk, MayHold};
-ghost use Rattle.external_pool.specs.Holdings.{AllFree, IsWhole};
+ghost use Rattle.external_pool.specs.Holdings.{IsWhole};
 
 use external_pool::plain::PlainPool;
 use external_pool::{PickAsk, Pool};
@@ -15,7 +15,7 @@ use std::sync::ledger::{Blank, Ledger};
 use step_count::Steps;
 
 /// A UDP port of the host 10.0.0.N.
-fn at(host: u8, port: u16) -> Endpoint
+pub(crate) fn at(host: u8, port: u16) -> Endpoint
     ensures { result.port ≡ port }
 {
     Endpoint {
@@ -64,6 +64,40 @@ fn picks(pool: &Pool, plain: &PlainPool, port: u16, whom: &Endpoint) -> (bool, b
     picks_from::<Brand>(pool, plain, port, whom, Blank::new(1))
 }
 
+/// Whether the UDP port is picked for an internal port that wants no other.
+fn is_picked_from<L: Ledger>(
+    pool: &Pool,
+    port: u16,
+    who: &Address,
+    internal: u16,
+    blank: Blank,
+) -> bool
+    requires name { blank.name ≡ L.name }
+    requires parts { blank.parts ≡ L.parts }
+    requires some { 0 < L.parts }
+{
+    let mut steps = Steps::<L>::begin(blank);
+    pool.pick(who, Udp, &ask_for(port, internal), &mut steps)
+        .is_ok()
+}
+
+/// The same of a caller that counts no steps.
+fn is_picked(pool: &Pool, port: u16, who: &Address, internal: u16) -> bool {
+    is_picked_from::<Brand>(pool, port, who, internal, Blank::new(1))
+}
+
+/// To whom a port is open: to an endpoint, to the port before it, and to another host.
+type Openness = (bool, bool, bool);
+
+/// To whom a port is open, where it is to be so to no more than an endpoint.
+fn openness(pool: &Pool, port: u16, whom: &Endpoint) -> Openness {
+    (
+        is_picked(pool, port, &whom.address, whom.port),
+        is_picked(pool, port, &whom.address, whom.port.wrapping_sub(1)),
+        is_picked(pool, port, &Address::v4(10, 0, 0, 9), whom.port),
+    )
+}
+
 /// A port that may be held is held, released, at rest and awake, in both bodies.
 fn hold_and_rest(
     rt: &impl Abort,
@@ -85,6 +119,7 @@ fn hold_and_rest(
     pool.rest(alloc, port, last)?;
     plain.rest(port, last)?;
     assert!(rt; picks(pool, plain, port, last) == (true, true));
+    assert!(rt; openness(pool, port, last) == (true, false, false));
     assert!(rt; pool.wake(last.protocol, port) && plain.wake(last.protocol, port));
     assert!(rt; !pool.wake(last.protocol, port) && !plain.wake(last.protocol, port));
     Ok(())
@@ -110,101 +145,4 @@ fn hold_and_rest_in_new(
 #[test]
 fn both_pools_hold_and_rest(rt: HostRuntime) -> Result<(), Memory> {
     hold_and_rest_in_new(&rt, rt.alloc(), 1024, 1063, &at(5, 5000))
-}
-
-/// To whom a port is open: to the endpoint that it goes along with, to the one before it, and to
-/// another host.
-type Openness = (bool, bool, bool);
-
-/// To whom the second of some ports is open, the first of which goes along with an endpoint.
-fn openness(pool: &Pool, start: u16, first: &Endpoint) -> Openness {
-    let port = start.wrapping_add(1);
-    let internal = first.port.wrapping_add(1);
-    (
-        is_picked(pool, port, &first.address, internal),
-        is_picked(pool, port, &first.address, first.port),
-        is_picked(pool, port, &Address::v4(10, 0, 0, 9), internal),
-    )
-}
-
-/// Whether the UDP port is picked for an internal port that wants no other.
-fn is_picked_from<L: Ledger>(
-    pool: &Pool,
-    port: u16,
-    who: &Address,
-    internal: u16,
-    blank: Blank,
-) -> bool
-    requires name { blank.name ≡ L.name }
-    requires parts { blank.parts ≡ L.parts }
-    requires some { 0 < L.parts }
-{
-    let mut steps = Steps::<L>::begin(blank);
-    pool.pick(who, Udp, &ask_for(port, internal), &mut steps)
-        .is_ok()
-}
-
-/// The same of a caller that counts no steps.
-fn is_picked(pool: &Pool, port: u16, who: &Address, internal: u16) -> bool {
-    is_picked_from::<Brand>(pool, port, who, internal, Blank::new(1))
-}
-
-/// Ports in a row that may be held are held, go to rest, awake, and rest and awake without a hold. To
-/// whom the second of them is open after each call.
-fn rest_and_wake(
-    alloc: Global,
-    pool: &mut Pool,
-    start: u16,
-    last: &Endpoint,
-    n: u32,
-) -> Result<[Openness; 5], Memory>
-    requires whole { IsWhole pool.old }
-    requires free { AllFree pool.old last.now.protocol start n }
-    requires ports { ArePorts start n }
-    requires internal { last.now.port + n ≤ 65536 }
-{
-    pool.hold(alloc, &last.address, last.protocol, start, n)?;
-    let held = openness(pool, start, last);
-    pool.retire(start, last, n);
-    let retired = openness(pool, start, last);
-    pool.wake_run(last.protocol, start, n);
-    let awake = openness(pool, start, last);
-    pool.rest_run(alloc, start, last, n)?;
-    let rests = openness(pool, start, last);
-    pool.wake_run(last.protocol, start, n);
-    let again = openness(pool, start, last);
-    Ok([held, retired, awake, rests, again])
-}
-
-/// The same of the first ports of a new pool.
-fn rest_and_wake_in_new(
-    alloc: Global,
-    low: u16,
-    high: u16,
-    last: &Endpoint,
-    n: u32,
-) -> Result<[Openness; 5], Memory>
-    requires some { 1 ≤ low }
-    requires ordered { low ≤ high }
-    requires ports { ArePorts low n }
-    requires internal { last.now.port + n ≤ 65536 }
-{
-    let mut pool = Pool::new(alloc, low, high, 24)?;
-    rest_and_wake(alloc, &mut pool, low, last, n)
-}
-
-#[test]
-fn ports_in_a_row_rest_and_awake(rt: HostRuntime) -> Result<(), Memory> {
-    let told = rest_and_wake_in_new(rt.alloc(), 1024, 1063, &at(5, 5000), 4)?;
-    let for_its_own = (true, false, false);
-    let for_all = (true, true, true);
-    let wanted = [
-        (false, false, false),
-        for_its_own,
-        for_all,
-        for_its_own,
-        for_all,
-    ];
-    assert!(rt; told == wanted, "{told:?}");
-    Ok(())
 }

@@ -3,7 +3,7 @@ use Rattle.external_pool.specs.declared.uses.Use.TheVariants.{Free}
 use Rattle.external_pool.specs.Holdings.{Holdings, pool_of}
 use Rattle.external_pool.specs.Kept.{IsCounted}
 use Rattle.external_pool.proofs.Counted.{counted_rested, none_held_rest}
-use Rattle.external_pool.proofs.pool.Pool.wake_run.Goals as goal
+use Rattle.external_pool.proofs.vacancies.Vacancies.wake_run.Goals as goal
 
 pub invariant_of-self : goal.invariant_of-self
 invariant_of-self c =

@@ -1,8 +1,0 @@
-use Rattle.index_rows.proofs.OnePort.{new-whole, new-free}
-use Rattle.index_rows.proofs.pools.rest_and_wake_in_new.Goals as goal
-
-pub rest_and_wake-requires-clause-whole : goal.rest_and_wake-requires-clause-whole
-rest_and_wake-requires-clause-whole c = new-whole c.args.low c.args.high 24 _ c.in_ok-pool.ensures
-
-pub rest_and_wake-requires-clause-free : goal.rest_and_wake-requires-clause-free
-rest_and_wake-requires-clause-free c port from to = new-free c.args.low c.args.high 24 _ c.in_ok-pool.ensures c.args.last.now.protocol port
