@@ -17,7 +17,8 @@ use std::marker::Model;
 ///
 /// It is seen as a list of runs, of which no two have a place in common; a place that no run has is
 /// without a value. It takes 524,288 octets, and for each run those of a `Run<V>` and 8 more, which
-/// are 48 where the value is an end; with slack up to twice as many. A look-up is one look into an
+/// are 48 where the value is an end. Room for a run of each place is asked for at once, so that no
+/// run waits while others are moved; what no run needs isn't touched. A look-up is one look into an
 /// array by place and one at the run.
 #[derive(Drop)]
 pub struct Spans<V> {
@@ -47,7 +48,7 @@ impl<V: Copy> Spans<V> {
     {
         Ok(Spans {
             slots: zeros(alloc, PLACES)?,
-            runs: Slab::new(alloc),
+            runs: Slab::with_capacity(alloc, PLACES)?,
         })
     }
 
