@@ -49,6 +49,30 @@ count-some p q (suc n) h =
     let here : one (q n) ≤ one (p n) = one_le (q n) (p n) (h n (omega arith)) in
     omega (arith, rest, here)
 
+pub count-none : (p : ℕ → Bool) (n : ℕ) → ((i : ℕ) → i < n → p i ≡ false) → count_below p n ≡ 0
+unfolding count_below
+count-none p zero h = refl
+count-none p (suc n) h =
+    let rest = count-none p n (λ i less. h i (omega (arith, less))) in
+    let here : one (p n) ≡ 0 = ap one (h n (omega arith)) in
+    omega (arith, rest, here)
+
+-- where one number passes no more and the others stay, one less passes
+module _ (p q : ℕ → Bool) (k : ℕ) (others : (i : ℕ) → i ≢ k → q i ≡ p i) where
+  pub count-less : p k ≡ true → q k ≡ false → (n : ℕ) → k < n → count_below q n + 1 ≡ count_below p n
+  unfolding count_below
+  count-less was isnt zero h = absurd (omega (arith, h))
+  count-less was isnt (suc n) h = elim (same_or_not k n) [
+    | inl same ↦ (let rest = count-same q p n (λ i less. others i (λ e. omega (arith, e, less, same))) in
+        let before : one (p n) ≡ 1 = ap (λ (i : ℕ). one (p i)) (sym same) ∙ ap one was in
+        let after : one (q n) ≡ 0 = ap (λ (i : ℕ). one (q i)) (sym same) ∙ ap one isnt in
+        omega (arith, rest, before, after))
+    | inr other ↦ (let less : k < n = grind (arith, h, other) in
+        let rest = count-less was isnt n less in
+        let tally : one (q n) ≡ one (p n) = ap one (others n (λ e. other (sym e))) in
+        omega (arith, rest, tally))
+  ]
+
 -- ---- how many ids fall due
 
 module _ (m : ℕ) (waits next : FinMap nat_cmp ℕ) (id : ℕ) (others : (other : ℕ) → other ≢ id → get next other ≡ get waits other) where

@@ -1,11 +1,12 @@
 -- How many runs fall due, by the ports at which something does.
-use Rattle.std.proofs.Common.{◌≡◌, ℕ, ◌+◌, ◌<◌, ◌≤◌, ◌==◌, Bool, true, false, cond, List, Option, Some, None, refl, sym, ap, ◌∙◌, inl, inr, arith}
+use Rattle.std.proofs.Common.{◌≡◌, ℕ, ◌+◌, ◌<◌, ◌≤◌, ◌==◌, nat_le, Bool, true, false, cond, List, Option, Some, None, refl, sym, ap, ◌∙◌, inl, inr, arith}
 use Rattle.std.specs.Ordering.{nat_cmp}
-use Rattle.std.specs.FinMap.{FinMap}
+use Rattle.std.specs.FinMap.{FinMap, get}
 use Rattle.std.proofs.lemmas.Bool.{lt-ltb, leb-true, le-leb}
 use Rattle.pcp_base.specs.declared.leases.Protocol.{Protocol}
 use Rattle.pcp_base.specs.declared.leases.Protocol.TheVariants.{Tcp, Udp}
 use Rattle.pcp_base.specs.declared.leases.End.{End}
+use Rattle.ordered_index.proofs.Entries.{false_by}
 use Rattle.expiry_wheel.proofs.Maps.{below_or_not}
 use Rattle.port_spans.specs.declared.runs.Run.{Run}
 use Rattle.port_spans.specs.Runs.{run_at}
@@ -14,9 +15,10 @@ use Rattle.leased_ports.specs.declared.phases.Phase.TheVariants.{Holds, Rests, O
 use Rattle.leased_ports.specs.Leased.{Leased, leased, end_of}
 use Rattle.leased_ports.specs.Kept.{end_by, until, phase_at, phase_by, wait_told, AreScheduled}
 use Rattle.leased_ports.specs.Falling.{NoneDue, is_due, due_below}
-use Rattle.leased_ports.specs.Counts.{count_below, falls_due, ports_due}
-use Rattle.leased_ports.proofs.PhaseLemmas.{at-holds, at-rests}
-use Rattle.leased_ports.proofs.CountLemmas.{due-counted, count-same, count-split}
+use Rattle.leased_ports.specs.Counts.{count_below, falls_due, due_before, ports_due}
+use Rattle.leased_ports.specs.Searching.{due_among}
+use Rattle.leased_ports.proofs.PhaseLemmas.{at-holds, at-rests, phase-late}
+use Rattle.leased_ports.proofs.CountLemmas.{due-counted, count-same, count-some, count-none, count-split}
 use Rattle.port_spans.specs.Along.{spot, end_told}
 
 pub told_step : (from m e : ℕ) (b : Bool) (p : Phase) → ((expiry : ℕ) → cond b (until p e) None ≡ Some expiry → from < expiry) → is_due m (cond b (until p e) None) ≡ true → is_due m (until (phase_at from e) e) ≡ true
@@ -51,3 +53,32 @@ module _ (low high quota seen m : ℕ) (runs : List (Run End)) where
       let tcp = count-same p (λ i. falls_due seen m (end_of view Tcp i)) 65536 (λ i less. port_told Tcp i less) in
       let udp = count-same (λ i. p (65536 + i)) (λ i. falls_due seen m (end_of view Udp i)) 65536 (λ i less. port_told Udp i less) in
       omega (arith, some, all, tcp, udp)
+
+  -- nor among those of a protocol below one
+  pub due-before : (waits : FinMap nat_cmp ℕ) → AreScheduled runs waits → NoneDue seen waits → (p : Protocol) (n : ℕ) → n ≤ 65536 → due_among m waits p n ≤ due_before view p n
+  due-before waits is late p n few =
+      count-some (λ i. falls_due seen m (end_of view p i)) (λ i. is_due m (get waits (spot p i))) n (λ i less due.
+      sym (port_told p i (omega (arith, less, few)))
+      ∙ due-told seen m (spot p i) waits (run_at runs (spot p i)) (λ expiry h. late (spot p i) expiry (is.waiting (spot p i) ∙ h)) (ap (is_due m) (sym (is.waiting (spot p i))) ∙ due))
+
+pub one-due : (v : Leased) (p : Protocol) → due_before v p 65536 ≤ ports_due v
+one-due v Tcp = omega arith
+one-due v Udp = omega arith
+
+-- where all is seen to, none is due
+pub none-due : (v : Leased) → v.settled ≡ v.reached → ports_due v ≡ 0
+none-due v same =
+    let tcp = none Tcp in
+    let udp = none Udp in
+    omega (arith, tcp, udp)
+  where
+    late : (o : Option End) → falls_due v.settled v.reached o ≡ false
+    late None = refl
+    late (Some e) = by (until (phase_at v.settled e.end) e.end) refl
+      where
+        by : (o : Option ℕ) → until (phase_at v.settled e.end) e.end ≡ o → is_due v.reached o ≡ false
+        by None h = refl
+        by (Some expiry) h = false_by (nat_le expiry v.reached) (λ t. let less = phase-late v.settled e.end expiry h in let due = leb-true expiry v.reached t in absurd (omega (arith, less, due, same)))
+
+    none : (p : Protocol) → due_before v p 65536 ≡ 0
+    none p = count-none (λ port. falls_due v.settled v.reached (end_of v p port)) 65536 (λ i less. late (end_of v p i))

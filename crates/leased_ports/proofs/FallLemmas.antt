@@ -7,7 +7,6 @@ use Rattle.std.proofs.lemmas.Bool.{le-leb, leb-true}
 use Rattle.pcp_base.specs.declared.leases.End.{End}
 use Rattle.ordered_index.proofs.EntryLaws.{some_one}
 use Rattle.ordered_index.proofs.Entries.{false_by}
-use Rattle.expiry_wheel.specs.Due.{IsNextDue}
 use Rattle.expiry_wheel.proofs.Maps.{same_or_not, cond_same, cond_other}
 use Rattle.external_pool.specs.Holdings.{Holdings}
 use Rattle.port_spans.specs.declared.runs.Run.{Run}
@@ -16,7 +15,7 @@ use Rattle.leased_ports.specs.declared.phases.Phase.{Phase}
 use Rattle.leased_ports.specs.declared.phases.Phase.TheVariants.{Holds, Rests, Over}
 use Rattle.leased_ports.specs.Kept.{use_in, since, until, phase_at, phase_by, wait_told, IsSet, AreInStep, HaveBegun, AreSettled}
 use Rattle.leased_ports.specs.Steps.{GivesUses, AreUsedBy, Waits}
-use Rattle.leased_ports.specs.Falling.{is_due, due_below}
+use Rattle.leased_ports.specs.Falling.{IsDueAt, is_due, due_below}
 use Rattle.leased_ports.proofs.SpotLemmas.{place_low}
 use Rattle.leased_ports.proofs.PhaseLemmas.{phase-settled, run_waits}
 use Rattle.leased_ports.proofs.CountLemmas.{due_less}
@@ -35,7 +34,7 @@ came_step m e expiry Holds h due = let same : e ≡ expiry = (let told : Some e 
 came_step m e expiry Rests h due = let same : e + 120 ≡ expiry = (let told : Some (e + 120) ≡ Some expiry = h in cc) in omega (arith, same, due)
 came_step m e expiry Over h due = absurd (let no : None ≡ Some expiry = h in cc)
 
-module _ (m : ℕ) (runs : List (Run End)) (pool : Holdings) (waits : FinMap nat_cmp ℕ) (is : AreInStep runs pool waits) (id : ℕ) (due : IsNextDue waits m id) where
+module _ (m : ℕ) (runs : List (Run End)) (pool : Holdings) (waits : FinMap nat_cmp ℕ) (is : AreInStep runs pool waits) (id : ℕ) (due : IsDueAt m waits id) where
   found_step : (o : Option (Run End)) → wait_told waits id o ≡ Some due.expiry → (r : Run End) × (o ≡ Some r) × (r.first ≡ id) × (until (phase_by waits r) r.value.end ≡ Some due.expiry)
   found_step None h = absurd (let no : None ≡ Some due.expiry = h in cc)
   found_step (Some r) h = elim (same_or_not r.first id) [
@@ -84,15 +83,18 @@ module _ (m : ℕ) (runs : List (Run End)) (pool : Holdings) (waits : FinMap nat
 
     -- it comes into a phase that has begun
     module _ (p : Phase) (later : Holdings) (next : FinMap nat_cmp ℕ) (waits_are : Waits waits r.first (until p r.value.end) next) where
-      others : (other : ℕ) → other ≢ id → get next other ≡ get waits other
-      others other h = waits_are other ∙ cond_other other r.first (until p r.value.end) (get waits other) (λ e. h (e ∙ due_first))
+      pub falls_others : (other : ℕ) → other ≢ id → get next other ≡ get waits other
+      falls_others other h = waits_are other ∙ cond_other other r.first (until p r.value.end) (get waits other) (λ e. h (e ∙ due_first))
 
       here : get next id ≡ until p r.value.end
       here = waits_are id ∙ cond_same id r.first (until p r.value.end) (get waits id) (sym due_first)
 
+      pub falls_seen : is_due m (until p r.value.end) ≡ false → is_due m (get next id) ≡ false
+      falls_seen isnt = ap (is_due m) here ∙ isnt
+
       pub due_fewer : is_due m (until p r.value.end) ≡ false → due_below m next 131072 < due_below m waits 131072
       due_fewer isnt =
-          let less = due_less m waits next id others was_due (ap (is_due m) here ∙ isnt) 131072 due_low in
+          let less = due_less m waits next id falls_others was_due (ap (is_due m) here ∙ isnt) 131072 due_low in
           omega (arith, less)
 
       module _ (gives : GivesUses pool r.value.endpoint.protocol r.value.external r.count (use_in p r.value) later) where

@@ -18,6 +18,8 @@ pub mod SettledLemmas
 pub mod AssignLemmas
 pub mod ViewLemmas
 pub mod PlainLemmas
+pub mod SearchLemmas
+pub mod BackLemmas
 pub mod MomentLemmas
 pub mod RecordLemmas
 pub mod PieceLemmas

@@ -1,11 +1,11 @@
--- Picks of one port by a pool that lags.
+-- Picks by a pool that lags, and by last ends.
 use Rattle.std.specs.Prelude.{◌⊎◌}
-use Rattle.std.proofs.Common.{◌≡◌, ℕ, zero, suc, ◌+◌, ◌-◌, ◌<◌, ◌≤◌, ◌==◌, ◌&&◌, ◌||◌, nat_lt, nat_le, min, not, Bool, true, false, cond, List, [], ◌∷◌, length, Option, Some, None, IfSome, IfOk, IfErr, is_none, Result, Ok, Err, count_by, refl, sym, ap, ◌∙◌, subst, inl, inr, arith}
+use Rattle.std.proofs.Common.{◌≡◌, ℕ, zero, suc, ◌+◌, ◌-◌, ◌<◌, ◌≤◌, ◌&&◌, ◌||◌, nat_lt, nat_le, min, not, Bool, true, false, cond, List, [], ◌∷◌, length, Option, Some, None, IfSome, IfOk, Result, Ok, Err, count_by, refl, sym, ap, ◌∙◌, subst, inl, inr, arith}
 use Rattle.std.specs.Option.{option_map}
 use Rattle.std.specs.List.{range_with_len}
 use Rattle.std.specs.Ordering.{nat_cmp}
-use Rattle.std.specs.FinMap.{FinMap}
-use Rattle.std.proofs.lemmas.Bool.{and_parts, and_from, lt-ltb, le-leb, leb-true, ltb-true, ltb-false, eqb-true}
+use Rattle.std.specs.FinMap.{FinMap, get}
+use Rattle.std.proofs.lemmas.Bool.{and_parts, and_from, lt-ltb, le-leb, leb-true, ltb-true, ltb-false}
 use Rattle.std.proofs.lemmas.List.{get_or-map, get_or_past}
 use Rattle.std.proofs.lemmas.List.Sums.{sum_by-cons}
 use Rattle.std.proofs.lemmas.List.FromFn.{get_or-range_with_len, length-range_with_len, length-map-range_with_len}
@@ -14,9 +14,11 @@ use Rattle.pcp_base.specs.declared.leases.Protocol.{Protocol}
 use Rattle.pcp_base.specs.declared.leases.Protocol.TheVariants.{Tcp, Udp}
 use Rattle.pcp_base.specs.declared.leases.Endpoint.{Endpoint}
 use Rattle.pcp_base.specs.declared.leases.End.{End}
-use Rattle.pcp_base.specs.Tables.{same_address}
+use Rattle.pcp_base.specs.Tables.{same_address, same_protocol}
 use Rattle.pcp_base.specs.States.{State}
 use Rattle.pcp_base.specs.Reached.{IsReached}
+use Rattle.pcp_base.proofs.Same.{same_protocol-Decides}
+use Rattle.port_runs.specs.Ports.{is_in_run}
 use Rattle.ordered_index.proofs.Entries.{false_by}
 use Rattle.expiry_wheel.proofs.Maps.{below_or_not}
 use Rattle.external_pool.specs.declared.uses.Use.{Use}
@@ -25,32 +27,33 @@ use Rattle.external_pool.specs.declared.asks.PickAsk.{PickAsk}
 use Rattle.external_pool.specs.declared.asks.Picked.{Picked}
 use Rattle.external_pool.specs.declared.asks.PickRefused.{PickRefused}
 use Rattle.external_pool.specs.declared.asks.PickRefused.TheVariants.{Quota, CannotProvide, NoPort}
-use Rattle.external_pool.specs.PortUses.{PortUses, is_in_range, is_free_use, is_free_to, is_held_by, is_vacant, is_open, use_along, use_at}
+use Rattle.external_pool.specs.PortUses.{PortUses, is_in_range, is_free_use, is_held_by, is_vacant, use_along, use_at}
 use Rattle.external_pool.specs.Holdings.{Holdings, uses_of, use_of, ports_held}
-use Rattle.external_pool.specs.Choosing.{IsVacantRun, GoesBack, IsLongest, IsPick}
-use Rattle.external_pool.specs.Choosing.IsPick.{suggestion, longest}
-use Rattle.external_pool.specs.Asking.{IsPickAnswer, answer_to}
+use Rattle.external_pool.specs.Choosing.{IsVacantRun, IsLongest, IsPick}
+use Rattle.external_pool.specs.Asking.{IsPickAnswer, answer_to, is_as_asked}
 use Rattle.external_pool.specs.Calls.{IsAsk}
 use Rattle.lease_store.specs.declared.terms.Terms.{Terms}
 use Rattle.lease_store.specs.Picks.{pick_answer}
 use Rattle.port_spans.specs.declared.runs.Run.{Run}
 use Rattle.port_spans.specs.Runs.{run_at}
 use Rattle.port_spans.specs.Along.{end_along, end_told, spot}
-use Rattle.port_spans.proofs.SpotLemmas.{some-if}
+use Rattle.port_spans.proofs.RunLemmas.{in_from}
+use Rattle.port_spans.proofs.SpotLemmas.{some-if, if-some, run_has}
 use Rattle.leased_ports.specs.declared.phases.Phase.{Phase}
 use Rattle.leased_ports.specs.declared.phases.Phase.TheVariants.{Holds, Rests, Over}
 use Rattle.leased_ports.specs.Leased.{Leased, leased, end_of, IsPortsOf, IsOnTerms}
-use Rattle.leased_ports.specs.Kept.{port_run, end_by, since, until, phase_at, phase_by, use_in, use_by, use_told, IsOn, AreInStep, HaveBegun}
+use Rattle.leased_ports.specs.Kept.{port_run, end_by, since, until, phase_at, phase_by, use_in, use_by, use_told, IsOn, IsSet, AreInStep, HaveBegun, AreSettled}
 use Rattle.leased_ports.specs.Falling.{NoneDue}
 use Rattle.leased_ports.specs.Counts.{count_below, is_held_after, held_since}
 use Rattle.leased_ports.specs.Frees.{IsFirst, is_over}
-use Rattle.leased_ports.specs.Plain.{is_plain, one_port, lesser, vacant_told, each_by, uses_by, pool_by}
+use Rattle.leased_ports.specs.Plain.{one_port, lesser, each_by, uses_by, pool_by, uses_now, held_now}
 use Rattle.leased_ports.specs.Laws.{IsPoolOnTerms}
+use Rattle.leased_ports.proofs.SpotLemmas.{in_spots, run_of_low, run_of_high}
 use Rattle.leased_ports.proofs.PhaseLemmas.{at-holds, at-rests, at-over, run_waits}
 use Rattle.leased_ports.proofs.PoolLemmas.{held-by}
 use Rattle.leased_ports.proofs.PickLemmas.{picks-state}
 use Rattle.leased_ports.proofs.CountLemmas.{count-same, count-split, count-some}
-use Rattle.leased_ports.proofs.ViewLemmas.{by_high, used_pool}
+use Rattle.leased_ports.proofs.ViewLemmas.{by_high, used_by, used_pool}
 
 -- ---- the first number that passes one of two tests
 
@@ -128,88 +131,6 @@ one-longest uses (Some run) h = (
   λ other t. h.least other (let one : 1 ≡ run.count = omega (arith, h.some, h.within) in subst (λ (k : ℕ). IsVacantRun uses k None other) one (one_vacant uses other t)),
 )
 
--- ---- what is answered to an ask for one port of which none is suggested
-
-abbrev pub any_ask : ℕ → PickAsk
-any_ask internal = record { internal = internal; suggested = 0; asked = 1; room = 1; parity = None; must = false; here = true }
-
-module _ (pool : Holdings) (e : Endpoint) (answer : Result Picked PickRefused) (is : IsPickAnswer pool e.address e.protocol (any_ask e.port) answer) where
-  -- an address below its quota by the counts gets the first vacant port
-  any_longest : (room : ℕ) → 1 ≡ room → (choice : Option Picked) → IsPick (uses_of pool e.protocol) e.address e.port 0 None room choice → IsLongest (uses_of pool e.protocol) None 1 choice
-  any_longest room one choice (suggestion some back same) = absurd (some refl)
-  any_longest room one choice (longest why most) = subst (λ (n : ℕ). IsLongest (uses_of pool e.protocol) None n choice) (sym one) most
-
-  any_first : (below : ports_held pool e.address < pool.quota) → IsFirst (is_vacant (uses_of pool e.protocol)) (option_map (λ (run : Picked). run.start) (is.pick below).choice)
-  any_first below =
-      let judged = is.pick below in
-      let one : 1 ≡ min 1 (pool.quota - ports_held pool e.address) = omega (arith, below) in
-      one-longest (uses_of pool e.protocol) judged.choice (any_longest (min 1 (pool.quota - ports_held pool e.address)) one judged.choice judged.is_pick)
-
-  not_full : ports_held pool e.address < pool.quota → (n : ℕ) → answer ≡ Err (Quota n) → ⊥
-  not_full below n told = by (is.pick below).choice (sym (is.pick below).is_answer ∙ told)
-    where
-      by : (choice : Option Picked) → answer_to (any_ask e.port) choice ≡ Err (Quota n) → ⊥
-      by None h = absurd (let no : NoPort ≡ Quota n = (let both : Err NoPort ≡ Err (Quota n) = h in cc) in cc)
-      by (Some run) h = absurd cc
-
-  full_or : (ports_held pool e.address < pool.quota) ⊎ (pool.quota ≤ ports_held pool e.address)
-  full_or = below_or_not (ports_held pool e.address) pool.quota
-
-  picked-below : (run : Picked) → answer ≡ Ok run → ports_held pool e.address < pool.quota
-  picked-below run told = elim full_or [
-    | inl below ↦ below
-    | inr full ↦ absurd (let no : Err (Quota (ports_held pool e.address)) ≡ Ok run = sym (is.quota full) ∙ told in cc)
-  ]
-
-  picked_step : (choice : Option Picked) (run : Picked) → answer_to (any_ask e.port) choice ≡ Ok run → choice ≡ Some run
-  picked_step None run h = absurd (let no : Err NoPort ≡ Ok run = h in cc)
-  picked_step (Some other) run h = let same : Ok other ≡ Ok run = h in cc
-
-  picked-first : (run : Picked) → answer ≡ Ok run → IsFirst (is_vacant (uses_of pool e.protocol)) (Some run.start)
-  picked-first run told =
-      let below = picked-below run told in
-      subst (λ (o : Option Picked). IsFirst (is_vacant (uses_of pool e.protocol)) (option_map (λ (x : Picked). x.start) o)) (picked_step (is.pick below).choice run (sym (is.pick below).is_answer ∙ told)) (any_first below)
-
-  refused-below : (refused : PickRefused) → answer ≡ Err refused → ((n : ℕ) → refused ≡ Quota n → ⊥) → ports_held pool e.address < pool.quota
-  refused-below refused told other = elim full_or [
-    | inl below ↦ below
-    | inr full ↦ absurd (other (ports_held pool e.address) (let same : Err (Quota (ports_held pool e.address)) ≡ Err refused = sym (is.quota full) ∙ told in cc))
-  ]
-
-  refused_step : (choice : Option Picked) (refused : PickRefused) → answer_to (any_ask e.port) choice ≡ Err refused → choice ≡ None
-  refused_step None refused h = refl
-  refused_step (Some run) refused h = absurd (let no : Ok run ≡ Err refused = h in cc)
-
-  refused-none : (refused : PickRefused) → answer ≡ Err refused → ((n : ℕ) → refused ≡ Quota n → ⊥) → IsFirst (is_vacant (uses_of pool e.protocol)) None
-  refused-none refused told other =
-      let below = refused-below refused told other in
-      subst (λ (o : Option Picked). IsFirst (is_vacant (uses_of pool e.protocol)) (option_map (λ (x : Picked). x.start) o)) (refused_step (is.pick below).choice refused (sym (is.pick below).is_answer ∙ told)) (any_first below)
-
-  refused-full : (n : ℕ) → answer ≡ Err (Quota n) → pool.quota ≤ ports_held pool e.address
-  refused-full n told = elim full_or [
-    | inl below ↦ absurd (not_full below n told)
-    | inr full ↦ full
-  ]
-
-  -- what is told of it
-  pub told-vacant : (x : Result Picked PickRefused) → answer ≡ x → IfOk (vacant_told x) (λ o. IsFirst (is_vacant (uses_of pool e.protocol)) o)
-  told-vacant (Ok run) told = picked-first run told
-  told-vacant (Err (Quota n)) told = tt
-  told-vacant (Err CannotProvide) told = refused-none CannotProvide told (λ n same. absurd (let no : CannotProvide ≡ Quota n = same in cc))
-  told-vacant (Err NoPort) told = refused-none NoPort told (λ n same. absurd (let no : NoPort ≡ Quota n = same in cc))
-
-  pub told-below : (x : Result Picked PickRefused) → answer ≡ x → IfOk (vacant_told x) (λ _. ports_held pool e.address < pool.quota)
-  told-below (Ok run) told = picked-below run told
-  told-below (Err (Quota n)) told = tt
-  told-below (Err CannotProvide) told = refused-below CannotProvide told (λ n same. absurd (let no : CannotProvide ≡ Quota n = same in cc))
-  told-below (Err NoPort) told = refused-below NoPort told (λ n same. absurd (let no : NoPort ≡ Quota n = same in cc))
-
-  pub told-full : (x : Result Picked PickRefused) → answer ≡ x → IfErr (vacant_told x) (λ _. pool.quota ≤ ports_held pool e.address)
-  told-full (Ok run) told = tt
-  told-full (Err (Quota n)) told = refused-full n told
-  told-full (Err CannotProvide) told = tt
-  told-full (Err NoPort) told = tt
-
 -- ---- what ports are used for at a moment
 
 module _ (m : ℕ) (runs : List (Run End)) (p : Protocol) where
@@ -233,11 +154,11 @@ module _ (m : ℕ) (runs : List (Run End)) (p : Protocol) where
   ]
 
 module _ (low high quota m : ℕ) (runs : List (Run End)) where
-  uses_same : (p : Protocol) → uses_of (pool_by low high quota m runs) p ≡ uses_by low high m runs p
+  pub uses_same : (p : Protocol) → uses_of (pool_by low high quota m runs) p ≡ uses_by low high m runs p
   uses_same Tcp = refl
   uses_same Udp = refl
 
-  use_same : (p : Protocol) (port : ℕ) → use_of (pool_by low high quota m runs) p port ≡ use_by m (end_by runs p port)
+  pub use_same : (p : Protocol) (port : ℕ) → use_of (pool_by low high quota m runs) p port ≡ use_by m (end_by runs p port)
   use_same p port = ap (λ (u : PortUses). use_at u.each port) (uses_same p) ∙ each-at m runs p port
 
   pub by-terms : (seen : ℕ) (terms : Terms) → IsOnTerms (leased low high quota seen m runs) terms → IsPoolOnTerms (pool_by low high quota m runs) terms
@@ -332,7 +253,7 @@ module _ (low high quota m : ℕ) (runs : List (Run End)) (pool : Holdings) (wai
       by true = begun (spot p port)
       by false = tt
 
-  in_range_same : (p : Protocol) (port : ℕ) → is_in_range (uses_of pool p).low (uses_of pool p).high port ≡ is_in_range low high port
+  pub in_range_same : (p : Protocol) (port : ℕ) → is_in_range (uses_of pool p).low (uses_of pool p).high port ≡ is_in_range low high port
   in_range_same Tcp port = ap (λ (n : ℕ). is_in_range n pool.tcp.high port) on.tcp_low ∙ ap (λ (n : ℕ). is_in_range low n port) on.tcp_high
   in_range_same Udp port = ap (λ (n : ℕ). is_in_range n pool.udp.high port) on.udp_low ∙ ap (λ (n : ℕ). is_in_range low n port) on.udp_high
 
@@ -349,6 +270,64 @@ module _ (low high quota m : ℕ) (runs : List (Run End)) (pool : Holdings) (wai
       ∙ ap (λ (t : Bool). (t && is_free_use (use_told waits (spot p port) (port_run runs p port))) || (is_in_range low high port && is_over m (port_run runs p port))) (sym (in_range_same p port))
       ∙ ap (λ (u : Use). (is_in_range (uses_of pool p).low (uses_of pool p).high port && is_free_use u) || (is_in_range low high port && is_over m (port_run runs p port))) (sym (is.used p port))
 
+  -- a run that has a port waits at that port or one below it
+  begins_below : (p : Protocol) (port : ℕ) (r : Run End) → run_at runs (spot p port) ≡ Some r → port < 65536 → (q : ℕ) × (q ≤ port) × (r.first ≡ spot p q)
+  begins_below p port r there low =
+      let set = if-some IsSet (run_at runs (spot p port)) r there (is.scheduled.set (spot p port)) in
+      let has : (same_protocol r.value.endpoint.protocol p && is_in_run r.value.external r.count port) ≡ true =
+      sym (in_spots r set p port low) ∙ run_has runs is.scheduled.apart (spot p port) r there in
+      let both = and_parts (same_protocol r.value.endpoint.protocol p) (is_in_run r.value.external r.count port) has in
+      let same : r.value.endpoint.protocol ≡ p = (same_protocol-Decides r.value.endpoint.protocol p).0 both.0 in
+      (r.value.external, in_from r.value.external r.count port both.1, set.first ∙ ap (λ (q : Protocol). spot q r.value.external) same)
+
+  over_phase : (end : ℕ) (f : Phase) → end + 120 ≤ m → ((expiry : ℕ) → until f end ≡ Some expiry → m < expiry) → f ≡ Over
+  over_phase end Holds over late = let less = late end refl in absurd (omega (arith, less, over))
+  over_phase end Rests over late = let less = late (end + 120) refl in absurd (omega (arith, less, over))
+  over_phase end Over over late = refl
+
+  abbrev NoneUpTo : Protocol → ℕ → Type 0
+  NoneUpTo p port = (q expiry : ℕ) → q ≤ port → get waits (spot p q) ≡ Some expiry → m < expiry
+
+  over_free : (p : Protocol) (port : ℕ) → port < 65536 → NoneUpTo p port → (r : Run End) → port_run runs p port ≡ Some r → is_over m (Some r) ≡ true → is_free_use (use_of pool p port) ≡ true
+  over_free p port low none r there over =
+      let at : run_at runs (spot p port) ≡ Some r = sym (run_of_low runs p port low) ∙ there in
+      let below = begins_below p port r at low in
+      let phase : phase_by waits r ≡ Over = over_phase r.value.end (phase_by waits r) (leb-true (r.value.end + 120) m over)
+      (λ expiry h. none below.0 expiry below.1 (ap (get waits) (sym below.2) ∙ run_waits runs waits is.scheduled (spot p port) r at ∙ h)) in
+      ap is_free_use (is.used p port ∙ ap (use_told waits (spot p port)) there ∙ ap (λ (f : Phase). use_along (spot p port - r.first) (use_in f r.value)) phase)
+
+  left_alone : (x r over : Bool) → (over ≡ true → x ≡ r) → (x || (r && over)) ≡ x
+  left_alone true r over h = refl
+  left_alone false r true h = let same : false ≡ r = h refl in ap (λ (t : Bool). t && true) (sym same)
+  left_alone false true false h = refl
+  left_alone false false false h = refl
+
+  none_over : (p : Protocol) (port : ℕ) → NoneUpTo p port → (o : Option (Run End)) → port_run runs p port ≡ o → is_over m o ≡ true → is_free_use (use_of pool p port) ≡ true
+  none_over p port none None there over = absurd (let no : false ≡ true = over in cc)
+  none_over p port none (Some r) there over = elim (below_or_not port 65536) [
+    | inl low ↦ over_free p port low none r there over
+    | inr high ↦ absurd (let no : None ≡ Some r = sym (run_of_high runs p port high) ∙ there in cc)
+  ]
+
+  -- where none is due that begins up to a port, the pool knows whether the port is vacant
+  pub vacant-known : (p : Protocol) (port : ℕ) → NoneUpTo p port → is_vacant (uses_by low high m runs p) port ≡ is_vacant (uses_of pool p) port
+  vacant-known p port none =
+      vacant-now p port ∙ left_alone (is_vacant (uses_of pool p) port) (is_in_range low high port) (is_over m (port_run runs p port)) (λ over.
+      ap (λ (t : Bool). is_in_range (uses_of pool p).low (uses_of pool p).high port && t) (none_over p port none (port_run runs p port) refl over)
+      ∙ and_true (is_in_range (uses_of pool p).low (uses_of pool p).high port) ∙ in_range_same p port)
+    where
+      and_true : (b : Bool) → (b && true) ≡ b
+      and_true true = refl
+      and_true false = refl
+
+  -- the first vacant port, of which the pool or the ends know
+  pub first-vacant : (p : Protocol) (known : Option Picked) (over : Option ℕ) → IsLongest (uses_of pool p) None 1 known → IsFirst (λ port. is_in_range low high port && is_over m (port_run runs p port)) over
+      → IsLongest (uses_by low high m runs p) None 1 (option_map one_port (lesser (option_map (λ (run : Picked). run.start) known) over))
+  first-vacant p known over first rested =
+      longest-one (uses_by low high m runs p) (lesser (option_map (λ (run : Picked). run.start) known) over)
+      (lesser-first (is_vacant (uses_of pool p)) (λ port. is_in_range low high port && is_over m (port_run runs p port)) (is_vacant (uses_by low high m runs p)) (vacant-now p)
+      (option_map (λ (run : Picked). run.start) known) over (one-longest (uses_of pool p) known first) rested)
+
   held_fewer : (who : Address) (p : Protocol) (each : List Use) → length each ≡ 65536 → ((port : ℕ) → use_at each port ≡ use_told waits (spot p port) (port_run runs p port))
       → count_by (is_held_by who) (each_by m runs p 65536) ≤ count_by (is_held_by who) each
   held_fewer who p each whole used =
@@ -363,6 +342,22 @@ module _ (low high quota m : ℕ) (runs : List (Run End)) (pool : Holdings) (wai
   held-now who =
       let tcp = held_fewer who Tcp pool.tcp.each is.whole.tcp (is.used Tcp) in
       let udp = held_fewer who Udp pool.udp.each is.whole.udp (is.used Udp) in
+      omega (arith, tcp, udp)
+
+  -- and as many where all is seen to
+  held_equal : AreSettled m runs waits → (who : Address) (p : Protocol) (each : List Use) → length each ≡ 65536 → ((port : ℕ) → use_at each port ≡ use_of pool p port)
+      → count_by (is_held_by who) (each_by m runs p 65536) ≡ count_by (is_held_by who) each
+  held_equal settled who p each whole same =
+      let now = count-uses (is_held_by who) (each_by m runs p 65536) ∙ ap (count_below (λ i. is_held_by who (use_at (each_by m runs p 65536) i))) (each_length m runs p 65536) in
+      let then_ = count-uses (is_held_by who) each ∙ ap (count_below (λ i. is_held_by who (use_at each i))) whole in
+      let one = count-same (λ i. is_held_by who (use_at (each_by m runs p 65536) i)) (λ i. is_held_by who (use_at each i)) 65536 (λ i less.
+      ap (is_held_by who) (each-at m runs p i ∙ sym (used_by m runs pool waits is settled p i) ∙ sym (same i))) in
+      omega (arith, now, then_, one)
+
+  pub held-settled : AreSettled m runs waits → (who : Address) → ports_held (pool_by low high quota m runs) who ≡ ports_held pool who
+  held-settled settled who =
+      let tcp = held_equal settled who Tcp pool.tcp.each is.whole.tcp (λ port. refl) in
+      let udp = held_equal settled who Udp pool.udp.each is.whole.udp (λ port. refl) in
       omega (arith, tcp, udp)
 
   module _ (seen : ℕ) (late : NoneDue seen waits) where
@@ -391,98 +386,53 @@ module _ (low high quota m : ℕ) (runs : List (Run End)) (pool : Holdings) (wai
         let udp = held_of who Udp pool.udp.each is.whole.udp (is.used Udp) in
         omega (arith, tcp, udp)
 
-    -- ---- the pick
+-- ---- what is answered by last ends
 
-    module _ (e : Endpoint) (ask : PickAsk) (plain : is_plain ask ≡ true) (internal : ask.internal ≡ e.port) (below : ports_held pool e.address < quota) where
-      plain_room : ask.room ≡ 1
-      plain_room = eqb-true ask.room 1 (and_parts (ask.room == 1) (is_none ask.parity) plain).0
+abbrev pool_now : Leased → Holdings
+pool_now v = pool_by v.low v.high v.quota v.reached v.runs
 
-      no_parity : (o : Option ℕ) → is_none o ≡ true → None ≡ o
-      no_parity None h = refl
-      no_parity (Some k) h = absurd (let no : false ≡ true = h in cc)
+module _ (v : Leased) (e : Endpoint) (ask : PickAsk) (internal : ask.internal ≡ e.port) where
+  answered : (answer : Result Picked PickRefused) → IsPickAnswer (pool_now v) e.address e.protocol ask answer → (terms : Terms) (s : State) → IsReached s → IsPortsOf v s → IsOnTerms v terms → IsAsk ask
+      → answer ≡ pick_answer terms s v.reached e ask
+  answered answer is terms s reached ports of_terms asks =
+      picks-state (pool_now v) terms s v.reached e ask answer
+      (used_pool v.low v.high v.quota v.settled v.reached v.runs (pool_now v) (λ p port. use_same v.low v.high v.quota v.reached v.runs p port) s reached (record { passed = ports.passed; same = ports.same }))
+      (by-terms v.low v.high v.quota v.reached v.runs v.settled terms (record { low = of_terms.low; high = of_terms.high; quota = of_terms.quota })) asks internal is
 
-      plain_parity : None ≡ ask.parity
-      plain_parity = no_parity ask.parity (and_parts (ask.room == 1) (is_none ask.parity) plain).1
+  -- an address that has its quota is refused
+  pub refused-now : (owned : ℕ) → owned ≡ held_now v e.address → v.quota ≤ owned → (terms : Terms) (s : State) → IsReached s → IsPortsOf v s → IsOnTerms v terms → IsAsk ask
+      → Err (Quota owned) ≡ pick_answer terms s v.reached e ask
+  refused-now owned same full =
+      answered (Err (Quota owned)) (record {
+        quota = λ more. ap (λ (n : ℕ). Err (Quota n)) same;
+        pick = λ below. absurd (omega (arith, same, full, below));
+      })
 
-      abbrev now : Holdings
-      now = pool_by low high quota m runs
+  -- another one gets the pick with the room that the quota leaves
+  pub picked-now : (room : ℕ) (choice : Option Picked) → held_now v e.address < v.quota → room ≡ min ask.room (v.quota - held_now v e.address)
+      → IsPick (uses_now v e.protocol) e.address e.port ask.suggested ask.parity room choice
+      → (terms : Terms) (s : State) → IsReached s → IsPortsOf v s → IsOnTerms v terms → IsAsk ask → answer_to ask choice ≡ pick_answer terms s v.reached e ask
+  picked-now room choice below fits is_pick =
+      answered (answer_to ask choice) (record {
+        quota = λ full. absurd (omega (arith, full, below));
+        pick = λ less. record {
+          choice = choice;
+          is_pick = subst (λ (u : PortUses). IsPick u e.address ask.internal ask.suggested ask.parity (min ask.room (v.quota - held_now v e.address)) choice) (sym (uses_same v.low v.high v.quota v.reached v.runs e.protocol))
+              (subst (λ (n : ℕ). IsPick (uses_now v e.protocol) e.address n ask.suggested ask.parity (min ask.room (v.quota - held_now v e.address)) choice) (sym internal)
+              (subst (λ (n : ℕ). IsPick (uses_now v e.protocol) e.address e.port ask.suggested ask.parity n choice) fits is_pick));
+          is_answer = refl;
+        };
+      })
 
-      room_one : 1 ≡ min ask.room (quota - ports_held now e.address)
-      room_one = let fewer = held-now e.address in omega (arith, plain_room, fewer, below)
-
-      abbrev uses : PortUses
-      uses = uses_by low high m runs e.protocol
-
-      -- a pick of one port is the answer that it is judged by
-      judged : (choice : Option Picked) → IsPick uses e.address e.port ask.suggested None 1 choice → (terms : Terms) (s : State) → IsReached s → IsPortsOf view s → IsOnTerms view terms → IsAsk ask
-          → answer_to ask choice ≡ pick_answer terms s m e ask
-      judged choice is_pick terms s reached ports of_terms asks =
-          picks-state now terms s m e ask (answer_to ask choice)
-          (used_pool low high quota seen m runs now (λ p port. use_same low high quota m runs p port) s reached ports)
-          (by-terms low high quota m runs seen terms of_terms) asks internal (record {
-            quota = λ full. let fewer = held-now e.address in absurd (omega (arith, full, fewer, below));
-            pick = λ less. record {
-              choice = choice;
-              is_pick = subst (λ (u : PortUses). IsPick u e.address ask.internal ask.suggested ask.parity (min ask.room (quota - ports_held now e.address)) choice) (sym (uses_same low high quota m runs e.protocol))
-                  (subst (λ (n : ℕ). IsPick uses e.address n ask.suggested ask.parity (min ask.room (quota - ports_held now e.address)) choice) (sym internal)
-                  (subst (λ (o : Option ℕ). IsPick uses e.address e.port ask.suggested o (min ask.room (quota - ports_held now e.address)) choice) plain_parity
-                  (subst (λ (n : ℕ). IsPick uses e.address e.port ask.suggested None n choice) room_one is_pick)));
-              is_answer = refl;
-            };
-          })
-
-      abbrev opens : ℕ → Bool
-      opens port = is_in_range low high port && is_free_to e.address e.port (use_by m (end_by runs e.protocol port))
-
-      opens_same : (port : ℕ) → is_open uses e.address e.port port ≡ opens port
-      opens_same port = ap (λ (u : Use). is_in_range low high port && is_free_to e.address e.port u) (each-at m runs e.protocol port)
-
-      goes : (port : ℕ) → opens port ≡ true → GoesBack uses e.address e.port None port 1
-      goes port h = record {
-        opened = λ i few.
-            let none : 0 ≡ i = omega (arith, few) in
-            subst (λ (k : ℕ). is_open uses e.address (e.port + k) (port + k) ≡ true) none
-            (let inner : e.port ≡ e.port + 0 = omega arith in
-            let outer : port ≡ port + 0 = omega arith in
-            subst (λ (k : ℕ). is_open uses e.address k (port + 0) ≡ true) inner (subst (λ (k : ℕ). is_open uses e.address e.port k ≡ true) outer (opens_same port ∙ h)));
-        remainder = tt;
-      }
-
-      went : (port : ℕ) → GoesBack uses e.address e.port None port 1 → opens port ≡ true
-      went port h =
-          let inner : e.port + 0 ≡ e.port = omega arith in
-          let outer : port + 0 ≡ port = omega arith in
-          sym (opens_same port) ∙ subst (λ (k : ℕ). is_open uses e.address e.port k ≡ true) outer (subst (λ (k : ℕ). is_open uses e.address k (port + 0) ≡ true) inner (h.opened 0 (omega arith)))
-
-      -- the suggested port where it is open
-      pub suggested-pick : (not (ask.suggested == 0) && opens ask.suggested) ≡ true → IsPick uses e.address e.port ask.suggested None 1 (Some (one_port ask.suggested))
-      suggested-pick h =
-          let both = and_parts (not (ask.suggested == 0)) (opens ask.suggested) h in
-          suggestion (λ same. absurd (let no : not (ask.suggested == 0) ≡ false = ap not (eq_test same) in let both_ : true ≡ false = sym both.0 ∙ no in cc)) (goes ask.suggested both.1) refl
-        where
-          eq_test : ask.suggested ≡ 0 → (ask.suggested == 0) ≡ true
-          eq_test same = ap (λ (n : ℕ). n == 0) same
-
-      -- else the first vacant one
-      pub vacant-pick : (not (ask.suggested == 0) && opens ask.suggested) ≡ false → (known over : Option ℕ) → IsFirst (is_vacant (uses_of pool e.protocol)) known
-          → IsFirst (λ port. is_in_range low high port && is_over m (port_run runs e.protocol port)) over
-          → IsPick uses e.address e.port ask.suggested None 1 (option_map one_port (lesser known over))
-      vacant-pick h known over first rested =
-          longest (by (ask.suggested == 0) refl) (longest-one uses (lesser known over)
-          (lesser-first (is_vacant (uses_of pool e.protocol)) (λ port. is_in_range low high port && is_over m (port_run runs e.protocol port)) (is_vacant uses) (vacant-now e.protocol) known over first rested))
-        where
-          by : (t : Bool) → (ask.suggested == 0) ≡ t → (ask.suggested ≡ 0) ⊎ (¬ GoesBack uses e.address e.port None ask.suggested 1)
-          by true t = inl (eqb-true ask.suggested 0 t)
-          by false t = inr (λ back.
-              let is_so : (not (ask.suggested == 0) && opens ask.suggested) ≡ true = and_from _ _ (ap not t) (went ask.suggested back) in
-              absurd (let no : true ≡ false = sym is_so ∙ h in cc))
-
-      pub plain-suggested : (not (ask.suggested == 0) && opens ask.suggested) ≡ true → (terms : Terms) (s : State) → IsReached s → IsPortsOf view s → IsOnTerms view terms → IsAsk ask
-          → answer_to ask (Some (one_port ask.suggested)) ≡ pick_answer terms s m e ask
-      plain-suggested h = judged (Some (one_port ask.suggested)) (suggested-pick h)
-
-      pub plain-vacant : (not (ask.suggested == 0) && opens ask.suggested) ≡ false → (known over : Option ℕ) → IsFirst (is_vacant (uses_of pool e.protocol)) known
-          → IsFirst (λ port. is_in_range low high port && is_over m (port_run runs e.protocol port)) over
-          → (terms : Terms) (s : State) → IsReached s → IsPortsOf view s → IsOnTerms view terms → IsAsk ask
-          → answer_to ask (option_map one_port (lesser known over)) ≡ pick_answer terms s m e ask
-      plain-vacant h known over first rested = judged (option_map one_port (lesser known over)) (vacant-pick h known over first rested)
+-- what is answered tells the choice
+pub answer-ok : (ask : PickAsk) (choice : Option Picked) (P : Picked → Type 0) → IfSome choice P → IfOk (answer_to ask choice) P
+answer-ok ask None P h = by (ask.must && true)
+  where
+    by : (b : Bool) → IfOk (cond {A = Result Picked PickRefused} b (Err CannotProvide) (Err NoPort)) P
+    by true = tt
+    by false = tt
+answer-ok ask (Some run) P h = by (ask.must && not (is_as_asked ask (Some run)))
+  where
+    by : (b : Bool) → IfOk (cond {A = Result Picked PickRefused} b (Err CannotProvide) (Ok run)) P
+    by true = tt
+    by false = h

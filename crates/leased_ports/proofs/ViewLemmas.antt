@@ -145,7 +145,7 @@ module _ (m : ℕ) (runs : List (Run End)) (pool : Holdings) (waits : FinMap nat
   use_step_by p port true = settled_use m (spot p port) waits (run_at runs (spot p port)) (settled (spot p port))
   use_step_by p port false = refl
 
-  used_by : (p : Protocol) (port : ℕ) → use_of pool p port ≡ use_by m (end_by runs p port)
+  pub used_by : (p : Protocol) (port : ℕ) → use_of pool p port ≡ use_by m (end_by runs p port)
   used_by p port = is.used p port ∙ use_step_by p port (nat_lt port 65536)
 
   pub kept_pool : (low high quota seen : ℕ) (s : State) → IsReached s → IsPortsOf (leased low high quota seen m runs) s → IsPoolOf pool s m

@@ -1,5 +1,5 @@
 -- How many runs fall due (our own).
-use Rattle.std.specs.Prelude.{◌≡◌, ℕ, ◌+◌, ◌<◌, Bool, false, zero, suc, Option, Some, None, nat_le, if◌then◌else◌}
+use Rattle.std.specs.Prelude.{◌≡◌, ℕ, ◌+◌, ◌<◌, ◌≤◌, Bool, false, zero, suc, Option, Some, None, nat_le, if◌then◌else◌}
 use Rattle.std.specs.Ordering.{nat_cmp}
 use Rattle.std.specs.FinMap.{FinMap, get}
 
@@ -7,6 +7,12 @@ use Rattle.std.specs.FinMap.{FinMap, get}
 abbrev pub is_due : ℕ → Option ℕ → Bool
 is_due m None = false
 is_due m (Some expiry) = nat_le expiry m
+
+-- what waits under an id falls due by m
+pub record IsDueAt (m : ℕ) (waits : FinMap nat_cmp ℕ) (id : ℕ) : Type 0 where
+  pub expiry : ℕ
+  pub expires : get waits id ≡ Some expiry
+  pub due : expiry ≤ m
 
 -- nothing that waits falls due by m
 abbrev pub NoneDue : ℕ → FinMap nat_cmp ℕ → Type 0

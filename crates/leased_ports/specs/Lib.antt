@@ -8,6 +8,7 @@ pub mod Falling
 pub mod Counts
 pub mod Frees
 pub mod Plain
+pub mod Searching
 pub mod Listed
 pub mod Recorded
 pub mod Laws

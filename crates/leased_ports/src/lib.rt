@@ -6,6 +6,7 @@ mod falls;
 pub mod laws;
 mod listing;
 mod phases;
+mod picks;
 mod pieces;
 mod plain;
 mod ports;

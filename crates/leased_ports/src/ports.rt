@@ -1,6 +1,6 @@
 //! The ports of an external address at a moment.
 
-ghost use Rattle.std.specs.Prelude.{◌≡◌, ◌⊎◌, ◌≤◌, ◌<◌, ◌+◌, ◌-◌, ◌*◌, ◌&&◌, ◌++◌, ℕ, [], true, map, Some, None, IfOk, IfSome, IfNone, OnOk, OnErr, if◌then◌else◌};
+ghost use Rattle.std.specs.Prelude.{◌≡◌, ◌≢◌, ◌⊎◌, ◌≤◌, ◌<◌, ◌+◌, ◌-◌, ◌*◌, ◌&&◌, ◌++◌, ℕ, [], map, min, Some, None, IfOk, IfErr, IfSome, IfNone, OnOk, OnErr, if◌then◌else◌};
 ghost use Rattle.std.specs.Bool.{OnTrue, OnFalse};
 ghost use Rattle.std.specs.FinMap as fin;
 ghost use Rattle.pcp_base.specs.declared.leases.Protocol.{Protocol};
@@ -12,6 +12,7 @@ ghost use Rattle.pcp_base.specs.States.{State};
 ghost use Rattle.pcp_base.specs.Reached.{IsReached};
 ghost use Rattle.external_pool.specs.Holdings.{emptied};
 ghost use Rattle.external_pool.specs.Calls.{IsAsk};
+ghost use Rattle.external_pool.specs.Choosing.{GoesBack, IsLongest};
 ghost use Rattle.lease_store.specs.declared.terms.Terms.{Terms};
 ghost use Rattle.lease_store.specs.Picks.{pick_answer};
 ghost use Rattle.leased_ports.specs.Leased.{AreLastEnds, IsLastEnd, IsPortsOf, IsOnTerms, OnlyEndsChange, as_settled, at_moment, end_of, fresh_ports, vacated, while_recent};
@@ -21,9 +22,11 @@ ghost use Rattle.port_spans.specs.Runs.{run_at};
 ghost use Rattle.port_spans.specs.declared.runs.Run.{Run};
 ghost use Rattle.pcp_base.specs.declared.leases.End.{End};
 ghost use Rattle.leased_ports.specs.Among.{runs_among};
-ghost use Rattle.leased_ports.specs.Counts.{held_since, ports_due};
-ghost use Rattle.leased_ports.specs.Plain.{is_plain};
+ghost use Rattle.leased_ports.specs.Counts.{due_before, held_since, ports_due};
+ghost use Rattle.leased_ports.specs.Plain.{held_now, is_plain, uses_now};
 ghost use Rattle.leased_ports.specs.declared.plain.TheConstants.{PLAIN_STEPS};
+ghost use Rattle.leased_ports.specs.declared.picks.TheConstants.{DUE_STEPS, SEARCH_STEPS};
+ghost use Rattle.leased_ports.specs.declared.ports.TheConstants.{PICK_STEPS};
 ghost use Rattle.leased_ports.specs.Falling.{NoneDue};
 ghost use Rattle.leased_ports.specs.declared.falls.TheConstants.{MOST_RUNS, RUN_STEPS};
 ghost use Rattle.leased_ports.specs.declared.steps.TheConstants.{FREE_STEPS, PUT_STEPS, TAKEN_STEPS};
@@ -34,19 +37,25 @@ ghost use Rattle.leased_ports.specs.Steps.{AreAssigned, IsOwnRun, last_along, no
 
 use crate::falls::{see_to_all, see_to_some};
 use crate::listing::{append_records, copy};
+use crate::picks::{goes_back, seek};
 use crate::pieces::{Piece, piece_at};
-use crate::plain::{first_over, first_vacant, goes_back, is_plain, judge, lesser};
+use crate::plain::{first_over, is_one_port, lesser, one_port, start_of};
 use crate::recent::recent_end;
 use crate::steps::{free, insert, renew};
 use crate::timed_ends::TimedEnds;
 use expiry_wheel::Wheel;
-use external_pool::{PickAsk, PickRefused, Picked, Pool};
-use pcp_base::{End, Endpoint, Memory, Moment, Protocol, Record};
+use external_pool::{PickAsk, PickRefused, Picked, Vacancies, judge};
+use pcp_base::{Address, End, Endpoint, Memory, Moment, Protocol, Record};
 use port_spans::{Run, spot, spot_of};
 use std::alloc::Global;
 use std::marker::Model;
 use std::sync::ledger::Ledger;
 use step_count::Steps;
+
+/// How many steps a pick takes at most, beside one for each port that is suggested and those for
+/// what is due: twice 64 for the count of its address, one where nothing is due any more, and 113
+/// for vacant ports.
+pub const PICK_STEPS: u64 = 242;
 
 /// The ports of an external address at the moment reached.
 ///
@@ -54,8 +63,8 @@ use step_count::Steps;
 /// and the runs of ports with their last ends. A port is held by its last endpoint until the end,
 /// and for 120 seconds more it rests for it; then it is free, and its last end stays known until it
 /// gets another. Ports that are given their last ends together are kept as one run, also in memory,
-/// until a part of them gets others. What falls due is seen to a few runs at a time, and all of it
-/// before a pick that needs it.
+/// until a part of them gets others. What falls due is seen to a few runs at a time, and before a
+/// pick as far as it may change what is picked.
 #[derive(Drop)]
 pub struct LeasedPorts {
     low: u16,
@@ -65,7 +74,7 @@ pub struct LeasedPorts {
     settled: u64,
     reached: u64,
     ends: TimedEnds,
-    pool: Pool,
+    pool: Vacancies,
     wheel: Wheel,
 }
 
@@ -114,7 +123,7 @@ fn own_run(ends: &TimedEnds, first: &End, count: u32) -> Option<Run<End>>
 /// Gives ports in a row these last ends, and uses them so. Where memory is wanting, nothing is said
 /// but the pool's range.
 fn assign<L: Ledger>(
-    pool: &mut Pool,
+    pool: &mut Vacancies,
     wheel: &mut Wheel,
     ends: &mut TimedEnds,
     alloc: Global,
@@ -156,7 +165,7 @@ fn assign<L: Ledger>(
 
 /// Frees ports in a row. Where memory is wanting, nothing is said but the pool's range.
 fn release<L: Ledger>(
-    pool: &mut Pool,
+    pool: &mut Vacancies,
     wheel: &mut Wheel,
     ends: &mut TimedEnds,
     alloc: Global,
@@ -192,7 +201,7 @@ fn release<L: Ledger>(
 }
 
 /// How many ports one is, of these external and internal ones.
-fn one_port(_external: u16, _internal: u16) -> u32
+fn single(_external: u16, _internal: u16) -> u32
     ensures one { result ≡ 1 }
     ensures external { _external + result ≤ 65536 }
     ensures internal { _internal + result ≤ 65536 }
@@ -201,7 +210,7 @@ fn one_port(_external: u16, _internal: u16) -> u32
 }
 
 /// Forgets all ports.
-fn vacate(pool: &mut Pool, wheel: &mut Wheel, ends: &mut TimedEnds)
+fn vacate(pool: &mut Vacancies, wheel: &mut Wheel, ends: &mut TimedEnds)
     ensures pool { pool.new ≡ emptied pool.old }
     ensures wheel { wheel.new ≡ fin.empty }
     ensures ends { ends.new ≡ [] }
@@ -226,7 +235,7 @@ impl LeasedPorts {
             settled: 0,
             reached: 0,
             ends: TimedEnds::new(alloc)?,
-            pool: Pool::new(alloc, low, high, quota)?,
+            pool: Vacancies::new(alloc, low, high, quota)?,
             wheel: Wheel::new(alloc)?,
         })
     }
@@ -241,9 +250,9 @@ impl LeasedPorts {
     }
 
     /// Moves on to a moment that isn't below the one reached. Of the runs of ports that go to rest
-    /// or awake by then it sees to 64 at most, whatever falls due; the others wait for later calls.
-    /// Where something falls due at fewer ports, it sees to all. One step is taken where nothing
-    /// falls due, and steps for each run that is seen to. It takes no memory.
+    /// or awake by then it sees to four at most, whatever falls due; the others wait for later
+    /// calls. Where something falls due at fewer ports, it sees to all. One step is taken where
+    /// nothing falls due, and steps for each run that is seen to. It takes no memory.
     pub fn reach<L: Ledger>(&mut self, m: Moment, steps: &mut Steps<L>)
         requires { self.old.reached ≤ m }
         ensures moved { self.new
@@ -272,6 +281,7 @@ impl LeasedPorts {
     /// something fell due since all was seen to last.
     pub fn settle<L: Ledger>(&mut self, steps: &mut Steps<L>)
         ensures settled { self.new ≡ as_settled self.old }
+        ensures from { self.old.settled ≤ self.new.settled }
         ensures steps { steps.new ≤ steps.old + 1 + (23 + RUN_STEPS) * ports_due self.old }
     {
         see_to_all(
@@ -303,7 +313,7 @@ impl LeasedPorts {
         ensures err { OnErr result (self.new ≡ vacated self.old) }
         ensures steps { steps.new ≤ steps.old + PUT_STEPS + TAKEN_STEPS }
     {
-        let one = one_port(last.external, last.endpoint.port);
+        let one = single(last.external, last.endpoint.port);
         self.put_run(alloc, last, one, steps)
     }
 
@@ -436,64 +446,210 @@ impl LeasedPorts {
         piece_at(&self.ends, protocol, start, most, self.reached)
     }
 
-    /// The answer to an ask for one port of any parity, though what is due isn't seen to. None
-    /// where the counts have the endpoint's address at its quota, of which some ports may rest by
-    /// now.
-    fn plain_answer<L: Ledger>(
+    /// Whether the quota leaves this many ports to an address by the counts, which may have ports
+    /// that rest by now.
+    fn has_room<L: Ledger>(&self, who: &Address, most: u32, steps: &mut Steps<L>) -> bool
+        requires some { 1 ≤ most }
+        ensures yes { OnTrue result (held_now self.now who.now + most ≤ self.now.quota) }
+        ensures no { OnFalse result (self.now.quota < held_since self.now who.now + most) }
+        ensures steps { steps.new ≤ steps.old + 64 }
+    {
+        let Ok(left) = self.pool.room_for(who, steps) else {
+            return false;
+        };
+        most <= left
+    }
+
+    /// How many ports, of at most so many, the quota leaves to an address where all that is due is
+    /// seen to. Where it has its quota, how many it has.
+    fn room_left<L: Ledger>(
+        &self,
+        who: &Address,
+        most: u32,
+        steps: &mut Steps<L>,
+    ) -> Result<u32, u32>
+        requires settled { self.now.settled ≡ self.now.reached }
+        ensures below { IfOk result (λ _. held_now self.now who.now < self.now.quota) }
+        ensures room { IfOk result (λ room.
+            room ≡ min most (self.now.quota - held_now self.now who.now)) }
+        ensures owned { IfErr result (λ owned. owned ≡ held_now self.now who.now) }
+        ensures full { IfErr result (λ owned. self.now.quota ≤ owned) }
+        ensures steps { steps.new ≤ steps.old + 64 }
+    {
+        match self.pool.room_for(who, steps) {
+            Ok(left) => Ok(most.min(left)),
+            Err(owned) => Err(owned),
+        }
+    }
+
+    /// Whether ports are suggested, and `n` from the suggested one on go back to their endpoints.
+    fn goes_back<L: Ledger>(
         &self,
         endpoint: &Endpoint,
         ask: &PickAsk,
+        n: u32,
         steps: &mut Steps<L>,
-    ) -> Option<Result<Picked, PickRefused>>
-        requires ask { IsAsk ask.now }
-        requires plain { is_plain ask.now ≡ true }
-        requires internal { ask.now.internal ≡ endpoint.now.port }
-        ensures pick { IfSome result (λ answer. (terms : Terms) (s : State) →
-            IsReached s → IsPortsOf self.now s → IsOnTerms self.now terms →
-            answer ≡ pick_answer terms s self.now.reached endpoint.now ask.now) }
-        ensures quota { IfNone result (
-            self.now.quota ≤ held_since self.now endpoint.now.address) }
-        ensures steps { steps.new ≤ steps.old + PLAIN_STEPS }
+    ) -> bool
+        ensures some { OnTrue result (ask.now.suggested ≢ 0) }
+        ensures back { OnTrue result (GoesBack (uses_now self.now endpoint.now.protocol)
+            endpoint.now.address endpoint.now.port ask.now.parity ask.now.suggested n) }
+        ensures other { OnFalse result ((ask.now.suggested ≡ 0)
+            ⊎ (¬ GoesBack (uses_now self.now endpoint.now.protocol)
+            endpoint.now.address endpoint.now.port ask.now.parity ask.now.suggested n)) }
+        ensures steps { steps.new ≤ steps.old + n }
     {
-        let Ok(known) = first_vacant(&self.pool, endpoint, steps) else {
-            return None;
-        };
         let ends = &self.ends;
         let (low, high, m) = (self.low, self.high, self.reached);
-        if goes_back(ends, low, high, m, endpoint, ask.suggested, steps) {
-            return Some(judge(ask, Some(ask.suggested)));
+        if ask.suggested == 0 {
+            return false;
         }
-        let over = first_over(ends, low, high, m, endpoint.protocol, steps);
-        Some(judge(ask, lesser(known, over)))
+        goes_back(
+            ends,
+            low,
+            high,
+            m,
+            endpoint,
+            ask.suggested,
+            n,
+            ask.parity,
+            steps,
+        )
     }
 
-    /// The answer to an ask, where all that is due is seen to.
-    fn settled_answer<L: Ledger>(
-        &self,
+    /// The first vacant port of a protocol, though what is due isn't seen to.
+    fn first_vacant<L: Ledger>(&self, protocol: Protocol, steps: &mut Steps<L>) -> Option<Picked>
+        ensures first { IsLongest (uses_now self.now protocol) None 1 result }
+        ensures steps { steps.new ≤ steps.old + SEARCH_STEPS }
+    {
+        let known = self.pool.longest(protocol, 1, None, steps);
+        let (low, high, m) = (self.low, self.high, self.reached);
+        let over = first_over(&self.ends, low, high, m, protocol, steps);
+        one_port(lesser(start_of(known), over))
+    }
+
+    /// The longest run of vacant ports of a protocol, of at most `room`, and of these the one with
+    /// the least start. What is due is seen to as far as it may change that.
+    fn seek<L: Ledger>(
+        &mut self,
+        protocol: Protocol,
+        room: u32,
+        parity: Option<u8>,
+        steps: &mut Steps<L>,
+    ) -> Option<Picked>
+        ensures same { self.new ≡ self.old }
+        ensures longest { IsLongest (uses_now self.old protocol) parity room result }
+        ensures steps { steps.new ≤ steps.old + SEARCH_STEPS + DUE_STEPS * ports_due self.old }
+        ensures near { IfSome result (λ run. run.count ≡ room → steps.new ≤ steps.old
+            + SEARCH_STEPS + DUE_STEPS * due_before self.old protocol (run.start + run.count)) }
+    {
+        seek(
+            &mut self.pool,
+            &mut self.wheel,
+            &self.ends,
+            self.high,
+            self.reached,
+            protocol,
+            room,
+            parity,
+            steps,
+        )
+    }
+
+    /// The same, without a look at what is due where it is one port of any parity.
+    fn longest<L: Ledger>(
+        &mut self,
+        protocol: Protocol,
+        room: u32,
+        parity: Option<u8>,
+        steps: &mut Steps<L>,
+    ) -> Option<Picked>
+        ensures same { self.new ≡ self.old }
+        ensures longest { IsLongest (uses_now self.old protocol) parity room result }
+        ensures steps { steps.new ≤ steps.old + SEARCH_STEPS + DUE_STEPS * ports_due self.old }
+        ensures near { IfSome result (λ run. run.count ≡ room → steps.new ≤ steps.old
+            + SEARCH_STEPS + DUE_STEPS * due_before self.old protocol (run.start + run.count)) }
+        ensures plain { room ≡ 1 → parity ≡ None → steps.new ≤ steps.old + SEARCH_STEPS }
+    {
+        if is_one_port(room, parity) {
+            return self.first_vacant(protocol, steps);
+        }
+        self.seek(protocol, room, parity, steps)
+    }
+
+    /// The answer to an ask with the room that the quota leaves.
+    fn pick_with<L: Ledger>(
+        &mut self,
+        endpoint: &Endpoint,
+        ask: &PickAsk,
+        room: u32,
+        steps: &mut Steps<L>,
+    ) -> Result<Picked, PickRefused>
+        requires ask { IsAsk ask.now }
+        requires internal { ask.now.internal ≡ endpoint.now.port }
+        requires below { held_now self.old endpoint.now.address < self.old.quota }
+        requires room { room ≡ min ask.now.room
+            (self.old.quota - held_now self.old endpoint.now.address) }
+        ensures same { self.new ≡ self.old }
+        ensures pick { (terms : Terms) (s : State) →
+            IsReached s → IsPortsOf self.old s → IsOnTerms self.old terms →
+            result ≡ pick_answer terms s self.old.reached endpoint.now ask.now }
+        ensures steps { steps.new
+            ≤ steps.old + SEARCH_STEPS + ask.now.room + DUE_STEPS * ports_due self.old }
+        ensures near { IfOk result (λ run. run.count ≡ room → steps.new
+            ≤ steps.old + SEARCH_STEPS + room
+            + DUE_STEPS * due_before self.old endpoint.now.protocol (run.start + run.count)) }
+        ensures plain { OnTrue (is_plain ask.now) (steps.new ≤ steps.old + SEARCH_STEPS + 1) }
+    {
+        if self.goes_back(endpoint, ask, room, steps) {
+            return judge(
+                ask,
+                Some(Picked {
+                    start: ask.suggested,
+                    count: room,
+                }),
+            );
+        }
+        let choice = self.longest(endpoint.protocol, room, ask.parity, steps);
+        judge(ask, choice)
+    }
+
+    /// The answer to an ask where all that is due is seen to first, since the counts don't leave
+    /// what it has room for.
+    fn pick_settled<L: Ledger>(
+        &mut self,
         endpoint: &Endpoint,
         ask: &PickAsk,
         steps: &mut Steps<L>,
     ) -> Result<Picked, PickRefused>
         requires ask { IsAsk ask.now }
         requires internal { ask.now.internal ≡ endpoint.now.port }
-        requires settled { self.now.settled ≡ self.now.reached }
+        ensures settled { self.new ≡ as_settled self.old }
+        ensures from { self.old.settled ≤ self.new.settled }
         ensures pick { (terms : Terms) (s : State) →
-            IsReached s → IsPortsOf self.now s → IsOnTerms self.now terms →
-            result ≡ pick_answer terms s self.now.reached endpoint.now ask.now }
-        ensures steps { steps.new ≤ steps.old + 133 + ask.now.room }
+            IsReached s → IsPortsOf self.old s → IsOnTerms self.old terms →
+            result ≡ pick_answer terms s self.old.reached endpoint.now ask.now }
+        ensures steps { steps.new ≤ steps.old + 65 + SEARCH_STEPS + ask.now.room
+            + (23 + RUN_STEPS) * ports_due self.old }
     {
-        self.pool
-            .pick(&endpoint.address, endpoint.protocol, ask, steps)
+        self.settle(steps);
+        match self.room_left(&endpoint.address, ask.room, steps) {
+            Ok(room) => self.pick_with(endpoint, ask, room, steps),
+            Err(owned) => Err(PickRefused::Quota(owned)),
+        }
     }
 
-    /// The ports that would be given, the first one to this endpoint, by the rules of
-    /// [`Pool::pick`](external_pool::Pool::pick). It takes no memory.
+    /// The ports that would be given, the first one to this endpoint. They are those suggested,
+    /// where each of them is open to the endpoint that it would go to and the first meets the
+    /// parity asked. Else they are the longest run of vacant ports whose first meets it, of at most
+    /// the room and of what the quota leaves, and of these runs the one with the least start. The
+    /// refusal is the first of [`PickRefused`] that applies. It takes no memory.
     ///
-    /// An ask for one port of any parity is answered in a constant number of steps, whatever is
-    /// due, where the address has fewer ports than its quota by the counts: at most those whose
-    /// last ends are its own and come after the moment by which all was seen to. Any other ask
-    /// first sees to what is due, as [`LeasedPorts::settle`] does; where nothing is, that is one
-    /// step at most. The bound has `room` steps for ports that are suggested, also where none is.
+    /// Where the counts leave the address what the ask has room for, no run is seen to that begins
+    /// behind the picked ports, if these are all that there is room for, and none at all for one
+    /// port of any parity. Else all that is due is seen to first, as by
+    /// [`settle`](LeasedPorts::settle). The counts have at most the ports whose last ends are the
+    /// address's own and come after the moment by which all was seen to. The bounds have `room`
+    /// steps for ports that are suggested, also where none is.
     pub fn pick<L: Ledger>(
         &mut self,
         endpoint: &Endpoint,
@@ -502,8 +658,8 @@ impl LeasedPorts {
     ) -> Result<Picked, PickRefused>
         requires ask { IsAsk ask.now }
         requires internal { ask.now.internal ≡ endpoint.now.port }
-        ensures settled { (self.new ≡ self.old) ⊎ (self.new ≡ as_settled self.old) }
-        ensures all { OnFalse (is_plain ask.now) (self.new ≡ as_settled self.old) }
+        ensures moved { self.new ≡ record self.old { settled = self.new.settled } }
+        ensures from { self.old.settled ≤ self.new.settled }
         ensures pick { (terms : Terms) (s : State) →
             IsReached s → IsPortsOf self.old s → IsOnTerms self.old terms →
             result ≡ pick_answer terms s self.old.reached endpoint.now ask.now }
@@ -512,16 +668,17 @@ impl LeasedPorts {
             steps.new ≤ steps.old + PLAIN_STEPS) }
         ensures kept { OnTrue (is_plain ask.now)
             (held_since self.old endpoint.now.address < self.old.quota → self.new ≡ self.old) }
-        ensures steps { steps.new ≤ steps.old + 134 + ask.now.room
-            + (if is_plain ask.now then PLAIN_STEPS else 0)
-            + (23 + RUN_STEPS) * ports_due self.old }
+        ensures near { IfOk result (λ run.
+            held_since self.old endpoint.now.address + ask.now.room ≤ self.old.quota →
+            run.count ≡ ask.now.room →
+            steps.new ≤ steps.old + PLAIN_STEPS + ask.now.room
+            + DUE_STEPS * due_before self.old endpoint.now.protocol (run.start + run.count)) }
+        ensures steps { steps.new
+            ≤ steps.old + PICK_STEPS + ask.now.room + DUE_STEPS * ports_due self.old }
     {
-        if is_plain(ask) {
-            if let Some(answer) = self.plain_answer(endpoint, ask, steps) {
-                return answer;
-            }
+        if !self.has_room(&endpoint.address, ask.room, steps) {
+            return self.pick_settled(endpoint, ask, steps);
         }
-        self.settle(steps);
-        self.settled_answer(endpoint, ask, steps)
+        self.pick_with(endpoint, ask, ask.room, steps)
     }
 }

@@ -19,7 +19,7 @@ use crate::schedule::phase_of;
 use crate::timed_ends::TimedEnds;
 use crate::uses::{change_use, free_ports};
 use expiry_wheel::Wheel;
-use external_pool::Pool;
+use external_pool::Vacancies;
 use pcp_base::{End, Memory};
 use port_spans::{Run, end_along};
 use std::alloc::Global;
@@ -55,7 +55,7 @@ const RENEW_STEPS: u64 = 206;
 pub const PUT_STEPS: u64 = 484;
 
 /// Takes out a run: its ports are free then.
-fn take_out(pool: &mut Pool, wheel: &mut Wheel, ends: &mut TimedEnds, run: &Run<End>)
+fn take_out(pool: &mut Vacancies, wheel: &mut Wheel, ends: &mut TimedEnds, run: &Run<End>)
     requires set { IsSet run.now }
     requires used { AreUsedBy pool.old run.now (use_in (phase_by wheel.old run.now) run.now.value) }
     ensures apart { AreRuns ends.new }
@@ -112,7 +112,7 @@ fn part<L: Ledger>(
 /// Takes out the first run that begins at a spot, over which no run goes on, or between it and
 /// another. The spot behind it; None where none begins there.
 fn take_next<L: Ledger>(
-    pool: &mut Pool,
+    pool: &mut Vacancies,
     wheel: &mut Wheel,
     ends: &mut TimedEnds,
     at: u32,
@@ -146,7 +146,7 @@ fn take_next<L: Ledger>(
 
 /// Takes out all runs between two spots, over which no run goes on.
 fn take_between<L: Ledger>(
-    pool: &mut Pool,
+    pool: &mut Vacancies,
     wheel: &mut Wheel,
     ends: &mut TimedEnds,
     from: u32,
@@ -172,7 +172,7 @@ fn take_between<L: Ledger>(
 /// Frees the ports of a run, which may be parts of runs or of several ones. Where memory is
 /// wanting, nothing is said but the pool's range.
 pub fn free<L: Ledger>(
-    pool: &mut Pool,
+    pool: &mut Vacancies,
     wheel: &mut Wheel,
     ends: &mut TimedEnds,
     alloc: Global,
@@ -201,7 +201,7 @@ pub fn free<L: Ledger>(
 
 /// Gives the ports of a run, which have none, their last ends.
 pub fn insert<L: Ledger>(
-    pool: &mut Pool,
+    pool: &mut Vacancies,
     wheel: &mut Wheel,
     ends: &mut TimedEnds,
     alloc: Global,
@@ -236,7 +236,7 @@ pub fn insert<L: Ledger>(
 /// Gives a run last ends of the same endpoints that come at another moment. The run isn't parted,
 /// and its ports are only marked anew where they come into another phase.
 pub fn renew<L: Ledger>(
-    pool: &mut Pool,
+    pool: &mut Vacancies,
     wheel: &mut Wheel,
     ends: &mut TimedEnds,
     alloc: Global,

@@ -6,13 +6,13 @@ ghost use Rattle.leased_ports.specs.Kept.{IsOn, IsSet, use_in};
 ghost use Rattle.leased_ports.specs.Steps.{GivesUses, AreUsedBy};
 
 use crate::phases::Phase;
-use external_pool::Pool;
+use external_pool::Vacancies;
 use pcp_base::{End, Memory};
 use port_spans::Run;
 use std::alloc::Global;
 
 /// Frees the ports of a run.
-pub fn free_ports(pool: &mut Pool, run: &Run<End>, phase: Phase)
+pub fn free_ports(pool: &mut Vacancies, run: &Run<End>, phase: Phase)
     requires set { IsSet run.now }
     requires used { AreUsedBy pool.old run.now (use_in phase run.now.value) }
     ensures { GivesUses pool.old run.now.value.endpoint.protocol run.now.value.external
@@ -34,7 +34,12 @@ pub fn free_ports(pool: &mut Pool, run: &Run<End>, phase: Phase)
 }
 
 /// Holds the ports of a run.
-fn hold_ports(pool: &mut Pool, alloc: Global, run: &Run<End>, phase: Phase) -> Result<(), Memory>
+fn hold_ports(
+    pool: &mut Vacancies,
+    alloc: Global,
+    run: &Run<End>,
+    phase: Phase,
+) -> Result<(), Memory>
     requires set { IsSet run.now }
     requires used { AreUsedBy pool.old run.now (use_in phase run.now.value) }
     ensures on { (low high most : ℕ) →
@@ -57,7 +62,12 @@ fn hold_ports(pool: &mut Pool, alloc: Global, run: &Run<End>, phase: Phase) -> R
 }
 
 /// Lets the ports of a run rest.
-fn rest_ports(pool: &mut Pool, alloc: Global, run: &Run<End>, phase: Phase) -> Result<(), Memory>
+fn rest_ports(
+    pool: &mut Vacancies,
+    alloc: Global,
+    run: &Run<End>,
+    phase: Phase,
+) -> Result<(), Memory>
     requires set { IsSet run.now }
     requires used { AreUsedBy pool.old run.now (use_in phase run.now.value) }
     ensures on { (low high most : ℕ) →
@@ -80,7 +90,7 @@ fn rest_ports(pool: &mut Pool, alloc: Global, run: &Run<End>, phase: Phase) -> R
 
 /// Uses the ports of a run by another phase than before.
 pub fn change_use(
-    pool: &mut Pool,
+    pool: &mut Vacancies,
     alloc: Global,
     run: &Run<End>,
     phase: Phase,

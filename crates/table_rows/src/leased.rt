@@ -272,7 +272,7 @@ static UNSEEN: [Call; 22] = [
     PutRun(2, Udp, 5000, 1000, 30, 10),
     PutRun(2, Udp, 6000, 1030, 970, 2000),
     Reach(125),
-    // 64 of the 70 ports are free, and the others too, though nobody saw to them.
+    // Four of the 70 ports are free, and the others too, though nobody saw to them.
     Pick(3, Udp, 9000, 0, 1, Any, Ok((2000, 1))),
     Pick(3, Udp, 9000, 2069, 1, Must, Ok((2069, 1))),
     Put(3, Udp, 9000, 2000, 64, 3000),
@@ -292,6 +292,29 @@ static UNSEEN: [Call; 22] = [
     Pick(3, Tcp, 9000, 0, 1, Any, Err(NoPort)),
     Pick(3, Tcp, 9000, 0, 1, Must, Err(CannotProvide)),
     Pick(3, Udp, 9000, 0, 2, First(1), Ok((1025, 2))),
+];
+
+// Of the ports from 1024 on; sets are picked where more runs fall due than `reach` sees to.
+static UNSEEN_SETS: [Call; 17] = [
+    // Each is a run of its own, and those of TCP come first.
+    Put(1, Tcp, 7000, 7000, 20, 5),
+    Put(1, Udp, 3000, 1024, 20, 5),
+    PutRun(2, Udp, 4000, 1044, 4, 2000),
+    Put(1, Udp, 5000, 1048, 20, 5),
+    PutRun(2, Udp, 1, 1068, 64468, 2000),
+    Reach(124),
+    Pick(3, Udp, 9000, 0, 4, Any, Err(NoPort)),
+    // All but the first four wait to be seen to.
+    Reach(125),
+    Pick(3, Udp, 9000, 0, 4, Any, Ok((1024, 4))),
+    Pick(3, Udp, 9000, 0, 4, First(1), Ok((1025, 4))),
+    Pick(3, Udp, 9000, 1049, 4, Must, Ok((1049, 4))),
+    Pick(3, Udp, 9000, 0, 24, Any, Ok((1024, 20))),
+    PutRun(3, Udp, 9000, 1026, 4, 3000),
+    Pick(3, Udp, 9000, 0, 4, Any, Ok((1030, 4))),
+    Pick(3, Udp, 9000, 0, 15, Any, Ok((1048, 15))),
+    Pick(3, Tcp, 9000, 0, 6000, Any, Ok((1024, 6000))),
+    Pick(3, Tcp, 9000, 0, 6000, First(1), Ok((1025, 6000))),
 ];
 
 // Of a quota of 70; what the counts say is more than is held.
@@ -650,6 +673,14 @@ fn one_port_is_picked_though_nobody_saw_to_it(rt: HostRuntime) {
     all_are_so(
         &rt,
         first_other_of_new(rt.alloc(), 1024, 65535, 2000, &UNSEEN),
+    );
+}
+
+#[test]
+fn sets_are_picked_though_nobody_saw_to_all(rt: HostRuntime) {
+    all_are_so(
+        &rt,
+        first_other_of_new(rt.alloc(), 1024, 65535, u32::MAX, &UNSEEN_SETS),
     );
 }
 

@@ -1,5 +1,5 @@
 use Rattle.std.proofs.Common.{◌≡◌, ap, arith}
-use Rattle.leased_ports.specs.Leased.{as_settled, leased}
+use Rattle.leased_ports.specs.Leased.{Leased, as_settled, leased}
 use Rattle.leased_ports.specs.Counts.{ports_due}
 use Rattle.leased_ports.proofs.EndedLemmas.{due-ports}
 use Rattle.leased_ports.proofs.ports.LeasedPorts.settle.Goals as goal
@@ -28,3 +28,9 @@ returns-clause-steps g c =
     let seen : ports_due (leased a.low a.high a.quota a.settled a.reached a.ends) ≡ ports_due c.args.self.now = ap ports_due c.self.view_is in
     let steps = c.see_to_all.ensures.steps in
     omega (arith, due, seen, steps)
+
+pub returns-clause-from : goal.returns-clause-from
+returns-clause-from g c =
+    let order = c.self.invariant.order in
+    let seen : c.self.inside.settled ≡ c.args.self.now.settled = ap (λ (v : Leased). v.settled) c.self.view_is in
+    omega (arith, order, seen)
