@@ -17,17 +17,18 @@ use Rattle.external_pool.proofs.Painted.{use_at-all_free}
 use Rattle.ordered_index.specs.declared.numbered.Numbered.{Numbered}
 use Rattle.ordered_index.specs.Ended.{IsOneEnded}
 use Rattle.ordered_index.specs.Orders.{Place, place_of, port_at, place_cmp, port_cmp}
-use Rattle.ordered_index.specs.Steps.{Appends, Replaces, Forgets, Stays, IsBlank}
+use Rattle.ordered_index.specs.MapSteps.{HasEntry}
+use Rattle.ordered_index.specs.Steps.{Appends, Replaces, Forgets, Stays, IsBlank, expiry_cmp}
 use Rattle.ordered_index.proofs.Endings.{one-stands, one-none}
 use Rattle.ordered_index.proofs.Entries.{All-at}
 use Rattle.ordered_index.proofs.EntryLaws.{none_some, some_one}
-use Rattle.ordered_index.proofs.Keeping.{IsTakenOut, blank-kept, blank-values, none-found, none-gone, number-has, one-found, same-values}
+use Rattle.ordered_index.proofs.Keeping.{IsTakenOut, blank-kept, blank-values, due-there, none-found, none-gone, number-has, one-found, port-there, same-values}
 use Rattle.cascade_ties.specs.declared.ties.Tied.{Tied}
 use Rattle.cascade_ties.specs.Kept.{HasLocal, IsTiePool, IsTieTable, place_of_tie, port_of_tie, tie_keying, ties_of}
 use Rattle.cascade_ties.specs.Ties.{AreOtherTies, MakesTies, MayChange, MayTie, Ties, TiesDiffer, has_client, has_local, is_over, still, tie_of, with_change, with_tie, without}
 use Rattle.cascade_ties.proofs.OneLemmas.{filter-out, fewer-out, find-append, none-out}
 use Rattle.cascade_ties.proofs.PoolKeeping.{high_stays, low_stays, may_hold, may_release, put_pool, take_pool, zip_pool}
-use Rattle.cascade_ties.proofs.TieKeeping.{IsSameTie, appended_ties, apart_from, client_free, client_is, is_taken, local_free, once_client, replaced_ties, replaced_zip, taken_ties, tells_client, tie_appended, tie_laws, tie_replaced, tie_stays}
+use Rattle.cascade_ties.proofs.TieKeeping.{IsSameTie, appended_ties, apart_from, client_free, client_is, is_taken, local_free, once_client, port_same, replaced_ties, replaced_zip, taken_ties, tells_client, tie_appended, tie_laws, tie_replaced, tie_stays}
 
 abbrev Numbers : Type 0
 Numbers = Numbered Tied Place (ℕ × ℕ)
@@ -123,17 +124,17 @@ module _ (it : Numbers) (pool : Holdings) (h : IsTieTable it pool) where
     pool_put = put_pool pool ts h.pool t vacant local_there
 
     module _ (new : Numbers) (after : Holdings) (holds : after ≡ held) where
-      pub put_table : Appends place_cmp port_cmp it new t (place_of_tie t) (port_of_tie t) t.tie.until_ms → IsTieTable new after
+      pub put_table : (n : ℕ) × Appends place_cmp port_cmp it new t (place_of_tie t) (port_of_tie t) t.tie.until_ms n → IsTieTable new after
       put_table appends = record {
-        ties = appended_ties it h.ties t none_there vacant new appends local_there;
-        pool = subst (λ (p : Holdings). IsTiePool p (values new.leases)) (sym holds) (subst (IsTiePool held) (sym (tie_appended it h.ties t none_there vacant new appends)) pool_put);
+        ties = appended_ties it h.ties t none_there vacant new appends.0 appends.1 local_there;
+        pool = subst (λ (p : Holdings). IsTiePool p (values new.leases)) (sym holds) (subst (IsTiePool held) (sym (tie_appended it h.ties t none_there vacant new appends.0 appends.1)) pool_put);
       }
 
-      pub put_seen : Appends place_cmp port_cmp it new t (place_of_tie t) (port_of_tie t) t.tie.until_ms → ties_of after (values new.leases) ≡ with_tie (ties_of pool ts) t
+      pub put_seen : (n : ℕ) × Appends place_cmp port_cmp it new t (place_of_tie t) (port_of_tie t) t.tie.until_ms n → ties_of after (values new.leases) ≡ with_tie (ties_of pool ts) t
       put_seen appends = seen after pool (values new.leases) (ts ++ t ∷ [])
           (ap (λ (p : Holdings). p.tcp.low) holds ∙ low_stays t.tie.client.protocol t.tie.local 1 (Held t.tie.client.address) pool)
           (ap (λ (p : Holdings). p.tcp.high) holds ∙ high_stays t.tie.client.protocol t.tie.local 1 (Held t.tie.client.address) pool)
-          (tie_appended it h.ties t none_there vacant new appends)
+          (tie_appended it h.ties t none_there vacant new appends.0 appends.1)
 
       -- or was given back
       itself : has_client t.tie.client t ≡ true
@@ -169,6 +170,12 @@ module _ (it : Numbers) (pool : Holdings) (h : IsTieTable it pool) where
       same_tie =
           let one : x ≡ may.old = some_one (tie_of t.tie.client ts) x may.old (found_at t.tie.client n x number at_n) may.client in
           record { client = client_is it h.ties t.tie.client n x number at_n; local = ap (λ (z : Tied). z.tie.local) one ∙ may.local }
+
+      pub port_stands : HasEntry port_cmp it.ports (port_of_tie t) n
+      port_stands = port-there tie_keying tie_laws it h.ties.kept n x (port_of_tie t) at_n (port_same it h.ties t.tie.client n x number at_n t same_tie)
+
+      pub due_stands : HasEntry expiry_cmp it.expiries (x.tie.until_ms, n) tt
+      due_stands = due-there tie_keying tie_laws it h.ties.kept n x x.tie.until_ms at_n refl
 
       module _ (new : Numbers) (replaces : Replaces port_cmp it new n t (port_of_tie t) (port_of_tie t) x.tie.until_ms t.tie.until_ms) where
         zip : AllZip IsSameTie ts (values new.leases)

@@ -96,10 +96,10 @@ module _ (it : Numbered Tied Place (ℕ × ℕ)) (h : AreKeptTies it) where
         (λ y both. record { clients = both.0; locals = both.1 }) (values it.leases)
         (All-both _ _ (values it.leases) (find-none (has_client t.tie.client) (values it.leases) none) (any-none (has_local t.tie.client.protocol t.tie.local) (values it.leases) vacant))
 
-    module _ (new : Numbered Tied Place (ℕ × ℕ)) (appends : Appends place_cmp port_cmp it new t (place_of_tie t) (port_of_tie t) t.tie.until_ms) where
+    module _ (new : Numbered Tied Place (ℕ × ℕ)) (n : ℕ) (appends : Appends place_cmp port_cmp it new t (place_of_tie t) (port_of_tie t) t.tie.until_ms n) where
       pub tie_appended : values new.leases ≡ values it.leases ++ t ∷ []
       tie_appended =
-          appended-values tie_keying tie_laws it h.kept new t (place_of_tie t) (port_of_tie t) refl refl appends (client_free t.tie.client none) (local_free t.tie.client.protocol t.tie.local vacant)
+          appended-values tie_keying tie_laws it h.kept new t (place_of_tie t) (port_of_tie t) n refl refl appends (client_free t.tie.client none) (local_free t.tie.client.protocol t.tie.local vacant)
           (has_client t.tie.client) (tells_client t.tie.client)
           ∙ put-last (has_client t.tie.client) t (values it.leases) (find-none (has_client t.tie.client) (values it.leases) none)
 
@@ -107,7 +107,7 @@ module _ (it : Numbered Tied Place (ℕ × ℕ)) (h : AreKeptTies it) where
       appended_ties local = record {
         differ = subst TiesDiffer (sym tie_appended) (EachTwo-push AreOtherTies (values it.leases) t h.differ apart_from);
         locals = subst (AllByRecursion HasLocal) (sym tie_appended) (All-push HasLocal (values it.leases) t h.locals local);
-        kept = appended-kept tie_keying tie_laws it h.kept new t (place_of_tie t) (port_of_tie t) refl refl appends (client_free t.tie.client none) (local_free t.tie.client.protocol t.tie.local vacant);
+        kept = appended-kept tie_keying tie_laws it h.kept new t (place_of_tie t) (port_of_tie t) n refl refl appends (client_free t.tie.client none) (local_free t.tie.client.protocol t.tie.local vacant);
       }
 
   pub tie_stays : (new : Numbered Tied Place (ℕ × ℕ)) → Stays it new → AreKeptTies new
@@ -138,15 +138,16 @@ module _ (it : Numbered Tied Place (ℕ × ℕ)) (h : AreKeptTies it) where
     }
 
     -- or another one was put in its place
+    module _ (t : Tied) (is : IsSameTie x t) where
+      pub port_same : port_of_tie t ≡ port_of_tie x
+      port_same = ap (λ (z : Endpoint). port_at z.protocol t.tie.local) (sym is.client) ∙ ap (port_at x.tie.client.protocol) (sym is.local)
+
     module _ (t : Tied) (is : IsSameTie x t) (new : Numbered Tied Place (ℕ × ℕ)) (replaces : Replaces port_cmp it new n t (port_of_tie t) (port_of_tie t) x.tie.until_ms t.tie.until_ms) where
       key_same : place_of_tie x ≡ place_of_tie t
       key_same = ap place_of is.client
 
-      port_same : port_of_tie t ≡ port_of_tie x
-      port_same = ap (λ (z : Endpoint). port_at z.protocol t.tie.local) (sym is.client) ∙ ap (port_at x.tie.client.protocol) (sym is.local)
-
       pub tie_replaced : values new.leases ≡ put (has_client t.tie.client) t (values it.leases)
-      tie_replaced = replaced-values tie_keying tie_laws it h.kept new n x t at_n key_same (port_of_tie t) (port_of_tie t) port_same refl replaces (has_client t.tie.client) (tells_client t.tie.client)
+      tie_replaced = replaced-values tie_keying tie_laws it h.kept new n x t at_n key_same (port_of_tie t) (port_of_tie t) (port_same t is) refl replaces (has_client t.tie.client) (tells_client t.tie.client)
 
       pub replaced_zip : tie_of t.tie.client (values it.leases) ≡ Some x → AllZip IsSameTie (values it.leases) (values new.leases)
       replaced_zip found = subst (AllZip IsSameTie (values it.leases)) (sym tie_replaced) (put-zip (has_client t.tie.client) x IsSameTie t (values it.leases) same_itself is found)
@@ -155,5 +156,5 @@ module _ (it : Numbered Tied Place (ℕ × ℕ)) (h : AreKeptTies it) where
       replaced_ties z = let differ = differ_zip (values it.leases) (values new.leases) z h.differ in record {
         differ = differ;
         locals = AllZip-all IsSameTie HasLocal HasLocal (λ a b s l. let eq = s.local in let from = l.from in let to = l.to in record { from = omega (arith, eq, from); to = omega (arith, eq, to) }) (values it.leases) (values new.leases) z h.locals;
-        kept = replaced-kept tie_keying tie_laws it h.kept new n x t at_n key_same (port_of_tie t) (port_of_tie t) port_same refl replaces (ports_differ (values new.leases) differ);
+        kept = replaced-kept tie_keying tie_laws it h.kept new n x t at_n key_same (port_of_tie t) (port_of_tie t) (port_same t is) refl replaces (ports_differ (values new.leases) differ);
       }

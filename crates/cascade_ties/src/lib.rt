@@ -5,7 +5,6 @@
 mod changes;
 mod locals;
 mod lookups;
-mod maps;
 mod steps;
 mod table;
 mod ties;

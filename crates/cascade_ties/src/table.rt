@@ -4,16 +4,14 @@ ghost use Rattle.std.specs.Option.{option_copied};
 ghost use Rattle.std.specs.BTreeMap.{values};
 ghost use Rattle.cascade_ties.specs.Ties.{MakesTies, MayChange, MayTie, local_for, no_ties, still, tie_at, tie_of, with_change, with_tie, without};
 
-use crate::changes::no_numbers;
 use crate::locals::{NoLocal, TIE_QUOTA, local_for};
 use crate::lookups::Numbers;
 use crate::steps::{change_tie, drop_over, put_tie, take_tie};
 use crate::ties::{Tie, Tied};
 use external_pool::Pool;
-use ordered_index::{place_of, port_at};
+use ordered_index::{Numbered, Slots, place_of, port_at};
 use pcp_base::{Endpoint, Memory, Protocol};
 use std::alloc::{AllocError, Global};
-use std::collections::BTreeMap;
 use std::marker::Model;
 
 /// Ties, seen as the range of local ports and the list of ties in the order made. Each call but
@@ -47,7 +45,7 @@ impl TieTable {
         ensures { IfOk result (λ ties. ties ≡ no_ties low high) }
     {
         Ok(TieTable {
-            kept: no_numbers(alloc),
+            kept: Numbered::new(alloc),
             pool: Pool::new(alloc, low, high, TIE_QUOTA)?,
         })
     }
@@ -132,7 +130,7 @@ impl TieTable {
 }
 
 /// The ties, in the order of their numbers.
-fn ties_in(alloc: Global, ties: &BTreeMap<u64, Tied>) -> Result<Vec<Tie>, AllocError>
+fn ties_in(alloc: Global, ties: &Slots<Tied>) -> Result<Vec<Tie>, AllocError>
     ensures { IfOk result (λ list. list.items ≡ map (λ t. t.tie) (values ties.now)) }
 {
     let mut list = Vec::new(alloc);

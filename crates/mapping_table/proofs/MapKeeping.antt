@@ -35,9 +35,9 @@ module _ (it : Numbered MapLease Place (ℕ × ℕ)) (h : AreKeptMaps it) where
 
     module _ {X E : Type 0} (new : Numbered MapLease Place (ℕ × ℕ)) (r : Result X E) where
       pub map_appended : (k : Place) (p : ℕ × ℕ) (at : ℕ) → k ≡ place_of_lease l → p ≡ port_of_lease l → at ≡ l.expiry → get place_cmp it.keys (place_of_lease l) ≡ None →
-          OnOk r (Appends place_cmp port_cmp it new l k p at) → OnErr r (Stays it new) → AreKeptMaps new × PutsMap (values it.leases) l r (values new.leases)
+          OnOk r ((n : ℕ) × Appends place_cmp port_cmp it new l k p at n) → OnErr r (Stays it new) → AreKeptMaps new × PutsMap (values it.leases) l r (values new.leases)
       map_appended k p at k_is p_is at_is free ok err =
-          let put = put-appended map_keying map_laws it h.kept new (is_map_of (first_endpoint l)) l (map_tells (first_endpoint l)) (ports_apart (with_map l (values it.leases)) sound) r k p k_is p_is free (subst (λ z. OnOk r (Appends place_cmp port_cmp it new l k p z)) at_is ok) err in
+          let put = put-appended map_keying map_laws it h.kept new (is_map_of (first_endpoint l)) l (map_tells (first_endpoint l)) (ports_apart (with_map l (values it.leases)) sound) r k p k_is p_is free (subst (λ (z : ℕ). OnOk r ((n : ℕ) × Appends place_cmp port_cmp it new l k p z n)) at_is ok) err in
           (record { sound = put-either AreSoundMaps (values it.leases) (with_map l (values it.leases)) (values new.leases) r put.ok put.err h.sound sound; kept = put.kept }, record { ok = put.ok; err = put.err })
 
       pub map_replaced : (n : ℕ) (x : MapLease) (from to : ℕ × ℕ) (before after : ℕ) → get place_cmp it.keys (place_of_lease l) ≡ Some n → get nat_cmp it.leases n ≡ Some x → from ≡ port_of_lease x → to ≡ port_of_lease l → before ≡ x.expiry → after ≡ l.expiry →

@@ -16,7 +16,7 @@ use crate::changes::{append, replace};
 use crate::filters::{live_whole, whole};
 use crate::looks::{lease_at, look};
 use crate::overlaps::{overlapped_key, overlapping_set};
-use ordered_index::{Numbered, Place, Port, Sieve, last_up_to, place_of, port_at};
+use ordered_index::{Numbered, Place, Port, Sieve, Slots, last_up_to, place_of, port_at};
 use pcp_base::{Change, Endpoint, Filters, MapLease, Memory, Moment, Protocol, Record};
 use std::alloc::{AllocError, Global};
 use std::collections::BTreeMap;
@@ -52,7 +52,7 @@ impl Model for BareTable {
 /// Appends the leases that are live at `m`, in the order of their numbers, with their filters.
 /// Where memory is wanting, some of them may stand behind the old ones.
 fn append_live(
-    leases: &BTreeMap<u64, BareLease>,
+    leases: &Slots<BareLease>,
     filters: &BTreeMap<Place, Filters>,
     m: Moment,
     out: &mut Vec<MapLease>,
@@ -71,7 +71,7 @@ fn append_live(
 /// Appends a record at `m` for each lease that is live then, in the order of their numbers, with
 /// its filters.
 fn append_records(
-    leases: &BTreeMap<u64, BareLease>,
+    leases: &Slots<BareLease>,
     filters: &BTreeMap<Place, Filters>,
     m: Moment,
     out: &mut Vec<Record>,

@@ -6,7 +6,7 @@ use Rattle.std.specs.Ordering.{is_eq, match_ordering}
 use Rattle.std.specs.declared.cmp.Ordering.{Ordering}
 use Rattle.std.specs.declared.cmp.Ordering.TheVariants.{Less, Equal, Greater}
 use Rattle.std.specs.Cmp.{IsTotalOrder}
-use Rattle.std.specs.BTreeMap.{is_at, insert_entry}
+use Rattle.std.specs.BTreeMap.{BTreeMap, get, is_at, insert_entry}
 use Rattle.std.proofs.lemmas.Cmp.{tied_itself}
 use Rattle.std.proofs.lemmas.List.Sums.{sum_by-cons}
 use Rattle.std.proofs.lemmas.Map.Keys.{sorted_tail}
@@ -14,7 +14,7 @@ use Rattle.std.proofs.lemmas.Map.Lookups.{CmpEqualImpliesEq}
 use Rattle.std.proofs.lemmas.Map.{lookup-none}
 use Rattle.std.proofs.lemmas.Map.Entries.{none_below_head}
 use Rattle.pcp_base.proofs.Members.{IsIn}
-use Rattle.ordered_index.specs.MapSteps.{restored}
+use Rattle.ordered_index.specs.MapSteps.{Enters, HasEntry, restored}
 
 -- 1 for what passes
 abbrev pub tally : Bool → ℕ
@@ -189,3 +189,23 @@ module _ {K V : Type 0} {R : K → K → Ordering} (o : IsTotalOrder R) (k : K) 
       pub count-set : (v w : V) (es : List (K × V)) → at es ≡ Some v → count_by p (set_value (is_at (R k)) es w) + tally (p (k, v)) ≡ count_by p es + tally (p (k, w))
       count-set v w [] found = absurd (let no : None ≡ Some v = found in cc)
       count-set v w (e ∷ es) found = set_step v w e es (is_at (R k) e.0) refl (count-set v w es) found
+
+-- two keys that are the same to the order
+module _ {K V : Type 0} {R : K → K → Ordering} (o : IsTotalOrder R) (from to : K) (same : is_eq (R from to) ≡ true) where
+  lookup_tied : (es : List (K × V)) → lookup (is_at (R to)) es ≡ lookup (is_at (R from)) es
+  lookup_tied [] = refl
+  lookup_tied (e ∷ es) =
+      ap (λ q. cond (is_eq q) (Some e.1) (lookup (is_at (R to)) es)) (sym (o.congr from to e.0 (equal (R from to) same)))
+      ∙ ap (λ r. cond (is_at (R from) e.0) (Some e.1) r) (lookup_tied es)
+
+  module _ (it : BTreeMap K V) (v : V) (there : HasEntry R it from v) where
+    pub tied-found : get R it to ≡ Some v
+    tied-found = lookup_tied it.entries ∙ there.found
+
+    pub tied-enters : Enters R it it to v
+    tied-enters = record {
+      entries = sym (inserted-same o to v it.entries there.ordered tied-found);
+      found = tied-found;
+      ordered = there.ordered;
+      was_ordered = there.ordered;
+    }

@@ -1,5 +1,5 @@
 -- Leases and their maps after a call.
-use Rattle.std.proofs.Common.{◌≡◌, ℕ, ◌+◌, ◌<◌, Bool, true, false, not, cond, List, [], ◌∷◌, ◌++◌, filter, find, count_by, Some, None, IsSome, Result, Ok, Err, OnOk, OnErr, refl, sym, ap, ◌∙◌, subst, arith}
+use Rattle.std.proofs.Common.{◌≡◌, ℕ, ◌+◌, ◌%◌, ◌<◌, ◌≤◌, Bool, true, false, not, cond, List, [], ◌∷◌, ◌++◌, filter, find, count_by, Some, None, IsSome, Result, Ok, Err, OnOk, OnErr, refl, sym, ap, ◌∙◌, subst, arith}
 use Rattle.std.specs.Prelude.{⊤}
 use Rattle.std.specs.List.{AllByRecursion}
 use Rattle.std.specs.List.Sorted.{IsStrictlySortedBy}
@@ -13,6 +13,8 @@ use Rattle.std.proofs.lemmas.Map.Lookups.{CmpEqualImpliesEq, exact_unsigned, exa
 use Rattle.pcp_base.specs.Tables.{EachTwo, put}
 use Rattle.pcp_base.proofs.Members.{All-weaker}
 use Rattle.ordered_index.specs.declared.numbered.Numbered.{Numbered}
+use Rattle.ordered_index.specs.declared.slots.TheConstants.{MOST_SLOTS}
+use Rattle.ordered_index.specs.MapSteps.{HasEntry}
 use Rattle.ordered_index.specs.Steps.{expiry_cmp, IsBlank, Appends, Replaces, Forgets, Stays}
 use Rattle.ordered_index.specs.Kept.{Mirrors, Keying, IsKept}
 use Rattle.ordered_index.proofs.EntryLaws.{tally, count-set, none_some, none_by, some_one, key-self}
@@ -37,6 +39,9 @@ pub record AreLaws {L K P : Type 0} (by : Keying L K P) : Type 0 where
 pub record Tells {L K P : Type 0} (by : Keying L K P) (has : L → Bool) (k : K) : Type 0 where
   pub to : (l : L) → has l ≡ true → by.key l ≡ k
   pub from : (l : L) → by.key l ≡ k → has l ≡ true
+
+next_step : (next after : ℕ) → next % 131072 ≡ 0 → after ≡ next + 131072 → after % 131072 ≡ 0
+next_step next after step more = omega (arith, step, more)
 
 -- by equations of both lists
 mirrored : {A B : Type 0} (image : A → B) (xs ys : List A) (us vs : List B) → ys ≡ xs → vs ≡ us → Mirrors image xs us → Mirrors image ys vs
@@ -142,33 +147,46 @@ module _ {L K P : Type 0} (by : Keying L K P) (laws : AreLaws by) (it : Numbered
       pub forgotten : values_of (remove_entry (is_at (nat_cmp n)) it.leases.entries) ≡ filter (λ l. not (has l)) (values it.leases)
       forgotten = remove_entry-filter has it.leases.entries n passes kept.ordered
 
-  no_next : get nat_cmp it.leases it.next ≡ None
-  no_next = none_by (get nat_cmp it.leases it.next) (λ l a. let less : it.next < it.next = kept.below it.next l a in omega (arith, less))
+  -- what a replacement asks for
+  pub port-there : (n : ℕ) (x : L) (p : P) → get nat_cmp it.leases n ≡ Some x → p ≡ by.port x → HasEntry by.port_cmp it.ports p n
+  port-there n x p at_n same = record { ordered = kept.ports_ordered; found = ap (get by.port_cmp it.ports) same ∙ port-to n x at_n }
 
-  no_due : (x : ℕ) → get expiry_cmp it.expiries (x, it.next) ≡ None
-  no_due x = none_by (get expiry_cmp it.expiries (x, it.next)) (λ u a. none_some (get nat_cmp it.leases it.next) (due-from (x, it.next) a).0 no_next (due-from (x, it.next) a).1)
+  pub due-there : (n : ℕ) (x : L) (at : ℕ) → get nat_cmp it.leases n ≡ Some x → at ≡ by.expiry x → HasEntry expiry_cmp it.expiries (at, n) tt
+  due-there n x at at_n same = record { ordered = kept.expiries_ordered; found = ap (λ (z : ℕ). get expiry_cmp it.expiries (z, n)) same ∙ due-to n x at_n }
 
-  module _ (new : Numbered L K P) (l : L) (k : K) (p : P) (k_is : k ≡ by.key l) (p_is : p ≡ by.port l) (h : Appends by.key_cmp by.port_cmp it new l k p (by.expiry l))
+  -- a number that isn't below the next step is free
+  module _ (n : ℕ) (from : it.next ≤ n) where
+    below_n : (m : ℕ) (l : L) → get nat_cmp it.leases m ≡ Some l → m < n
+    below_n m l a = let less = kept.below m l a in omega (arith, less, from)
+
+    no_number : get nat_cmp it.leases n ≡ None
+    no_number = none_by (get nat_cmp it.leases n) (λ l a. let less : n < n = below_n n l a in omega (arith, less))
+
+    no_due : (x : ℕ) → get expiry_cmp it.expiries (x, n) ≡ None
+    no_due x = none_by (get expiry_cmp it.expiries (x, n)) (λ u a. none_some (get nat_cmp it.leases n) (due-from (x, n) a).0 no_number (due-from (x, n) a).1)
+
+  module _ (new : Numbered L K P) (l : L) (k : K) (p : P) (n : ℕ) (k_is : k ≡ by.key l) (p_is : p ≡ by.port l) (h : Appends by.key_cmp by.port_cmp it new l k p (by.expiry l) n)
       (free : get by.key_cmp it.keys k ≡ None) (free_port : get by.port_cmp it.ports p ≡ None) where
     pub appended-values : (has : L → Bool) → Tells by has k → values new.leases ≡ put has l (values it.leases)
     appended-values has tells =
-        ap values_of (h.leases.entries ∙ insert_last it.leases.entries it.next l (keys_below it.leases kept.ordered it.next kept.below))
-        ∙ values_append it.leases.entries it.next l ∙ sym (put-last has l (values it.leases) (none-passes has k tells free))
+        ap values_of (h.leases.entries ∙ insert_last it.leases.entries n l (keys_below it.leases kept.ordered n (below_n n h.from)))
+        ∙ values_append it.leases.entries n l ∙ sym (put-last has l (values it.leases) (none-passes has k tells free))
 
-    below_step : (n : ℕ) (x : L) (b : Bool) → is_at (nat_cmp it.next) n ≡ b → cond b (Some l) (get nat_cmp it.leases n) ≡ Some x → n < it.next + 1
-    below_step n x true e a = let same = number_same it.next n e in omega (arith, same)
-    below_step n x false e a = let less : n < it.next = kept.below n x a in omega (arith, less)
+    below_step : (m : ℕ) (x : L) (b : Bool) → is_at (nat_cmp n) m ≡ b → cond b (Some l) (get nat_cmp it.leases m) ≡ Some x → m < new.next
+    below_step m x true e a = let same = number_same n m e in let below = h.below in omega (arith, same, below)
+    below_step m x false e a = let less = below_n n h.from m x a in let below = h.below in omega (arith, less, below)
 
     pub appended-kept : IsKept by new
     appended-kept = record {
       ordered = h.leases.ordered;
-      below = λ n x a. (let less = below_step n x (is_at (nat_cmp it.next) n) refl (sym (h.leases.changed n) ∙ a) in let next = h.next in omega (arith, less, next));
+      below = λ m x a. below_step m x (is_at (nat_cmp n) m) refl (sym (h.leases.changed m) ∙ a);
+      step = next_step it.next new.next kept.step h.next;
       keys_ordered = h.keys.ordered;
-      keys = mirrored key_of _ _ _ _ h.leases.entries h.keys.entries (mirrors-inserted laws.key_total laws.key_exact key_of it.leases.entries it.keys.entries kept.keys it.next l k it.next (ap (λ z. (z, it.next)) (sym k_is)) no_next free);
+      keys = mirrored key_of _ _ _ _ h.leases.entries h.keys.entries (mirrors-inserted laws.key_total laws.key_exact key_of it.leases.entries it.keys.entries kept.keys n l k n (ap (λ z. (z, n)) (sym k_is)) (no_number n h.from) free);
       ports_ordered = h.ports.ordered;
-      ports = mirrored port_of _ _ _ _ h.leases.entries h.ports.entries (mirrors-inserted laws.port_total laws.port_exact port_of it.leases.entries it.ports.entries kept.ports it.next l p it.next (ap (λ z. (z, it.next)) (sym p_is)) no_next free_port);
+      ports = mirrored port_of _ _ _ _ h.leases.entries h.ports.entries (mirrors-inserted laws.port_total laws.port_exact port_of it.leases.entries it.ports.entries kept.ports n l p n (ap (λ z. (z, n)) (sym p_is)) (no_number n h.from) free_port);
       expiries_ordered = h.expiries.ordered;
-      expiries = mirrored due_of _ _ _ _ h.leases.entries h.expiries.entries (mirrors-inserted expiry_total expiry_exact due_of it.leases.entries it.expiries.entries kept.expiries it.next l (by.expiry l, it.next) tt refl no_next (no_due (by.expiry l)));
+      expiries = mirrored due_of _ _ _ _ h.leases.entries h.expiries.entries (mirrors-inserted expiry_total expiry_exact due_of it.leases.entries it.expiries.entries kept.expiries n l (by.expiry l, n) tt refl (no_number n h.from) (no_due n h.from (by.expiry l)));
     }
 
   module _ (new : Numbered L K P) (n : ℕ) (x l : L) (at_n : get nat_cmp it.leases n ≡ Some x) (key : by.key x ≡ by.key l)
@@ -219,6 +237,7 @@ module _ {L K P : Type 0} (by : Keying L K P) (laws : AreLaws by) (it : Numbered
     replaced-kept two = record {
       ordered = h.leases.ordered;
       below = λ m y a. (let less = below_old m y (is_at (nat_cmp n) m) refl (sym (h.leases.changed m) ∙ a) in let next = h.next in omega (arith, less, next));
+      step = ap (λ z. z % MOST_SLOTS) h.next ∙ kept.step;
       keys_ordered = subst (λ (z : BTreeMap K ℕ). IsOrdered by.key_cmp z) (sym h.keys) kept.keys_ordered;
       keys = mirrored key_of _ _ _ _ h.leases.entries (ap (λ (z : BTreeMap K ℕ). z.entries) h.keys) mirrors_set;
       ports_ordered = h.ports.ordered;
@@ -242,6 +261,7 @@ module _ {L K P : Type 0} (by : Keying L K P) (laws : AreLaws by) (it : Numbered
     forgotten-kept = record {
       ordered = h.leases.ordered;
       below = λ m y a. (let less = below_gone m y (is_at (nat_cmp n) m) (sym (h.leases.changed m) ∙ a) in let next = h.next in omega (arith, less, next));
+      step = ap (λ z. z % MOST_SLOTS) h.next ∙ kept.step;
       keys_ordered = h.keys.ordered;
       keys = mirrored key_of _ _ _ _ h.leases.entries h.keys.entries (mirrors-removed laws.key_total laws.key_exact key_of it.leases.entries it.keys.entries kept.keys n x k n
           (ap (λ z. (z, n)) (sym k_is)) at_n (ap (get by.key_cmp it.keys) k_is ∙ key-to n x at_n));
@@ -264,6 +284,7 @@ module _ {L K P : Type 0} (by : Keying L K P) (laws : AreLaws by) (it : Numbered
     same-kept = record {
       ordered = ordered_too nat_cmp it.leases new.leases h.leases kept.ordered;
       below = λ n l a. (let less = kept.below n l (ap (λ (es : List (ℕ × L)). lookup (is_at (nat_cmp n)) es) (sym h.leases) ∙ a) in let next = h.next in omega (arith, less, next));
+      step = ap (λ z. z % MOST_SLOTS) h.next ∙ kept.step;
       keys_ordered = ordered_too by.key_cmp it.keys new.keys h.keys kept.keys_ordered;
       keys = mirrored key_of _ _ _ _ h.leases h.keys kept.keys;
       ports_ordered = ordered_too by.port_cmp it.ports new.ports h.ports kept.ports_ordered;
@@ -311,17 +332,17 @@ pub record IsTakenOut {L K P : Type 0} (by : Keying L K P) (has : L → Bool) (x
 
 module _ {L K P : Type 0} (by : Keying L K P) (laws : AreLaws by) (it : Numbered L K P) (kept : IsKept by it) (new : Numbered L K P) where
   module _ (has : L → Bool) (l : L) (tells : Tells by has (by.key l)) (two : EachTwo (λ a b. by.port a ≡ by.port b → ⊥) (put has l (values it.leases))) where
-    put_new : (k : K) (p : P) → k ≡ by.key l → p ≡ by.port l → get by.key_cmp it.keys (by.key l) ≡ None → Appends by.key_cmp by.port_cmp it new l k p (by.expiry l) → IsKept by new × (values new.leases ≡ put has l (values it.leases))
-    put_new k p k_is p_is free h =
+    put_new : (k : K) (p : P) (n : ℕ) → k ≡ by.key l → p ≡ by.port l → get by.key_cmp it.keys (by.key l) ≡ None → Appends by.key_cmp by.port_cmp it new l k p (by.expiry l) n → IsKept by new × (values new.leases ≡ put has l (values it.leases))
+    put_new k p n k_is p_is free h =
         let free_key : get by.key_cmp it.keys k ≡ None = ap (get by.key_cmp it.keys) k_is ∙ free in
         let free_port : get by.port_cmp it.ports p ≡ None = ap (get by.port_cmp it.ports) p_is ∙ port-free by laws it kept has (by.key l) tells free l two in (
-          appended-kept by laws it kept new l k p k_is p_is h free_key free_port,
-          appended-values by laws it kept new l k p k_is p_is h free_key free_port has (subst (Tells by has) (sym k_is) tells),
+          appended-kept by laws it kept new l k p n k_is p_is h free_key free_port,
+          appended-values by laws it kept new l k p n k_is p_is h free_key free_port has (subst (Tells by has) (sym k_is) tells),
         )
 
     pub put-appended : {X E : Type 0} (r : Result X E) (k : K) (p : P) → k ≡ by.key l → p ≡ by.port l → get by.key_cmp it.keys (by.key l) ≡ None →
-        OnOk r (Appends by.key_cmp by.port_cmp it new l k p (by.expiry l)) → OnErr r (Stays it new) → IsPutInto by has l it new r
-    put-appended (Ok v) k p k_is p_is free ok err = let both = put_new k p k_is p_is free ok in record { kept = both.0; ok = both.1; err = tt }
+        OnOk r ((n : ℕ) × Appends by.key_cmp by.port_cmp it new l k p (by.expiry l) n) → OnErr r (Stays it new) → IsPutInto by has l it new r
+    put-appended (Ok v) k p k_is p_is free ok err = let both = put_new k p ok.0 k_is p_is free ok.1 in record { kept = both.0; ok = both.1; err = tt }
     put-appended (Err e) k p k_is p_is free ok err = record { kept = same-kept by laws it kept new err; ok = tt; err = same-values by laws it kept new err }
 
     put_old : (n : ℕ) (x : L) (from to : P) → get by.key_cmp it.keys (by.key l) ≡ Some n → get nat_cmp it.leases n ≡ Some x → from ≡ by.port x → to ≡ by.port l →
@@ -357,6 +378,7 @@ module _ {L K P : Type 0} (by : Keying L K P) (it : Numbered L K P) (h : IsBlank
   blank-kept = record {
     ordered = h.leases.ordered;
     below = λ n l a. absurd (let none : None ≡ Some l = ap (λ (es : List (ℕ × L)). lookup (is_at (nat_cmp n)) es) (sym h.leases.entries) ∙ a in cc);
+    step = ap (λ z. z % MOST_SLOTS) h.next;
     keys_ordered = h.keys.ordered;
     keys = mirrored (λ (e : ℕ × L). (by.key e.1, e.0)) _ _ _ _ h.leases.entries h.keys.entries (λ test. refl);
     ports_ordered = h.ports.ordered;

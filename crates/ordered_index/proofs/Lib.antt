@@ -4,6 +4,8 @@ pub mod Leasts
 pub mod Mirrorings
 pub mod Entries
 pub mod OrderLaws
+pub mod SlotLaws
+pub mod SlotCalls
 pub mod Keeping
 pub mod Endings
 pub mod FirstAndRest

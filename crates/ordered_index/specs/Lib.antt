@@ -1,3 +1,4 @@
+pub mod Slots
 pub mod MapSteps
 pub mod Steps
 pub mod Ended

@@ -10,6 +10,18 @@ module _ {K V : Type 0} (cmp : K → K → Ordering) where
     pub entries : it.entries ≡ []
     pub ordered : IsOrdered cmp it
 
+  -- the map is in order and has the value under the key
+  pub record HasEntry (it : BTreeMap K V) (key : K) (value : V) : Type 0 where
+    pub ordered : IsOrdered cmp it
+    pub found : get cmp it key ≡ Some value
+
+  -- the value is there under the key
+  pub record Enters (before after : BTreeMap K V) (key : K) (value : V) : Type 0 where
+    pub entries : after.entries ≡ insert_entry cmp before.entries key value
+    pub found : get cmp after key ≡ Some value
+    pub ordered : IsOrdered cmp after
+    pub was_ordered : IsOrdered cmp before
+
   -- one entry more, or another value under a key that is there
   pub record Inserts (before after : BTreeMap K V) (key : K) (value : V) : Type 0 where
     pub entries : after.entries ≡ insert_entry cmp before.entries key value

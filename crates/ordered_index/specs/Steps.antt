@@ -1,8 +1,9 @@
 -- What the calls of numbered leases do to their maps (our own).
-use Rattle.std.specs.Prelude.{◌≡◌, ℕ, ◌+◌}
+use Rattle.std.specs.Prelude.{◌≡◌, ℕ, ◌+◌, ◌<◌, ◌≤◌}
 use Rattle.std.specs.declared.cmp.Ordering.{Ordering}
 use Rattle.std.specs.Ordering.{nat_cmp, ordering_then}
 use Rattle.ordered_index.specs.declared.numbered.Numbered.{Numbered}
+use Rattle.ordered_index.specs.declared.slots.TheConstants.{MOST_SLOTS}
 use Rattle.ordered_index.specs.MapSteps.{IsBlankMap, Inserts, Overwrites, Removes, Moves}
 
 -- by expiry, then number
@@ -18,14 +19,16 @@ module _ {L K P : Type 0} (key_cmp : K → K → Ordering) (port_cmp : P → P �
     pub ports : IsBlankMap port_cmp it.ports
     pub expiries : IsBlankMap expiry_cmp it.expiries
 
-  -- a lease with the next number, which stands under its key, port and expiry
-  pub record Appends (old new : Numbered L K P) (lease : L) (key : K) (port : P) (expiry : ℕ)
-      : Type 0 where
-    pub next : new.next ≡ old.next + 1
-    pub leases : Inserts nat_cmp old.leases new.leases old.next lease
-    pub keys : Inserts key_cmp old.keys new.keys key old.next
-    pub ports : Inserts port_cmp old.ports new.ports port old.next
-    pub expiries : Inserts expiry_cmp old.expiries new.expiries (expiry, old.next) tt
+  -- a lease with a number above all before, which stands under its key, port and expiry
+  pub record Appends (old new : Numbered L K P) (lease : L) (key : K) (port : P)
+      (expiry number : ℕ) : Type 0 where
+    pub from : old.next ≤ number
+    pub below : number < new.next
+    pub next : new.next ≡ old.next + MOST_SLOTS
+    pub leases : Inserts nat_cmp old.leases new.leases number lease
+    pub keys : Inserts key_cmp old.keys new.keys key number
+    pub ports : Inserts port_cmp old.ports new.ports port number
+    pub expiries : Inserts expiry_cmp old.expiries new.expiries (expiry, number) tt
 
   -- a number less
   pub record Forgets (old new : Numbered L K P) (number : ℕ) (key : K) (port : P) (expiry : ℕ)

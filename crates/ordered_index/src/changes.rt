@@ -1,25 +1,27 @@
 //! Leases that come, change and go.
-ghost use Rattle.std.specs.Prelude.{◌≡◌, None, OnOk, OnErr, IsSome, count_by};
+ghost use Rattle.std.specs.Prelude.{◌≡◌, ℕ, ◌%◌, None, OnOk, OnErr, IsSome, count_by};
 ghost use Rattle.std.specs.Ordering.{nat_cmp};
 ghost use Rattle.std.specs.BTreeMap.{get};
 ghost use Rattle.ordered_index.specs.Ended.{has_ended, IsOneEnded};
-ghost use Rattle.ordered_index.specs.Steps.{IsBlank, Appends, Replaces, Forgets, Stays};
+ghost use Rattle.ordered_index.specs.MapSteps.{HasEntry};
+ghost use Rattle.ordered_index.specs.Steps.{expiry_cmp, IsBlank, Appends, Replaces, Forgets, Stays};
 
 use crate::expiries::{count_ended, one_ended};
-use crate::maps::{insert_both, overwrite, remove_from, remove_other};
+use crate::maps::{insert_both, insert_others, remove_from, remove_other};
 use crate::numbered::Numbered;
+use crate::slots::{MOST_SLOTS, Slots};
 use pcp_base::{Memory, Moment};
 use std::alloc::Global;
 use std::collections::BTreeMap;
 
-impl<L: Copy, K: Ord + Copy, P: Ord + Copy> Numbered<L, K, P> {
+impl<L: Drop, K: Ord + Copy, P: Ord + Copy> Numbered<L, K, P> {
     /// No lease.
     pub fn new(alloc: Global) -> Numbered<L, K, P>
         ensures { IsBlank K.cmp P.cmp result }
     {
         Numbered {
             next: 0,
-            leases: BTreeMap::new(alloc),
+            leases: Slots::new(alloc),
             keys: BTreeMap::new(alloc),
             ports: BTreeMap::new(alloc),
             expiries: BTreeMap::new(alloc),
@@ -37,30 +39,31 @@ impl<L: Copy, K: Ord + Copy, P: Ord + Copy> Numbered<L, K, P> {
         self.expiries.clear();
     }
 
-    /// Appends a lease under a key and a port that have none. The one error is want of memory or of
-    /// numbers, which changes nothing.
+    /// Appends a lease under a key and a port that have none. The one error is want of memory, of
+    /// slots or of numbers, which changes nothing.
     pub fn append(&mut self, lease: L, key: K, port: P, expiry: u64) -> Result<(), Memory>
+        requires step { self.old.next % MOST_SLOTS ≡ 0 }
         requires key { get K.cmp self.old.keys key ≡ None }
         requires port { get P.cmp self.old.ports port ≡ None }
-        ensures ok { OnOk result (Appends K.cmp P.cmp self.old self.new lease key port expiry) }
+        ensures ok { OnOk result ((number : ℕ)
+            × Appends K.cmp P.cmp self.old self.new lease key port expiry number) }
         ensures err { OnErr result (Stays self.old self.new) }
     {
-        let number = self.next;
-        let Some(after) = number.checked_add(1) else {
+        let Some(after) = self.next.checked_add(MOST_SLOTS) else {
             return Err(Memory);
         };
-        insert_both(
+        let number = self.leases.append(self.next, lease)?;
+        if let Err(error) = insert_both(
             &mut self.keys,
             &mut self.ports,
             (key, number),
             (port, number),
-        )?;
-        if let Err(error) = insert_both(
-            &mut self.expiries,
-            &mut self.leases,
-            ((expiry, number), ()),
-            (number, lease),
         ) {
+            self.leases.remove(&number);
+            return Err(error.into());
+        }
+        if let Err(error) = self.expiries.insert((expiry, number), ()) {
+            self.leases.remove(&number);
             remove_from(&mut self.keys, key);
             remove_from(&mut self.ports, port);
             return Err(error.into());
@@ -70,7 +73,8 @@ impl<L: Copy, K: Ord + Copy, P: Ord + Copy> Numbered<L, K, P> {
     }
 
     /// Writes a lease at a number that has one with this key: its port moves, and its expiry, each
-    /// from the first to the second. The one error is want of memory, which changes nothing.
+    /// from the first to the second; one that stays isn't touched. The one error is want of memory,
+    /// which changes nothing.
     pub fn replace(
         &mut self,
         number: u64,
@@ -78,22 +82,24 @@ impl<L: Copy, K: Ord + Copy, P: Ord + Copy> Numbered<L, K, P> {
         ports: (P, P),
         expiries: (u64, u64),
     ) -> Result<(), Memory>
-        requires { IsSome (get nat_cmp self.old.leases number) }
+        requires there { IsSome (get nat_cmp self.old.leases number) }
+        requires port { HasEntry P.cmp self.old.ports ports.0 number }
+        requires expiry { HasEntry expiry_cmp self.old.expiries (expiries.0, number) tt }
         ensures ok { OnOk result
             (Replaces P.cmp self.old self.new number lease ports.0 ports.1 expiries.0 expiries.1) }
         ensures err { OnErr result (Stays self.old self.new) }
     {
         let (from, to) = ports;
         let (before, after) = expiries;
-        insert_both(
+        insert_others(
             &mut self.ports,
             &mut self.expiries,
-            (to, number),
-            ((after, number), ()),
+            (from, to, number),
+            ((before, number), (after, number), ()),
         )?;
         remove_other(&mut self.ports, from, to);
         remove_other(&mut self.expiries, (before, number), (after, number));
-        overwrite(&mut self.leases, number, lease);
+        self.leases.overwrite(number, lease);
         Ok(())
     }
 
@@ -101,7 +107,7 @@ impl<L: Copy, K: Ord + Copy, P: Ord + Copy> Numbered<L, K, P> {
     pub fn forget(&mut self, number: u64, key: K, port: P, expiry: u64)
         ensures { Forgets K.cmp P.cmp self.old self.new number key port expiry }
     {
-        remove_from(&mut self.leases, number);
+        self.leases.remove(&number);
         remove_from(&mut self.keys, key);
         remove_from(&mut self.ports, port);
         remove_from(&mut self.expiries, (expiry, number));

@@ -9,9 +9,11 @@ mod numbered;
 mod places;
 mod ports;
 mod sieves;
+mod slots;
 
 pub use keys::{Port, first_from, last_up_to, port_at};
 pub use numbered::Numbered;
 pub use places::{Place, is_beside, place_of, port_in};
 pub use ports::lesser;
 pub use sieves::Sieve;
+pub use slots::{Slots, Values};

@@ -115,7 +115,7 @@ module _ (it : Numbered PeerLease PeerKey Opening) (h : AreKeptPeers it) where
 
     module _ {X E : Type 0} (new : Numbered PeerLease PeerKey Opening) (r : Result X E) where
       pub peer_appended : (k : PeerKey) (p : Opening) → k ≡ key_of_lease l → p ≡ opening_of_lease l → get key_cmp it.keys (key_of_lease l) ≡ None →
-          OnOk r (Appends key_cmp opening_cmp it new l k p l.expiry) → OnErr r (Stays it new) → AreKeptPeers new × PutsPeer (values it.leases) l r (values new.leases)
+          OnOk r ((n : ℕ) × Appends key_cmp opening_cmp it new l k p l.expiry n) → OnErr r (Stays it new) → AreKeptPeers new × PutsPeer (values it.leases) l r (values new.leases)
       peer_appended k p k_is p_is free ok err =
           let put = put-appended peer_keying peer_laws it h.kept new is_l l tells_l (openings_apart (with_peer l (values it.leases)) sound) r k p k_is p_is free ok err in
           (record { sound = put-either AreSoundPeers (values it.leases) (with_peer l (values it.leases)) (values new.leases) r put.ok put.err h.sound sound; kept = put.kept }, record { ok = put.ok; err = put.err })

@@ -21,10 +21,9 @@ use crate::named::next_live;
 use crate::overlaps::{of_endpoint, of_port, overlapped};
 use crate::ports::last_expiry;
 use crate::uses::PortUse;
-use ordered_index::{Numbered, first_from};
+use ordered_index::{Numbered, Slots, first_from};
 use pcp_base::{Address, Change, Endpoint, Memory, Moment, PeerLease, Protocol, Record};
 use std::alloc::{AllocError, Global};
-use std::collections::BTreeMap;
 use std::marker::Model;
 use std::sync::ledger::Ledger;
 use step_count::laws::levels_grow;
@@ -65,7 +64,7 @@ fn count_live_of(kept: &Numbered<PeerLease, Key, Opening>, m: Moment) -> usize
 /// Appends the leases that are live at `m`, in the order of their numbers. Where memory is wanting,
 /// some of them may stand behind the old ones.
 fn append_live(
-    leases: &BTreeMap<u64, PeerLease>,
+    leases: &Slots<PeerLease>,
     m: Moment,
     out: &mut Vec<PeerLease>,
 ) -> Result<(), AllocError>
@@ -78,7 +77,7 @@ fn append_live(
 
 /// Appends a record at `m` for each lease that is live then, in the order of their numbers.
 fn append_records(
-    leases: &BTreeMap<u64, PeerLease>,
+    leases: &Slots<PeerLease>,
     m: Moment,
     out: &mut Vec<Record>,
 ) -> Result<(), AllocError>
@@ -289,7 +288,7 @@ impl PeerTable {
     }
 
     /// Puts a lease in the place of the one with its key, or at the end. The one error is want of
-    /// memory, which changes nothing.
+    /// memory, or of a slot where there are 131,072 leases, which changes nothing.
     pub fn put<L: Ledger>(
         &mut self,
         _alloc: Global,

@@ -1,21 +1,20 @@
-use Rattle.std.proofs.Common.{◌≡◌, None, refl, ap, ◌∙◌}
-use Rattle.std.specs.Map.{remove_entry}
-use Rattle.std.specs.BTreeMap.{get, is_at}
-use Rattle.ordered_index.specs.Orders.{place_cmp, port_cmp}
-use Rattle.ordered_index.proofs.EntryLaws.{removed-inserted}
-use Rattle.ordered_index.proofs.OrderLaws.{place_total, port_total}
+use Rattle.std.proofs.Common.{ℕ, OnOk, ap, ◌∙◌, subst}
+use Rattle.std.specs.BTreeMap.{get}
+use Rattle.ordered_index.specs.Orders.{Place, place_cmp, port_cmp}
+use Rattle.ordered_index.specs.Steps.{Appends}
+use Rattle.cascade_ties.specs.Kept.{place_of_tie}
 use Rattle.cascade_ties.proofs.changes.append.Goals as goal
 
-pub returns-in-Err-clause-err : goal.returns-in-Err-clause-err
-returns-in-Err-clause-err c =
-    let key : get place_cmp c.args.kept.now.keys c.client_of-key.result ≡ None = ap (get place_cmp c.args.kept.now.keys) c.client_of-key.ensures ∙ c.requires.key in
-    let port : get port_cmp c.args.kept.now.ports c.local_of-port.result ≡ None = ap (get port_cmp c.args.kept.now.ports) c.local_of-port.ensures ∙ c.requires.port in
-    record {
-      next = refl;
-      leases = c.in-Err.ensures.second_stays;
-      keys = c.remove_from.ensures.entries ∙ ap (remove_entry (is_at (place_cmp c.client_of-key.result))) c.in_ok-insert_both.ensures.first.entries
-          ∙ removed-inserted place_total c.client_of-key.result c.args.kept.now.next c.args.kept.now.keys.entries key;
-      ports = c.remove_from-in-Err.ensures.entries ∙ ap (remove_entry (is_at (port_cmp c.local_of-port.result))) c.in_ok-insert_both.ensures.second.entries
-          ∙ removed-inserted port_total c.local_of-port.result c.args.kept.now.next c.args.kept.now.ports.entries port;
-      expiries = c.in-Err.ensures.first_stays;
-    }
+pub append-requires-clause-step : goal.append-requires-clause-step
+append-requires-clause-step c = c.requires.kept.kept.step
+
+pub append-requires-clause-key : goal.append-requires-clause-key
+append-requires-clause-key c = ap (get place_cmp c.args.kept.now.keys) c.client_of-client.ensures ∙ c.requires.key
+
+pub append-requires-clause-port : goal.append-requires-clause-port
+append-requires-clause-port c = ap (get port_cmp c.args.kept.now.ports) c.local_of-local.ensures ∙ c.requires.port
+
+pub returns-clause-ok : goal.returns-clause-ok
+returns-clause-ok c =
+    subst (λ (p : ℕ × ℕ). OnOk c.append.result ((n : ℕ) × Appends place_cmp port_cmp c.args.kept.now c.append.new.self c.args.tied (place_of_tie c.args.tied) p c.args.tied.tie.until_ms n)) c.local_of-local.ensures
+    (subst (λ (k : Place). OnOk c.append.result ((n : ℕ) × Appends place_cmp port_cmp c.args.kept.now c.append.new.self c.args.tied k c.local_of-local.result c.args.tied.tie.until_ms n)) c.client_of-client.ensures c.append.ensures.ok)

@@ -4,6 +4,9 @@ use Rattle.cascade_ties.proofs.steps.put_tie.Goals as goal
 pub hold-requires : goal.hold-requires
 hold-requires c = may_be_held c.args.kept.now c.args.pool.now c.requires.kept c.args.tied c.requires.may
 
+pub append-requires-clause-kept : goal.append-requires-clause-kept
+append-requires-clause-kept c = c.requires.kept.ties
+
 pub append-requires-clause-key : goal.append-requires-clause-key
 append-requires-clause-key c = key_free c.args.kept.now c.args.pool.now c.requires.kept c.args.tied c.requires.may
 

@@ -8,6 +8,9 @@ use Rattle.mapping_table.proofs.Sets.{counted_stays, counted_appended}
 use Rattle.mapping_table.proofs.Sieving.{sieved_stays, sieved_more}
 use Rattle.mapping_table.proofs.changes.append.Goals as goal
 
+pub append-requires-clause-step : goal.append-requires-clause-step
+append-requires-clause-step g c = c.requires.counted.kept.kept.step
+
 pub append-requires-clause-port : goal.append-requires-clause-port
 append-requires-clause-port g c =
     ap (get port_cmp c.args.kept.now.ports) c.port.ensures ∙ port_is_free c.args.kept.now c.requires.counted.kept c.args.lease c.requires.sound c.requires.free

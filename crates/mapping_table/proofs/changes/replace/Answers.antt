@@ -2,14 +2,25 @@ use Rattle.std.proofs.Common.{rules, ◌≡◌, Some, Ok}
 use Rattle.std.specs.Ordering.{nat_cmp}
 use Rattle.std.specs.BTreeMap.{get}
 use Rattle.pcp_base.specs.declared.errors.Memory.{Memory}
-use Rattle.mapping_table.specs.Kept.{place_of_lease}
-use Rattle.mapping_table.proofs.MapKeeping.{place_has, map_replaced, map_not_put}
+use Rattle.ordered_index.proofs.Keeping.{port-there, due-there}
+use Rattle.mapping_table.specs.Kept.{place_of_lease, map_keying}
+use Rattle.mapping_table.proofs.MapKeeping.{map_laws, place_has, map_replaced, map_not_put}
 use Rattle.mapping_table.proofs.Sets.{counted_stays, counted_replaced, replaced_few}
 use Rattle.mapping_table.proofs.Sieving.{sieved_stays, sieved_as_many}
 use Rattle.mapping_table.proofs.changes.replace.Goals as goal
 
 pub index-requires : goal.index-requires
 index-requires g c = place_has c.args.kept.now c.requires.counted.kept (place_of_lease c.args.lease) c.args.number c.requires.key
+
+pub replace-requires-clause-port : goal.replace-requires-clause-port
+replace-requires-clause-port g c =
+    let at_n : get nat_cmp c.args.kept.now.leases c.args.number ≡ Some c.index.result.now = search rules in
+    port-there map_keying map_laws c.args.kept.now c.requires.counted.kept.kept c.args.number c.index.result.now c.port.result at_n c.port.ensures
+
+pub replace-requires-clause-expiry : goal.replace-requires-clause-expiry
+replace-requires-clause-expiry g c =
+    let at_n : get nat_cmp c.args.kept.now.leases c.args.number ≡ Some c.index.result.now = search rules in
+    due-there map_keying map_laws c.args.kept.now c.requires.counted.kept.kept c.args.number c.index.result.now c.expiry.result at_n c.expiry.ensures
 
 pub overflow_sub-sets : goal.overflow_sub-sets
 overflow_sub-sets g c =

@@ -4,6 +4,9 @@ use Rattle.peer_table.specs.Kept.{key_cmp, opening_cmp}
 use Rattle.peer_table.proofs.PeerKeeping.{opening_is_free, peer_appended}
 use Rattle.peer_table.proofs.changes.append.Goals as goal
 
+pub append-requires-clause-step : goal.append-requires-clause-step
+append-requires-clause-step g c = c.requires.kept.kept.step
+
 pub append-requires-clause-key : goal.append-requires-clause-key
 append-requires-clause-key g c = ap (get key_cmp c.args.kept.now.keys) c.key_of.ensures ∙ c.requires.free
 

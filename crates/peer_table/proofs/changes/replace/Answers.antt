@@ -1,12 +1,23 @@
-use Rattle.std.proofs.Common.{rules, ◌≡◌, Some}
+use Rattle.std.proofs.Common.{rules, ◌≡◌, Some, refl}
 use Rattle.std.specs.Ordering.{nat_cmp}
 use Rattle.std.specs.BTreeMap.{get}
-use Rattle.peer_table.specs.Kept.{key_of_lease}
-use Rattle.peer_table.proofs.PeerKeeping.{key_has, peer_replaced}
+use Rattle.ordered_index.proofs.Keeping.{port-there, due-there}
+use Rattle.peer_table.specs.Kept.{key_of_lease, peer_keying}
+use Rattle.peer_table.proofs.PeerKeeping.{key_has, peer_laws, peer_replaced}
 use Rattle.peer_table.proofs.changes.replace.Goals as goal
 
 pub index-requires : goal.index-requires
 index-requires g c = key_has c.args.kept.now c.requires.kept (key_of_lease c.args.lease) c.args.number c.requires.key
+
+pub replace-requires-clause-port : goal.replace-requires-clause-port
+replace-requires-clause-port g c =
+    let at_n : get nat_cmp c.args.kept.now.leases c.args.number ≡ Some c.index.result.now = search rules in
+    port-there peer_keying peer_laws c.args.kept.now c.requires.kept.kept c.args.number c.index.result.now c.opening_of.result at_n c.opening_of.ensures
+
+pub replace-requires-clause-expiry : goal.replace-requires-clause-expiry
+replace-requires-clause-expiry g c =
+    let at_n : get nat_cmp c.args.kept.now.leases c.args.number ≡ Some c.index.result.now = search rules in
+    due-there peer_keying peer_laws c.args.kept.now c.requires.kept.kept c.args.number c.index.result.now c.index.result.now.expiry at_n refl
 
 pub returns-clause-kept : goal.returns-clause-kept
 returns-clause-kept g c =

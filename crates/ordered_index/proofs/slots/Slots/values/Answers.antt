@@ -1,0 +1,16 @@
+use Rattle.std.proofs.Common.{ℕ, List, IsSome, sym, ap, ◌∙◌, subst}
+use Rattle.std.specs.List.{AllByRecursion, filter_map}
+use Rattle.std.specs.BTreeMap.{BTreeMap, values}
+use Rattle.ordered_index.specs.Slots.{lease_at}
+use Rattle.ordered_index.proofs.SlotLaws.{held-keys, seen-values}
+use Rattle.ordered_index.proofs.slots.Slots.values.Goals as goal
+
+pub invariant_of-result : goal.invariant_of-result
+invariant_of-result g c =
+    subst (λ (ns : List ℕ). AllByRecursion (λ n. IsSome (lease_at c.self.inside.slots n)) ns) (sym c.keys.ensures.rest) (held-keys c.self.inside.slots c.self.inside.order c.self.invariant)
+
+pub returns : goal.returns
+returns g c = record {
+  rest = ap (filter_map (lease_at c.self.inside.slots)) c.keys.ensures.rest ∙ seen-values c.self.inside.slots c.self.inside.order c.self.invariant
+      ∙ ap (λ (m : BTreeMap ℕ g.row.L.Denot). values m) c.self.view_is;
+}

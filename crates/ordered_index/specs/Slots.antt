@@ -1,0 +1,37 @@
+-- How leases stand in slots (our own; for proofs alone).
+use Rattle.std.specs.Prelude.{◌≡◌, ℕ, ◌%◌, ◌==◌, List, [], ◌∷◌, Option, Some, None, is_some, if◌then◌else◌, ⊤}
+use Rattle.std.specs.Ordering.{nat_cmp}
+use Rattle.std.specs.BTreeMap.{BTreeMap, IsOrdered, get}
+use Rattle.std_collections.specs.Layout.BTreeMap.{btree_map}
+use Rattle.slab.specs.Slab as slab
+use Rattle.ordered_index.specs.declared.slots.TheConstants.{MOST_SLOTS}
+use mathlib.Core.Logic.{inl}
+
+module _ {L : Type 0} where
+  -- the lease of a slot, if that has this number
+  abbrev pub lease_of : ℕ → Option (ℕ × L) → Option L
+  lease_of n None = None
+  lease_of n (Some e) = if e.0 == n then Some e.1 else None
+
+  -- the lease with a number, which stands in the slot that the number names
+  abbrev pub lease_at : slab.Slab (ℕ × L) → ℕ → Option L
+  lease_at slots n = lease_of n (slab.get slots (n % MOST_SLOTS))
+
+  -- a number and its lease, before others
+  abbrev pub with_lease : ℕ → Option L → List (ℕ × L) → List (ℕ × L)
+  with_lease n None rest = rest
+  with_lease n (Some l) rest = (n, l) ∷ rest
+
+  -- the numbers, each with its lease
+  abbrev pub entries_of : (ℕ → Option L) → List (ℕ × ⊤) → List (ℕ × L)
+  entries_of lease [] = []
+  entries_of lease (e ∷ es) = with_lease e.0 (lease e.0) (entries_of lease es)
+
+  -- the numbers in order, and a lease for each of them and for no other
+  pub record AreSlots (slots : slab.Slab (ℕ × L)) (order : BTreeMap ℕ ⊤) : Type 0 where
+    pub ordered : IsOrdered nat_cmp order
+    pub listed : (n : ℕ) → is_some (lease_at slots n) ≡ is_some (get nat_cmp order n)
+
+  -- what they are seen as
+  abbrev pub leases_of : slab.Slab (ℕ × L) → BTreeMap ℕ ⊤ → BTreeMap ℕ L
+  leases_of slots order = btree_map (entries_of (lease_at slots) order.entries) (inl tt)

@@ -1,0 +1,208 @@
+//! Leases in slots, by numbers that name their slots.
+ghost use Rattle.std.specs.Prelude.{◌≡◌, ◌≤◌, ◌<◌, ◌+◌, ◌%◌, ◌^◌, Some, None, IfOk, OnErr, IsSome};
+ghost use Rattle.std.specs.Option.{option_copied};
+ghost use Rattle.std.specs.Ordering.{nat_cmp};
+ghost use Rattle.std.specs.BTreeMap.{IsOrdered, btree_map_len, get, values};
+ghost use Rattle.std.specs.Map.Iter.{TakesFirst, deref};
+ghost use Rattle.std.specs.Iterator.{item_count};
+ghost use Rattle.slab.specs.Slab.{ContainsKey, Updates};
+ghost use Rattle.ordered_index.specs.MapSteps.{IsBlankMap, Inserts, Overwrites, Removes};
+ghost use Rattle.ordered_index.specs.Slots.{lease_at};
+
+use slab::Slab;
+use std::alloc::{AllocError, Global};
+use std::collections::BTreeMap;
+use std::collections::btree_map::Keys;
+use std::marker::Model;
+use std::ops::Index;
+
+/// How many slots there may be. A lease's number modulo this is its slot.
+pub(crate) const MOST_SLOTS: u64 = 131_072;
+
+/// Leases by their numbers, seen as an ordered map. Each stands in a slot that its number names, so
+/// that a look-up is one look into an array.
+#[derive(Drop)]
+pub struct Slots<L> {
+    /// The leases, each beside its number.
+    slots: Slab<(u64, L)>,
+    /// The numbers, in order.
+    order: BTreeMap<u64, ()>,
+}
+
+impl<L> Model for Slots<L> {
+    ghost use Rattle.std.specs.Prelude.{ℕ};
+    ghost use Rattle.std.specs.Coded.{coded_ℕ};
+    ghost use Rattle.std.specs.BTreeMap.{BTreeMap as Map};
+    ghost use Rattle.std_collections.specs.Layout.BTreeMap.{btree_map_code};
+    ghost use Rattle.ordered_index.specs.Slots.{AreSlots, leases_of};
+
+    ghost Value = { Map ℕ L };
+
+    ghost coded = { btree_map_code coded_ℕ L.code };
+
+    ghost view = { λ s. leases_of s.slots s.order };
+
+    ghost invariant = { λ s. AreSlots s.slots s.order };
+}
+
+/// The lease in the slot that the number names, if it has this number.
+fn find<L>(slots: &Slab<(u64, L)>, number: u64) -> Option<&L>
+    ensures { option_copied result ≡ lease_at slots.now number }
+{
+    let Some((held, lease)) = slots.get((number % MOST_SLOTS) as usize) else {
+        return None;
+    };
+    if *held == number { Some(lease) } else { None }
+}
+
+/// Writes another value in a slot that has one.
+fn write<T: Drop>(slots: &mut Slab<T>, slot: usize, value: T)
+    requires { ContainsKey slots.old slot }
+    ensures { Updates slots.old slots.new slot (Some value) }
+{
+    if let Some(place) = slots.get_mut(slot) {
+        *place = value;
+    }
+}
+
+impl<L: Drop> Slots<L> {
+    /// No lease.
+    pub fn new(alloc: Global) -> Slots<L>
+        ensures { IsBlankMap nat_cmp result }
+    {
+        Slots {
+            slots: Slab::new(alloc),
+            order: BTreeMap::new(alloc),
+        }
+    }
+
+    /// Forgets all leases. It takes no memory.
+    pub fn clear(&mut self)
+        ensures { IsBlankMap nat_cmp self.new }
+    {
+        self.slots.clear();
+        self.order.clear();
+    }
+
+    /// How many leases there are.
+    pub fn len(&self) -> usize
+        ensures len { result ≡ btree_map_len self.now }
+        ensures small { result < 2 ^ 63 }
+        ensures ordered { IsOrdered nat_cmp self.now }
+    {
+        self.order.len()
+    }
+
+    /// The lease with a number, by one look into the slots.
+    pub fn get(&self, number: &u64) -> Option<&L>
+        ensures value { option_copied result ≡ get nat_cmp self.now number.now }
+    {
+        find(&self.slots, *number)
+    }
+
+    /// The leases, in the order of their numbers.
+    pub fn values(&self) -> Values<'_, L>
+        ensures rest { result ≡ values self.now }
+    {
+        Values {
+            slots: &self.slots,
+            order: self.order.keys(),
+        }
+    }
+
+    /// Puts a lease in under a number from `next` on and below `next` and 131,072 more, which names
+    /// a free slot, and gives the number. The one error is want of memory or of slots, which changes
+    /// nothing.
+    pub fn append(&mut self, next: u64, lease: L) -> Result<u64, AllocError>
+        requires step { next % MOST_SLOTS ≡ 0 }
+        requires room { next + MOST_SLOTS < 2 ^ 64 }
+        ensures from { IfOk result (λ number. next ≤ number) }
+        ensures below { IfOk result (λ number. number < next + MOST_SLOTS) }
+        ensures free { IfOk result (λ number. get nat_cmp self.old number ≡ None) }
+        ensures inserts { IfOk result (λ number.
+            Inserts nat_cmp self.old self.new number lease) }
+        ensures err { OnErr result (self.new.entries ≡ self.old.entries) }
+    {
+        let slot = self.slots.vacant_key() as u64;
+        if slot >= MOST_SLOTS {
+            return Err(AllocError);
+        }
+        let number = next + slot;
+        self.slots.reserve(1)?;
+        self.order.insert(number, ())?;
+        self.slots.insert_reserved((number, lease));
+        Ok(number)
+    }
+
+    /// Writes another lease at a number that has one.
+    pub fn overwrite(&mut self, number: u64, lease: L)
+        requires { IsSome (get nat_cmp self.old number) }
+        ensures { Overwrites nat_cmp self.old self.new number lease }
+    {
+        let slot = (number % MOST_SLOTS) as usize;
+        write(&mut self.slots, slot, (number, lease));
+    }
+
+    /// Takes out the lease with a number.
+    pub fn remove(&mut self, number: &u64) -> Option<L>
+        ensures value { result ≡ get nat_cmp self.old number.now }
+        ensures removed { Removes nat_cmp self.old self.new number.now }
+    {
+        if self.order.remove(number).is_none() {
+            return None;
+        }
+        let (_, lease) = self.slots.remove((*number % MOST_SLOTS) as usize);
+        Some(lease)
+    }
+}
+
+impl<L> Index<&u64> for Slots<L> {
+    type Output = L;
+
+    ghost can_index = { λ slots number. IsSome (get nat_cmp slots number.now) };
+
+    ghost index_gives = { λ slots number lease. get nat_cmp slots number.now ≡ Some lease };
+
+    fn index(&self, number: &u64) -> &L {
+        find(&self.slots, *number).unwrap()
+    }
+}
+
+/// The leases, in the order of their numbers.
+#[derive(Drop)]
+pub struct Values<'a, L> {
+    /// Where they stand.
+    slots: &'a Slab<(u64, L)>,
+    /// The numbers that are left.
+    order: Keys<'a, u64, ()>,
+}
+
+impl<'a, L> Model for Values<'a, L> {
+    ghost use Rattle.std.specs.Prelude.{List, IsSome};
+    ghost use Rattle.std.specs.Coded.{coded_list};
+    ghost use Rattle.std.specs.List.{AllByRecursion, filter_map};
+    ghost use Rattle.ordered_index.specs.Slots.{lease_at};
+
+    ghost Value = { List L };
+
+    ghost coded = { coded_list L.code };
+
+    ghost view = { λ v. filter_map (lease_at v.slots.now) v.order };
+
+    ghost invariant = { λ v. AllByRecursion (λ n. IsSome (lease_at v.slots.now n)) v.order };
+}
+
+impl<'a, L> Iterator for Values<'a, L> {
+    type Item = &'a L;
+
+    ghost next_gives = { TakesFirst deref };
+
+    ghost remaining = { item_count (λ left. left) };
+
+    fn next(&mut self) -> Option<&'a L> {
+        let Some(number) = self.order.next() else {
+            return None;
+        };
+        find(self.slots, *number)
+    }
+}
