@@ -1,5 +1,5 @@
 -- What a state in tables keeps where it is new, after a record, and at a later moment.
-use Rattle.std.proofs.Common.{◌≡◌, ◌⊎◌, ℕ, ◌≤◌, nat_lt, Bool, true, false, cond, List, [], ◌++◌, filter, Option, None, inl, inr, refl, sym, ap, ◌∙◌, subst, arith}
+use Rattle.std.proofs.Common.{◌≡◌, ℕ, ◌≤◌, nat_lt, Bool, true, false, cond, List, [], ◌++◌, filter, Option, None, refl, sym, ap, ◌∙◌, subst, arith}
 use Rattle.pcp_base.specs.declared.addresses.Address.{Address}
 use Rattle.pcp_base.specs.declared.leases.Protocol.{Protocol}
 use Rattle.pcp_base.specs.declared.leases.Protocol.TheVariants.{Tcp, Udp}
@@ -11,7 +11,7 @@ use Rattle.pcp_base.specs.Laws.{RecordsReach}
 use Rattle.lease_store.specs.declared.terms.Terms.{Terms}
 use Rattle.lease_store.specs.LeaseTerms.{AreTerms}
 use Rattle.port_spans.specs.Along.{end_told, spot}
-use Rattle.leased_ports.specs.Leased.{Leased, IsPortsOf, IsOnTerms, as_settled, at_moment, end_of, fresh_ports}
+use Rattle.leased_ports.specs.Leased.{Leased, IsPortsOf, IsOnTerms, at_moment, end_of, fresh_ports}
 use Rattle.leased_ports.specs.Kept.{end_by}
 use Rattle.leased_ports.specs.Listed.{ends_come, has_come, listed}
 use Rattle.leased_ports.specs.Laws.{NewPortsAreFree, PortsFollowMoments}
@@ -88,10 +88,10 @@ new-indexed made s reached terms allowed new kept is on = record {
 }
 
 -- what is seen to changes nothing that it keeps
-pub settled-indexed : (t : Table) (v w : Leased) (base : ℕ) (address : Option Address) (last : ℕ) (started : Bool) (reached : ℕ) (terms : Terms) → w ≡ as_settled v
+pub picked-indexed : (t : Table) (v w : Leased) (base : ℕ) (address : Option Address) (last : ℕ) (started : Bool) (reached : ℕ) (terms : Terms) → w ≡ record v { settled = w.settled }
     → IsIndexed (record { state = state_in t v base address last started; leases = t; ports = v }) reached terms
     → IsIndexed (record { state = state_in t w base address last started; leases = t; ports = w }) reached terms
-settled-indexed t v w base address last started reached terms is indexed =
+picked-indexed t v w base address last started reached terms is indexed =
     subst (λ (x : Leased). IsIndexed (record { state = state_in t x base address last started; leases = t; ports = x }) reached terms) (sym is)
     (record {
       allowed = indexed.allowed;
@@ -104,16 +104,3 @@ settled-indexed t v w base address last started reached terms is indexed =
       now = indexed.now;
       on = record { low = indexed.on.low; high = indexed.on.high; quota = indexed.on.quota };
     })
-
--- nor does what a pick sees to, where it sees to anything
-pub picked-indexed : (t : Table) (v w : Leased) (base : ℕ) (address : Option Address) (last : ℕ) (started : Bool) (reached : ℕ) (terms : Terms) → (w ≡ v) ⊎ (w ≡ as_settled v)
-    → IsIndexed (record { state = state_in t v base address last started; leases = t; ports = v }) reached terms
-    → IsIndexed (record { state = state_in t w base address last started; leases = t; ports = w }) reached terms
-picked-indexed t v w base address last started reached terms (inl same) indexed =
-    subst (λ (x : Leased). IsIndexed (record { state = state_in t x base address last started; leases = t; ports = x }) reached terms) (sym same) indexed
-picked-indexed t v w base address last started reached terms (inr is) indexed = settled-indexed t v w base address last started reached terms is indexed
-
-pub picked-state : (t : Table) (v w : Leased) (base : ℕ) (address : Option Address) (last : ℕ) (started : Bool) → (w ≡ v) ⊎ (w ≡ as_settled v)
-    → state_in t w base address last started ≡ state_in t v base address last started
-picked-state t v w base address last started (inl same) = ap (λ (x : Leased). state_in t x base address last started) same
-picked-state t v w base address last started (inr is) = ap (λ (x : Leased). state_in t x base address last started) is

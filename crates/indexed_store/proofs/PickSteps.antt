@@ -3,7 +3,8 @@ use Rattle.std.proofs.Common.{◌≡◌, ℕ, ◌+◌, ◌*◌, ◌<◌, ◌≤�
 use Rattle.std.specs.Bool.{OnTrue}
 use Rattle.std.proofs.lemmas.Bool.{ltb-true, lt-ltb}
 use Rattle.pcp_base.specs.declared.addresses.Address.{Address}
-use Rattle.leased_ports.specs.declared.falls.TheConstants.{RUN_STEPS}
+use Rattle.leased_ports.specs.declared.picks.TheConstants.{DUE_STEPS}
+use Rattle.leased_ports.specs.declared.ports.TheConstants.{PICK_STEPS}
 use Rattle.leased_ports.specs.declared.plain.TheConstants.{PLAIN_STEPS}
 use Rattle.leased_ports.specs.Leased.{Leased, at_moment}
 use Rattle.leased_ports.specs.Counts.{held_since, ports_due}
@@ -22,7 +23,7 @@ settled-fewer v w m n who plain is more =
     at = record (at_moment m v) { settled = n }
 
     step : (plain b c : Bool) → (c ≡ true → b ≡ true) → ports_due at ≤ ports_due (at_moment m v)
-        → cond (plain && b) PLAIN_STEPS (134 + PLAIN_STEPS + (23 + RUN_STEPS) * ports_due at) ≤ cond (plain && c) PLAIN_STEPS (134 + PLAIN_STEPS + (23 + RUN_STEPS) * ports_due (at_moment m v))
+        → cond (plain && b) PLAIN_STEPS (PICK_STEPS + DUE_STEPS * ports_due at) ≤ cond (plain && c) PLAIN_STEPS (PICK_STEPS + DUE_STEPS * ports_due (at_moment m v))
     step false b c sooner due = omega (arith, due)
     step true true true sooner due = omega arith
     step true true false sooner due = omega arith
@@ -32,7 +33,7 @@ settled-fewer v w m n who plain is more =
 -- a pick at the moment reached takes what is told
 pub pick-within : (v : Leased) (m : ℕ) (who : Address) (plain : Bool) (before after room : ℕ) → v.reached ≡ m
     → OnTrue plain (held_since v who < v.quota → after ≤ before + PLAIN_STEPS)
-    → after ≤ before + 134 + room + cond plain PLAIN_STEPS 0 + (23 + RUN_STEPS) * ports_due v
+    → after ≤ before + PICK_STEPS + room + DUE_STEPS * ports_due v
     → after ≤ before + pick_steps v m who plain + room
 pick-within v m who plain before after room now few steps =
     subst (λ (n : ℕ). after ≤ before + pick_steps v n who plain + room) now
@@ -40,8 +41,8 @@ pick-within v m who plain before after room now few steps =
   where
     step : (plain b : Bool) → (b ≡ true → held_since v who < v.quota)
         → OnTrue plain (held_since v who < v.quota → after ≤ before + PLAIN_STEPS)
-        → after ≤ before + 134 + room + cond plain PLAIN_STEPS 0 + (23 + RUN_STEPS) * ports_due v
-        → after ≤ before + cond (plain && b) PLAIN_STEPS (134 + PLAIN_STEPS + (23 + RUN_STEPS) * ports_due v) + room
+        → after ≤ before + PICK_STEPS + room + DUE_STEPS * ports_due v
+        → after ≤ before + cond (plain && b) PLAIN_STEPS (PICK_STEPS + DUE_STEPS * ports_due v) + room
     step true true less few steps = let told = few (less refl) in omega (arith, told)
     step true false less few steps = omega (arith, steps)
     step false b less few steps = omega (arith, steps)

@@ -18,7 +18,9 @@ use Rattle.port_spans.specs.declared.runs.Run.{Run}
 use Rattle.port_spans.specs.Runs.{run_at}
 use Rattle.port_spans.specs.Along.{spot}
 use Rattle.leased_ports.specs.declared.falls.TheConstants.{MOST_RUNS, RUN_STEPS}
+use Rattle.leased_ports.specs.declared.picks.TheConstants.{DUE_STEPS}
 use Rattle.leased_ports.specs.declared.plain.TheConstants.{PLAIN_STEPS}
+use Rattle.leased_ports.specs.declared.ports.TheConstants.{PICK_STEPS}
 use Rattle.leased_ports.specs.declared.steps.TheConstants.{PUT_STEPS, TAKEN_STEPS}
 use Rattle.leased_ports.specs.Among.{runs_among}
 use Rattle.leased_ports.specs.Counts.{held_since, ports_due}
@@ -40,7 +42,7 @@ reach_steps = (23 + RUN_STEPS) * MOST_RUNS
 -- parity nothing for what is due, where the address is below its quota by the counts
 abbrev pub pick_steps : Leased → ℕ → Address → Bool → ℕ
 pick_steps v m who plain = if plain && nat_lt (held_since v who) v.quota then PLAIN_STEPS
-    else 134 + PLAIN_STEPS + (23 + RUN_STEPS) * ports_due (at_moment m v)
+    else PICK_STEPS + DUE_STEPS * ports_due (at_moment m v)
 
 -- no more than another
 pub plain-fewer : (v : Leased) (m : ℕ) (who : Address) →
@@ -48,8 +50,8 @@ pub plain-fewer : (v : Leased) (m : ℕ) (who : Address) →
 plain-fewer v m who = step (nat_lt (held_since v who) v.quota)
   where
     step : (below : Bool) → (if below then PLAIN_STEPS
-        else 134 + PLAIN_STEPS + (23 + RUN_STEPS) * ports_due (at_moment m v))
-        ≤ 134 + PLAIN_STEPS + (23 + RUN_STEPS) * ports_due (at_moment m v)
+        else PICK_STEPS + DUE_STEPS * ports_due (at_moment m v))
+        ≤ PICK_STEPS + DUE_STEPS * ports_due (at_moment m v)
     step true = omega arith
     step false = omega arith
 
@@ -109,9 +111,9 @@ abbrev pub touched_steps : Leased → List PeerLease → Option OwnerRun → ℕ
 touched_steps v peers None = 0
 touched_steps v peers (Some r) = hold_steps v peers r
 
--- what it takes to apply a record: what it takes to reach its moment, the change of its leases and 8
+-- what it takes to apply a record: what it takes to reach its moment, the change of its leases and two
 -- that ended, a Rest's port, and the ports of the lease that it puts or deletes
 abbrev pub apply_steps : TabledState → Record → ℕ
 apply_steps s r = reach_steps + change_steps r.moment r.change s.leases
-    + (88 * most_levels + (PUT_STEPS + TAKEN_STEPS))
+    + (22 * most_levels + (PUT_STEPS + TAKEN_STEPS))
     + touched_steps s.ports s.leases.peers (touched_run r.change (live s.leases r.moment))

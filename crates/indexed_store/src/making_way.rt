@@ -24,7 +24,7 @@ use step_count::Steps;
 use step_count::laws::levels_grow;
 
 /// How many leases that have ended a record takes out at most, beside those that are in the way of one.
-const MOST_DROPPED: u32 = 8;
+const MOST_DROPPED: u32 = 2;
 
 impl Leases {
     /// Takes out a lease that has ended by `m`; false where there is none.
@@ -56,15 +56,15 @@ impl Leases {
         true
     }
 
-    /// Takes out 8 leases that have ended by `m`, or all where they are fewer.
+    /// Takes out two leases that have ended by `m`, or all where they are fewer.
     pub(crate) fn drop_some<L: Ledger>(&mut self, m: Moment, steps: &mut Steps<L>)
         requires { AreTabled self.old }
         ensures tabled { AreTabled self.new }
         ensures live { live self.new m ≡ live self.old m }
         ensures some { (self.new ≡ live self.new m)
-            ⊎ (length self.new.maps + length self.new.peers + 8
+            ⊎ (length self.new.maps + length self.new.peers + 2
             ≤ length self.old.maps + length self.old.peers) }
-        ensures steps { steps.new ≤ steps.old + 88 * most_levels }
+        ensures steps { steps.new ≤ steps.old + 22 * most_levels }
     {
         let mut left = MOST_DROPPED;
         while left > 0 {

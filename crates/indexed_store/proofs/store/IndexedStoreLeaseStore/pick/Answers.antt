@@ -10,7 +10,7 @@ use Rattle.indexed_store.proofs.store.IndexedStoreLeaseStore.pick.Goals as goal
 pub invariant_of-self : goal.invariant_of-self
 invariant_of-self g c =
     let i = c.self-inside.inside.0.0 in
-    picked-indexed i.leases i.ports c.pick.new.self i.base i.address i.last i.started c.self-inside.inside.0.1.0 c.self-inside.inside.0.1.1.0 c.pick.ensures.settled
+    picked-indexed i.leases i.ports c.pick.new.self i.base i.address i.last i.started c.self-inside.inside.0.1.0 c.self-inside.inside.0.1.1.0 c.pick.ensures.moved
     (subst (λ (x : Inside). IsIndexed x.state x.reached x.terms) (sym c.self-inside.view_is) c.self.invariant)
 
 pub returns-clause-steps : goal.returns-clause-steps
