@@ -1,13 +1,15 @@
 //! The run of the command.
 ghost use Rattle.std.specs.Prelude.{◌≡◌, ◌⊎◌, ◌<◌, map, string_bytes, IfOk};
 ghost use Rattle.cascade_runs.specs.CascadeRuns.{RunsCascade};
-ghost use Rattle.cascade_runs.specs.Cascading.{cascade_of};
+ghost use Rattle.cascade_runs.specs.Cascading.{cascade_of, cascading};
 ghost use Rattle.pcp_io.specs.Faults.{HasRisen};
 ghost use Rattle.proxy_commands.specs.Commands.{IsCascadeCommand};
 ghost use Rattle.proxy_commands.specs.declared.commands.CascadeCommand.{CascadeCommand};
+ghost use Rattle.relay_runs.specs.Ends.{EndsRelay};
 ghost use Rattle.tool_commands.specs.declared.statuses.ToolStatus.TheVariants.{Done, Memory};
 
 use crate::machines::CascadeMachine;
+use pcp_base::Address;
 use pcp_io::{Clock, Inbox, Outbox};
 use proxy_cascade::Cascade;
 use proxy_commands::cascade_command_of;
@@ -15,6 +17,41 @@ use relay_runs::run_relay;
 use std::alloc::Global;
 use std::sync::Wait;
 use tool_commands::ToolStatus;
+
+/// Relays by this cascade, until the inbox gives a stop.
+fn run_begun<R: Wait, O: Outbox, I: Inbox, T: Clock>(
+    rt: &R,
+    alloc: Global,
+    server: &Address,
+    cascade: Cascade,
+    down: &mut O,
+    up: &mut O,
+    from: &mut I,
+    clock: &mut T,
+) -> ToolStatus
+    ensures { EndsRelay cascading server.now cascade result
+        (record {
+          outs = record {
+            down = record { sent = O.sent down.old; faults = O.faults down.old };
+            up = record { sent = O.sent up.old; faults = O.faults up.old };
+          };
+          left = I.left from.old;
+          faults = I.faults from.old;
+          times = T.times clock.old;
+        })
+        (record {
+          outs = record {
+            down = record { sent = O.sent down.new; faults = O.faults down.new };
+            up = record { sent = O.sent up.new; faults = O.faults up.new };
+          };
+          left = I.left from.new;
+          faults = I.faults from.new;
+          times = T.times clock.new;
+        }) }
+{
+    let mut machine = CascadeMachine::of(cascade);
+    run_relay(rt, alloc, server, &mut machine, down, up, from, clock)
+}
 
 /// Relays between clients behind a translator and an upstream server as the words say (RFC 7648 in
 /// role), until the inbox gives a stop. The clock is read once for the cascade's beginning, and then
@@ -76,15 +113,5 @@ pub fn run_cascade<R: Wait, O: Outbox, I: Inbox, T: Clock>(
     else {
         return ToolStatus::Memory;
     };
-    let mut machine = CascadeMachine::of(cascade);
-    run_relay(
-        rt,
-        alloc,
-        &relay.server,
-        &mut machine,
-        down,
-        up,
-        from,
-        clock,
-    )
+    run_begun(rt, alloc, &relay.server, cascade, down, up, from, clock)
 }
