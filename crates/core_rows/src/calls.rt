@@ -132,7 +132,7 @@ fn has_records<S: LeaseStore>(alloc: Global, core: &LeaseCore<S>) -> Result<bool
         Change::Map(map_lease(granted)),
         Change::Peer(peer_lease(granted)),
     ];
-    let mut records = Vec::new(alloc);
+    let mut records: Vec<Record> = Vec::new(alloc);
     core.add_records(&mut records)?;
     Ok(
         records.iter().all(|record| record.moment.get() == 1020)

@@ -208,7 +208,7 @@ fn ports_of<S: LeaseStore>(alloc: Global, core: &LeaseCore<S>) -> Result<Ports, 
 fn records_of<S: LeaseStore>(alloc: Global, core: &LeaseCore<S>) -> Result<Vec<Record>, Memory>
     requires { MayServe (S.state core.now) (S.terms core.now) }
 {
-    let mut records = Vec::new(alloc);
+    let mut records: Vec<Record> = Vec::new(alloc);
     core.add_records(&mut records)?;
     Ok(records)
 }

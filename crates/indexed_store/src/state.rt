@@ -4,6 +4,7 @@ ghost use Rattle.indexed_store.specs.Tabled.{IsNew, state_in};
 ghost use Rattle.indexed_store.specs.Looks.{reach_steps};
 ghost use Rattle.pcp_base.specs.Apply as the;
 ghost use Rattle.lease_store.specs.declared.terms.Terms.{Terms};
+ghost use Rattle.pcp_base.specs.Reached.{IsReached};
 ghost use Rattle.lease_store.specs.HeldRecords.{held_records};
 ghost use Rattle.leased_ports.specs.Leased.{IsOnTerms, at_moment, fresh_ports, vacated};
 
@@ -14,6 +15,7 @@ use leased_ports::LeasedPorts;
 use mapping_table::MapTable;
 use pcp_base::{Address, Memory, Moment, Record};
 use peer_table::PeerTable;
+use record_sink::RecordSink;
 use std::alloc::Global;
 use std::marker::Model;
 use std::sync::ledger::Ledger;
@@ -103,9 +105,11 @@ impl IndexedState {
         self.ports.reach(m, steps);
     }
 
-    /// Appends a record at the last moment for each end and each lease.
-    pub(crate) fn add_records(&self, out: &mut Vec<Record>) -> Result<(), Memory>
-        ensures { OnOk result (out.new.items ≡ out.old.items ++ held_records self.now.state) }
+    /// Hands on a record at the last moment for each end and each lease.
+    pub(crate) fn add_records<K: RecordSink>(&self, out: &mut K) -> Result<(), Memory>
+        requires { IsReached self.now.state }
+        ensures { OnOk result
+            (K.taken out.new ≡ K.taken out.old ++ held_records self.now.state) }
     {
         self.ports.add_end_records(self.last, out)?;
         self.leases.maps.add_records(self.last, out)?;

@@ -22,6 +22,7 @@ use pcp_base::{
     Address, End, Endpoint, MapLease, Memory, Moment, Owner, PeerLease, Protocol, Record,
     first_states_are_sound, new_leases_need_room, states_are_sound,
 };
+use record_sink::RecordSink;
 use std::alloc::Global;
 use std::marker::{Brand, Model};
 use std::sync::ledger::{Blank, Ledger};
@@ -344,7 +345,7 @@ impl LeaseStore for IndexedStore {
         self.state.ports.copy_ends(alloc, self.state.last)
     }
 
-    fn add_records(&self, out: &mut Vec<Record>) -> Result<(), Memory> {
+    fn add_records<K: RecordSink>(&self, out: &mut K) -> Result<(), Memory> {
         self.state.add_records(out)
     }
 

@@ -21,6 +21,7 @@ use pcp_base::{
     Address, Ask, End, Endpoint, MapLease, Memory, Moment, Owner, PeerLease, Protocol, Record,
     Replay,
 };
+use record_sink::RecordSink;
 use std::alloc::Global;
 use std::marker::{Brand, Model};
 use std::sync::ledger::Blank;
@@ -137,11 +138,12 @@ impl<S: LeaseStore> LeaseCore<S> {
         self.store.ends(alloc)
     }
 
-    /// Appends a record at the last moment for each end and each lease of the state, in the order in
+    /// Hands on a record at the last moment for each end and each lease of the state, in the order in
     /// which a snapshot has them. The one error is want of memory.
-    pub fn add_records(&self, out: &mut Vec<Record>) -> Result<(), Memory>
+    pub fn add_records<K: RecordSink>(&self, out: &mut K) -> Result<(), Memory>
         requires { IsReached (S.state self.now) }
-        ensures { OnOk result (out.new.items ≡ out.old.items ++ held_records (S.state self.now)) }
+        ensures { OnOk result
+            (K.taken out.new ≡ K.taken out.old ++ held_records (S.state self.now)) }
     {
         self.store.add_records(out)
     }

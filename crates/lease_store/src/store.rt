@@ -22,6 +22,7 @@ use external_pool::{PickAsk, PickRefused, Picked};
 use pcp_base::{
     Address, End, Endpoint, MapLease, Memory, Moment, Owner, PeerLease, Protocol, Record,
 };
+use record_sink::RecordSink;
 use std::alloc::Global;
 use std::sync::ledger::Ledger;
 use step_count::Steps;
@@ -251,11 +252,12 @@ pub trait LeaseStore {
         requires { IsReached (state self.now) }
         ensures { IfOk result (λ v. v.items ≡ (state self.now).ends) };
 
-    /// Appends a record at the last moment for each end and each lease of the state, in the order in
+    /// Hands on a record at the last moment for each end and each lease of the state, in the order in
     /// which a snapshot has them. The one error is want of memory.
-    fn add_records(&self, out: &mut Vec<Record>) -> Result<(), Memory>
+    fn add_records<K: RecordSink>(&self, out: &mut K) -> Result<(), Memory>
         requires { IsReached (state self.now) }
-        ensures { OnOk result (out.new.items ≡ out.old.items ++ held_records (state self.now)) };
+        ensures { OnOk result
+            (K.taken out.new ≡ K.taken out.old ++ held_records (state self.now)) };
 
     /// The base of the state, 0 before a Start.
     fn base(&self) -> Moment

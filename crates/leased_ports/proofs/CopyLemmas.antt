@@ -1,12 +1,15 @@
 -- Last ends that are written down run by run.
 use Rattle.std.proofs.Common.{◌≡◌, ℕ, ◌+◌, ◌-◌, ◌<◌, ◌≤◌, Bool, true, false, cond, List, [], ◌∷◌, ◌++◌, filter, map, Option, Some, None, IfSome, append_assoc, append-nil, refl, sym, ap, ◌∙◌, subst, arith}
+use Rattle.std.specs.List.{AllByRecursion}
 use Rattle.std.proofs.lemmas.List.{map-append}
 use Rattle.std.proofs.lemmas.List.Elements.{filter-append}
 use Rattle.pcp_base.specs.declared.leases.Protocol.{Protocol}
 use Rattle.pcp_base.specs.declared.leases.Protocol.TheVariants.{Tcp, Udp}
 use Rattle.pcp_base.specs.declared.leases.End.{End}
 use Rattle.pcp_base.specs.declared.records.Record.{Record}
+use Rattle.pcp_base.specs.Records.{IsWellFormedRecord}
 use Rattle.pcp_base.specs.Snapshots.{end_record}
+use Rattle.record_sink.proofs.FormedLemmas.{told_back, told_front}
 use Rattle.ordered_index.proofs.EntryLaws.{none_by}
 use Rattle.port_spans.specs.declared.runs.Run.{Run}
 use Rattle.port_spans.specs.Runs.{has_place, run_at, AreRuns, IsNextRun, IsFirstFrom}
@@ -133,6 +136,18 @@ module _ (m : ℕ) (runs : List (Run End)) (apart : AreRuns runs) (set : (at : �
                 ∙ so_far.all;
           }
 
+      -- where the records of all are well formed, so are those of the next run
+      pub next_formed : AllByRecursion IsWellFormedRecord (map (end_record m) (filter (has_come m) (listed (spot_end runs) 0 131072))) → AllByRecursion IsWellFormedRecord (map (end_record m) (filter (has_come m) (ends_in r)))
+      next_formed all =
+          let f : End → Record = end_record m in
+          let own_ends : List End = filter (has_come m) (ends_in r) in
+          let behind : List End = listed (spot_end runs) (r.first + r.count) (131072 - (r.first + r.count)) in
+          let parts : filter (has_come m) (listed (spot_end runs) 0 131072) ≡ written ++ (own_ends ++ filter (has_come m) behind) =
+          sym so_far.all
+          ∙ ap (λ (xs : List End). written ++ filter (has_come m) xs) parted
+          ∙ ap (λ (xs : List End). written ++ xs) (filter-append (has_come m) (ends_in r) behind) in
+          told_front f own_ends (filter (has_come m) behind) (told_back f written (own_ends ++ filter (has_come m) behind) (subst (λ (xs : List End). AllByRecursion IsWellFormedRecord (map f xs)) parts all))
+
       pub nearer : 131072 - (r.first + r.count) < 131072 - from
       nearer = omega (arith, first.from, low, set_run.some)
 
@@ -154,6 +169,17 @@ one_record r m old i e same now told after pushed =
     ∙ append_assoc old (map f xs) (f e ∷ [])
     ∙ ap (λ (k : List Record). old ++ k) (sym (map-append f xs (e ∷ [])))
     ∙ ap (λ (k : List End). old ++ map f k) (one_more r [] i e same)
+
+-- where the records of a run's ends are well formed, each is
+pub run_formed : (r : Run End) (m i : ℕ) (e : End) → e ≡ end_along i r.value → i < r.count → AllByRecursion IsWellFormedRecord (map (end_record m) (ends_in r)) → IsWellFormedRecord (end_record m e)
+run_formed r m i e same less all =
+    let f : End → Record = end_record m in
+    let before : List End = listed (run_ends r) r.first i in
+    let behind : List End = listed (run_ends r) (r.first + (i + 1)) (r.count - (i + 1)) in
+    let parts : ends_in r ≡ (before ++ e ∷ []) ++ behind =
+    listed-split (run_ends r) r.first (i + 1) (r.count - (i + 1)) r.count (omega (arith, less))
+    ∙ ap (λ (xs : List End). xs ++ behind) (sym (one_more r [] i e same)) in
+    (told_back f before (e ∷ []) (told_front f (before ++ e ∷ []) behind (subst (λ (xs : List End). AllByRecursion IsWellFormedRecord (map f xs)) parts all))).0
 
 -- the records of what is written stand behind the old ones
 pub record IsRecorded (m : ℕ) (runs : List (Run End)) (old : List Record) (from : ℕ) (now : List Record) : Type 0 where
@@ -186,6 +212,9 @@ module _ (m : ℕ) (runs : List (Run End)) (apart : AreRuns runs) (set : (at : �
                 ∙ ap (λ (k : List Record). old ++ k) (sym (map-append f so.written xs));
             so_far = written_more m runs apart set from so.written so.so_far r first (so.written ++ xs) refl;
           }
+
+      pub recorded_formed : AllByRecursion IsWellFormedRecord (map (end_record m) (filter (has_come m) (listed (spot_end runs) 0 131072))) → AllByRecursion IsWellFormedRecord (map (end_record m) (filter (has_come m) (ends_in r)))
+      recorded_formed all = next_formed m runs apart set from so.written so.so_far r first all
 
       pub recorded_nearer : 131072 - (r.first + r.count) < 131072 - from
       recorded_nearer = nearer m runs apart set from so.written so.so_far r first

@@ -1,6 +1,8 @@
 //! The last ends of ports, one by one.
 
 ghost use Rattle.std.specs.Prelude.{◌≡◌, ◌<◌, ◌^◌, ◌++◌, ℕ, filter, map, Some, IfSome, IfOk, OnOk};
+ghost use Rattle.std.specs.List.{AllByRecursion};
+ghost use Rattle.pcp_base.specs.Records.{IsWellFormedRecord};
 ghost use Rattle.pcp_base.specs.Snapshots.{end_record};
 ghost use Rattle.port_spans.specs.Along.{end_told};
 ghost use Rattle.port_spans.specs.Runs.{AreRuns, run_at};
@@ -12,6 +14,7 @@ ghost use Rattle.leased_ports.specs.Listed as the;
 use crate::timed_ends::TimedEnds;
 use pcp_base::{Change, End, Memory, Moment, REST_SECONDS, Record};
 use port_spans::{PLACES, Run, end_along};
+use record_sink::RecordSink;
 use std::alloc::Global;
 
 /// Whether a last end came by `m`, and is recent then.
@@ -64,15 +67,17 @@ pub fn copy(ends: &TimedEnds, alloc: Global, m: Moment) -> Result<Vec<End>, Memo
     Ok(all)
 }
 
-/// Appends a record at `m` for each last end of a run.
-fn append_ends(out: &mut Vec<Record>, m: Moment, run: &Run<End>) -> Result<(), Memory>
-    requires { IsSet run.now }
-    ensures { OnOk result (out.new.items ≡ out.old.items ++ map (end_record m)
+/// Hands on a record at `m` for each last end of a run.
+fn append_ends<K: RecordSink>(out: &mut K, m: Moment, run: &Run<End>) -> Result<(), Memory>
+    requires set { IsSet run.now }
+    requires formed { AllByRecursion IsWellFormedRecord (map (end_record m)
+        (listed (λ at. end_told at (Some run.now)) run.now.first run.now.count)) }
+    ensures { OnOk result (K.taken out.new ≡ K.taken out.old ++ map (end_record m)
         (listed (λ at. end_told at (Some run.now)) run.now.first run.now.count)) }
 {
     for i in 0..run.count {
         let last = end_along(i, &run.value);
-        out.push(Record {
+        out.take(&Record {
             moment: m,
             change: Change::Rest(last.endpoint, last.external, last.end),
         })?;
@@ -80,10 +85,13 @@ fn append_ends(out: &mut Vec<Record>, m: Moment, run: &Run<End>) -> Result<(), M
     Ok(())
 }
 
-/// Appends them, if they came by `m` and are recent then.
-fn append_come(out: &mut Vec<Record>, m: Moment, run: &Run<End>) -> Result<(), Memory>
-    requires { IsSet run.now }
-    ensures { OnOk result (out.new.items ≡ out.old.items ++ map (end_record m)
+/// Hands them on, if they came by `m` and are recent then.
+fn append_come<K: RecordSink>(out: &mut K, m: Moment, run: &Run<End>) -> Result<(), Memory>
+    requires set { IsSet run.now }
+    requires formed { AllByRecursion IsWellFormedRecord (map (end_record m)
+        (filter (the.has_come m)
+        (listed (λ at. end_told at (Some run.now)) run.now.first run.now.count))) }
+    ensures { OnOk result (K.taken out.new ≡ K.taken out.old ++ map (end_record m)
         (filter (the.has_come m)
         (listed (λ at. end_told at (Some run.now)) run.now.first run.now.count))) }
 {
@@ -94,12 +102,14 @@ fn append_come(out: &mut Vec<Record>, m: Moment, run: &Run<End>) -> Result<(), M
     Ok(())
 }
 
-/// Appends a record at `m` for each last end that came by `m` and is recent then, in the order of
+/// Hands on a record at `m` for each last end that came by `m` and is recent then, in the order of
 /// their spots.
-pub fn append_records(ends: &TimedEnds, m: Moment, out: &mut Vec<Record>) -> Result<(), Memory>
+pub fn append_records<K: RecordSink>(ends: &TimedEnds, m: Moment, out: &mut K) -> Result<(), Memory>
     requires apart { AreRuns ends.now }
     requires set { (at : ℕ) → IfSome (run_at ends.now at) IsSet }
-    ensures { OnOk result (out.new.items ≡ out.old.items ++ map (end_record m)
+    requires formed { AllByRecursion IsWellFormedRecord (map (end_record m)
+        (filter (the.has_come m) (listed (spot_end ends.now) 0 PLACES))) }
+    ensures { OnOk result (K.taken out.new ≡ K.taken out.old ++ map (end_record m)
         (filter (the.has_come m) (listed (spot_end ends.now) 0 PLACES))) }
 {
     let mut from = 0;

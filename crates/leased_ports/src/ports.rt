@@ -3,8 +3,10 @@
 ghost use Rattle.std.specs.Prelude.{◌≡◌, ◌≢◌, ◌⊎◌, ◌≤◌, ◌<◌, ◌+◌, ◌-◌, ◌*◌, ◌&&◌, ◌++◌, ℕ, [], map, min, Some, None, IfOk, IfErr, IfSome, IfNone, OnOk, OnErr, if◌then◌else◌};
 ghost use Rattle.std.specs.Bool.{OnTrue, OnFalse};
 ghost use Rattle.std.specs.FinMap as fin;
+ghost use Rattle.std.specs.List.{AllByRecursion};
 ghost use Rattle.pcp_base.specs.declared.leases.Protocol.{Protocol};
 ghost use Rattle.pcp_base.specs.Ends.{is_end_of};
+ghost use Rattle.pcp_base.specs.Records.{IsWellFormedRecord};
 ghost use Rattle.pcp_base.specs.Snapshots.{end_record};
 ghost use Rattle.pcp_base.specs.Tables.{same_protocol};
 ghost use Rattle.port_runs.specs.Ports.{is_in_run};
@@ -45,8 +47,9 @@ use crate::steps::{free, insert, renew};
 use crate::timed_ends::TimedEnds;
 use expiry_wheel::Wheel;
 use external_pool::{PickAsk, PickRefused, Picked, Vacancies, judge};
-use pcp_base::{Address, End, Endpoint, Memory, Moment, Protocol, Record};
+use pcp_base::{Address, End, Endpoint, Memory, Moment, Protocol};
 use port_spans::{Run, spot, spot_of};
+use record_sink::RecordSink;
 use std::alloc::Global;
 use std::marker::Model;
 use std::sync::ledger::Ledger;
@@ -425,11 +428,12 @@ impl LeasedPorts {
         copy(&self.ends, alloc, m)
     }
 
-    /// Appends a record at `m` for each last end that came by `m` and is recent then, in the order
+    /// Hands on a record at `m` for each last end that came by `m` and is recent then, in the order
     /// of protocol number and port. The one error is want of memory.
-    pub fn add_end_records(&self, m: Moment, out: &mut Vec<Record>) -> Result<(), Memory>
-        ensures { OnOk result (out.new.items
-            ≡ out.old.items ++ map (end_record m) (ends_come m self.now)) }
+    pub fn add_end_records<K: RecordSink>(&self, m: Moment, out: &mut K) -> Result<(), Memory>
+        requires { AllByRecursion IsWellFormedRecord (map (end_record m) (ends_come m self.now)) }
+        ensures { OnOk result (K.taken out.new
+            ≡ K.taken out.old ++ map (end_record m) (ends_come m self.now)) }
     {
         append_records(&self.ends, m, out)
     }

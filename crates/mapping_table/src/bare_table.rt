@@ -1,10 +1,11 @@
 //! Leases without their filters, by numbers that grow, and ordered maps to the numbers beside them.
 
 ghost use Rattle.std.specs.Prelude.{◌≡◌, ◌≤◌, ◌<◌, ◌+◌, ◌-◌, ◌*◌, ◌++◌, [], not, map, filter, take, count_by, length, IfOk, OnOk};
-ghost use Rattle.std.specs.List.{list_any};
+ghost use Rattle.std.specs.List.{AllByRecursion, list_any};
 ghost use Rattle.std.specs.Option.{option_copied};
 ghost use Rattle.std.specs.BTreeMap.{get, values};
 ghost use Rattle.step_count.specs.Levels.{levels};
+ghost use Rattle.pcp_base.specs.Records.{IsWellFormedRecord};
 ghost use Rattle.pcp_base.specs.Snapshots.{map_record};
 ghost use Rattle.mapping_table.specs.MapLists.{is_live_map, some_live_map, map_covering, map_owning, IsDeadMap, IsNextCovered, AreSoundMaps, IsOverlapped, with_map, PutsMap, RemovesMap, CopiesLiveMaps};
 ghost use Rattle.ordered_index.specs.Orders.{place_cmp};
@@ -18,6 +19,7 @@ use crate::looks::{lease_at, look};
 use crate::overlaps::{overlapped_key, overlapping_set};
 use ordered_index::{Numbered, Place, Port, Sieve, Slots, last_up_to, place_of, port_at};
 use pcp_base::{Change, Endpoint, Filters, MapLease, Memory, Moment, Protocol, Record};
+use record_sink::RecordSink;
 use std::alloc::{AllocError, Global};
 use std::collections::BTreeMap;
 use std::marker::Model;
@@ -68,20 +70,22 @@ fn append_live(
     )
 }
 
-/// Appends a record at `m` for each lease that is live then, in the order of their numbers, with
+/// Hands on a record at `m` for each lease that is live then, in the order of their numbers, with
 /// its filters.
-fn append_records(
+fn append_records<K: RecordSink>(
     leases: &Slots<BareLease>,
     filters: &BTreeMap<Place, Filters>,
     m: Moment,
-    out: &mut Vec<Record>,
-) -> Result<(), AllocError>
-    ensures { OnOk result (out.new.items ≡ out.old.items ++ map (map_record m)
+    out: &mut K,
+) -> Result<(), Memory>
+    requires { AllByRecursion IsWellFormedRecord (map (map_record m)
+        (filter (is_live_map m) (map (whole (filters_at filters.now)) (values leases.now)))) }
+    ensures { OnOk result (K.taken out.new ≡ K.taken out.old ++ map (map_record m)
         (filter (is_live_map m) (map (whole (filters_at filters.now)) (values leases.now)))) }
 {
     for lease in leases.values() {
         if lease.is_live(m) {
-            out.push(Record {
+            out.take(&Record {
                 moment: m,
                 change: Change::Map(whole(filters, lease)),
             })?;
@@ -428,19 +432,19 @@ impl BareTable {
         Err(refused.into())
     }
 
-    /// Appends a record at `m` for each lease that is live then, in the order granted, with its
+    /// Hands on a record at `m` for each lease that is live then, in the order granted, with its
     /// filters. The one error is want of memory.
-    pub(crate) fn add_records(
+    pub(crate) fn add_records<K: RecordSink>(
         &self,
         filters: &BTreeMap<Place, Filters>,
         m: Moment,
-        out: &mut Vec<Record>,
+        out: &mut K,
     ) -> Result<(), Memory>
-        ensures { OnOk result (out.new.items ≡ out.old.items ++ map (map_record m)
+        requires { AllByRecursion IsWellFormedRecord (map (map_record m)
+            (filter (is_live_map m) (map (whole (filters_at filters.now)) self.now))) }
+        ensures { OnOk result (K.taken out.new ≡ K.taken out.old ++ map (map_record m)
             (filter (is_live_map m) (map (whole (filters_at filters.now)) self.now))) }
     {
-        out.reserve(self.live(m) as usize)?;
-        append_records(&self.kept.leases, filters, m, out)?;
-        Ok(())
+        append_records(&self.kept.leases, filters, m, out)
     }
 }

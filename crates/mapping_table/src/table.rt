@@ -1,8 +1,9 @@
 //! The fast body: leases in ordered maps, and the filters of those that have any beside them.
 
 ghost use Rattle.std.specs.Prelude.{◌≡◌, ◌≤◌, ◌<◌, ◌+◌, ◌-◌, ◌*◌, ◌++◌, [], not, filter, map, count_by, length, IfOk, OnOk};
-ghost use Rattle.std.specs.List.{list_any};
+ghost use Rattle.std.specs.List.{AllByRecursion, list_any};
 ghost use Rattle.step_count.specs.Levels.{levels};
+ghost use Rattle.pcp_base.specs.Records.{IsWellFormedRecord};
 ghost use Rattle.pcp_base.specs.Snapshots.{map_record};
 ghost use Rattle.mapping_table.specs.MapLists.{is_live_map, some_live_map, map_covering, map_owning, IsDeadMap, IsNextCovered, AreSoundMaps, IsOverlapped, with_map, PutsMap, RemovesMap, CopiesLiveMaps};
 
@@ -10,7 +11,8 @@ use crate::bare::BareLease;
 use crate::bare_table::BareTable;
 use crate::filters::{leave_room, make_room, whole, whole_by_look, write};
 use ordered_index::{Place, place_of};
-use pcp_base::{Endpoint, Filters, MapLease, Memory, Moment, Protocol, Record};
+use pcp_base::{Endpoint, Filters, MapLease, Memory, Moment, Protocol};
+use record_sink::RecordSink;
 use std::alloc::Global;
 use std::collections::BTreeMap;
 use std::marker::Model;
@@ -201,11 +203,13 @@ impl MapTable {
         self.leases.copy_live(&self.filters, m, out)
     }
 
-    /// Appends a record at `m` for each lease that is live then, in the order granted. The one
+    /// Hands on a record at `m` for each lease that is live then, in the order granted. The one
     /// error is want of memory.
-    pub fn add_records(&self, m: Moment, out: &mut Vec<Record>) -> Result<(), Memory>
-        ensures { OnOk result (out.new.items
-            ≡ out.old.items ++ map (map_record m) (filter (is_live_map m) self.now)) }
+    pub fn add_records<K: RecordSink>(&self, m: Moment, out: &mut K) -> Result<(), Memory>
+        requires { AllByRecursion IsWellFormedRecord
+            (map (map_record m) (filter (is_live_map m) self.now)) }
+        ensures { OnOk result (K.taken out.new
+            ≡ K.taken out.old ++ map (map_record m) (filter (is_live_map m) self.now)) }
     {
         self.leases.add_records(&self.filters, m, out)
     }

@@ -1,12 +1,13 @@
 //! The fast body: leases by numbers that grow, and ordered maps to the numbers beside them.
 
 ghost use Rattle.std.specs.Prelude.{◌≡◌, ◌≤◌, ◌+◌, ◌-◌, ◌*◌, ◌++◌, [], find, filter, map, take, count_by, length, IfOk, OnOk, Some};
-ghost use Rattle.std.specs.List.{list_any};
+ghost use Rattle.std.specs.List.{AllByRecursion, list_any};
 ghost use Rattle.std.specs.Option.{option_copied};
 ghost use Rattle.std.specs.BTreeMap.{values};
 ghost use Rattle.step_count.specs.Levels.{levels};
 ghost use Rattle.pcp_base.specs.declared.leases.PeerLease.{PeerLease};
 ghost use Rattle.pcp_base.specs.declared.leases.TheConstants.{MOST_PEERS};
+ghost use Rattle.pcp_base.specs.Records.{IsWellFormedRecord};
 ghost use Rattle.pcp_base.specs.Snapshots.{peer_record};
 ghost use Rattle.peer_table.specs.PeerLists.{is_live_peer, is_ended_peer, peer_with_key, peer_opening, IsDeadPeer, IsEndedOf, IsPortUse, IsLastExpiry, IsNextNamed, IsNextOwned, AreSoundPeers, IsOverlapped, with_peer, PutsPeer, RemovesPeer, CopiesLivePeers};
 ghost use Rattle.peer_table.specs.Kept.{AreKeptPeers};
@@ -23,6 +24,7 @@ use crate::ports::last_expiry;
 use crate::uses::PortUse;
 use ordered_index::{Numbered, Slots, first_from};
 use pcp_base::{Address, Change, Endpoint, Memory, Moment, PeerLease, Protocol, Record};
+use record_sink::RecordSink;
 use std::alloc::{AllocError, Global};
 use std::marker::Model;
 use std::sync::ledger::Ledger;
@@ -75,18 +77,20 @@ fn append_live(
     out.extend(leases.values().copied().filter(|lease| lease.is_live(m)))
 }
 
-/// Appends a record at `m` for each lease that is live then, in the order of their numbers.
-fn append_records(
+/// Hands on a record at `m` for each lease that is live then, in the order of their numbers.
+fn append_records<K: RecordSink>(
     leases: &Slots<PeerLease>,
     m: Moment,
-    out: &mut Vec<Record>,
-) -> Result<(), AllocError>
-    ensures { OnOk result (out.new.items
-        ≡ out.old.items ++ map (peer_record m) (filter (is_live_peer m) (values leases.now))) }
+    out: &mut K,
+) -> Result<(), Memory>
+    requires { AllByRecursion IsWellFormedRecord
+        (map (peer_record m) (filter (is_live_peer m) (values leases.now))) }
+    ensures { OnOk result (K.taken out.new
+        ≡ K.taken out.old ++ map (peer_record m) (filter (is_live_peer m) (values leases.now))) }
 {
     for lease in leases.values() {
         if lease.is_live(m) {
-            out.push(Record {
+            out.take(&Record {
                 moment: m,
                 change: Change::Peer(*lease),
             })?;
@@ -383,14 +387,14 @@ impl PeerTable {
         Err(refused.into())
     }
 
-    /// Appends a record at `m` for each lease that is live then, in the order granted. The one
+    /// Hands on a record at `m` for each lease that is live then, in the order granted. The one
     /// error is want of memory.
-    pub fn add_records(&self, m: Moment, out: &mut Vec<Record>) -> Result<(), Memory>
-        ensures { OnOk result (out.new.items
-            ≡ out.old.items ++ map (peer_record m) (filter (is_live_peer m) self.now)) }
+    pub fn add_records<K: RecordSink>(&self, m: Moment, out: &mut K) -> Result<(), Memory>
+        requires { AllByRecursion IsWellFormedRecord
+            (map (peer_record m) (filter (is_live_peer m) self.now)) }
+        ensures { OnOk result (K.taken out.new
+            ≡ K.taken out.old ++ map (peer_record m) (filter (is_live_peer m) self.now)) }
     {
-        out.reserve_exact(count_live_of(&self.kept, m))?;
-        append_records(&self.kept.leases, m, out)?;
-        Ok(())
+        append_records(&self.kept.leases, m, out)
     }
 }

@@ -1,16 +1,23 @@
 //! The records of what a state holds.
 ghost use Rattle.std.specs.Prelude.{◌≡◌, ◌++◌, map, OnOk};
+ghost use Rattle.std.specs.List.{AllByRecursion};
+ghost use Rattle.pcp_base.specs.Records.{IsWellFormedRecord};
 ghost use Rattle.pcp_base.specs.Snapshots.{end_record, map_record, peer_record};
 
 use pcp_base::{Change, End, MapLease, Memory, Moment, PeerLease, Record};
+use record_sink::RecordSink;
 
-/// Appends a record at `m` for each end.
-pub(crate) fn add_end_records(ends: &[End], m: Moment, out: &mut Vec<Record>) -> Result<(), Memory>
-    ensures { OnOk result (out.new.items ≡ out.old.items ++ map (end_record m) ends.now) }
+/// Hands on a record at `m` for each end.
+pub(crate) fn add_end_records<K: RecordSink>(
+    ends: &[End],
+    m: Moment,
+    out: &mut K,
+) -> Result<(), Memory>
+    requires { AllByRecursion IsWellFormedRecord (map (end_record m) ends.now) }
+    ensures { OnOk result (K.taken out.new ≡ K.taken out.old ++ map (end_record m) ends.now) }
 {
-    out.reserve(ends.len())?;
     for end in ends {
-        out.push(Record {
+        out.take(&Record {
             moment: m,
             change: Change::Rest(end.endpoint, end.external, end.end),
         })?;
@@ -18,17 +25,17 @@ pub(crate) fn add_end_records(ends: &[End], m: Moment, out: &mut Vec<Record>) ->
     Ok(())
 }
 
-/// Appends a record at `m` for each MAP lease.
-pub(crate) fn add_map_records(
+/// Hands on a record at `m` for each MAP lease.
+pub(crate) fn add_map_records<K: RecordSink>(
     maps: &[MapLease],
     m: Moment,
-    out: &mut Vec<Record>,
+    out: &mut K,
 ) -> Result<(), Memory>
-    ensures { OnOk result (out.new.items ≡ out.old.items ++ map (map_record m) maps.now) }
+    requires { AllByRecursion IsWellFormedRecord (map (map_record m) maps.now) }
+    ensures { OnOk result (K.taken out.new ≡ K.taken out.old ++ map (map_record m) maps.now) }
 {
-    out.reserve(maps.len())?;
     for lease in maps {
-        out.push(Record {
+        out.take(&Record {
             moment: m,
             change: Change::Map(*lease),
         })?;
@@ -36,17 +43,17 @@ pub(crate) fn add_map_records(
     Ok(())
 }
 
-/// Appends a record at `m` for each PEER lease.
-pub(crate) fn add_peer_records(
+/// Hands on a record at `m` for each PEER lease.
+pub(crate) fn add_peer_records<K: RecordSink>(
     peers: &[PeerLease],
     m: Moment,
-    out: &mut Vec<Record>,
+    out: &mut K,
 ) -> Result<(), Memory>
-    ensures { OnOk result (out.new.items ≡ out.old.items ++ map (peer_record m) peers.now) }
+    requires { AllByRecursion IsWellFormedRecord (map (peer_record m) peers.now) }
+    ensures { OnOk result (K.taken out.new ≡ K.taken out.old ++ map (peer_record m) peers.now) }
 {
-    out.reserve(peers.len())?;
     for lease in peers {
-        out.push(Record {
+        out.take(&Record {
             moment: m,
             change: Change::Peer(*lease),
         })?;

@@ -13,6 +13,7 @@ use pcp_base::{
     Address, End, Endpoint, MapLease, Memory, Moment, Owner, PeerLease, Protocol, Record, Replay,
 };
 use plain_replay::PlainReplay;
+use record_sink::RecordSink;
 use std::alloc::Global;
 use std::marker::Model;
 use std::sync::ledger::Ledger;
@@ -197,7 +198,7 @@ impl LeaseStore for PlainStore {
         Ok(Vec::from_slice(alloc, self.replay.ends())?)
     }
 
-    fn add_records(&self, out: &mut Vec<Record>) -> Result<(), Memory> {
+    fn add_records<K: RecordSink>(&self, out: &mut K) -> Result<(), Memory> {
         let m = self.replay.last();
         add_end_records(self.replay.ends(), m, out)?;
         add_map_records(self.replay.maps(), m, out)?;

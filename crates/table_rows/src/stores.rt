@@ -9,7 +9,7 @@ use PickRefused::{CannotProvide, Quota};
 use Protocol::{Tcp, Udp};
 use external_pool::{PickAsk, PickRefused, Picked};
 use lease_store::{LeaseStore, Terms};
-use pcp_base::{Address, Endpoint, External, MapLease, Memory, PeerLease, Protocol};
+use pcp_base::{Address, Endpoint, External, MapLease, Memory, PeerLease, Protocol, Record};
 use plain_store::PlainStore;
 use std::alloc::Global;
 use std::marker::Brand;
@@ -326,7 +326,7 @@ fn tells_lists(alloc: Global, store: &PlainStore) -> Result<bool, Memory>
 fn tells_records(alloc: Global, store: &PlainStore) -> Result<bool, Memory>
     requires { IsReached store.now.state }
 {
-    let mut records = Vec::new(alloc);
+    let mut records: Vec<Record> = Vec::new(alloc);
     store.add_records(&mut records)?;
     Ok(records.len() == 6 && records.iter().all(|record| record.moment.get() == 1055))
 }

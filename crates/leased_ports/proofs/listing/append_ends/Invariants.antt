@@ -5,4 +5,4 @@ use Rattle.leased_ports.proofs.CopyLemmas.{run_ends}
 use Rattle.leased_ports.proofs.listing.append_ends.Given as goal
 
 abbrev pub invariant-loop-i : goal.invariant-loop-i
-invariant-loop-i l = l.out.items ≡ l.fn.out.items ++ map (end_record l.m) (listed (run_ends l.run) l.run.first l.i)
+invariant-loop-i g l = g.K.RecordSink.taken l.out ≡ g.K.RecordSink.taken l.fn.out ++ map (end_record l.m) (listed (run_ends l.run) l.run.first l.i)

@@ -3,7 +3,7 @@ use Rattle.leased_ports.proofs.CopyLemmas.{IsRecorded}
 use Rattle.leased_ports.proofs.listing.append_records.Given as goal
 
 abbrev pub invariant-loop-run : goal.invariant-loop-run
-invariant-loop-run l = IsRecorded l.m l.ends l.fn.out.items l.from l.out.items
+invariant-loop-run g l = IsRecorded l.m l.ends (g.K.RecordSink.taken l.fn.out) l.from (g.K.RecordSink.taken l.out)
 
 abbrev pub decreases-loop-run : goal.decreases-loop-run
-decreases-loop-run l = 131072 - l.from
+decreases-loop-run g l = 131072 - l.from
