@@ -5,6 +5,7 @@ ghost use Rattle.lease_journal.specs.Views.{IsSettled};
 use crate::deeds::{Deed, Seen, moment, record_of, standing};
 use crate::disks::images;
 use crate::snapshots::snapshot_of;
+use journal_sides::texts_of;
 use lease_disk::{DiskPair, LeaseDisk, MemoryDisk};
 use lease_journal::{Journal, one_journal, snapshots_take_over};
 use pcp_base::{Moment, Record, Replay};
@@ -54,10 +55,11 @@ fn compact<D: LeaseDisk>(
     snapshots_take_over();
     one_journal();
     let records = snapshot_of(alloc, replay)?;
+    let texts = texts_of(alloc, &records)?;
     if journal.generation() == u64::MAX {
         return Ok(false);
     }
-    let Ok(()) = journal.compact(alloc, &records) else {
+    let Ok(()) = journal.compact(alloc, &texts) else {
         return Ok(false);
     };
     Ok(true)

@@ -1,5 +1,5 @@
 -- Writing all that stands behind the gate of a side, batch by batch.
-use Rattle.std.proofs.Common.{◌≡◌, ℕ, ◌<◌, min, List, [], ◌∷◌, ◌++◌, length, drop, refl, sym, ◌∙◌, ap, subst, arith, append_assoc, append-nil, length-append}
+use Rattle.std.proofs.Common.{◌≡◌, ℕ, ◌+◌, ◌<◌, ◌≤◌, min, List, [], ◌∷◌, ◌++◌, length, drop, take, refl, sym, ◌∙◌, ap, subst, arith, append_assoc, append-nil, drop-drop, length-append, length-take, take-append-drop}
 use Rattle.std.specs.List.{AllByRecursion}
 use Rattle.std.proofs.lemmas.List.{nil_from_length}
 use Rattle.pcp_base.specs.declared.records.Record.{Record}
@@ -10,6 +10,8 @@ use Rattle.journal_sides.specs.Shut.{AreFull, IsHidden, hidden_text}
 use Rattle.journal_sides.specs.Sides.{head_text, side_text}
 use Rattle.journal_sides.proofs.FrameLaws.{records_of-push, each-push}
 use Rattle.journal_sides.proofs.SideLaws.{side_text-push}
+use Rattle.journal_sides.proofs.RecordTextLaws.{batch_first, none_left, texts_again, texts_in}
+use Rattle.journal_sides.specs.Texts.{AreBehind, AreTexts, records_in}
 
 -- as many records as a frame takes
 abbrev pub IsFull : List Record → Type 0
@@ -37,16 +39,9 @@ pub record HasHidden (generation : ℕ) (records rest : List Record) (text : Lis
 pub hides_none : (generation : ℕ) (records : List Record) (text : List ℕ) → text ≡ drop 1 (head_text Second generation) → AllByRecursion IsWellFormedRecord records → HasHidden generation records records text
 hides_none generation records text is formed = record { batches = []; each = tt; full = tt; all_full = λ some. tt; holds = refl; begun = is; formed = formed }
 
-formed_front : (front back : List Record) → AllByRecursion IsWellFormedRecord (front ++ back) → AllByRecursion IsWellFormedRecord front
-formed_front [] back all = tt
-formed_front (r ∷ front) back all = (all.0, formed_front front back all.1)
-
 formed_back : (front back : List Record) → AllByRecursion IsWellFormedRecord (front ++ back) → AllByRecursion IsWellFormedRecord back
 formed_back [] back all = all
 formed_back (r ∷ front) back all = formed_back front back all.1
-
-pub batch_formed : (generation : ℕ) (records rest batch left : List Record) (text : List ℕ) → HasHidden generation records rest text → rest ≡ batch ++ left → AllByRecursion IsWellFormedRecord batch
-batch_formed generation records rest batch left text so_far parts = formed_front batch left (subst (AllByRecursion IsWellFormedRecord) parts so_far.formed)
 
 hidden_text-push : (generation : ℕ) (batches : List (List Record)) (batch : List Record) → hidden_text generation (batches ++ batch ∷ []) ≡ hidden_text generation batches ++ 1 ∷ frame_text batch
 hidden_text-push generation batches batch =
@@ -80,3 +75,42 @@ hides_all generation records rest text new so_far none some wrote =
     has_batch : (batches : List (List Record)) → records_of batches ≡ records → 0 < length batches
     has_batch [] is = absurd (omega (arith, some, ap length is))
     has_batch (b ∷ batches) is = omega arith
+
+-- the records whose texts stand in front of this place are written
+pub record HasHiddenTo (generation : ℕ) (texts : List ℕ) (at : ℕ) (text : List ℕ) : Type 0 where
+  pub rest : List Record
+  pub left : AreTexts (drop at texts) rest
+  pub hidden : HasHidden generation (records_in texts) rest text
+
+pub hidden_first : (generation : ℕ) (texts text : List ℕ) → text ≡ drop 1 (head_text Second generation) → AreTexts texts (records_in texts) → HasHiddenTo generation texts 0 text
+hidden_first generation texts text head is = record {
+  rest = records_in texts;
+  left = is;
+  hidden = hides_none generation (records_in texts) text head is.formed;
+}
+
+module _ (generation : ℕ) (texts : List ℕ) (at : ℕ) (text : List ℕ) (so_far : HasHiddenTo generation texts at text) where
+  module _ (slice : List ℕ) (same : slice ≡ drop at texts) where
+    left : AreTexts slice so_far.rest
+    left = subst (λ (l : List ℕ). AreTexts l so_far.rest) (sym same) so_far.left
+
+    pub slice_texts : AreTexts slice (records_in slice)
+    slice_texts = texts_again slice so_far.rest left
+
+    pub hidden_more : (size : ℕ) (new : List ℕ) → 0 < length slice → AreBehind slice (records_in slice) 16 size → new ≡ text ++ 1 ∷ frame_text (take 16 (records_in slice)) → HasHiddenTo generation texts (at + size) new
+    hidden_more size new some behind wrote =
+        let rest = records_in slice in
+        let told : rest ≡ so_far.rest = texts_in slice so_far.rest left in
+        let batch = batch_first slice size slice_texts behind some in
+        record {
+          rest = drop 16 rest;
+          left = subst (λ (l : List ℕ). AreTexts l (drop 16 rest)) (ap (drop size) same ∙ drop-drop size at texts) behind.left;
+          hidden = hides_next generation (records_in texts) rest (take 16 rest) (drop 16 rest) text new
+              (subst (λ (rs : List Record). HasHidden generation (records_in texts) rs text) (sym told) so_far.hidden)
+              (sym (take-append-drop 16 rest)) (length-take 16 rest) (omega (arith, length-take 16 rest, batch.some)) batch wrote;
+        }
+
+  pub hidden_last : (new : List ℕ) → length texts ≤ at → 0 < length (records_in texts) → new ≡ text ++ 0 ∷ [] → IsHidden generation (records_in texts) new
+  hidden_last new done some wrote =
+      let none : so_far.rest ≡ [] = none_left texts at so_far.rest so_far.left done in
+      hides_all generation (records_in texts) so_far.rest text new so_far.hidden (ap length none) some wrote

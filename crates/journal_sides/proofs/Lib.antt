@@ -4,11 +4,11 @@ pub mod FillLemmas
 pub mod FrameLaws
 pub mod HiddenLaws
 pub mod JudgeLemmas
+pub mod RecordTextLaws
 pub mod SideLaws
 pub mod SideWalks
 pub mod SizeLemmas
 pub mod SnapshotLaws
-pub mod TextLemmas
 pub mod TurnLemmas
 pub mod UniqueLaws
 pub mod VerdictLemmas

@@ -9,6 +9,7 @@ pub mod Reads
 pub mod Settled
 pub mod Shut
 pub mod Sides
+pub mod Texts
 pub mod Verdicts
 pub mod Walks
 pub mod Writes

@@ -10,6 +10,7 @@ mod judging;
 mod laws;
 mod layout;
 mod sides;
+mod texts;
 mod walks;
 
 pub use errors::JournalFault;
@@ -19,4 +20,5 @@ pub use judging::{Verdict, judge};
 pub use laws::{formats_differ, one_journal, snapshots_take_over};
 pub use layout::{MOST_RECORDS, SHORTEST_SIDE};
 pub use sides::Side;
+pub use texts::{read_first, texts_of};
 pub use walks::{Judged, Standing, fill};

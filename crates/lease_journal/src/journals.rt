@@ -57,6 +57,7 @@ impl<D: LeaseDisk> Journal<D> {
     ghost use Rattle.journal_sides.specs.Journals.{StandsFor, StandsForWithOrWithout};
     ghost use Rattle.lease_journal.specs.Openings.{FoundMeans, HasStarted, IsClearedUnless, IsStillOrShut, LeavesOld, Opens, ViewMeans, ViewReplays};
     ghost use Rattle.journal_sides.specs.Reads.{ArePairRead, AreSeenStill};
+    ghost use Rattle.journal_sides.specs.Texts.{AreTexts, records_in};
     ghost use Rattle.lease_journal.specs.Views.{IsFilled, IsSettled};
     ghost use Rattle.journal_sides.specs.Writes.{of_side, other, side_parity};
 
@@ -225,16 +226,17 @@ impl<D: LeaseDisk> Journal<D> {
         }
     }
 
-    /// Writes the snapshot to the other side, with the next generation and in frames of
-    /// [`MOST_RECORDS`] records but for the last, and shuts the side that counted. At each moment the journal stands for the same state. After `Memory` nothing has
-    /// changed; after `Disk` the journal is to be read `again`.
-    pub fn compact(&mut self, alloc: Global, snapshot: &[Record]) -> Result<(), JournalFault>
-        requires some { 1 ≤ length snapshot.now }
-        requires formed { AllByRecursion IsWellFormedRecord snapshot.now }
+    /// Writes the records of a snapshot, of which these are the texts, to the other side, with the
+    /// next generation and in frames of [`MOST_RECORDS`] records but for the last, and shuts the side
+    /// that counted. At each moment the journal stands for the same state. After `Memory` nothing
+    /// has changed; after `Disk` the journal is to be read `again`.
+    pub fn compact(&mut self, alloc: Global, snapshot: &[u8]) -> Result<(), JournalFault>
+        requires some { 1 ≤ length (records_in snapshot.now) }
+        requires texts { AreTexts snapshot.now (records_in snapshot.now) }
         requires read { self.old.unread ≡ false }
-        requires fit { D.tells → AllFit empty_state snapshot.now }
+        requires fit { D.tells → AllFit empty_state (records_in snapshot.now) }
         requires same { D.tells → (s : State) → IsSettled D.seen D.may_leave self.old s
-            → state_of snapshot.now ≡ s }
+            → state_of (records_in snapshot.now) ≡ s }
         requires next { self.old.standing.generation < 2 ^ 64 - 1 }
         ensures moments { D.tells → (s : State) → IsSettled D.seen D.may_leave self.old s
             → PairLeavesOnly D.moment D.left_since D.may_leave self.old.pair self.new.pair
@@ -249,7 +251,7 @@ impl<D: LeaseDisk> Journal<D> {
         ensures first_length { OnOk result (self.new.first_length ≡ self.new.standing.length) }
         ensures filled { D.tells → (s : State) → IsSettled D.seen D.may_leave self.old s
             → OnOk result (IsFilled (side_parity (other self.old.side))
-            (self.old.standing.generation + 1) snapshot.now
+            (self.old.standing.generation + 1) (records_in snapshot.now)
             (of_side (other self.old.side) (D.seen self.new.pair.a) (D.seen self.new.pair.b))) }
         ensures cut { D.tells → (s : State) → IsSettled D.seen D.may_leave self.old s
             → OnOk result

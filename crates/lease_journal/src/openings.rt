@@ -2,6 +2,7 @@
 ghost use Rattle.std.specs.Prelude.{◌≡◌, ◌⊎◌, ◌<◌, ◌≤◌, ◌^◌, ℕ, List, [], ◌∷◌, ◌++◌, length, true, Err, IfOk, OnOk, IsErr};
 ghost use Rattle.pcp_io.specs.Faults.{HasCause};
 ghost use Rattle.pcp_base.specs.declared.records.Record.{Record};
+ghost use Rattle.pcp_base.specs.Records.{IsWellFormedRecord};
 ghost use Rattle.lease_disk.specs.Pairs.{PairHasCause, PairLeavesOnly};
 ghost use Rattle.journal_sides.specs.declared.errors.JournalFault.TheVariants.{Disk};
 ghost use Rattle.journal_sides.specs.declared.formats.Format.TheVariants.{Second};
@@ -13,7 +14,7 @@ ghost use Rattle.journal_sides.specs.Judging.{IsSideJudged};
 ghost use Rattle.lease_journal.specs.Openings.{FoundMeans, HasStarted, IsNew, IsShutAnew, IsStillOrShut, LeavesOld, MayOpen, Opens};
 ghost use Rattle.journal_sides.specs.Reads.{ArePairRead, AreSeenStill, IsRead};
 ghost use Rattle.journal_sides.specs.Settled.{IsSettledBy, IsInReach};
-ghost use Rattle.journal_sides.specs.Shut.{IsShut, hidden_text};
+ghost use Rattle.journal_sides.specs.Shut.{IsHidden, IsShut, hidden_text};
 ghost use Rattle.journal_sides.specs.Sides.{AreBatches, IsClosedSide};
 ghost use Rattle.journal_sides.specs.Verdicts.{AreBroken, AreFound, IsFoundBegun, IsFoundInReach, IsFoundReplaying, IsFoundWithNext};
 ghost use Rattle.journal_sides.specs.Writes.{AreDurable, ChangesSide, of_side, side_parity};
@@ -21,10 +22,10 @@ ghost use Rattle.journal_sides.specs.Writes.{AreDurable, ChangesSide, of_side, s
 use crate::errors::Found;
 use crate::writes::write_side;
 use journal_sides::{
-    Format, JournalFault, Judged, Side, Standing, Verdict, fill, hidden_of, judge,
+    Format, JournalFault, Judged, Side, Standing, Verdict, fill, hidden_of, judge, texts_of,
 };
 use lease_disk::{DiskPair, LeaseDisk};
-use pcp_base::{Change, Failed, Moment, Record, Replay};
+use pcp_base::{Change, Failed, Memory, Moment, Record, Replay};
 use std::alloc::Global;
 
 /// How many octets a side has, and whether a gate that isn't open stands in front.
@@ -195,6 +196,15 @@ pub(crate) fn begin_side<D: LeaseDisk>(
     Ok(size.max(1 + text.len() as u64))
 }
 
+/// All that stands behind the gate of a side that begins the journal with this record.
+fn hidden_start(alloc: Global, start: Record) -> Result<Vec<u8>, Memory>
+    requires { IsWellFormedRecord start }
+    ensures { IfOk result (λ text. IsHidden 0 (start ∷ []) text.items) }
+{
+    let texts = texts_of(alloc, &[start])?;
+    hidden_of(alloc, 0, &texts)
+}
+
 /// Starts a journal at `m` on side a, where both sides are closed.
 fn start<D: LeaseDisk, R: Replay>(
     alloc: Global,
@@ -222,7 +232,7 @@ fn start<D: LeaseDisk, R: Replay>(
         moment: m,
         change: Change::Start,
     };
-    let text = hidden_of(alloc, 0, &[start])?;
+    let text = hidden_start(alloc, start)?;
     let length = begin_side(pair, Side::A, &text)?;
     replay.clear();
     let _fits = replay.admit(alloc, &start)?;

@@ -3,8 +3,9 @@ use Rattle.std.proofs.Common.{◌≡◌, ℕ, ◌≤◌, List, [], ◌++◌, len
 use Rattle.std.proofs.lemmas.List.{append-nil, take_all, take-append-le, drop-append-le, drop_all}
 use Rattle.pcp_base.specs.declared.records.Record.{Record}
 use Rattle.journal_sides.specs.Frames.{records_text}
-use Rattle.shard_book.specs.KeptTexts.{AreTexts, AreKeptAt, KeptRecords, records_in}
-use Rattle.shard_book.proofs.TextLemmas.{no_texts, same_texts, texts_again, texts_append, texts_in}
+use Rattle.journal_sides.specs.Texts.{AreTexts, records_in}
+use Rattle.shard_book.specs.KeptTexts.{AreKeptAt, KeptRecords}
+use Rattle.journal_sides.proofs.RecordTextLaws.{no_texts, same_texts, texts_again, texts_append, texts_in}
 
 -- as contracts see them
 abbrev pub shown : List ℕ → ℕ → KeptRecords

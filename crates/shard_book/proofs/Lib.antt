@@ -13,4 +13,3 @@ pub mod ResultLemmas
 pub mod SettleLemmas
 pub mod StandLemmas
 pub mod StateLemmas
-pub mod TextLemmas

@@ -1,5 +1,5 @@
 -- Handing the records of texts to a replay one by one.
-use Rattle.std.proofs.Common.{◌≡◌, ℕ, ◌<◌, ◌≤◌, List, [], ◌∷◌, ◌++◌, refl, length, drop, sym, ◌∙◌, ap, arith, length-drop, length-append}
+use Rattle.std.proofs.Common.{◌≡◌, ℕ, ◌<◌, ◌≤◌, List, [], ◌∷◌, ◌++◌, length, drop, sym, ◌∙◌, ap, arith, length-drop, length-append}
 use Rattle.std.proofs.lemmas.List.{drop_all}
 use Rattle.pcp_base.specs.declared.records.Record.{Record}
 use Rattle.pcp_base.specs.States.{State}
@@ -7,7 +7,7 @@ use Rattle.pcp_base.specs.Apply.{apply, apply_all}
 use Rattle.pcp_base.specs.Fits.{AllFit, Fits}
 use Rattle.lease_records.specs.RecordTexts.{record_text}
 use Rattle.journal_sides.specs.Frames.{records_text}
-use Rattle.shard_book.specs.KeptTexts.{AreTexts}
+use Rattle.journal_sides.specs.Texts.{AreTexts}
 
 -- the octets from this place on are the texts of records that fit, with which the state becomes that
 -- of all
@@ -46,11 +46,3 @@ pub record AreRead (octets : List ℕ) (at : ℕ) (read all : List Record) : Typ
   pub left : List Record
   pub texts : AreTexts (drop at octets) left
   pub whole : read ++ left ≡ all
-
-pub next_left : (octets : List ℕ) (at : ℕ) (left : List Record) → AreTexts (drop at octets) left → at < length octets → (r : Record) × (rs : List Record) × (left ≡ r ∷ rs)
-next_left octets at [] texts less = absurd (omega (arith, ap length texts.text, length-drop at octets, less))
-next_left octets at (r ∷ rs) texts less = (r, rs, refl)
-
-pub none_left : (octets : List ℕ) (at : ℕ) (left : List Record) → AreTexts (drop at octets) left → length octets ≤ at → left ≡ []
-none_left octets at [] texts done = refl
-none_left octets at (r ∷ rs) texts done = absurd (omega (arith, ap length (sym (drop_all at octets done) ∙ texts.text), length-append (record_text r) (records_text rs)))

@@ -1,6 +1,5 @@
 -- Facts of results.
-use Rattle.std.specs.Prelude.{◌≡◌, List, [], ◌∷◌, Result, Ok, Err, OnOk, IfErr}
-use Rattle.std.specs.List.{AllByRecursion}
+use Rattle.std.specs.Prelude.{Result, Ok, Err, OnOk, IfErr}
 
 pub both_ok : {T E : Type 0} → (r : Result T E) (A B C : Type 0) → OnOk r A → OnOk r B → (A → B → C) → OnOk r C
 both_ok (Ok x) A B C a b gives = gives a b
@@ -9,10 +8,6 @@ both_ok (Err e) A B C a b gives = a
 pub any_err : {T E : Type 0} → (r : Result T E) (P : E → Type 0) → ((e : E) → P e) → IfErr r P
 any_err (Ok x) P each = tt
 any_err (Err e) P each = each e
-
-pub all_if : {A : Type 0} → (P : A → Type 0) (xs : List A) → ((xs ≡ [] → ⊥) → AllByRecursion P xs) → AllByRecursion P xs
-all_if P [] each = tt
-all_if P (x ∷ xs) each = each (λ e. cc)
 
 pub map_ok : {T E : Type 0} → (r : Result T E) (A B : Type 0) → OnOk r A → (A → B) → OnOk r B
 map_ok (Ok x) A B a gives = gives a

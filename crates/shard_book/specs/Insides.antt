@@ -1,5 +1,5 @@
 -- What a book keeps (our own).
-use Rattle.std.specs.Prelude.{◌≡◌, ◌≢◌, ◌≤◌, ℕ, true, List, [], None}
+use Rattle.std.specs.Prelude.{◌≡◌, ◌≤◌, ℕ, Bool, true, List, None}
 use Rattle.pcp_base.specs.declared.addresses.Address.{Address}
 use Rattle.pcp_base.specs.declared.records.Record.{Record}
 use Rattle.pcp_base.specs.Apply.{apply_all, state_of}
@@ -47,10 +47,10 @@ pub record MayDecideAt (terms : Terms) (state : State) (reached m : ℕ) : Type 
   pub last : state.last ≤ m
 
 -- the journal stands for a state after which these records fit, and for which the snapshot stands,
--- if it has a record
+-- if the journal is to be written anew with it
 pub record IsKnownAs {D : Type 0} (seen : D → List ℕ) (may_leave : D → List ℕ → Type 0)
-    (journal : JournalView D) (snapshot records : List Record) : Type 0 where
+    (journal : JournalView D) (anew : Bool) (snapshot records : List Record) : Type 0 where
   pub known : State
   pub settled : IsSettled seen may_leave journal known
   pub fit : AllFit known records
-  pub same : snapshot ≢ [] → state_of snapshot ≡ known
+  pub same : anew ≡ true → state_of snapshot ≡ known

@@ -14,6 +14,7 @@ ghost use Rattle.journal_sides.specs.declared.formats.Format.TheVariants.{Second
 ghost use Rattle.journal_sides.specs.declared.layout.TheConstants.{MOST_RECORDS};
 ghost use Rattle.journal_sides.specs.Formats.{HasNext};
 ghost use Rattle.journal_sides.specs.Journals.{StandsFor, StandsForWithOrWithout};
+ghost use Rattle.journal_sides.specs.Texts.{AreTexts, records_in};
 ghost use Rattle.lease_journal.specs.Views.{IsSettled};
 ghost use Rattle.shard_book.specs.Books.{IsWritable};
 ghost use Rattle.shard_book.specs.Insides.{IsKnownAs};
@@ -21,7 +22,7 @@ ghost use Rattle.shard_book.specs.Keepings.{IsAppended, IsBeside, Journals, fram
 ghost use Rattle.shard_book.specs.Openings.{IsOnOther};
 
 use crate::lengths::LONGEST_SIDE;
-use crate::snapshots::snapshot_of;
+use crate::snapshots::texts_of_state;
 use crate::texts::KeptTexts;
 use lease_core::LeaseCore;
 use lease_disk::LeaseDisk;
@@ -42,68 +43,70 @@ fn is_overlong<D: LeaseDisk>(journal: &Journal<D>) -> bool
         && journal.generation() < u64::MAX
 }
 
-/// The snapshot with which a journal is compacted before a batch, and where that is to be done, its
-/// texts in place of those that stood for the same; else no record.
-pub(crate) fn snapshot_if_overlong<D: LeaseDisk, S: LeaseStore>(
+/// Whether a journal is to be compacted before a batch. Where it is, the texts are those of a
+/// snapshot from then on, in place of those that stood for the same.
+pub(crate) fn renew_if_overlong<D: LeaseDisk, S: LeaseStore>(
     alloc: Global,
     core: &LeaseCore<S>,
     journal: &Journal<D>,
     texts: &mut KeptTexts,
-) -> Result<Vec<Record>, Memory>
+) -> Result<bool, Memory>
     requires read { journal.now.unread ≡ false }
     requires reached { IsReached (S.state core.now) }
     requires started { (S.state core.now).started ≡ true }
     requires fit { AllFit empty_state texts.old.sure }
     requires state { state_of texts.old.sure ≡ S.state core.now }
     requires none { texts.old.added ≡ [] }
-    ensures snapshot { IfOk result (λ records. records.items
-        ≡ (if is_overlong journal.now then snapshot (S.state core.now) else [])) }
+    ensures overlong { IfOk result (λ anew. anew ≡ is_overlong journal.now) }
+    ensures snapshot { IfOk result
+        (λ anew. anew ≡ true → texts.new.sure ≡ snapshot (S.state core.now)) }
     ensures fit { AllFit empty_state texts.new.sure }
     ensures state { state_of texts.new.sure ≡ S.state core.now }
     ensures none { texts.new.added ≡ [] }
 {
     snapshots_stand();
     if !is_overlong(journal) {
-        return Ok(Vec::new(alloc));
+        return Ok(false);
     }
-    let snapshot = snapshot_of(alloc, core)?;
-    *texts = KeptTexts::of(alloc, &snapshot)?;
-    Ok(snapshot)
+    *texts = texts_of_state(alloc, core)?;
+    Ok(true)
 }
 
-/// Compacts a journal with a snapshot, if it has a record.
+/// Compacts a journal with a snapshot, of which these are the texts, if that is to be done.
 fn compact_by<D: LeaseDisk>(
     alloc: Global,
     journal: &mut Journal<D>,
-    snapshot: &[Record],
+    anew: bool,
+    snapshot: &[u8],
 ) -> Result<(), JournalFault>
     requires read { journal.old.unread ≡ false }
     requires second { journal.old.standing.format ≡ Second }
-    requires formed { AllByRecursion IsWellFormedRecord snapshot.now }
-    requires fit { snapshot.now ≢ [] → AllFit empty_state snapshot.now }
-    requires same { D.tells → snapshot.now ≢ [] → (s : State)
-        → IsSettled D.seen D.may_leave journal.old s → state_of snapshot.now ≡ s }
-    requires next { snapshot.now ≢ [] → journal.old.standing.generation < 2 ^ 64 - 1 }
+    requires texts { AreTexts snapshot.now (records_in snapshot.now) }
+    requires some { anew ≡ true → 1 ≤ length (records_in snapshot.now) }
+    requires fit { anew ≡ true → AllFit empty_state (records_in snapshot.now) }
+    requires same { D.tells → anew ≡ true → (s : State)
+        → IsSettled D.seen D.may_leave journal.old s → state_of (records_in snapshot.now) ≡ s }
+    requires next { anew ≡ true → journal.old.standing.generation < 2 ^ 64 - 1 }
     ensures moments { D.tells → (s : State) → IsSettled D.seen D.may_leave journal.old s
         → PairLeavesOnly D.moment D.left_since D.may_leave journal.old.pair journal.new.pair
         (StandsFor s) }
     ensures settled { D.tells → (s : State) → IsSettled D.seen D.may_leave journal.old s
         → OnOk result (IsSettled D.seen D.may_leave journal.new s) }
-    ensures idle { snapshot.now ≡ [] → journal.new ≡ journal.old }
+    ensures idle { anew ≡ false → journal.new ≡ journal.old }
     ensures read { OnOk result (journal.new.unread ≡ false) }
     ensures second { OnOk result (journal.new.standing.format ≡ Second) }
-    ensures generation { snapshot.now ≢ [] → OnOk result
+    ensures generation { anew ≡ true → OnOk result
         (journal.new.standing.generation ≡ journal.old.standing.generation + 1) }
-    ensures short { snapshot.now ≢ [] → OnOk result
+    ensures short { anew ≡ true → OnOk result
         (journal.new.first_length ≡ journal.new.standing.length) }
     ensures memory { result ≡ Err JournalFault.Memory → journal.new ≡ journal.old }
     ensures cause { PairHasCause D.faults journal.old.pair journal.new.pair
         (result ≡ Err Disk) }
 {
-    if snapshot.is_empty() {
-        return Ok(());
+    if anew {
+        return journal.compact(alloc, snapshot);
     }
-    journal.compact(alloc, snapshot)
+    Ok(())
 }
 
 /// Appends records in one frame, if there are any.
@@ -144,22 +147,25 @@ fn append_all<D: LeaseDisk>(
     journal.append(alloc, records)
 }
 
-/// Compacts a journal with a snapshot, if it has a record, and then appends records in one frame, if
-/// there are any.
+/// Compacts a journal with a snapshot, of which these are the texts, if that is to be done, and then
+/// appends records in one frame, if there are any.
 fn write<D: LeaseDisk>(
     alloc: Global,
     journal: &mut Journal<D>,
-    snapshot: &[Record],
+    anew: bool,
+    snapshot: &[u8],
     records: &[Record],
 ) -> Result<(), JournalFault>
     requires few { length records.now ≤ MOST_RECORDS }
     requires formed { AllByRecursion IsWellFormedRecord records.now }
     requires read { journal.old.unread ≡ false }
     requires second { journal.old.standing.format ≡ Second }
-    requires snapshot_formed { AllByRecursion IsWellFormedRecord snapshot.now }
-    requires snapshot_fit { snapshot.now ≢ [] → AllFit empty_state snapshot.now }
-    requires next { snapshot.now ≢ [] → journal.old.standing.generation < 2 ^ 64 - 1 }
-    requires known { D.tells → IsKnownAs D.seen D.may_leave journal.old snapshot.now records.now }
+    requires snapshot_texts { AreTexts snapshot.now (records_in snapshot.now) }
+    requires snapshot_some { anew ≡ true → 1 ≤ length (records_in snapshot.now) }
+    requires snapshot_fit { anew ≡ true → AllFit empty_state (records_in snapshot.now) }
+    requires next { anew ≡ true → journal.old.standing.generation < 2 ^ 64 - 1 }
+    requires known { D.tells → IsKnownAs D.seen D.may_leave journal.old anew
+        (records_in snapshot.now) records.now }
     ensures moments { D.tells → (s : State) → IsSettled D.seen D.may_leave journal.old s
         → PairLeavesOnly D.moment D.left_since D.may_leave journal.old.pair journal.new.pair
         (StandsForWithOrWithout s records.now) }
@@ -169,37 +175,37 @@ fn write<D: LeaseDisk>(
         (StandsFor s) }
     ensures settled { D.tells → (s : State) → IsSettled D.seen D.may_leave journal.old s
         → OnOk result (IsSettled D.seen D.may_leave journal.new (apply_all s records.now)) }
-    ensures idle { snapshot.now ≡ [] → records.now ≡ [] → journal.new ≡ journal.old }
+    ensures idle { anew ≡ false → records.now ≡ [] → journal.new ≡ journal.old }
     ensures read { OnOk result (journal.new.unread ≡ false) }
     ensures second { OnOk result (journal.new.standing.format ≡ Second) }
-    ensures plain { snapshot.now ≡ [] → OnOk result
+    ensures plain { anew ≡ false → OnOk result
         (journal.new.standing.generation ≡ journal.old.standing.generation) }
-    ensures plain_first { snapshot.now ≡ [] → OnOk result
+    ensures plain_first { anew ≡ false → OnOk result
         (journal.new.first_length ≡ journal.old.first_length) }
     ensures grown { D.tells → (s : State) → IsSettled D.seen D.may_leave journal.old s
-        → snapshot.now ≡ [] → OnOk result (journal.new.standing.length
+        → anew ≡ false → OnOk result (journal.new.standing.length
         ≤ journal.old.standing.length + frame_octets records.now) }
-    ensures compacted { snapshot.now ≢ [] → OnOk result
+    ensures compacted { anew ≡ true → OnOk result
         (journal.new.standing.generation ≡ journal.old.standing.generation + 1) }
     ensures short { D.tells → (s : State) → IsSettled D.seen D.may_leave journal.old s
-        → snapshot.now ≢ [] → OnOk result
+        → anew ≡ true → OnOk result
         (journal.new.standing.length ≤ journal.new.first_length + frame_octets records.now) }
     ensures cause { PairHasCause D.faults journal.old.pair journal.new.pair
         (result ≡ Err Disk) }
 {
     one_journal();
-    compact_by(alloc, journal, snapshot)?;
+    compact_by(alloc, journal, anew, snapshot)?;
     append_all(alloc, journal, records)
 }
 
-/// Compacts a journal with a snapshot that was taken, if it has a record, and then appends records in
-/// one frame, if there are any. Keeps the texts of the records for good. After `Memory` they are
-/// forgotten, since the journal has none of them.
+/// Compacts a journal with the snapshot that is kept for good, if that is to be done, and then appends
+/// records in one frame, if there are any. Keeps the texts of the records for good. After `Memory`
+/// they are forgotten, since the journal has none of them.
 pub(crate) fn commit<D: LeaseDisk>(
     alloc: Global,
     journal: &mut Journal<D>,
     texts: &mut KeptTexts,
-    taken: &[Record],
+    anew: bool,
     records: &[Record],
 ) -> Result<(), JournalFault>
     requires few { length records.now ≤ MOST_RECORDS }
@@ -209,8 +215,8 @@ pub(crate) fn commit<D: LeaseDisk>(
     requires added { texts.old.added ≡ records.now }
     requires reached { IsReached (state_of texts.old.sure) }
     requires started { (state_of texts.old.sure).started ≡ true }
-    requires snapshot { taken.now ≢ [] → taken.now ≡ snapshot (state_of texts.old.sure) }
-    requires next { taken.now ≢ [] → journal.old.standing.generation < 2 ^ 64 - 1 }
+    requires snapshot { anew ≡ true → texts.old.sure ≡ snapshot (state_of texts.old.sure) }
+    requires next { anew ≡ true → journal.old.standing.generation < 2 ^ 64 - 1 }
     ensures writable { OnOk result (IsWritable D.tells D.seen D.may_leave journal.new
         (apply_all (state_of texts.old.sure) records.now)) }
     ensures moments { D.tells
@@ -223,23 +229,23 @@ pub(crate) fn commit<D: LeaseDisk>(
         ≡ record { sure = texts.old.sure ++ records.now; added = [] }) }
     ensures refused { IfErr result (λ fault. texts.new
         ≡ record { sure = texts.old.sure; added = unsure_after fault records.now }) }
-    ensures idle { taken.now ≡ [] → records.now ≡ [] → journal.new ≡ journal.old }
-    ensures plain { taken.now ≡ [] → OnOk result
+    ensures idle { anew ≡ false → records.now ≡ [] → journal.new ≡ journal.old }
+    ensures plain { anew ≡ false → OnOk result
         (journal.new.standing.generation ≡ journal.old.standing.generation) }
-    ensures plain_first { taken.now ≡ [] → OnOk result
+    ensures plain_first { anew ≡ false → OnOk result
         (journal.new.first_length ≡ journal.old.first_length) }
-    ensures grown { D.tells → taken.now ≡ [] → OnOk result (journal.new.standing.length
+    ensures grown { D.tells → anew ≡ false → OnOk result (journal.new.standing.length
         ≤ journal.old.standing.length + frame_octets records.now) }
-    ensures compacted { taken.now ≢ [] → OnOk result
+    ensures compacted { anew ≡ true → OnOk result
         (journal.new.standing.generation ≡ journal.old.standing.generation + 1) }
-    ensures short { D.tells → taken.now ≢ [] → OnOk result
+    ensures short { D.tells → anew ≡ true → OnOk result
         (journal.new.standing.length ≤ journal.new.first_length + frame_octets records.now) }
     ensures cause { PairHasCause D.faults journal.old.pair journal.new.pair
         (result ≡ Err Disk) }
 {
     one_journal();
     snapshots_stand();
-    match write(alloc, journal, taken, records) {
+    match write(alloc, journal, anew, texts.sure(), records) {
         Ok(()) => {
             texts.confirm();
             Ok(())
@@ -277,8 +283,8 @@ pub(crate) fn use_second<D: LeaseDisk, S: LeaseStore>(
     }
     one_journal();
     snapshots_stand();
-    let snapshot = snapshot_of(alloc, core)?;
-    journal.compact(alloc, &snapshot)
+    let texts = texts_of_state(alloc, core)?;
+    journal.compact(alloc, texts.sure())
 }
 
 /// Compacts a journal whose records an opening found, unless it has no next generation: what was read
@@ -319,8 +325,8 @@ pub(crate) fn write_anew<D: LeaseDisk, S: LeaseStore>(
     }
     one_journal();
     snapshots_stand();
-    let snapshot = snapshot_of(alloc, core)?;
-    journal.compact(alloc, &snapshot)
+    let texts = texts_of_state(alloc, core)?;
+    journal.compact(alloc, texts.sure())
 }
 
 /// Applies a record that fits to a core, and appends it.

@@ -15,7 +15,7 @@ ghost use Rattle.shard_book.specs.Insides.{MayDecideAt, MayFollow, StandAlone};
 ghost use Rattle.shard_book.specs.Keepings.{Journals, unsure_after};
 
 use crate::batches::{Answered, decide_batch};
-use crate::committing::{commit, snapshot_if_overlong};
+use crate::committing::{commit, renew_if_overlong};
 use crate::texts::KeptTexts;
 use lease_core::LeaseCore;
 use lease_disk::LeaseDisk;
@@ -70,10 +70,10 @@ pub(crate) fn write_batch<D: LeaseDisk, S: LeaseStore>(
     ensures cause { PairHasCause D.faults journal.old.pair journal.new.pair
         (result ≡ Err Disk) }
 {
-    let snapshot = snapshot_if_overlong(alloc, core, journal, texts)?;
+    let anew = renew_if_overlong(alloc, core, journal, texts)?;
     let batch = decide_batch(alloc, core, asks, m, base)?;
     texts.add(alloc, &batch.records)?;
-    commit(alloc, journal, texts, &snapshot, &batch.records)?;
+    commit(alloc, journal, texts, anew, &batch.records)?;
     Ok(batch.answers)
 }
 
@@ -127,6 +127,6 @@ pub(crate) fn write_lose<D: LeaseDisk, S: LeaseStore>(
     };
     core.apply(alloc, &lose)?;
     texts.add(alloc, &[lose])?;
-    commit(alloc, journal, texts, &[], &[lose])?;
+    commit(alloc, journal, texts, false, &[lose])?;
     Ok(count)
 }

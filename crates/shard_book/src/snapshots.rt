@@ -1,26 +1,31 @@
 //! The records that stand for the state of a core by themselves.
-ghost use Rattle.std.specs.Prelude.{◌≡◌, ◌++◌, ◌∷◌, [], true, IfOk, OnOk};
-ghost use Rattle.pcp_base.specs.declared.records.Change.TheVariants.{Start, Mark};
+ghost use Rattle.std.specs.Prelude.{◌≡◌, ◌++◌, ◌∷◌, [], IfOk, OnOk};
+ghost use Rattle.pcp_base.specs.declared.records.Change.TheVariants.{Start};
 ghost use Rattle.pcp_base.specs.Reached.{IsReached};
 ghost use Rattle.pcp_base.specs.Snapshots.{address_records, snapshot};
 
 use crate::texts::KeptTexts;
 use lease_core::LeaseCore;
 use lease_store::LeaseStore;
-use pcp_base::{Address, Change, Memory, Moment, Record, snapshots_stand};
+use pcp_base::{Address, Change, Memory, Moment, Record};
+use record_sink::RecordSink;
 use std::alloc::Global;
 
-/// Appends a Start at the base, and the address.
-fn put_start(out: &mut Vec<Record>, base: Moment, address: Option<Address>) -> Result<(), Memory>
-    ensures { OnOk result (out.new.items ≡ out.old.items
+/// Hands on a Start at the base, and the address.
+fn put_start<K: RecordSink>(
+    out: &mut K,
+    base: Moment,
+    address: Option<Address>,
+) -> Result<(), Memory>
+    ensures { OnOk result (K.taken out.new ≡ K.taken out.old
         ++ record { moment = base; change = Start } ∷ address_records base address) }
 {
-    out.push(Record {
+    out.take(&Record {
         moment: base,
         change: Change::Start,
     })?;
     if let Some(address) = address {
-        out.push(Record {
+        out.take(&Record {
             moment: base,
             change: Change::Renumber(address),
         })?;
@@ -28,22 +33,21 @@ fn put_start(out: &mut Vec<Record>, base: Moment, address: Option<Address>) -> R
     Ok(())
 }
 
-/// The records that stand for the state of a core.
-pub(crate) fn snapshot_of<S: LeaseStore>(
-    alloc: Global,
+/// Hands on the records that stand for the state of a core.
+fn put_snapshot<S: LeaseStore, K: RecordSink>(
     core: &LeaseCore<S>,
-) -> Result<Vec<Record>, Memory>
-    requires { IsReached (S.state core.now) }
-    ensures { IfOk result (λ records. records.items ≡ snapshot (S.state core.now)) }
+    out: &mut K,
+) -> Result<(), Memory>
+    requires reached { IsReached (S.state core.now) }
+    requires none { K.taken out.old ≡ [] }
+    ensures { OnOk result (K.taken out.new ≡ snapshot (S.state core.now)) }
 {
-    let mut records = Vec::new(alloc);
-    put_start(&mut records, core.base(), core.address())?;
-    records.push(Record {
+    put_start(out, core.base(), core.address())?;
+    out.take(&Record {
         moment: core.last(),
         change: Change::Mark,
     })?;
-    core.add_records(&mut records)?;
-    Ok(records)
+    core.add_records(out)
 }
 
 /// The texts of the records that stand for the state of a core.
@@ -51,12 +55,12 @@ pub(crate) fn texts_of_state<S: LeaseStore>(
     alloc: Global,
     core: &LeaseCore<S>,
 ) -> Result<KeptTexts, Memory>
-    requires reached { IsReached (S.state core.now) }
-    requires started { (S.state core.now).started ≡ true }
+    requires { IsReached (S.state core.now) }
     ensures { IfOk result
         (λ texts. texts ≡ record { sure = snapshot (S.state core.now); added = [] }) }
 {
-    snapshots_stand();
-    let records = snapshot_of(alloc, core)?;
-    KeptTexts::of(alloc, &records)
+    let mut texts = KeptTexts::new(alloc);
+    put_snapshot(core, &mut texts)?;
+    texts.confirm();
+    Ok(texts)
 }

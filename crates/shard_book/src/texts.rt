@@ -5,17 +5,20 @@ ghost use Rattle.pcp_base.specs.declared.records.Record.{Record};
 ghost use Rattle.pcp_base.specs.Apply.{apply, apply_all};
 ghost use Rattle.pcp_base.specs.Fits.{AllFit, Fits};
 ghost use Rattle.pcp_base.specs.Records.{IsWellFormedRecord};
-ghost use Rattle.shard_book.specs.KeptTexts.{AreTexts, records_in};
+ghost use Rattle.journal_sides.specs.Texts.{AreTexts, records_in};
 
 use crate::batches::push;
-use lease_records::{read_record, write_record};
+use journal_sides::{read_first, texts_of};
+use lease_records::write_record;
 use pcp_base::{Memory, Record, Replay};
+use record_sink::RecordSink;
 use std::alloc::Global;
 use std::marker::Model;
 
 /// Records that are kept for good, and those that were added since, by their texts.
 #[derive(Drop)]
 pub(crate) struct KeptTexts {
+    alloc: Global,
     octets: Vec<u8>,
     /// where the texts of those that were added begin
     place: usize,
@@ -23,7 +26,8 @@ pub(crate) struct KeptTexts {
 
 impl Model for KeptTexts {
     ghost use Rattle.std.specs.Prelude.{take, drop};
-    ghost use Rattle.shard_book.specs.KeptTexts.{AreKeptAt, KeptRecords, records_in};
+    ghost use Rattle.journal_sides.specs.Texts.{records_in};
+    ghost use Rattle.shard_book.specs.KeptTexts.{AreKeptAt, KeptRecords};
 
     ghost Value = { KeptRecords };
 
@@ -33,32 +37,6 @@ impl Model for KeptTexts {
     } };
 
     ghost invariant = { λ t. AreKeptAt t.octets.items t.place };
-}
-
-/// The texts of well formed records, one after the other.
-fn texts_of(alloc: Global, records: &[Record]) -> Result<Vec<u8>, Memory>
-    requires { AllByRecursion IsWellFormedRecord records.now }
-    ensures { IfOk result (λ texts. AreTexts texts.items records.now) }
-{
-    let mut texts = Vec::new(alloc);
-    for record in records {
-        write_record(alloc, &mut texts, record)?;
-    }
-    Ok(texts)
-}
-
-/// The record that stands in front of texts, and how long its text is.
-fn read_first(texts: &[u8]) -> (Record, usize)
-    requires { (r : Record) × (rs : List Record) × AreTexts texts.now (r ∷ rs) }
-    ensures first { (r : Record) (rs : List Record) → AreTexts texts.now (r ∷ rs) →
-        (result.0 ≡ r) × AreTexts (drop result.1 texts.now) rs }
-    ensures some { 0 < result.1 }
-    ensures within { result.1 ≤ length texts.now }
-{
-    let Ok(first) = read_record(texts) else {
-        unreachable!()
-    };
-    first
 }
 
 /// Hands the record that stands in front of texts to a replay that it fits, and says how long its
@@ -133,14 +111,24 @@ fn are_same(octets: &[u8], others: &[u8]) -> bool
 }
 
 impl KeptTexts {
-    /// These well formed records, kept for good.
-    pub(crate) fn of(alloc: Global, records: &[Record]) -> Result<KeptTexts, Memory>
-        requires { AllByRecursion IsWellFormedRecord records.now }
-        ensures { IfOk result (λ texts. texts ≡ record { sure = records.now; added = [] }) }
+    /// No record.
+    pub(crate) fn new(alloc: Global) -> KeptTexts
+        ensures { result ≡ record { sure = []; added = [] } }
     {
-        let octets = texts_of(alloc, records)?;
-        let place = octets.len();
-        Ok(KeptTexts { octets, place })
+        let octets = Vec::new(alloc);
+        KeptTexts {
+            alloc,
+            octets,
+            place: 0,
+        }
+    }
+
+    /// The texts of the records that are kept for good.
+    pub(crate) fn sure(&self) -> &[u8]
+        ensures records { records_in result.now ≡ self.now.sure }
+        ensures texts { AreTexts result.now (records_in result.now) }
+    {
+        &self.octets[..self.place]
     }
 
     /// Adds well formed records. After `Memory` nothing has changed.
@@ -211,5 +199,14 @@ impl KeptTexts {
         ensures { IsTrue result ↔ (self.now.sure ≡ other.now.sure) }
     {
         are_same(&self.octets, &other.octets)
+    }
+}
+
+impl RecordSink for KeptTexts {
+    ghost taken = { λ texts. texts.sure ++ texts.added };
+
+    fn take(&mut self, kept: &Record) -> Result<(), Memory> {
+        write_record(self.alloc, &mut self.octets, kept)?;
+        Ok(())
     }
 }

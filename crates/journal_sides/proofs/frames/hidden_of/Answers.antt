@@ -1,26 +1,36 @@
-use Rattle.std.proofs.Common.{◌≡◌, ◌∙◌, List, ap, length, min, subst, rules}
-use Rattle.std.specs.Slice.Iter.{chunks_rest}
-use Rattle.pcp_base.specs.declared.records.Record.{Record}
-use Rattle.journal_sides.proofs.HiddenLaws.{HasHidden, hides_none, hides_next, hides_all}
+use Rattle.std.proofs.Common.{◌<◌, length, ap, arith, length-drop}
+use Rattle.journal_sides.proofs.HiddenLaws.{hidden_first, hidden_last, hidden_more, slice_texts}
+use Rattle.journal_sides.proofs.RecordTextLaws.{slice_rest}
 use Rattle.journal_sides.proofs.frames.hidden_of.Goals as goal
 
-pub loop-batch-init : goal.loop-batch-init
-loop-batch-init c =
-    let whole : c.args.records.now ≡ chunks_rest c.into_iter-batch-iterator.result = search rules in (
-      search rules,
-      tt,
-      search rules,
-      subst (λ (l : List Record). HasHidden c.args.generation c.args.records.now l c.in_ok-text.text.items) whole (hides_none c.args.generation c.args.records.now c.in_ok-text.text.items c.in_ok-text.ensures c.requires.formed),
-    )
+pub loop-at-init : goal.loop-at-init
+loop-at-init c = record {
+  within = omega arith;
+  hidden = hidden_first c.args.generation c.args.texts.now c.in_ok-text.text.items c.in_ok-text.ensures c.requires.texts;
+}
 
-pub loop-batch-preserved : goal.loop-batch-preserved
-loop-batch-preserved c =
-    let steps = c.in-Some.ensures.steps in (
-      search rules,
-      tt,
-      steps.0 ∙ c.loop-batch.invariant.2,
-      hides_next _ _ _ _ _ _ _ c.loop-batch.invariant.3 steps.1.0 (steps.1.1 ∙ ap (λ n. min n (length (chunks_rest c.loop-batch.batch-iterator))) c.loop-batch.invariant.2) steps.1.2 c.in_ok-put_open_frame.ensures.batch c.in_ok-put_open_frame.ensures.text,
-    )
+pub put_open_frame-requires-clause-some : goal.put_open_frame-requires-clause-some
+put_open_frame-requires-clause-some c =
+    let texts = c.args.texts.now in
+    let at = c.loop-at.at in
+    omega (arith, ap length (slice_rest texts at), length-drop at texts, c.loop-at-test.true)
+
+pub put_open_frame-requires-clause-texts : goal.put_open_frame-requires-clause-texts
+put_open_frame-requires-clause-texts c =
+    let texts = c.args.texts.now in
+    let at = c.loop-at.at in
+    slice_texts c.args.generation texts at c.loop-at.text.items c.loop-at.invariant.hidden _ (slice_rest texts at)
+
+pub loop-at-preserved : goal.loop-at-preserved
+loop-at-preserved c =
+    let texts = c.args.texts.now in
+    let at = c.loop-at.at in
+    let rest = slice_rest texts at in
+    record {
+      within = omega (arith, c.in_ok-at.ensures.within, ap length rest, length-drop at texts, c.loop-at-test.true);
+      hidden = hidden_more c.args.generation texts at c.loop-at.text.items c.loop-at.invariant.hidden _ rest c.in_ok-at.field-0 c.put_open_frame.new.out.items
+          (omega (arith, ap length rest, length-drop at texts, c.loop-at-test.true)) c.in_ok-at.ensures.behind c.in_ok-at.ensures.frame;
+    }
 
 pub returns : goal.returns
-returns c = hides_all _ _ _ _ _ c.loop-batch.invariant.3 c.in-None.ensures.steps.1.0 c.requires.some (search rules)
+returns c = hidden_last c.args.generation c.args.texts.now c.loop-at.at c.loop-at.text.items c.loop-at.invariant.hidden _ c.loop-at-test.false c.requires.some c.in_ok-push.ensures.items

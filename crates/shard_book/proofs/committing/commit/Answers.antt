@@ -1,22 +1,32 @@
-use Rattle.std.proofs.Common.{◌≡◌, Err, [], sym, subst}
-use Rattle.std.specs.List.{AllByRecursion}
+use Rattle.std.proofs.Common.{◌≡◌, ◌∙◌, Err, [], length, sym, subst, ap, arith}
 use Rattle.pcp_base.specs.Apply.{state_of}
-use Rattle.pcp_base.specs.Records.{IsWellFormedRecord}
-use Rattle.pcp_base.specs.Snapshots.{snapshot}
+use Rattle.pcp_base.specs.Fits.{AllFit}
 use Rattle.pcp_base.specs.States.{empty_state}
 use Rattle.journal_sides.specs.declared.errors.JournalFault.TheVariants.{Memory}
 use Rattle.shard_book.proofs.JournalLemmas.{without}
-use Rattle.shard_book.proofs.ResultLemmas.{all_if}
 use Rattle.shard_book.proofs.StateLemmas.{formed_all}
 use Rattle.shard_book.proofs.committing.commit.Goals as goal
 
 pub write-requires-clause-formed : goal.write-requires-clause-formed
 write-requires-clause-formed g c = formed_all (state_of c.args.texts.now.sure) c.args.records.now c.requires.fit
 
-pub write-requires-clause-snapshot_formed : goal.write-requires-clause-snapshot_formed
-write-requires-clause-snapshot_formed g c =
+pub write-requires-clause-snapshot_some : goal.write-requires-clause-snapshot_some
+write-requires-clause-snapshot_some g c = λ anew. omega (arith, ap length (c.sure.ensures.records ∙ c.requires.snapshot anew))
+
+pub write-requires-clause-snapshot_fit : goal.write-requires-clause-snapshot_fit
+write-requires-clause-snapshot_fit g c = λ anew.
     let s = state_of c.args.texts.now.sure in
-    all_if IsWellFormedRecord c.args.taken.now (λ some. subst (AllByRecursion IsWellFormedRecord) (sym (c.requires.snapshot some)) (formed_all empty_state (snapshot s) (c.snapshots_stand.ensures s c.requires.reached c.requires.started).0))
+    subst (AllFit empty_state) (sym (c.sure.ensures.records ∙ c.requires.snapshot anew)) (c.snapshots_stand.ensures s c.requires.reached c.requires.started).0
+
+pub write-requires-clause-known : goal.write-requires-clause-known
+write-requires-clause-known g c = λ told.
+    let s = state_of c.args.texts.now.sure in
+    record {
+      known = s;
+      settled = c.requires.writable.settled told;
+      fit = c.requires.fit;
+      same = λ anew. ap state_of (c.sure.ensures.records ∙ c.requires.snapshot anew) ∙ (c.snapshots_stand.ensures s c.requires.reached c.requires.started).1;
+    }
 
 pub returns-in-Ok-clause-moments : goal.returns-in-Ok-clause-moments
 returns-in-Ok-clause-moments g c = λ told. c.write.ensures.moments told (state_of c.args.texts.now.sure) (c.requires.writable.settled told)

@@ -1,12 +1,12 @@
-use Rattle.std.proofs.Common.{sym, subst, ◌∙◌, ap}
-use Rattle.std.specs.List.{AllByRecursion}
+use Rattle.std.proofs.Common.{◌≡◌, length, sym, subst, ◌∙◌, ap, arith}
 use Rattle.pcp_base.specs.Apply.{state_of}
-use Rattle.pcp_base.specs.Records.{IsWellFormedRecord}
+use Rattle.pcp_base.specs.Fits.{AllFit}
 use Rattle.pcp_base.specs.Snapshots.{snapshot}
 use Rattle.pcp_base.specs.States.{empty_state}
+use Rattle.journal_sides.specs.Texts.{records_in}
+use Rattle.shard_book.specs.KeptTexts.{KeptRecords}
 use Rattle.shard_book.proofs.JournalLemmas.{last_second, one_settled, still_settled, writable_ok}
 use Rattle.shard_book.proofs.ResultLemmas.{both_ok}
-use Rattle.shard_book.proofs.StateLemmas.{formed_all}
 use Rattle.shard_book.proofs.committing.write_anew.Goals as goal
 
 pub returns-then-ne-clause-moments : goal.returns-then-ne-clause-moments
@@ -28,21 +28,28 @@ returns-then-generation-eq18446744073709551615-clause-writable g c =
       settled = c.requires.settled;
     }
 
-pub returns-in_err-snapshot-clause-moments : goal.returns-in_err-snapshot-clause-moments
-returns-in_err-snapshot-clause-moments g c = λ told.
+pub returns-in_err-texts-clause-moments : goal.returns-in_err-texts-clause-moments
+returns-in_err-texts-clause-moments g c = λ told.
     let d = g.D.LeaseDisk in
     still_settled d.seen d.may_leave d.moment d.left_since c.args.journal.now (g.S.LeaseStore.state c.args.core.now) (c.requires.settled told)
 
-pub compact-requires-clause-formed : goal.compact-requires-clause-formed
-compact-requires-clause-formed g c =
+pub compact-requires-clause-some : goal.compact-requires-clause-some
+compact-requires-clause-some g c =
+    let whole : records_in c.sure.result.now ≡ snapshot (g.S.LeaseStore.state c.args.core.now) = c.sure.ensures.records ∙ ap (λ (k : KeptRecords). k.sure) c.in_ok-texts.ensures in
+    omega (arith, ap length whole)
+
+pub compact-requires-clause-fit : goal.compact-requires-clause-fit
+compact-requires-clause-fit g c = λ told.
     let s = g.S.LeaseStore.state c.args.core.now in
-    subst (AllByRecursion IsWellFormedRecord) (sym (c.deref.ensures.value ∙ c.in_ok-snapshot.ensures)) (formed_all empty_state (snapshot s) (c.snapshots_stand.ensures s c.requires.reached c.requires.started).0)
+    let whole : records_in c.sure.result.now ≡ snapshot s = c.sure.ensures.records ∙ ap (λ (k : KeptRecords). k.sure) c.in_ok-texts.ensures in
+    subst (AllFit empty_state) (sym whole) (c.snapshots_stand.ensures s c.requires.reached c.requires.started).0
 
 pub compact-requires-clause-same : goal.compact-requires-clause-same
 compact-requires-clause-same g c = λ told t is.
     let d = g.D.LeaseDisk in
     let s = g.S.LeaseStore.state c.args.core.now in
-    ap state_of (c.deref.ensures.value ∙ c.in_ok-snapshot.ensures) ∙ (c.snapshots_stand.ensures s c.requires.reached c.requires.started).1 ∙ one_settled c.one_journal.ensures.state d.seen d.may_leave c.args.journal.now s t (c.requires.settled told) is
+    let whole : records_in c.sure.result.now ≡ snapshot s = c.sure.ensures.records ∙ ap (λ (k : KeptRecords). k.sure) c.in_ok-texts.ensures in
+    ap state_of whole ∙ (c.snapshots_stand.ensures s c.requires.reached c.requires.started).1 ∙ one_settled c.one_journal.ensures.state d.seen d.may_leave c.args.journal.now s t (c.requires.settled told) is
 
 pub returns-clause-writable : goal.returns-clause-writable
 returns-clause-writable g c =

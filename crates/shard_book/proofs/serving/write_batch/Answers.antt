@@ -3,6 +3,7 @@ use Rattle.std.specs.List.{AllByRecursion}
 use Rattle.pcp_base.specs.declared.records.Record.{Record}
 use Rattle.pcp_base.specs.Apply.{state_of}
 use Rattle.pcp_base.specs.Records.{IsWellFormedRecord}
+use Rattle.pcp_base.specs.Snapshots.{snapshot}
 use Rattle.pcp_base.specs.States.{State}
 use Rattle.lease_disk.specs.Pairs.{PairLeavesOnly}
 use Rattle.journal_sides.specs.Journals.{StandsForWithOrWithout}
@@ -16,8 +17,8 @@ use Rattle.shard_book.proofs.ResultLemmas.{any_err}
 use Rattle.shard_book.proofs.StateLemmas.{formed_all}
 use Rattle.shard_book.proofs.serving.write_batch.Goals as goal
 
-pub returns-in_err-snapshot-clause-refused_moments : goal.returns-in_err-snapshot-clause-refused_moments
-returns-in_err-snapshot-clause-refused_moments g c = λ told.
+pub returns-in_err-anew-clause-refused_moments : goal.returns-in_err-anew-clause-refused_moments
+returns-in_err-anew-clause-refused_moments g c = λ told.
     let d = g.D.LeaseDisk in
     let j = c.args.journal.now in
     let s = g.S.LeaseStore.state c.args.core.now in
@@ -40,19 +41,24 @@ returns-in_err-add-clause-refused_moments g c = λ told.
 pub add-requires : goal.add-requires
 add-requires g c = subst (AllByRecursion IsWellFormedRecord) (sym c.deref.ensures.value) (formed_all (g.S.LeaseStore.state c.args.core.now) c.in_ok-batch.batch.records.items c.in_ok-batch.ensures.fit)
 
+pub commit-requires-clause-snapshot : goal.commit-requires-clause-snapshot
+commit-requires-clause-snapshot g c = λ anew.
+    let same : c.add.new.self.sure ≡ c.renew_if_overlong.new.texts.sure = ap (λ (k : KeptRecords). k.sure) c.in_ok-add.ensures.ok in
+    same ∙ c.in_ok-anew.ensures.snapshot anew ∙ ap snapshot (sym (ap state_of same ∙ c.renew_if_overlong.ensures.state))
+
 pub returns-clause-texts : goal.returns-clause-texts
 returns-clause-texts g c =
     let s = g.S.LeaseStore.state c.args.core.now in
     let rs = c.in_ok-batch.batch.records.items in
-    let first = c.snapshot_if_overlong.new.texts.sure in
-    let stand : StandAlone first s = record { fit = c.snapshot_if_overlong.ensures.fit; state = c.snapshot_if_overlong.ensures.state } in
+    let first = c.renew_if_overlong.new.texts.sure in
+    let stand : StandAlone first s = record { fit = c.renew_if_overlong.ensures.fit; state = c.renew_if_overlong.ensures.state } in
     let sure : c.add.new.self.sure ≡ first = ap (λ (k : KeptRecords). k.sure) c.in_ok-add.ensures.ok in
-    let whole : c.commit.new.texts.sure ≡ first ++ rs = ap (λ (k : KeptRecords). k.sure) c.in_ok-commit.ensures.kept ∙ ap (λ (l : List Record). l ++ c.deref-3.result.now) sure ∙ ap (λ (l : List Record). first ++ l) c.deref-3.ensures.value in
+    let whole : c.commit.new.texts.sure ≡ first ++ rs = ap (λ (k : KeptRecords). k.sure) c.in_ok-commit.ensures.kept ∙ ap (λ (l : List Record). l ++ c.deref-2.result.now) sure ∙ ap (λ (l : List Record). first ++ l) c.deref-2.ensures.value in
     subst (λ (l : List Record). StandAlone l (g.S.LeaseStore.state c.decide_batch.new.core)) (sym whole) (subst (StandAlone (first ++ rs)) (sym c.in_ok-batch.ensures.state) (stand_more first s rs stand c.in_ok-batch.ensures.fit))
 
 pub returns-clause-moments : goal.returns-clause-moments
 returns-clause-moments g c = λ told.
     let d = g.D.LeaseDisk in
-    let first : state_of c.add.new.self.sure ≡ g.S.LeaseStore.state c.args.core.now = ap (λ (k : KeptRecords). state_of k.sure) c.in_ok-add.ensures.ok ∙ c.snapshot_if_overlong.ensures.state in
-    subst (λ (l : List Record). PairLeavesOnly d.moment d.left_since d.may_leave c.args.journal.now.pair c.commit.new.journal.pair (StandsForWithOrWithout (g.S.LeaseStore.state c.args.core.now) l)) (c.deref-3.ensures.value ∙ c.in_ok-batch.ensures.records)
-    (subst (λ (s : State). PairLeavesOnly d.moment d.left_since d.may_leave c.args.journal.now.pair c.commit.new.journal.pair (StandsForWithOrWithout s c.deref-3.result.now)) first (c.commit.ensures.moments told))
+    let first : state_of c.add.new.self.sure ≡ g.S.LeaseStore.state c.args.core.now = ap (λ (k : KeptRecords). state_of k.sure) c.in_ok-add.ensures.ok ∙ c.renew_if_overlong.ensures.state in
+    subst (λ (l : List Record). PairLeavesOnly d.moment d.left_since d.may_leave c.args.journal.now.pair c.commit.new.journal.pair (StandsForWithOrWithout (g.S.LeaseStore.state c.args.core.now) l)) (c.deref-2.ensures.value ∙ c.in_ok-batch.ensures.records)
+    (subst (λ (s : State). PairLeavesOnly d.moment d.left_since d.may_leave c.args.journal.now.pair c.commit.new.journal.pair (StandsForWithOrWithout s c.deref-2.result.now)) first (c.commit.ensures.moments told))

@@ -1,12 +1,10 @@
-use Rattle.std.proofs.Common.{subst, sym, ◌∙◌}
-use Rattle.std.specs.List.{AllByRecursion}
-use Rattle.pcp_base.specs.Records.{IsWellFormedRecord}
-use Rattle.pcp_base.specs.States.{empty_state}
-use Rattle.pcp_base.specs.Snapshots.{snapshot}
-use Rattle.shard_book.proofs.StateLemmas.{formed_all}
+use Rattle.std.proofs.Common.{◌++◌, [], List, ap, ◌∙◌}
+use Rattle.pcp_base.specs.declared.records.Record.{Record}
+use Rattle.shard_book.specs.KeptTexts.{KeptRecords}
 use Rattle.shard_book.proofs.snapshots.texts_of_state.Goals as goal
 
-pub of-requires : goal.of-requires
-of-requires g c =
-    let s = g.S.LeaseStore.state c.args.core.now in
-    subst (AllByRecursion IsWellFormedRecord) (sym (c.deref.ensures.value ∙ c.in_ok-records.ensures)) (formed_all empty_state (snapshot s) (c.snapshots_stand.ensures s c.requires.reached c.requires.started).0)
+pub put_snapshot-requires-clause-none : goal.put_snapshot-requires-clause-none
+put_snapshot-requires-clause-none g c = ap (λ (k : KeptRecords). k.sure ++ k.added) c.new-texts.ensures
+
+pub returns : goal.returns
+returns g c = c.confirm.ensures ∙ ap (λ (l : List Record). record { sure = l; added = [] }) c.in_ok-put_snapshot.ensures

@@ -1,12 +1,9 @@
 use Rattle.std.proofs.Common.{◌≡◌, ◌-◌, List, [], ℕ, ◌∷◌, ◌++◌, length, take, drop, sym, subst, ◌∙◌, ap, arith, append_assoc, drop-drop, length-drop}
-use Rattle.std.proofs.lemmas.List.{append-nil, take_all}
+use Rattle.std.proofs.lemmas.List.{append-nil}
 use Rattle.pcp_base.specs.declared.records.Record.{Record}
-use Rattle.shard_book.specs.KeptTexts.{AreTexts, records_in}
-use Rattle.shard_book.proofs.ReplayLemmas.{next_left, none_left}
+use Rattle.journal_sides.specs.Texts.{AreTexts, records_in}
+use Rattle.journal_sides.proofs.RecordTextLaws.{next_left, none_left, slice_rest}
 use Rattle.shard_book.proofs.texts.records_of.Goals as goal
-
-slice_rest : (xs : List ℕ) (at : ℕ) → take (length xs - at) (drop at xs) ≡ drop at xs
-slice_rest xs at = take_all (length xs - at) (drop at xs) (omega (arith, length-drop at xs))
 
 pub push_first-requires : goal.push_first-requires
 push_first-requires c =

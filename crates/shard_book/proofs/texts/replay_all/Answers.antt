@@ -1,14 +1,11 @@
 use Rattle.std.proofs.Common.{◌≡◌, ◌-◌, List, ℕ, ◌∷◌, length, take, drop, sym, subst, ◌∙◌, ap, arith, drop-drop, length-drop}
-use Rattle.std.proofs.lemmas.List.{take_all}
+use Rattle.journal_sides.proofs.RecordTextLaws.{slice_rest}
 use Rattle.pcp_base.specs.Apply.{apply_all}
 use Rattle.pcp_base.specs.Fits.{AllFit}
 use Rattle.pcp_base.specs.States.{State}
-use Rattle.shard_book.specs.KeptTexts.{AreTexts, records_in}
+use Rattle.journal_sides.specs.Texts.{AreTexts, records_in}
 use Rattle.shard_book.proofs.ReplayLemmas.{all_read, has_next}
 use Rattle.shard_book.proofs.texts.replay_all.Goals as goal
-
-slice_rest : (xs : List ℕ) (at : ℕ) → take (length xs - at) (drop at xs) ≡ drop at xs
-slice_rest xs at = take_all (length xs - at) (drop at xs) (omega (arith, length-drop at xs))
 
 pub replay_first-requires-clause-first : goal.replay_first-requires-clause-first
 replay_first-requires-clause-first g c =

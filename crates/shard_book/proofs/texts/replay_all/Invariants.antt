@@ -1,6 +1,6 @@
 use Rattle.std.proofs.Common.{◌≡◌, ◌≤◌, ◌-◌, length}
 use Rattle.shard_book.proofs.ReplayLemmas.{AreLeft}
-use Rattle.shard_book.specs.KeptTexts.{records_in}
+use Rattle.journal_sides.specs.Texts.{records_in}
 use Rattle.shard_book.proofs.texts.replay_all.Given as goal
 
 abbrev pub invariant-loop-at : goal.invariant-loop-at

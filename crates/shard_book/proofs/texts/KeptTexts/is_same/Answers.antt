@@ -1,5 +1,6 @@
 use Rattle.std.proofs.Common.{◌≡◌, [], take, drop, sym, ◌∙◌, ap}
-use Rattle.shard_book.specs.KeptTexts.{KeptRecords, records_in}
+use Rattle.journal_sides.specs.Texts.{records_in}
+use Rattle.shard_book.specs.KeptTexts.{KeptRecords}
 use Rattle.shard_book.proofs.KeptLemmas.{kept_same, same_kept}
 use Rattle.shard_book.proofs.texts.KeptTexts.is_same.Goals as goal
 

@@ -1,8 +1,8 @@
 use Rattle.std.proofs.Common.{take}
 use Rattle.std.specs.List.{AllByRecursion}
 use Rattle.pcp_base.specs.Records.{IsWellFormedRecord}
-use Rattle.shard_book.specs.KeptTexts.{AreTexts}
-use Rattle.shard_book.proofs.texts.texts_of.Given as goal
+use Rattle.journal_sides.specs.Texts.{AreTexts}
+use Rattle.journal_sides.proofs.texts.texts_of.Given as goal
 
 abbrev pub invariant-loop-record : goal.invariant-loop-record
 invariant-loop-record l = record {

@@ -3,8 +3,8 @@ use Rattle.std.proofs.lemmas.List.{drop_at}
 use Rattle.pcp_base.specs.declared.records.Record.{Record}
 use Rattle.lease_records.specs.RecordTexts.{IsReadAgain, IsRecordText, record_text}
 use Rattle.journal_sides.specs.Frames.{records_text}
-use Rattle.shard_book.specs.KeptTexts.{AreTexts}
-use Rattle.shard_book.proofs.texts.read_first.Goals as goal
+use Rattle.journal_sides.specs.Texts.{AreTexts}
+use Rattle.journal_sides.proofs.texts.read_first.Goals as goal
 
 first_text : (texts : List ℕ) (r : Record) (rs : List Record) → AreTexts texts (r ∷ rs) → IsRecordText (record_text r) r
 first_text texts r rs is = record { value = is.values.0; well_formed = is.formed.0; text = refl }
