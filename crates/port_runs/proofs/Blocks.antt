@@ -1,32 +1,8 @@
--- What the runs of a block of flags are, and those of two blocks side by side.
+-- The runs of two blocks side by side.
 use Rattle.std.proofs.Common.{◌≡◌, ℕ, ◌+◌, ◌-◌, ◌%◌, ◌<◌, ◌≤◌, ◌⊎◌, max, Bool, true, false, List, slice_index_or, refl, sym, ◌∙◌, subst, arith, inl, inr}
 use Rattle.std.proofs.lemmas.Bool.{cases_lt}
 use Rattle.port_runs.specs.Flags.{IsSetBetween}
-
--- p flags are set from the block's first on, and not one more
-pub record IsPrefix (flags : List Bool) (a b p : ℕ) : Type 0 where
-  pub within : a + p ≤ b
-  pub set : IsSetBetween flags a (a + p)
-  pub ends : (i : ℕ) → i ≡ a + p → i < b → slice_index_or flags i false ≡ false
-
--- q flags are set up to the block's last, and not one more
-pub record IsSuffix (flags : List Bool) (a b q : ℕ) : Type 0 where
-  pub within : a + q ≤ b
-  pub set : (i : ℕ) → b ≤ i + q → i < b → slice_index_or flags i false ≡ true
-  pub ends : (i : ℕ) → i + q + 1 ≡ b → a ≤ i → slice_index_or flags i false ≡ false
-
--- a run of n flags in the block whose start has this remainder by 2
-pub record RunIn (flags : List Bool) (a b remainder n : ℕ) : Type 0 where
-  pub start : ℕ
-  pub from : a ≤ start
-  pub to : start + n ≤ b
-  pub has : start % 2 ≡ remainder
-  pub set : IsSetBetween flags start (start + n)
-
--- n is the longest such run
-pub record IsLongest (flags : List Bool) (a b remainder n : ℕ) : Type 0 where
-  pub most : (s k : ℕ) → s % 2 ≡ remainder → a ≤ s → s + k ≤ b → IsSetBetween flags s (s + k) → k ≤ n
-  pub met : 1 ≤ n → RunIn flags a b remainder n
+use Rattle.port_runs.specs.Nodes.{IsPrefix, IsSuffix, RunIn, IsLongest}
 
 one_of_max : (x y : ℕ) → (max x y ≡ x) ⊎ (max x y ≡ y)
 one_of_max x y = elim (cases_lt x y) [ inl less ↦ inr (omega arith) | inr more ↦ inl (omega arith) ]

@@ -1,158 +1,240 @@
 -- Nodes and flags that change, and which nodes stay those of their children.
-use Rattle.std.proofs.Common.{◌≡◌, ◌≢◌, ℕ, ◌+◌, ◌-◌, ◌*◌, ◌/◌, ◌<◌, ◌≤◌, ◌⊎◌, Bool, true, false, List, length, slice_index_or, slice_set, refl, sym, ◌∙◌, ap, subst, arith, inl, inr, nat_lt, get_or-set_other, get_or-set_same}
-use Rattle.std.proofs.lemmas.Bool.Decides.{nat_tests}
+use Rattle.std.proofs.Common.{◌≡◌, ◌≢◌, ℕ, ◌+◌, ◌-◌, ◌*◌, ◌/◌, ◌<◌, ◌≤◌, Bool, true, false, List, length, slice_index_or, slice_set, refl, sym, ◌∙◌, ap, subst, arith, inl, inr, get_or-set_other, get_or-set_same}
 use Rattle.std.proofs.lemmas.Bool.{cases_lt, cases_eq}
 use Rattle.std.proofs.lemmas.List.{length-set}
-use Rattle.port_runs.specs.declared.tree.Node.{Node}
-use Rattle.port_runs.specs.Flags.{IsMarked}
-use Rattle.port_runs.specs.Nodes.{empty_node, pair_of, join, tree_node, IsJoined, AreJoined, AreJoinedBut}
+use Rattle.std.specs.Bool.{OnFalse}
+use Rattle.port_runs.specs.declared.node.Node.{Node}
+use Rattle.port_runs.specs.Flags.{IsMarked, IsSetBetween}
+use Rattle.port_runs.specs.Nodes.{IsLongest, IsSummary, empty_node, join, node_at, IsLeaf, AreLeaves, AreLeavesBut, HaveSameLeaves, IsJoined, AreJoined, AreJoinedBut, IsTreeOf}
+use Rattle.port_runs.proofs.Summary.{empty_summary}
 
--- a node does not change where another one is written
-tree_node-set_other : (flags : List Bool) (nodes : List Node) (i : ℕ) (node : Node) (place : ℕ) → place ≢ i → tree_node flags (slice_set nodes i node) place ≡ tree_node flags nodes place
-unfolding tree_node
-tree_node-set_other flags nodes i node place other = rw get_or-set_other
-
--- nor where the flags do not change that it is made of
-tree_node-flags : (old new : List Bool) (nodes : List Node) (place : ℕ) → (32768 ≤ place → slice_index_or new (2 * place - 65536) false ≡ slice_index_or old (2 * place - 65536) false) → (32768 ≤ place → slice_index_or new (2 * place - 65536 + 1) false ≡ slice_index_or old (2 * place - 65536 + 1) false) → tree_node new nodes place ≡ tree_node old nodes place
-unfolding tree_node
-tree_node-flags old new nodes place first second =
-    elim (cases_lt place 32768) [
-      | inl small ↦ (let is : nat_lt place 32768 ≡ true = grind (arith, nat_tests) in rw is)
-      | inr large ↦ rw (first large, second large)
-    ]
-
-IsJoined-set_other : (flags : List Bool) (nodes : List Node) (i : ℕ) (node : Node) (place : ℕ) → place ≢ i → 2 * place ≢ i → 2 * place + 1 ≢ i → IsJoined flags nodes place → IsJoined flags (slice_set nodes i node) place
-IsJoined-set_other flags nodes i node place here left right h =
+IsJoined-set_other : (nodes : List Node) (i : ℕ) (node : Node) (place : ℕ) → place ≢ i → 2 * place ≢ i → 2 * place + 1 ≢ i → IsJoined nodes place → IsJoined (slice_set nodes i node) place
+IsJoined-set_other nodes i node place here left right h =
     get_or-set_other nodes i place node empty_node here
     ∙ (h
-    ∙ sym (ap (λ (l : Node). join l (tree_node flags (slice_set nodes i node) (2 * place + 1))) (tree_node-set_other flags nodes i node (2 * place) left)
-    ∙ ap (λ (r : Node). join (tree_node flags nodes (2 * place)) r) (tree_node-set_other flags nodes i node (2 * place + 1) right)))
+    ∙ sym (ap (λ (l : Node). join l (node_at (slice_set nodes i node) (2 * place + 1))) (get_or-set_other nodes i (2 * place) node empty_node left)
+    ∙ ap (λ (r : Node). join (node_at nodes (2 * place)) r) (get_or-set_other nodes i (2 * place + 1) node empty_node right)))
 
-IsJoined-set_same : (flags : List Bool) (nodes : List Node) (place : ℕ) → 1 ≤ place → place < length nodes → IsJoined flags (slice_set nodes place (join (tree_node flags nodes (2 * place)) (tree_node flags nodes (2 * place + 1)))) place
-IsJoined-set_same flags nodes place some within =
-    let node = join (tree_node flags nodes (2 * place)) (tree_node flags nodes (2 * place + 1)) in
+IsJoined-set_same : (nodes : List Node) (place : ℕ) → 1 ≤ place → place < length nodes → IsJoined (slice_set nodes place (join (node_at nodes (2 * place)) (node_at nodes (2 * place + 1)))) place
+IsJoined-set_same nodes place some within =
+    let node = join (node_at nodes (2 * place)) (node_at nodes (2 * place + 1)) in
     get_or-set_same nodes place node empty_node within
-    ∙ sym (ap (λ (l : Node). join l (tree_node flags (slice_set nodes place node) (2 * place + 1))) (tree_node-set_other flags nodes place node (2 * place) (omega arith))
-    ∙ ap (λ (r : Node). join (tree_node flags nodes (2 * place)) r) (tree_node-set_other flags nodes place node (2 * place + 1) (omega arith)))
+    ∙ sym (ap (λ (l : Node). join l (node_at (slice_set nodes place node) (2 * place + 1))) (get_or-set_other nodes place (2 * place) node empty_node (omega arith))
+    ∙ ap (λ (r : Node). join (node_at nodes (2 * place)) r) (get_or-set_other nodes place (2 * place + 1) node empty_node (omega arith)))
 
 -- while the nodes from low to high are made anew, those before a place are done
-pub record Rejoining (low high place : ℕ) (flags : List Bool) (nodes : List Node) : Type 0 where
-  pub all : length nodes ≡ 32768
-  pub below : (j : ℕ) → 1 ≤ j → j < place → j < low / 2 → j < 32768 → IsJoined flags nodes j
-  pub between : (j : ℕ) → 1 ≤ j → j < place → high / 2 < j → j < 32768 → IsJoined flags nodes j
-  pub above : (j : ℕ) → high < j → j < 32768 → IsJoined flags nodes j
+pub record Rejoining (low high place : ℕ) (nodes : List Node) : Type 0 where
+  pub all : length nodes ≡ 2048
+  pub below : (j : ℕ) → 1 ≤ j → j < place → j < low / 2 → j < 1024 → IsJoined nodes j
+  pub between : (j : ℕ) → 1 ≤ j → j < place → high / 2 < j → j < 1024 → IsJoined nodes j
+  pub above : (j : ℕ) → high < j → j < 1024 → IsJoined nodes j
 
-pub rejoining_begins : (low high : ℕ) (flags : List Bool) (nodes : List Node) → AreJoinedBut low high flags nodes → Rejoining low high low flags nodes
-rejoining_begins low high flags nodes h = record {
+pub rejoining_begins : (low high : ℕ) (nodes : List Node) → AreJoinedBut low high nodes → Rejoining low high low nodes
+rejoining_begins low high nodes h = record {
   all = h.all;
   below = λ j some before out small. h.below j some before small;
   between = λ j some before out small. h.below j some before small;
   above = λ j past small. h.above j past small;
 }
 
-pub rejoining_ends : (low high place : ℕ) (flags : List Bool) (nodes : List Node) → high < place → Rejoining low high place flags nodes → AreJoinedBut (low / 2) (high / 2) flags nodes
-rejoining_ends low high place flags nodes done h = record {
+pub rejoining_ends : (low high place : ℕ) (nodes : List Node) → high < place → Rejoining low high place nodes → AreJoinedBut (low / 2) (high / 2) nodes
+rejoining_ends low high place nodes done h = record {
   all = h.all;
   below = λ j some out small. elim (cases_lt j place) [ inl before ↦ h.below j some before out small | inr past ↦ h.above j (omega arith) small ];
   above = λ j out small. elim (cases_lt j place) [ inl before ↦ h.between j (omega arith) before out small | inr past ↦ h.above j (omega arith) small ];
 }
 
-pub rejoining_more : (low high place : ℕ) (flags : List Bool) (nodes : List Node) → low ≤ place → place ≤ high → high < 32768 → Rejoining low high place flags nodes
-    → Rejoining low high (place + 1) flags (slice_set nodes place (join (tree_node flags nodes (2 * place)) (tree_node flags nodes (2 * place + 1))))
-rejoining_more low high place flags nodes from to small h =
-    let node = join (tree_node flags nodes (2 * place)) (tree_node flags nodes (2 * place + 1)) in
+pub rejoining_more : (low high place : ℕ) (nodes : List Node) → low ≤ place → place ≤ high → high < 1024 → Rejoining low high place nodes
+    → Rejoining low high (place + 1) (slice_set nodes place (join (node_at nodes (2 * place)) (node_at nodes (2 * place + 1))))
+rejoining_more low high place nodes from to small h =
+    let node = join (node_at nodes (2 * place)) (node_at nodes (2 * place + 1)) in
     record {
       all = length-set nodes place node ∙ h.all;
       below = λ j some before out fits. elim (cases_eq j place) [
-        | inl here ↦ subst (λ (i : ℕ). IsJoined flags (slice_set nodes place node) i) (sym here) (IsJoined-set_same flags nodes place (omega arith) (omega (arith, h.all)))
-        | inr other ↦ IsJoined-set_other flags nodes place node j other (omega arith) (omega arith) (h.below j some (omega arith) out fits)
+        | inl here ↦ subst (λ (i : ℕ). IsJoined (slice_set nodes place node) i) (sym here) (IsJoined-set_same nodes place (omega arith) (omega (arith, h.all)))
+        | inr other ↦ IsJoined-set_other nodes place node j other (omega arith) (omega arith) (h.below j some (omega arith) out fits)
       ];
       between = λ j some before out fits. elim (cases_eq j place) [
-        | inl here ↦ subst (λ (i : ℕ). IsJoined flags (slice_set nodes place node) i) (sym here) (IsJoined-set_same flags nodes place (omega arith) (omega (arith, h.all)))
-        | inr other ↦ IsJoined-set_other flags nodes place node j other (omega arith) (omega arith) (h.between j some (omega arith) out fits)
+        | inl here ↦ subst (λ (i : ℕ). IsJoined (slice_set nodes place node) i) (sym here) (IsJoined-set_same nodes place (omega arith) (omega (arith, h.all)))
+        | inr other ↦ IsJoined-set_other nodes place node j other (omega arith) (omega arith) (h.between j some (omega arith) out fits)
       ];
-      above = λ j past fits. IsJoined-set_other flags nodes place node j (omega arith) (omega arith) (omega arith) (h.above j past fits);
+      above = λ j past fits. IsJoined-set_other nodes place node j (omega arith) (omega arith) (omega arith) (h.above j past fits);
     }
 
 -- and where no node is another than before, those before the place are all joined
-abbrev pub Rejoined : ℕ → ℕ → ℕ → List Bool → List Node → Bool → Type 0
-Rejoined low high place flags nodes changed =
-    Rejoining low high place flags nodes × (changed ≡ false → AreJoinedBut place high flags nodes)
+pub record Rejoined (low high place : ℕ) (old nodes : List Node) (changed : Bool) : Type 0 where
+  pub way : Rejoining low high place nodes
+  pub leaves : HaveSameLeaves old nodes
+  pub still : changed ≡ false → AreJoinedBut place high nodes
+
+-- a node above the leaves that is written anew
+pub rejoined_more : (low high place : ℕ) (old nodes : List Node) (changed : Bool) → low ≤ place → place ≤ high → high < 1024 → Rejoined low high place old nodes changed
+    → Rejoined low high (place + 1) old (slice_set nodes place (join (node_at nodes (2 * place)) (node_at nodes (2 * place + 1)))) true
+rejoined_more low high place old nodes changed from to small h = record {
+  way = rejoining_more low high place nodes from to small h.way;
+  leaves = λ leaf past. get_or-set_other nodes place leaf (join (node_at nodes (2 * place)) (node_at nodes (2 * place + 1))) empty_node (omega arith) ∙ h.leaves leaf past;
+  still = λ same. (cc);
+}
 
 -- a node that is right already needs no write
-pub rejoined_still : (low high place : ℕ) (flags : List Bool) (nodes : List Node) (changed : Bool) → IsJoined flags nodes place → Rejoined low high place flags nodes changed → Rejoined low high (place + 1) flags nodes changed
-rejoined_still low high place flags nodes changed right h = (
-  record {
-    all = h.0.all;
+pub rejoined_still : (low high place : ℕ) (old nodes : List Node) (changed : Bool) → IsJoined nodes place → Rejoined low high place old nodes changed → Rejoined low high (place + 1) old nodes changed
+rejoined_still low high place old nodes changed right h = record {
+  way = record {
+    all = h.way.all;
     below = λ j some before out fits. elim (cases_eq j place) [
-      | inl here ↦ subst (λ (i : ℕ). IsJoined flags nodes i) (sym here) right
-      | inr other ↦ h.0.below j some (omega arith) out fits
+      | inl here ↦ subst (λ (i : ℕ). IsJoined nodes i) (sym here) right
+      | inr other ↦ h.way.below j some (omega arith) out fits
     ];
     between = λ j some before out fits. elim (cases_eq j place) [
-      | inl here ↦ subst (λ (i : ℕ). IsJoined flags nodes i) (sym here) right
-      | inr other ↦ h.0.between j some (omega arith) out fits
+      | inl here ↦ subst (λ (i : ℕ). IsJoined nodes i) (sym here) right
+      | inr other ↦ h.way.between j some (omega arith) out fits
     ];
-    above = h.0.above;
-  },
-  λ same. record {
-    all = h.0.all;
+    above = h.way.above;
+  };
+  leaves = h.leaves;
+  still = λ same. record {
+    all = h.way.all;
     below = λ j some before fits. elim (cases_eq j place) [
-      | inl here ↦ subst (λ (i : ℕ). IsJoined flags nodes i) (sym here) right
-      | inr other ↦ (h.1 same).below j some (omega arith) fits
+      | inl here ↦ subst (λ (i : ℕ). IsJoined nodes i) (sym here) right
+      | inr other ↦ (h.still same).below j some (omega arith) fits
     ];
-    above = h.0.above;
-  },
-)
+    above = h.way.above;
+  };
+}
 
-pub joined_from_none : (low high : ℕ) (flags : List Bool) (nodes : List Node) → high ≡ 0 → AreJoinedBut low high flags nodes → AreJoined flags nodes
-joined_from_none low high flags nodes none h = record { all = h.all; each = λ j some small. h.above j (omega arith) small }
+pub rejoined_all : (low high place : ℕ) (old nodes : List Node) (changed : Bool) → high < place → Rejoined low high place old nodes changed → OnFalse changed (AreJoined nodes)
+rejoined_all low high place old nodes true done h = tt
+rejoined_all low high place old nodes false done h =
+    let but = h.still refl in
+    record { all = but.all; each = λ j some small. elim (cases_lt j place) [ inl before ↦ but.below j some before small | inr past ↦ but.above j (omega arith) small ] }
 
-unmarked : (from to : ℕ) (value : Bool) (old new : List Bool) → IsMarked from to value old new → (i : ℕ) → (i < from) ⊎ (to ≤ i) → slice_index_or new i false ≡ slice_index_or old i false
-unmarked from to value old new m i (inl before) = m.below i before
-unmarked from to value old new m i (inr past) = m.above i past
+-- what holds where a test fails
+pub when_not : {P : Type 0} (test : Bool) → test ≡ false → OnFalse test P → P
+when_not true isnt h = (cc)
+when_not false isnt h = h
 
--- a leaf of the node j, the one with this number of its four
-leaf_apart : (from to j leaf : ℕ) → 16384 ≤ j → leaf < 4 → (j < (65536 + from) / 4) ⊎ ((65536 + to - 1) / 4 < j) → (4 * j + leaf - 65536 < from) ⊎ (to ≤ 4 * j + leaf - 65536)
-leaf_apart from to j leaf large few (inl below) = inl (omega arith)
-leaf_apart from to j leaf large few (inr above) = inr (omega arith)
+pub joined_from_none : (low high : ℕ) (nodes : List Node) → high ≡ 0 → AreJoinedBut low high nodes → AreJoined nodes
+joined_from_none low high nodes none h = record { all = h.all; each = λ j some small. h.above j (omega arith) small }
 
-module _ (from to : ℕ) (value : Bool) (old new : List Bool) (m : IsMarked from to value old new) (j : ℕ) (apart : (j < (65536 + from) / 4) ⊎ ((65536 + to - 1) / 4 < j)) where
-  leaf_same : (leaf i : ℕ) → 16384 ≤ j → leaf < 4 → i ≡ 4 * j + leaf - 65536 → slice_index_or new i false ≡ slice_index_or old i false
-  leaf_same leaf i large few is =
-      rw is (unmarked from to value old new m (4 * j + leaf - 65536) (leaf_apart from to j leaf large few apart))
+-- while the leaves from low to high are made anew, those before an index are done
+pub record Renewed (flags : List Bool) (low high index : ℕ) (nodes : List Node) (changed : Bool) : Type 0 where
+  pub leaves : AreLeavesBut index high flags nodes
+  pub joined : AreJoinedBut ((1024 + low) / 2) ((1024 + high) / 2) nodes
+  pub still : changed ≡ false → AreJoined nodes
 
-  joined_still : (nodes : List Node) → IsJoined old nodes j → IsJoined new nodes j
-  joined_still nodes h =
-      h
-      ∙ sym (ap (λ (l : Node). join l (tree_node new nodes (2 * j + 1)))
-      (tree_node-flags old new nodes (2 * j) (λ large. leaf_same 0 (2 * (2 * j) - 65536) (omega arith) (omega arith) (omega arith)) (λ large. leaf_same 1 (2 * (2 * j) - 65536 + 1) (omega arith) (omega arith) (omega arith)))
-      ∙ ap (λ (r : Node). join (tree_node old nodes (2 * j)) r)
-      (tree_node-flags old new nodes (2 * j + 1) (λ large. leaf_same 2 (2 * (2 * j + 1) - 65536) (omega arith) (omega arith) (omega arith)) (λ large. leaf_same 3 (2 * (2 * j + 1) - 65536 + 1) (omega arith) (omega arith) (omega arith))))
+module _ (flags : List Bool) (low high : ℕ) where
+  pub renewed_begins : (nodes : List Node) (changed : Bool) → AreLeavesBut low high flags nodes → AreJoined nodes → Renewed flags low high low nodes changed
+  renewed_begins nodes changed leaves joined = record {
+    leaves = leaves;
+    joined = record { all = joined.all; below = λ j some out small. joined.each j some small; above = λ j out small. joined.each j (omega arith) small };
+    still = λ _. joined;
+  }
 
--- flags that were marked leave each node joined but for those that lead to them
-pub joined_but_marked : (from to : ℕ) (value : Bool) (old new : List Bool) (nodes : List Node) → IsMarked from to value old new → AreJoined old nodes → AreJoinedBut ((65536 + from) / 4) ((65536 + to - 1) / 4) new nodes
-joined_but_marked from to value old new nodes m h =
-    record {
-      all = h.all;
-      below = λ j positive out small. joined_still from to value old new m j (inl out) nodes (h.each j positive small);
-      above = λ j out small. joined_still from to value old new m j (inr out) nodes (h.each j (omega arith) small);
+  module _ (index : ℕ) (nodes : List Node) (changed : Bool) (from : low ≤ index) (to : index ≤ high) (small : high < 1024) (h : Renewed flags low high index nodes changed) where
+    leaf_kept : (node : Node) (other : ℕ) → other ≢ index → IsLeaf flags nodes other → IsLeaf flags (slice_set nodes (1024 + index) node) other
+    leaf_kept node other apart leaf =
+        subst (λ (n : Node). IsSummary flags (64 * other) (64 * other + 64) n) (sym (get_or-set_other nodes (1024 + index) (1024 + other) node empty_node (omega arith))) leaf
+
+    leaf_here : (node : Node) → IsSummary flags (64 * index) (64 * index + 64) node → IsLeaf flags (slice_set nodes (1024 + index) node) index
+    leaf_here node is =
+        subst (λ (n : Node). IsSummary flags (64 * index) (64 * index + 64) n) (sym (get_or-set_same nodes (1024 + index) node empty_node (omega (arith, h.joined.all)))) is
+
+    pub renewed_more : (node : Node) → IsSummary flags (64 * index) (64 * index + 64) node → Renewed flags low high (index + 1) (slice_set nodes (1024 + index) node) true
+    renewed_more node is = record {
+      leaves = record {
+        below = λ j before fits. elim (cases_eq j index) [
+          | inl here ↦ subst (λ (i : ℕ). IsLeaf flags (slice_set nodes (1024 + index) node) i) (sym here) (leaf_here node is)
+          | inr other ↦ leaf_kept node j other (h.leaves.below j (omega arith) fits)
+        ];
+        above = λ j past fits. leaf_kept node j (omega arith) (h.leaves.above j past fits);
+      };
+      joined = record {
+        all = length-set nodes (1024 + index) node ∙ h.joined.all;
+        below = λ j some out fits. IsJoined-set_other nodes (1024 + index) node j (omega arith) (omega arith) (omega arith) (h.joined.below j some out fits);
+        above = λ j out fits. IsJoined-set_other nodes (1024 + index) node j (omega arith) (omega arith) (omega arith) (h.joined.above j out fits);
+      };
+      still = λ same. (cc);
     }
 
--- with no flag set and no node that tells of one, each node is joined
-module _ (flags : List Bool) (nodes : List Node) (all : length nodes ≡ 32768) (clear : (i : ℕ) → slice_index_or flags i false ≡ false) (none : (i : ℕ) → slice_index_or nodes i empty_node ≡ empty_node) where
-  node_of_none : (place : ℕ) → tree_node flags nodes place ≡ empty_node
-  unfolding tree_node pair_of
-  node_of_none place = elim (cases_lt place 32768) [
-    | inl small ↦ (let is : nat_lt place 32768 ≡ true = grind (arith, nat_tests) in rw is (none place))
-    | inr large ↦ (let isnt : nat_lt place 32768 ≡ false = grind (arith, nat_tests) in rw (isnt, clear (2 * place - 65536), clear (2 * place - 65536 + 1)))
-  ]
+    pub renewed_still : IsLeaf flags nodes index → Renewed flags low high (index + 1) nodes changed
+    renewed_still is = record {
+      leaves = record {
+        below = λ j before fits. elim (cases_eq j index) [
+          | inl here ↦ subst (λ (i : ℕ). IsLeaf flags nodes i) (sym here) is
+          | inr other ↦ h.leaves.below j (omega arith) fits
+        ];
+        above = h.leaves.above;
+      };
+      joined = h.joined;
+      still = h.still;
+    }
 
+pub all_leaves : (flags : List Bool) (low high : ℕ) (nodes : List Node) → high < low → AreLeavesBut low high flags nodes → AreLeaves flags nodes
+all_leaves flags low high nodes done h = record {
+  each = λ j fits. elim (cases_lt j low) [ inl before ↦ h.below j before fits | inr past ↦ h.above j (omega arith) fits ];
+}
+
+-- leaves that are as before
+pub leaves_kept : (flags : List Bool) (old new : List Node) → HaveSameLeaves old new → AreLeaves flags old → AreLeaves flags new
+leaves_kept flags old new same h = record {
+  each = λ j fits. subst (λ (n : Node). IsSummary flags (64 * j) (64 * j + 64) n) (sym (same (1024 + j) (omega arith))) (h.each j fits);
+}
+
+-- a block whose flags are as before is told by the same node
+module _ (old new : List Bool) (a b : ℕ) (same : (i : ℕ) → a ≤ i → i < b → slice_index_or new i false ≡ slice_index_or old i false) where
+  set_still : (s k : ℕ) → a ≤ s → s + k ≤ b → IsSetBetween old s (s + k) → IsSetBetween new s (s + k)
+  set_still s k from to set i low high = same i (omega arith) (omega arith) ∙ set i low high
+
+  set_before : (s k : ℕ) → a ≤ s → s + k ≤ b → IsSetBetween new s (s + k) → IsSetBetween old s (s + k)
+  set_before s k from to set i low high = sym (same i (omega arith) (omega arith)) ∙ set i low high
+
+  longest_still : (r n : ℕ) → IsLongest old a b r n → IsLongest new a b r n
+  longest_still r n h = record {
+    most = λ s k has from to set. h.most s k has from to (set_before s k from to set);
+    met = λ some. (let run = h.met some in record { start = run.start; from = run.from; to = run.to; has = run.has; set = set_still run.start n run.from run.to run.set });
+  }
+
+  pub summary_still : (node : Node) → IsSummary old a b node → IsSummary new a b node
+  summary_still node h = record {
+    prefix = record {
+      within = h.prefix.within;
+      set = set_still a node.prefix (omega arith) h.prefix.within h.prefix.set;
+      ends = λ i here small. same i (omega arith) small ∙ h.prefix.ends i here small;
+    };
+    suffix = record {
+      within = h.suffix.within;
+      set = λ i low high. same i (omega (arith, h.suffix.within)) high ∙ h.suffix.set i low high;
+      ends = λ i here large. same i large (omega arith) ∙ h.suffix.ends i here large;
+    };
+    even = longest_still 0 node.even h.even;
+    odd = longest_still 1 node.odd h.odd;
+    filled = h.filled;
+    open_ended = h.open_ended;
+  }
+
+-- flags that were marked leave each leaf but for those of their words
+pub leaves_but_marked : (from to : ℕ) (value : Bool) (old new : List Bool) (nodes : List Node) → from < to → IsMarked from to value old new → AreLeaves old nodes → AreLeavesBut (from / 64) ((to - 1) / 64) new nodes
+leaves_but_marked from to value old new nodes some m h = record {
+  below = λ j out fits. summary_still old new (64 * j) (64 * j + 64) (λ i low high. m.below i (omega arith)) (node_at nodes (1024 + j)) (h.each j fits);
+  above = λ j out fits. summary_still old new (64 * j) (64 * j + 64) (λ i low high. m.above i (omega arith)) (node_at nodes (1024 + j)) (h.each j fits);
+}
+
+-- with no flag set and no node that tells of one
+module _ (flags : List Bool) (nodes : List Node) (whole : length flags ≡ 65536) (all : length nodes ≡ 2048) (clear : (i : ℕ) → slice_index_or flags i false ≡ false) (none : (i : ℕ) → slice_index_or nodes i empty_node ≡ empty_node) where
   join_of_none : join empty_node empty_node ≡ empty_node
   unfolding join empty_node
   join_of_none = refl
 
-  pub joined_none : AreJoined flags nodes
-  joined_none = record {
-    all = all;
-    each = λ place some small. none place ∙ sym (ap (λ (l : Node). join l (tree_node flags nodes (2 * place + 1))) (node_of_none (2 * place)) ∙ (ap (λ (r : Node). join empty_node r) (node_of_none (2 * place + 1)) ∙ join_of_none));
+  leaf_of_none : (index : ℕ) → IsLeaf flags nodes index
+  leaf_of_none index =
+      subst (λ (n : Node). IsSummary flags (64 * index) (64 * index + 64) n) (sym (none (1024 + index))) (empty_summary flags (64 * index) (64 * index + 64) (omega arith) clear)
+
+  pub tree_of_none : IsTreeOf flags nodes
+  tree_of_none = record {
+    whole = whole;
+    leaves = record { each = λ index fits. leaf_of_none index };
+    joined = record {
+      all = all;
+      each = λ place some small. none place ∙ sym (ap (λ (l : Node). join l (node_at nodes (2 * place + 1))) (none (2 * place)) ∙ (ap (λ (r : Node). join empty_node r) (none (2 * place + 1)) ∙ join_of_none));
+    };
   }

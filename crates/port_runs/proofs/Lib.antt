@@ -1,4 +1,7 @@
 pub mod ShownFlags
+pub mod WordBits
+pub mod WordFlags
+pub mod WordRuns
 pub mod Joins
 pub mod Blocks
 pub mod Summary

@@ -1,22 +1,13 @@
 -- Each node of the tree tells what the runs of its block are.
-use Rattle.std.proofs.Common.{◌≡◌, ℕ, zero, suc, ◌+◌, ◌-◌, ◌*◌, ◌%◌, ◌<◌, ◌≤◌, ◌&&◌, max, Bool, true, false, List, Option, Some, None, slice_index_or, nat_lt, refl, sym, subst, arith, inl, inr}
+use Rattle.std.proofs.Common.{◌≡◌, ℕ, zero, suc, ◌+◌, ◌-◌, ◌*◌, ◌%◌, ◌<◌, ◌≤◌, ◌&&◌, max, Bool, true, false, List, Option, Some, None, slice_index_or, refl, sym, subst, arith, inl, inr}
 use Rattle.std.proofs.lemmas.Bool.{cases_lt, cases_eq}
 use Rattle.std.proofs.lemmas.Bool.Decides.{nat_tests}
 use Rattle.std.proofs.Math.Nat.{mul-le-mul_right}
-use Rattle.port_runs.specs.declared.tree.Node.{Node}
+use Rattle.port_runs.specs.declared.node.Node.{Node}
 use Rattle.port_runs.specs.Flags.{IsSetBetween}
 use Rattle.port_runs.specs.Ports.{HasParity}
-use Rattle.port_runs.specs.Nodes.{empty_node, pair_of, join, add_up, extend, crossing, longest, tree_node, AreJoined}
-use Rattle.port_runs.proofs.Blocks.{IsPrefix, IsSuffix, RunIn, IsLongest, prefix_on, prefix_stays, suffix_on, suffix_stays, longest_joined, set_and_not}
-
--- what a node tells of the block from a up to b
-pub record IsSummary (flags : List Bool) (a b : ℕ) (node : Node) : Type 0 where
-  pub prefix : IsPrefix flags a b node.prefix
-  pub suffix : IsSuffix flags a b node.suffix
-  pub even : IsLongest flags a b 0 node.even
-  pub odd : IsLongest flags a b 1 node.odd
-  pub filled : node.full ≡ true → (a + node.prefix ≡ b) × (a + node.suffix ≡ b)
-  pub open_ended : node.full ≡ false → (a + node.prefix < b) × (a + node.suffix < b)
+use Rattle.port_runs.specs.Nodes.{IsPrefix, IsSuffix, RunIn, IsLongest, IsSummary, empty_node, join, add_up, extend, crossing, longest, node_at, AreLeaves, AreJoined}
+use Rattle.port_runs.proofs.Blocks.{prefix_on, prefix_stays, suffix_on, suffix_stays, longest_joined, set_and_not}
 
 -- two blocks side by side
 module _ (flags : List Bool) (a m b : ℕ) (left right : Node) (l : IsSummary flags a m left) (r : IsSummary flags m b right) (middle : m % 2 ≡ 0) (few : left.suffix + right.prefix ≤ 65535) where
@@ -75,49 +66,26 @@ module _ (flags : List Bool) (a m b : ℕ) (left right : Node) (l : IsSummary fl
     open_ended = open_of left.full right.full refl refl;
   }
 
--- two flags
-module _ (flags : List Bool) (a : ℕ) (place : a % 2 ≡ 0) where
-  -- a run ends before a flag that is not set
-  ends_before : (i s k : ℕ) → slice_index_or flags i false ≡ false → s ≤ i → IsSetBetween flags s (s + k) → s + k ≤ i
-  ends_before i s k clear from set = elim (cases_lt i (s + k)) [ inl over ↦ absurd (set_and_not flags i (set i from over) clear) | inr before ↦ before ]
+none_longest : (flags : List Bool) (a b r : ℕ) → ((i : ℕ) → slice_index_or flags i false ≡ false) → IsLongest flags a b r 0
+none_longest flags a b r clear = record {
+  most = λ s k has from to set. elim (cases_lt 0 k) [
+    | inl some ↦ absurd (set_and_not flags s (set s (omega arith) (omega arith)) (clear s))
+    | inr none ↦ none
+  ];
+  met = λ some. absurd (omega arith);
+}
 
-  at : (i j : ℕ) (x : Bool) → slice_index_or flags j false ≡ x → i ≡ j → slice_index_or flags i false ≡ x
-  at i j x is same = rw same is
-
-  pub pair_summary : (x y : Bool) → slice_index_or flags a false ≡ x → slice_index_or flags (a + 1) false ≡ y → IsSummary flags a (a + 2) (pair_of x y)
-  unfolding pair_of empty_node
-  pair_summary true true first second = record {
-    prefix = record { within = omega arith; set = λ i low high. elim (cases_eq i a) [ inl e ↦ at i a true first e | inr ne ↦ at i (a + 1) true second (omega arith) ]; ends = λ i here small. absurd (omega arith) };
-    suffix = record { within = omega arith; set = λ i low high. elim (cases_eq i a) [ inl e ↦ at i a true first e | inr ne ↦ at i (a + 1) true second (omega arith) ]; ends = λ i here large. absurd (omega arith) };
-    even = record { most = λ s k even from to set. omega arith; met = λ some. record { start = a; from = omega arith; to = omega arith; has = place; set = λ i low high. elim (cases_eq i a) [ inl e ↦ at i a true first e | inr ne ↦ at i (a + 1) true second (omega arith) ] } };
-    odd = record { most = λ s k even from to set. omega arith; met = λ some. record { start = a + 1; from = omega arith; to = omega arith; has = omega arith; set = λ i low high. at i (a + 1) true second (omega arith) } };
-    filled = λ _. (refl, refl);
-    open_ended = λ h. (cc);
-  }
-  pair_summary true false first second = record {
-    prefix = record { within = omega arith; set = λ i low high. at i a true first (omega arith); ends = λ i here small. at i (a + 1) false second here };
-    suffix = record { within = omega arith; set = λ i low high. absurd (omega arith); ends = λ i here large. at i (a + 1) false second (omega arith) };
-    even = record { most = λ s k even from to set. (let h : s ≤ a + 1 → s + k ≤ a + 1 = λ low. ends_before (a + 1) s k second low set in grind (arith, h)); met = λ some. record { start = a; from = omega arith; to = omega arith; has = place; set = λ i low high. at i a true first (omega arith) } };
-    odd = record { most = λ s k even from to set. (let h : s ≤ a + 1 → s + k ≤ a + 1 = λ low. ends_before (a + 1) s k second low set in grind (arith, h)); met = λ some. absurd (omega arith) };
-    filled = λ h. (cc);
-    open_ended = λ _. (omega arith, omega arith);
-  }
-  pair_summary false true first second = record {
-    prefix = record { within = omega arith; set = λ i low high. absurd (omega arith); ends = λ i here small. at i a false first (omega arith) };
-    suffix = record { within = omega arith; set = λ i low high. at i (a + 1) true second (omega arith); ends = λ i here large. at i a false first (omega arith) };
-    even = record { most = λ s k even from to set. (let h : s ≤ a → s + k ≤ a = λ low. ends_before a s k first low set in grind (arith, h)); met = λ some. absurd (omega arith) };
-    odd = record { most = λ s k even from to set. omega arith; met = λ some. record { start = a + 1; from = omega arith; to = omega arith; has = omega arith; set = λ i low high. at i (a + 1) true second (omega arith) } };
-    filled = λ h. (cc);
-    open_ended = λ _. (omega arith, omega arith);
-  }
-  pair_summary false false first second = record {
-    prefix = record { within = omega arith; set = λ i low high. absurd (omega arith); ends = λ i here small. at i a false first (omega arith) };
-    suffix = record { within = omega arith; set = λ i low high. absurd (omega arith); ends = λ i here large. at i (a + 1) false second (omega arith) };
-    even = record { most = λ s k even from to set. (let h : s ≤ a → s + k ≤ a = λ low. ends_before a s k first low set in grind (arith, h)); met = λ some. absurd (omega arith) };
-    odd = record { most = λ s k even from to set. (let h : s ≤ a + 1 → s + k ≤ a + 1 = λ low. ends_before (a + 1) s k second low set in grind (arith, h)); met = λ some. absurd (omega arith) };
-    filled = λ h. (cc);
-    open_ended = λ _. (omega arith, omega arith);
-  }
+-- a block with no flag set
+pub empty_summary : (flags : List Bool) (a b : ℕ) → a < b → ((i : ℕ) → slice_index_or flags i false ≡ false) → IsSummary flags a b empty_node
+unfolding empty_node
+empty_summary flags a b some clear = record {
+  prefix = record { within = omega arith; set = λ i low high. absurd (omega arith); ends = λ i here small. clear i };
+  suffix = record { within = omega arith; set = λ i low high. absurd (omega arith); ends = λ i here large. clear i };
+  even = none_longest flags a b 0 clear;
+  odd = none_longest flags a b 1 clear;
+  filled = λ h. (cc);
+  open_ended = λ _. (omega arith, omega arith);
+}
 
 -- the longest runs of a block by the remainder that is asked
 module _ (flags : List Bool) (a b : ℕ) (node : Node) (h : IsSummary flags a b node) where
@@ -159,12 +127,12 @@ module _ (flags : List Bool) (a b : ℕ) (node : Node) (h : IsSummary flags a b 
   longest_met (Some (suc zero)) n some less = asked_of_run flags a b 1 node.odd n (Some 1) (λ s e. e) less (h.odd.met (omega arith))
   longest_met (Some (suc (suc r))) n some less = absurd (omega arith)
 
--- how many flags a block has, so many levels above those of two flags
+-- how many flags a block has, so many levels above the words
 abbrev pub width : ℕ → ℕ
-width zero = 2
+width zero = 64
 width (suc k) = width k * 2
 
-pub width_some : (k : ℕ) → 2 ≤ width k
+pub width_some : (k : ℕ) → 64 ≤ width k
 width_some zero = omega arith
 width_some (suc k) = omega (arith, width_some k)
 
@@ -185,8 +153,8 @@ pub place_some : (i half a : ℕ) → i * (half * 2) ≡ 65536 + a → 1 ≤ i
 place_some zero half a place = absurd (omega arith)
 place_some (suc i) half a place = omega arith
 
-pub place_small : (i half a : ℕ) → i * (half * 2) ≡ 65536 + a → a + half * 2 ≤ 65536 → 2 ≤ half → i < 32768
-place_small i half a place small some = elim (cases_lt i 32768) [
+pub place_small : (i half a : ℕ) → i * (half * 2) ≡ 65536 + a → a + half * 2 ≤ 65536 → 64 ≤ half → i < 1024
+place_small i half a place small some = elim (cases_lt i 1024) [
   | inl h ↦ h
   | inr large ↦ absurd (omega (arith, mul-le-mul_right (half * 2) large))
 ]
@@ -205,28 +173,23 @@ module _ (flags : List Bool) (clear : slice_index_or flags 0 false ≡ false) wh
     ]
   ]
 
-  module _ (nodes : List Node) (joined : AreJoined flags nodes) where
-    node_of_pair : (i : ℕ) → 32768 ≤ i → tree_node flags nodes i ≡ pair_of (slice_index_or flags (2 * i - 65536) false) (slice_index_or flags (2 * i - 65536 + 1) false)
-    unfolding tree_node
-    node_of_pair i large = let isnt : nat_lt i 32768 ≡ false = grind (arith, nat_tests) in rw isnt
-
-    node_of_joined : (i : ℕ) → 1 ≤ i → i < 32768 → tree_node flags nodes i ≡ join (tree_node flags nodes (2 * i)) (tree_node flags nodes (2 * i + 1))
-    unfolding tree_node
-    node_of_joined i some small = let is : nat_lt i 32768 ≡ true = grind (arith, nat_tests) in rw is (joined.each i some small)
-
+  module _ (nodes : List Node) (leaves : AreLeaves flags nodes) (joined : AreJoined nodes) where
     -- the place i is that of the block of so many flags from a on
-    pub block : (k i a : ℕ) → i * width k ≡ 65536 + a → a + width k ≤ 65536 → IsSummary flags a (a + width k) (tree_node flags nodes i)
+    pub block : (k i a : ℕ) → i * width k ≡ 65536 + a → a + width k ≤ 65536 → IsSummary flags a (a + width k) (node_at nodes i)
     block zero i a place small =
-        let first : 2 * i - 65536 ≡ a = omega arith in
-        rw (node_of_pair i (omega arith), first) (pair_summary flags a (omega arith) (slice_index_or flags a false) (slice_index_or flags (a + 1) false) refl refl)
+        let index : ℕ = i - 1024 in
+        let leaf : 1024 + index ≡ i = omega arith in
+        let first : 64 * index ≡ a = omega arith in
+        subst (λ (m : ℕ). IsSummary flags m (m + 64) (node_at nodes i)) first
+        (subst (λ (j : ℕ). IsSummary flags (64 * index) (64 * index + 64) (node_at nodes j)) leaf (leaves.each index (omega arith)))
     block (suc k) i a place small =
         let m = a + width k in
         let b = a + width k + width k in
         let fits : b ≤ 65536 = omega arith in
-        let left : IsSummary flags a m (tree_node flags nodes (2 * i)) = block k (2 * i) a (left_place i (width k) a place) (omega arith) in
-        let right : IsSummary flags m b (tree_node flags nodes (2 * i + 1)) = block k (2 * i + 1) m (right_place i (width k) a place) fits in
-        let whole : IsSummary flags a b (join (tree_node flags nodes (2 * i)) (tree_node flags nodes (2 * i + 1))) =
-        joined_summary flags a m b (tree_node flags nodes (2 * i)) (tree_node flags nodes (2 * i + 1)) left right (middle_even i (width k) a place (width_even k)) (crossing_fits a m b (tree_node flags nodes (2 * i)) (tree_node flags nodes (2 * i + 1)) fits left right) in
-        let node : IsSummary flags a b (tree_node flags nodes i) =
-        subst (λ (n : Node). IsSummary flags a b n) (sym (node_of_joined i (place_some i (width k) a place) (place_small i (width k) a place small (width_some k)))) whole in
-        subst (λ (e : ℕ). IsSummary flags a e (tree_node flags nodes i)) (same_end a (width k)) node
+        let left : IsSummary flags a m (node_at nodes (2 * i)) = block k (2 * i) a (left_place i (width k) a place) (omega arith) in
+        let right : IsSummary flags m b (node_at nodes (2 * i + 1)) = block k (2 * i + 1) m (right_place i (width k) a place) fits in
+        let whole : IsSummary flags a b (join (node_at nodes (2 * i)) (node_at nodes (2 * i + 1))) =
+        joined_summary flags a m b (node_at nodes (2 * i)) (node_at nodes (2 * i + 1)) left right (middle_even i (width k) a place (width_even k)) (crossing_fits a m b (node_at nodes (2 * i)) (node_at nodes (2 * i + 1)) fits left right) in
+        let node : IsSummary flags a b (node_at nodes i) =
+        subst (λ (n : Node). IsSummary flags a b n) (sym (joined.each i (place_some i (width k) a place) (place_small i (width k) a place small (width_some k)))) whole in
+        subst (λ (e : ℕ). IsSummary flags a e (node_at nodes i)) (same_end a (width k)) node

@@ -1,8 +1,16 @@
 -- Flags of free ports, one for each number of 16 bits (our own; for proofs alone).
-use Rattle.std.specs.Prelude.{ℕ, ◌≡◌, ◌<◌, ◌≤◌, Bool, false, true, List, slice_index_or, length, ◌+◌, Option, ◌-◌, not}
+use Rattle.std.specs.Prelude.{ℕ, ◌≡◌, ◌<◌, ◌≤◌, Bool, false, true, List, slice_index_or, length, ◌+◌, Option, ◌-◌, not, map, ◌/◌, ◌%◌, ◌*◌, ◌==◌}
 use Rattle.port_runs.specs.Ports.{HasParity, Ports}
 use Rattle.std.specs.List.{filter, range_with_len}
+use Rattle.std.specs.Int.{bit_at}
 use Rattle.port_runs.specs.declared.flags.TheConstants.{FLAGS}
+
+-- the flags of words of 64, each from its lowest bit on
+unfoldable pub flags_of : List ℕ → List Bool
+flags_of words =
+    map
+    (λ place. bit_at (slice_index_or words (place / 64) 0) (place % 64) == 1)
+    (range_with_len 0 (64 * length words))
 
 -- each flag from one place up to another, which is not among them, is set
 abbrev pub IsSetBetween : List Bool → ℕ → ℕ → Type 0
@@ -20,6 +28,12 @@ pub record IsMarked (from to : ℕ) (value : Bool) (old new : List Bool) : Type 
 pub record FitsFlags (flags : List Bool) (n : ℕ) (parity : Option ℕ) (start : ℕ) : Type 0 where
   pub run : IsSetBetween flags start (start + n)
   pub remainder : HasParity parity start
+
+-- and all n lie in the block from a up to b
+pub record FitsBlock (flags : List Bool) (a b n : ℕ) (parity : Option ℕ) (start : ℕ) : Type 0 where
+  pub fits : FitsFlags flags n parity start
+  pub from : a ≤ start
+  pub to : start + n ≤ b
 
 -- of the flags for all numbers of 16 bits those from one place up to another, which is not among
 -- them, are set, and no other

@@ -1,3 +1,4 @@
 pub mod Ports
+pub mod Bits
 pub mod Flags
 pub mod Nodes

@@ -2,8 +2,11 @@
 #![tactic(auto)]
 
 mod flags;
+mod leaf;
+mod node;
 pub mod plain;
 mod runs;
 mod tree;
+mod words;
 
 pub use runs::Runs;

@@ -1,7 +1,7 @@
 use Rattle.std.proofs.Common.{◌≡◌, ℕ, slice_index_or, replicate, inl, inr, arith}
 use Rattle.std.proofs.lemmas.Bool.{cases_lt}
 use Rattle.std.proofs.lemmas.List.{get_or_past, get_or-replicate, length-replicate}
-use Rattle.port_runs.specs.declared.tree.Node.{Node}
+use Rattle.port_runs.specs.declared.node.Node.{Node}
 use Rattle.port_runs.specs.Nodes.{empty_node}
 use Rattle.port_runs.proofs.tree.cleared.Goals as goal
 
