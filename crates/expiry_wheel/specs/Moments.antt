@@ -1,5 +1,5 @@
 -- Lists of moments by their ids (our own; for proofs alone).
-use Rattle.std.specs.Prelude.{ℕ, List, [], ◌∷◌, Option, None, Some, ◌==◌, if◌then◌else◌, ◌+◌, ◌-◌, ◌<◌, ◌≤◌, slice_index_or}
+use Rattle.std.specs.Prelude.{ℕ, List, [], ◌∷◌, Option, None, Some, ◌==◌, if◌then◌else◌, ◌+◌, ◌-◌, ◌<◌, ◌≤◌, length, slice_index_or}
 use Rattle.std.specs.Ordering.{nat_cmp}
 use Rattle.std.specs.FinMap.{FinMap, insert, remove, empty}
 use Rattle.expiry_wheel.specs.declared.TheConstants.{NEVER}
@@ -40,3 +40,10 @@ pub record IsFirstIn (cells : List ℕ) (from m i : ℕ) : Type 0 where
   pub from_on : from ≤ i
   pub due : kept_at cells i ≤ m
   pub first : (j : ℕ) → from ≤ j → j < i → m < kept_at cells j
+
+-- the first place at which the least of all stands, which is at most m
+pub record IsNextIn (cells : List ℕ) (m i : ℕ) : Type 0 where
+  pub moment : ℕ
+  pub due : moment ≤ m
+  pub least : (j : ℕ) → j < length cells → moment ≤ kept_at cells j
+  pub first : IsFirstIn cells 0 moment i

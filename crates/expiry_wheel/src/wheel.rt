@@ -1,4 +1,4 @@
-//! The fast body: a moment for each id, and a tree over blocks of them.
+//! The fast body: a moment for each id, and the least one of each block of them.
 //!
 //! It is no timing wheel: of two nodes side by side the one above keeps the lesser moment, so that
 //! the root keeps the next.
@@ -9,8 +9,9 @@ ghost use Rattle.std.specs.FinMap as map;
 ghost use Rattle.expiry_wheel.specs.Moments.{kept_at, latest, told, written};
 ghost use Rattle.expiry_wheel.specs.Due.{IsFirstDue, IsNextDue};
 
-use crate::tree::{BLOCKS, first_from, set, wipe};
-use crate::{IDS, NEVER, tree};
+use crate::blocks::{first_from, set};
+use crate::tree::{blank, wipe};
+use crate::{IDS, Leasts, MOST_LEVELS, NEVER, blocks};
 use pcp_base::Memory;
 use std::alloc::Global;
 use std::marker::{Brand, Model};
@@ -25,8 +26,8 @@ use step_count::Steps;
 pub struct Wheel {
     /// When each id expires, `NEVER` where it isn't in the wheel.
     moments: Vec<u64>,
-    /// The tree over blocks of ids.
-    nodes: Vec<u64>,
+    /// The least moment of each block of ids.
+    leasts: Leasts,
 }
 
 impl Model for Wheel {
@@ -44,7 +45,7 @@ impl Model for Wheel {
 
     ghost view = { λ w. expiries_by w.moments.items };
 
-    ghost invariant = { λ w. IsWheel w.moments.items w.nodes.items };
+    ghost invariant = { λ w. IsWheel w.moments.items w.leasts };
 }
 
 /// The last moment up to `m` at which an id may expire.
@@ -75,9 +76,9 @@ impl Wheel {
     pub fn new(alloc: Global) -> Result<Wheel, Memory>
         ensures { IfOk result (λ wheel. wheel ≡ map.empty) }
     {
-        let moments = tree::blank(alloc, IDS as usize)?;
-        let nodes = tree::blank(alloc, 2 * BLOCKS)?;
-        Ok(Wheel { moments, nodes })
+        let moments = blank(alloc, IDS as usize)?;
+        let leasts = Leasts::new(alloc, MOST_LEVELS)?;
+        Ok(Wheel { moments, leasts })
     }
 
     /// Takes out all pairs. It takes no memory.
@@ -85,7 +86,7 @@ impl Wheel {
         ensures { self.new ≡ map.empty }
     {
         wipe(&mut self.moments);
-        wipe(&mut self.nodes);
+        self.leasts.clear();
     }
 
     /// Sets the moment of an id, and counts what is looked at.
@@ -97,7 +98,7 @@ impl Wheel {
     {
         set(
             &mut self.moments,
-            &mut self.nodes,
+            &mut self.leasts,
             id as usize,
             moment,
             steps,
@@ -196,7 +197,7 @@ impl Wheel {
         ensures looked { IfSome result (λ _. steps.old + 16 ≤ steps.new) }
         ensures cost { steps.new ≤ steps.old + 23 }
     {
-        let Some(id) = tree::next(&self.moments, &self.nodes, latest(m), steps) else {
+        let Some(id) = blocks::next(&self.moments, &self.leasts, latest(m), steps) else {
             return None;
         };
         Some(id as u32)
@@ -234,7 +235,7 @@ impl Wheel {
         if from >= IDS {
             return None;
         }
-        let Some(id) = first_from(moments, &self.nodes, from as usize, latest(m), steps) else {
+        let Some(id) = first_from(moments, &self.leasts, from as usize, latest(m), steps) else {
             return None;
         };
         Some(id as u32)
