@@ -5,5 +5,7 @@ pub mod Pairs
 pub mod Next
 pub mod Walks
 pub mod Writes
+pub mod LeastLists
+pub mod BlockMoments
 pub mod Wheels
 mod PlainLemmas

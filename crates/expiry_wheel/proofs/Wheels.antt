@@ -3,8 +3,8 @@ use Rattle.std.proofs.Common.{◌≡◌, ◌≢◌, ℕ, ◌-◌, ◌<◌, ◌�
 use Rattle.std.specs.Ordering.{nat_cmp}
 use Rattle.std.specs.FinMap.{FinMap, get}
 use Rattle.expiry_wheel.specs.declared.TheConstants.{NEVER}
-use Rattle.expiry_wheel.specs.Moments.{expiries_by, kept_at, latest, IsFirstIn}
-use Rattle.expiry_wheel.specs.Blocks.{IsWheel, IsNextIn}
+use Rattle.expiry_wheel.specs.Moments.{expiries_by, kept_at, latest, IsFirstIn, IsNextIn}
+use Rattle.expiry_wheel.specs.Blocks.{IsWheel}
 use Rattle.expiry_wheel.specs.Due.{IsFirstDue, IsNextDue}
 use Rattle.expiry_wheel.proofs.Maps.{same_or_not, cond_same, cond_other, below_or_not}
 use Rattle.expiry_wheel.proofs.Moments.{moment_of, not_never, within_moments, expires_at}
@@ -24,15 +24,15 @@ latest_either m most = elim (same_or_not m NEVER) [
 due_expires : (moments : List ℕ) (view : FinMap nat_cmp ℕ) (m id : ℕ) → expiries_by moments ≡ view → m ≤ NEVER → kept_at moments id ≤ latest m → get view id ≡ Some (kept_at moments id)
 due_expires moments view m id seen most due = expires_at moments view id seen (λ never. omega (arith, never, due, (latest_either m most).1))
 
-pub next_seen : (moments nodes : List ℕ) (view : FinMap nat_cmp ℕ) (m id : ℕ) → expiries_by moments ≡ view → IsWheel moments nodes → m ≤ NEVER → IsNextIn moments (latest m) id → IsNextDue view m id
-next_seen moments nodes view m id seen wheel most next = record {
+pub next_seen : (moments leasts : List ℕ) (view : FinMap nat_cmp ℕ) (m id : ℕ) → expiries_by moments ≡ view → IsWheel moments leasts → m ≤ NEVER → IsNextIn moments (latest m) id → IsNextDue view m id
+next_seen moments leasts view m id seen wheel most next = record {
   expiry = kept_at moments id;
   expires = due_expires moments view m id seen most (omega (arith, next.first.due, next.due));
   due = omega (arith, next.first.due, next.due, (latest_either m most).0);
   least = λ other e found.
       let is = moment_of moments view other e seen found in
       let low = within_moments moments view other e seen found in
-      omega (arith, is, next.first.due, next.least other (omega (arith, low, wheel.ids)));
+      omega (arith, is, next.first.due, next.least other low);
   first = λ other found. elim (below_or_not other id) [
     | inl before ↦
         let is = moment_of moments view other (kept_at moments id) seen found in
@@ -41,8 +41,8 @@ next_seen moments nodes view m id seen wheel most next = record {
   ];
 }
 
-pub first_seen : (moments nodes : List ℕ) (view : FinMap nat_cmp ℕ) (from m id : ℕ) → expiries_by moments ≡ view → IsWheel moments nodes → m ≤ NEVER → IsFirstIn moments from (latest m) id → IsFirstDue view from m id
-first_seen moments nodes view from m id seen wheel most first = record {
+pub first_seen : (moments leasts : List ℕ) (view : FinMap nat_cmp ℕ) (from m id : ℕ) → expiries_by moments ≡ view → IsWheel moments leasts → m ≤ NEVER → IsFirstIn moments from (latest m) id → IsFirstDue view from m id
+first_seen moments leasts view from m id seen wheel most first = record {
   expiry = kept_at moments id;
   expires = due_expires moments view m id seen most first.due;
   due = omega (arith, first.due, (latest_either m most).0);
@@ -58,8 +58,8 @@ first_seen moments nodes view from m id seen wheel most first = record {
 }
 
 -- where no moment from an id on is due, no expiry is
-pub none_seen : (moments nodes : List ℕ) (view : FinMap nat_cmp ℕ) (from m : ℕ) → expiries_by moments ≡ view → IsWheel moments nodes → m ≤ NEVER → ((id : ℕ) → from ≤ id → id < 131072 → latest m < kept_at moments id) → (id e : ℕ) → get view id ≡ Some e → from ≤ id → m < e
-none_seen moments nodes view from m seen wheel most later id e found after = elim (below_or_not m e) [
+pub none_seen : (moments leasts : List ℕ) (view : FinMap nat_cmp ℕ) (from m : ℕ) → expiries_by moments ≡ view → IsWheel moments leasts → m ≤ NEVER → ((id : ℕ) → from ≤ id → id < 131072 → latest m < kept_at moments id) → (id e : ℕ) → get view id ≡ Some e → from ≤ id → m < e
+none_seen moments leasts view from m seen wheel most later id e found after = elim (below_or_not m e) [
   | inl on ↦ on
   | inr due ↦
       let is = moment_of moments view id e seen found in
@@ -70,5 +70,5 @@ none_seen moments nodes view from m seen wheel most later id e found after = eli
 ]
 
 -- an id with an expiry is in the wheel
-pub past_none : (moments nodes : List ℕ) (view : FinMap nat_cmp ℕ) (id e : ℕ) → expiries_by moments ≡ view → IsWheel moments nodes → get view id ≡ Some e → id < 131072
-past_none moments nodes view id e seen wheel found = omega (arith, within_moments moments view id e seen found, wheel.ids)
+pub past_none : (moments leasts : List ℕ) (view : FinMap nat_cmp ℕ) (id e : ℕ) → expiries_by moments ≡ view → IsWheel moments leasts → get view id ≡ Some e → id < 131072
+past_none moments leasts view id e seen wheel found = omega (arith, within_moments moments view id e seen found, wheel.ids)

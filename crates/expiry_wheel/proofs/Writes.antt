@@ -1,14 +1,14 @@
 -- What a write to a block's node, and to those above it, leaves of a tree.
 use Rattle.std.proofs.Common.{◌≡◌, ◌≢◌, ℕ, zero, suc, ◌+◌, ◌-◌, ◌*◌, ◌/◌, ◌%◌, ◌==◌, ◌<◌, ◌≤◌, Bool, true, false, cond, List, length, min, slice_set, refl, sym, ap, subst, ◌∙◌, arith, inl, inr}
-use Rattle.std.proofs.Math.Nat.{min_comm, min-eq_left}
+use Rattle.std.proofs.Math.Nat.{min_comm}
 use Rattle.std.proofs.Math.ListN.{length-set}
 use Rattle.std.proofs.lemmas.List.{get_or-set_same, get_or-set_other}
 use Rattle.std.proofs.lemmas.Grind.{common_steps}
 use Rattle.expiry_wheel.specs.declared.TheConstants.{NEVER}
 use Rattle.expiry_wheel.specs.Moments.{kept_at}
-use Rattle.expiry_wheel.specs.Blocks.{least_at, above, IsParent, IsTree, IsWheel}
+use Rattle.expiry_wheel.specs.Blocks.{above, row, IsInRow, IsParent, IsTree, AreNodes}
 use Rattle.expiry_wheel.proofs.Maps.{same_or_not}
-use Rattle.expiry_wheel.proofs.Walks.{last_row, above_in_row, some_in_row}
+use Rattle.expiry_wheel.proofs.Walks.{above_in_row, root_above, some_in_row}
 
 -- a parent stays one where neither it nor a child is written
 parent_apart : (nodes : List ℕ) (i k v : ℕ) → k ≢ i → 2 * k ≢ i → 2 * k + 1 ≢ i → IsParent nodes k → IsParent (slice_set nodes i v) k
@@ -25,17 +25,17 @@ parent_written nodes i v positive within is =
     ∙ ap (min (kept_at nodes (2 * i))) (get_or-set_other nodes i (2 * i + 1) v NEVER (λ e. omega (arith, e, positive))))
 
 -- each node is a parent, but for one
-abbrev pub ParentsBut : List ℕ → ℕ → Type 0
-ParentsBut nodes j = (k : ℕ) → 0 < k → k < 16384 → k ≢ j → IsParent nodes k
+abbrev pub ParentsBut : ℕ → List ℕ → ℕ → Type 0
+ParentsBut n nodes j = (k : ℕ) → 0 < k → k < row n → k ≢ j → IsParent nodes k
 
 -- a block's node is written
-parents_of_leaf : (nodes : List ℕ) (leaf v : ℕ) → 16384 ≤ leaf → IsTree nodes → ParentsBut (slice_set nodes leaf v) (leaf / 2)
-parents_of_leaf nodes leaf v low tree k positive within apart =
+parents_of_leaf : (n : ℕ) (nodes : List ℕ) (leaf v : ℕ) → row n ≤ leaf → IsTree n nodes → ParentsBut n (slice_set nodes leaf v) (leaf / 2)
+parents_of_leaf n nodes leaf v low tree k positive within apart =
     parent_apart nodes leaf k v (λ e. omega (arith, e, low, within)) (λ e. apart (omega (arith, e))) (λ e. apart (omega (arith, e))) (tree k positive within)
 
 -- the one node is written, and then it is the turn of the next
-parents_above : (nodes : List ℕ) (j v : ℕ) → 0 < j → j < length nodes → v ≡ min (kept_at nodes (2 * j)) (kept_at nodes (2 * j + 1)) → ParentsBut nodes j → ParentsBut (slice_set nodes j v) (j / 2)
-parents_above nodes j v positive within is parents k k_positive k_within apart = elim (same_or_not k j) [
+parents_above : (n : ℕ) (nodes : List ℕ) (j v : ℕ) → 0 < j → j < length nodes → v ≡ min (kept_at nodes (2 * j)) (kept_at nodes (2 * j + 1)) → ParentsBut n nodes j → ParentsBut n (slice_set nodes j v) (j / 2)
+parents_above n nodes j v positive within is parents k k_positive k_within apart = elim (same_or_not k j) [
   | inl e ↦ subst (IsParent (slice_set nodes j v)) (sym e) (parent_written nodes j v positive within is)
   | inr ne ↦ parent_apart nodes j k v ne (λ e. apart (omega (arith, e))) (λ e. apart (omega (arith, e))) (parents k k_positive k_within ne)
 ]
@@ -56,104 +56,76 @@ both_least nodes i =
     ] in at (i % 2 == 0) refl
 
 -- the nodes below this one are written, and its parent is to be next
-pub record IsWriting (old nodes : List ℕ) (leaf least level i value : ℕ) : Type 0 where
-  pub places : length nodes ≡ 32768
+pub record IsWriting (n : ℕ) (old nodes : List ℕ) (leaf least level i value : ℕ) : Type 0 where
+  pub places : length nodes ≡ 2 * row n
   pub is_above : i ≡ above level leaf
   pub kept : value ≡ kept_at nodes i
-  pub parents : ParentsBut nodes (i / 2)
+  pub parents : ParentsBut n nodes (i / 2)
   pub own : kept_at nodes leaf ≡ least
-  pub others : (j : ℕ) → 16384 ≤ j → (j ≡ leaf → ⊥) → kept_at nodes j ≡ kept_at old j
-
-pub leaf_written : (nodes : List ℕ) (leaf least : ℕ) → length nodes ≡ 32768 → 16384 ≤ leaf → leaf < 32768 → IsTree nodes → IsWriting nodes (slice_set nodes leaf least) leaf least 0 leaf least
-leaf_written nodes leaf least places low high tree = record {
-  places = length-set nodes leaf least ∙ places;
-  is_above = refl;
-  kept = sym (get_or-set_same nodes leaf least NEVER (omega (arith, places, high)));
-  parents = parents_of_leaf nodes leaf least low tree;
-  own = get_or-set_same nodes leaf least NEVER (omega (arith, places, high));
-  others = λ j on ne. get_or-set_other nodes leaf j least NEVER ne;
-}
+  pub others : (j : ℕ) → row n ≤ j → (j ≡ leaf → ⊥) → kept_at nodes j ≡ kept_at old j
 
 above_most : (k i : ℕ) → above k i ≤ i
 above_most zero i = omega arith
 above_most (suc k) i = omega (arith, above_most k i)
 
--- the place of a node that is written is above the blocks
-pub written_bounds : (old nodes : List ℕ) (leaf least level i kept : ℕ) → 16384 ≤ leaf → leaf < 32768 → level < 14 → IsWriting old nodes leaf least level i kept → (1 < i) × (i < 32768)
-written_bounds old nodes leaf least level i kept low high few writing =
-    let d : ℕ = 13 - level in
-    let in_row = above_in_row level (suc d) 14 leaf (omega (arith, few)) (omega (arith, last_row, low), omega (arith, last_row, high)) in
-    let most = above_most level leaf in
-    (omega (arith, writing.is_above, some_in_row d, in_row.0), omega (arith, writing.is_above, most, high))
-
--- what the parent is to keep
-pub least_above : (old nodes : List ℕ) (leaf least level i kept other : ℕ) → IsWriting old nodes leaf least level i kept → other ≡ kept_at nodes (cond (i % 2 == 0) (i + 1) (i - 1)) → min kept other ≡ min (kept_at nodes (2 * (i / 2))) (kept_at nodes (2 * (i / 2) + 1))
-least_above old nodes leaf least level i kept other writing is = ap (min kept) is ∙ ap (λ n. min n (kept_at nodes (cond (i % 2 == 0) (i + 1) (i - 1)))) writing.kept ∙ both_least nodes i
-
 one_more : (k : ℕ) → suc k ≡ k + 1
 one_more k = omega arith
 
-pub node_written : (old nodes : List ℕ) (leaf least level i kept other : ℕ) → 16384 ≤ leaf → 1 < i → i < 32768 → IsWriting old nodes leaf least level i kept → other ≡ kept_at nodes (cond (i % 2 == 0) (i + 1) (i - 1)) → IsWriting old (slice_set nodes (i / 2) (min kept other)) leaf least (level + 1) (i / 2) (min kept other)
-node_written old nodes leaf least level i kept other low inner high writing is =
-    let within : i / 2 < length nodes = omega (arith, writing.places, high) in
-    let up : i / 2 ≡ above (level + 1) leaf = ap (λ n. n / 2) writing.is_above ∙ ap (λ k. above k leaf) (one_more level) in
-    record {
-      places = length-set nodes (i / 2) (min kept other) ∙ writing.places;
-      is_above = up;
-      kept = sym (get_or-set_same nodes (i / 2) (min kept other) NEVER within);
-      parents = parents_above nodes (i / 2) (min kept other) (omega (arith, inner)) within (least_above old nodes leaf least level i kept other writing is) writing.parents;
-      own = get_or-set_other nodes (i / 2) leaf (min kept other) NEVER (λ e. omega (arith, e, low, high)) ∙ writing.own;
-      others = λ j on ne. get_or-set_other nodes (i / 2) j (min kept other) NEVER (λ e. omega (arith, e, on, high)) ∙ writing.others j on ne;
+module _ (n : ℕ) (old : List ℕ) (leaf least : ℕ) (is_leaf : IsInRow n leaf) where
+  pub leaf_written : AreNodes n old → IsWriting n old (slice_set old leaf least) leaf least 0 leaf least
+  leaf_written are =
+      let within : leaf < length old = omega (arith, are.places, is_leaf.1) in
+      record {
+        places = length-set old leaf least ∙ are.places;
+        is_above = refl;
+        kept = sym (get_or-set_same old leaf least NEVER within);
+        parents = parents_of_leaf n old leaf least is_leaf.0 are.tree;
+        own = get_or-set_same old leaf least NEVER within;
+        others = λ j on ne. get_or-set_other old leaf j least NEVER ne;
+      }
+
+  module _ (nodes : List ℕ) (level i kept : ℕ) (writing : IsWriting n old nodes leaf least level i kept) where
+    -- a node that is written isn't the root
+    pub written_bounds : level < n → (1 < i) × (i < 2 * row n)
+    written_bounds few =
+        let d : ℕ = n - suc level in
+        let in_row = above_in_row level (suc d) n leaf (omega (arith, few)) is_leaf in
+        (omega (arith, writing.is_above, some_in_row d, in_row.0), omega (arith, writing.is_above, above_most level leaf, is_leaf.1))
+
+    -- what the parent is to keep
+    pub least_above : (other : ℕ) → other ≡ kept_at nodes (cond (i % 2 == 0) (i + 1) (i - 1)) → min kept other ≡ min (kept_at nodes (2 * (i / 2))) (kept_at nodes (2 * (i / 2) + 1))
+    least_above other is = ap (min kept) is ∙ ap (λ a. min a (kept_at nodes (cond (i % 2 == 0) (i + 1) (i - 1)))) writing.kept ∙ both_least nodes i
+
+    pub node_written : (other : ℕ) → level < n → other ≡ kept_at nodes (cond (i % 2 == 0) (i + 1) (i - 1)) → IsWriting n old (slice_set nodes (i / 2) (min kept other)) leaf least (level + 1) (i / 2) (min kept other)
+    node_written other few is =
+        let bounds = written_bounds few in
+        let within : i / 2 < length nodes = omega (arith, writing.places, bounds.1) in
+        let inner : i / 2 < row n = omega (arith, bounds.1) in
+        let up : i / 2 ≡ above (level + 1) leaf = ap (λ a. a / 2) writing.is_above ∙ ap (λ k. above k leaf) (one_more level) in
+        record {
+          places = length-set nodes (i / 2) (min kept other) ∙ writing.places;
+          is_above = up;
+          kept = sym (get_or-set_same nodes (i / 2) (min kept other) NEVER within);
+          parents = parents_above n nodes (i / 2) (min kept other) (omega (arith, bounds.0)) within (least_above other is) writing.parents;
+          own = get_or-set_other nodes (i / 2) leaf (min kept other) NEVER (λ e. omega (arith, e, inner, is_leaf.0)) ∙ writing.own;
+          others = λ j on ne. get_or-set_other nodes (i / 2) j (min kept other) NEVER (λ e. omega (arith, e, inner, on)) ∙ writing.others j on ne;
+        }
+
+    -- where the parent stays as it was, all are right
+    pub tree_stays : (other stood after : ℕ) → other ≡ kept_at nodes (cond (i % 2 == 0) (i + 1) (i - 1)) → stood ≡ kept_at nodes (i / 2) → stood ≡ after → after ≡ min kept other → n ≤ 14 → AreNodes n nodes
+    tree_stays other stood after is there same joined few = record {
+      few = few;
+      places = writing.places;
+      tree = λ k positive within. elim (same_or_not k (i / 2)) [
+        | inl e ↦ subst (IsParent nodes) (sym e) (sym there ∙ same ∙ joined ∙ least_above other is)
+        | inr ne ↦ writing.parents k positive within ne
+      ];
     }
 
--- where the parent stays as it was, all are right
-pub tree_stays : (old nodes : List ℕ) (leaf least level i kept other stood after : ℕ) → IsWriting old nodes leaf least level i kept → other ≡ kept_at nodes (cond (i % 2 == 0) (i + 1) (i - 1)) → stood ≡ kept_at nodes (i / 2) → stood ≡ after → after ≡ min kept other → IsTree nodes
-tree_stays old nodes leaf least level i kept other stood after writing is there same joined k positive within = elim (same_or_not k (i / 2)) [
-  | inl e ↦ subst (IsParent nodes) (sym e) (sym there ∙ same ∙ joined ∙ least_above old nodes leaf least level i kept other writing is)
-  | inr ne ↦ writing.parents k positive within ne
-]
-
--- and at the root too
-pub tree_ends : (old nodes : List ℕ) (leaf least i kept : ℕ) → 16384 ≤ leaf → leaf < 32768 → IsWriting old nodes leaf least 14 i kept → IsTree nodes
-tree_ends old nodes leaf least i kept low high writing k positive within =
-    let top = above_in_row 14 0 14 leaf (omega arith) (omega (arith, last_row, low), omega (arith, last_row, high)) in
-    writing.parents k positive within (λ e. omega (arith, e, positive, writing.is_above, top.1))
-
--- a write elsewhere leaves the least of some moments
-least_apart : (moments : List ℕ) (at n id v : ℕ) → ((k : ℕ) → k < n → at + k ≢ id) → least_at (slice_set moments id v) at n ≡ least_at moments at n
-unfolding least_at
-least_apart moments at zero id v apart = refl
-least_apart moments at (suc n) id v apart =
-    ap (λ a. min a (kept_at (slice_set moments id v) (at + n))) (least_apart moments at n id v (λ k h. apart k (omega (arith, h))))
-    ∙ ap (min (least_at moments at n)) (get_or-set_other moments id (at + n) v NEVER (apart n (omega arith)))
-
--- a moment is written, and its block's node
-pub wheel_written : (moments nodes nodes' : List ℕ) (id v : ℕ) → IsWheel moments nodes → id < 131072 → length nodes' ≡ 32768 → IsTree nodes' → kept_at nodes' (16384 + id / 8) ≡ least_at (slice_set moments id v) (8 * (id / 8)) 8 → ((j : ℕ) → 16384 ≤ j → (j ≡ 16384 + id / 8 → ⊥) → kept_at nodes' j ≡ kept_at nodes j) → IsWheel (slice_set moments id v) nodes'
-wheel_written moments nodes nodes' id v wheel low places tree own others = record {
-  ids = length-set moments id v ∙ wheel.ids;
-  places = places;
-  tree = tree;
-  blocks = λ b within. elim (same_or_not b (id / 8)) [
-    | inl e ↦ subst (λ x. kept_at nodes' (16384 + x) ≡ least_at (slice_set moments id v) (8 * x) 8) (sym e) own
-    | inr ne ↦
-        others (16384 + b) (omega arith) (λ e. ne (omega (arith, e))) ∙ wheel.blocks b within
-        ∙ sym (least_apart moments (8 * b) 8 id v (λ k h e. ne (omega (arith, h, e))))
-  ];
-}
-
--- where each moment and each node is NEVER
-never_both : min NEVER NEVER ≡ NEVER
-never_both = let same : NEVER ≤ NEVER = omega arith in min-eq_left same
-
-never_least : (moments : List ℕ) (at n : ℕ) → ((i : ℕ) → kept_at moments i ≡ NEVER) → least_at moments at n ≡ NEVER
-unfolding least_at
-never_least moments at zero never = refl
-never_least moments at (suc n) never = ap (λ a. min a (kept_at moments (at + n))) (never_least moments at n never) ∙ ap (min NEVER) (never (at + n)) ∙ never_both
-
-pub wheel_blank : (moments nodes : List ℕ) → length moments ≡ 131072 → length nodes ≡ 32768 → ((i : ℕ) → kept_at moments i ≡ NEVER) → ((i : ℕ) → kept_at nodes i ≡ NEVER) → IsWheel moments nodes
-wheel_blank moments nodes ids places never none = record {
-  ids = ids;
-  places = places;
-  tree = λ i positive within. none i ∙ sym (ap (λ a. min a (kept_at nodes (2 * i + 1))) (none (2 * i)) ∙ ap (min NEVER) (none (2 * i + 1)) ∙ never_both);
-  blocks = λ b within. none (16384 + b) ∙ sym (never_least moments (8 * b) 8 never);
-}
+  -- and at the root too
+  pub tree_ends : (nodes : List ℕ) (i kept : ℕ) → IsWriting n old nodes leaf least n i kept → n ≤ 14 → AreNodes n nodes
+  tree_ends nodes i kept writing few = record {
+    few = few;
+    places = writing.places;
+    tree = λ k positive within. writing.parents k positive within (λ e. omega (arith, e, positive, writing.is_above, root_above n leaf is_leaf));
+  }

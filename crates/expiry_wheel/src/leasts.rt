@@ -3,7 +3,7 @@
 ghost use Rattle.std.specs.Prelude.{◌≡◌, ℕ, ◌+◌, ◌^◌, ◌<◌, ◌≤◌, length, replicate, slice_set, IfSome, IfNone, IfOk};
 ghost use Rattle.expiry_wheel.specs.Moments.{kept_at, IsFirstIn, IsNextIn};
 
-use crate::tree::{blank, first_block, look, next_block, wipe, write};
+use crate::tree;
 use pcp_base::Memory;
 use std::alloc::Global;
 use std::marker::{Brand, Model};
@@ -49,7 +49,7 @@ impl Leasts {
         requires { levels ≤ MOST_LEVELS }
         ensures { IfOk result (λ leasts. leasts ≡ replicate (2 ^ levels) NEVER) }
     {
-        let nodes = blank(alloc, 2 << levels)?;
+        let nodes = tree::blank(alloc, 2 << levels)?;
         Ok(Leasts {
             levels: levels as usize,
             nodes,
@@ -60,7 +60,7 @@ impl Leasts {
     pub fn clear(&mut self)
         ensures { self.new ≡ replicate (length self.old) NEVER }
     {
-        wipe(&mut self.nodes);
+        tree::wipe(&mut self.nodes);
     }
 
     /// Sets the least moment of a block.
@@ -73,8 +73,7 @@ impl Leasts {
         ensures steps { steps.new ≤ steps.old + 29 }
         ensures looked { steps.old < steps.new }
     {
-        let blocks = self.nodes.len() / 2;
-        write(&mut self.nodes, self.levels, blocks + block, least, steps);
+        tree::set(&mut self.nodes, self.levels, block, least, steps);
     }
 
     /// Sets the least moment of a block, by a counter of steps that is dropped.
@@ -97,25 +96,6 @@ impl Leasts {
         self.set_blank::<Brand>(block, least, Blank::new(1));
     }
 
-    /// The first block of all whose least moment is at most `m`.
-    fn first<L: Ledger>(&self, m: u64, steps: &mut Steps<L>) -> Option<usize>
-        ensures found { IfSome result (IsFirstIn self.now 0 m) }
-        ensures within { IfSome result (λ block. block < length self.now) }
-        ensures none { IfNone result (
-            (block : ℕ) → block < length self.now → m < kept_at self.now block) }
-        ensures root { IfNone result (steps.new ≡ steps.old + 1) }
-        ensures way { IfSome result (λ _. (levels : ℕ) → length self.now ≡ 2 ^ levels
-            → steps.new ≡ steps.old + 1 + levels) }
-        ensures steps { steps.new ≤ steps.old + 15 }
-    {
-        let nodes = &self.nodes;
-        if m < look(nodes, 1, steps) {
-            return None;
-        }
-        let leaf = first_block(nodes, self.levels, 0, 1, m, steps);
-        Some(leaf - nodes.len() / 2)
-    }
-
     /// The first block from one on whose least moment is at most `m`.
     ///
     /// A step is a node of the tree that is looked at, and the call takes at most 27: one of each
@@ -128,16 +108,7 @@ impl Leasts {
         ensures steps { steps.new ≤ steps.old + 27 }
         ensures counted { steps.old ≤ steps.new }
     {
-        if from == 0 {
-            return self.first(m, steps);
-        }
-        let nodes = &self.nodes;
-        let blocks = nodes.len() / 2;
-        if from > blocks {
-            return None;
-        }
-        let leaf = next_block(nodes, self.levels, blocks + from - 1, m, steps)?;
-        Some(leaf - blocks)
+        tree::first_from(&self.nodes, self.levels, from, m, steps)
     }
 
     /// The first of the blocks with the least moment of all, if that moment is at most `m`.
@@ -155,16 +126,7 @@ impl Leasts {
             → steps.new ≡ steps.old + 1 + levels) }
         ensures steps { steps.new ≤ steps.old + 15 }
     {
-        let nodes = &self.nodes;
-        let least = look(nodes, 1, steps);
-        if m < least {
-            return None;
-        }
-        let leaf = first_block(nodes, self.levels, 0, 1, least, steps);
-        Some(DueBlock {
-            block: leaf - nodes.len() / 2,
-            least,
-        })
+        tree::next(&self.nodes, self.levels, m, steps)
     }
 
     /// As `first_from`, by a counter of steps that is dropped.

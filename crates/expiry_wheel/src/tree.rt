@@ -5,12 +5,12 @@
 //! `2 * i` and `2 * i + 1`, and the nodes of blocks in its second half. Place 0 is not used.
 //! `levels` is how many there are from the root down to the blocks.
 
-ghost use Rattle.std.specs.Prelude.{◌≡◌, ◌⊎◌, ℕ, ◌+◌, ◌-◌, ◌*◌, ◌/◌, ◌%◌, ◌==◌, ◌<◌, ◌≤◌, if◌then◌else◌, length, vec_len, IfOk, IfSome, IfNone};
+ghost use Rattle.std.specs.Prelude.{◌≡◌, ◌⊎◌, ℕ, ◌+◌, ◌-◌, ◌*◌, ◌/◌, ◌%◌, ◌==◌, ◌<◌, ◌≤◌, if◌then◌else◌, length, vec_len, slice_set, IfOk, IfSome, IfNone};
 ghost use Rattle.std.specs.Bool.{OnTrue, OnFalse};
-ghost use Rattle.expiry_wheel.specs.Moments.{kept_at, IsFirstIn};
-ghost use Rattle.expiry_wheel.specs.Blocks.{row, AreNodes, IsInRow, IsFirstBelow};
+ghost use Rattle.expiry_wheel.specs.Moments.{kept_at, IsFirstIn, IsNextIn};
+ghost use Rattle.expiry_wheel.specs.Blocks.{row, leasts_in, AreNodes, IsInRow, IsFirstBelow};
 
-use crate::NEVER;
+use crate::{DueBlock, NEVER};
 use std::alloc::{AllocError, Global};
 use std::sync::ledger::Ledger;
 use step_count::Steps;
@@ -59,7 +59,7 @@ fn look_beside<L: Ledger>(nodes: &[u64], i: usize, steps: &mut Steps<L>) -> u64
 }
 
 /// Writes the node of a block, and the nodes above it up to the first that stays as it was.
-pub fn write<L: Ledger>(
+fn write<L: Ledger>(
     nodes: &mut [u64],
     levels: usize,
     leaf: usize,
@@ -92,6 +92,25 @@ pub fn write<L: Ledger>(
     }
 }
 
+/// Sets the moment of a block.
+pub fn set<L: Ledger>(
+    nodes: &mut [u64],
+    levels: usize,
+    block: usize,
+    least: u64,
+    steps: &mut Steps<L>,
+)
+    requires nodes { AreNodes levels nodes.old }
+    requires block { block < row levels }
+    ensures nodes { AreNodes levels nodes.new }
+    ensures set { leasts_in levels nodes.new ≡ slice_set (leasts_in levels nodes.old) block least }
+    ensures cost { steps.new ≤ steps.old + 1 + 2 * levels }
+    ensures looked { steps.old < steps.new }
+{
+    let leaf = nodes.len() / 2 + block;
+    write(nodes, levels, leaf, least, steps);
+}
+
 /// The first child of a node whose least moment is at most `m`, as the node's own is. It looks at
 /// the left one.
 fn first_child<L: Ledger>(nodes: &[u64], node: usize, m: u64, steps: &mut Steps<L>) -> usize
@@ -109,7 +128,7 @@ fn first_child<L: Ledger>(nodes: &[u64], node: usize, m: u64, steps: &mut Steps<
 
 /// The first block below a node whose least moment is at most `m`, as the node's own is. The node
 /// is `depth` levels below the root.
-pub fn first_block<L: Ledger>(
+fn first_block<L: Ledger>(
     nodes: &[u64],
     levels: usize,
     depth: usize,
@@ -149,7 +168,7 @@ fn is_right_due<L: Ledger>(nodes: &[u64], node: usize, m: u64, steps: &mut Steps
 }
 
 /// The first block after this one whose least moment is at most `m`.
-pub fn next_block<L: Ledger>(
+fn next_block<L: Ledger>(
     nodes: &[u64],
     levels: usize,
     leaf: usize,
@@ -174,4 +193,79 @@ pub fn next_block<L: Ledger>(
         node /= 2;
     }
     None
+}
+
+/// The first of all blocks whose moment is at most `m`. Where there is none the root tells it.
+fn first<L: Ledger>(nodes: &[u64], levels: usize, m: u64, steps: &mut Steps<L>) -> Option<usize>
+    requires nodes { AreNodes levels nodes.now }
+    ensures found { IfSome result (IsFirstIn (leasts_in levels nodes.now) 0 m) }
+    ensures within { IfSome result (λ block. block < length (leasts_in levels nodes.now)) }
+    ensures none { IfNone result ((block : ℕ) → block < length (leasts_in levels nodes.now)
+        → m < kept_at (leasts_in levels nodes.now) block) }
+    ensures cost { steps.new ≤ steps.old + 1 + levels }
+    ensures counted { steps.old ≤ steps.new }
+{
+    if m < look(nodes, 1, steps) {
+        return None;
+    }
+    let leaf = first_block(nodes, levels, 0, 1, m, steps);
+    Some(leaf - nodes.len() / 2)
+}
+
+/// The first block from one on whose moment is at most `m`.
+pub fn first_from<L: Ledger>(
+    nodes: &[u64],
+    levels: usize,
+    from: usize,
+    m: u64,
+    steps: &mut Steps<L>,
+) -> Option<usize>
+    requires nodes { AreNodes levels nodes.now }
+    ensures found { IfSome result (IsFirstIn (leasts_in levels nodes.now) from m) }
+    ensures within { IfSome result (λ block. block < length (leasts_in levels nodes.now)) }
+    ensures none { IfNone result ((block : ℕ) → from ≤ block
+        → block < length (leasts_in levels nodes.now)
+        → m < kept_at (leasts_in levels nodes.now) block) }
+    ensures cost { steps.new ≤ steps.old + 27 }
+    ensures counted { steps.old ≤ steps.new }
+{
+    if from == 0 {
+        return first(nodes, levels, m, steps);
+    }
+    let blocks = nodes.len() / 2;
+    if from > blocks {
+        return None;
+    }
+    let Some(leaf) = next_block(nodes, levels, blocks + from - 1, m, steps) else {
+        return None;
+    };
+    Some(leaf - blocks)
+}
+
+/// The first of the blocks with the least moment of all, if that one is at most `m`. Where there is
+/// none the root tells it.
+pub fn next<L: Ledger>(
+    nodes: &[u64],
+    levels: usize,
+    m: u64,
+    steps: &mut Steps<L>,
+) -> Option<DueBlock>
+    requires nodes { AreNodes levels nodes.now }
+    ensures next { IfSome result (λ due. IsNextIn (leasts_in levels nodes.now) m due.block) }
+    ensures least { IfSome result (λ due.
+        due.least ≡ kept_at (leasts_in levels nodes.now) due.block) }
+    ensures within { IfSome result (λ due. due.block < length (leasts_in levels nodes.now)) }
+    ensures none { IfNone result ((block : ℕ) → block < length (leasts_in levels nodes.now)
+        → m < kept_at (leasts_in levels nodes.now) block) }
+    ensures root { IfNone result (steps.new ≡ steps.old + 1) }
+    ensures way { IfSome result (λ _. steps.new ≡ steps.old + 1 + levels) }
+    ensures cost { steps.new ≤ steps.old + 1 + levels }
+{
+    let least = look(nodes, 1, steps);
+    if m < least {
+        return None;
+    }
+    let leaf = first_block(nodes, levels, 0, 1, least, steps);
+    let block = leaf - nodes.len() / 2;
+    Some(DueBlock { block, least })
 }

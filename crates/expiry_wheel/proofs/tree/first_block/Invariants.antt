@@ -1,11 +1,11 @@
-use Rattle.std.proofs.Common.{◌≡◌, ◌+◌}
+use Rattle.std.proofs.Common.{◌≡◌, ◌+◌, ◌-◌}
 use Rattle.expiry_wheel.proofs.Walks.{IsOnWay}
 use Rattle.expiry_wheel.proofs.tree.first_block.Given as goal
 
 abbrev pub invariant-loop-left : goal.invariant-loop-left
 invariant-loop-left g l = record {
-  way : IsOnWay l.nodes l.m l.levels l.node l.left l.i;
-  cost : l.steps + l.left ≡ l.fn.steps + l.levels;
+  way : IsOnWay l.levels l.nodes l.m (l.levels - l.depth) l.node l.left l.i;
+  cost : l.steps + l.left ≡ l.fn.steps + (l.levels - l.depth);
 }
 
 abbrev pub decreases-loop-left : goal.decreases-loop-left

@@ -1,40 +1,60 @@
-use Rattle.std.proofs.Common.{◌≡◌, ℕ, ◌+◌, ◌-◌, ◌*◌, ◌/◌, ◌<◌, ◌≤◌, List, Option, None, Some, is_some, false, IfSome, IfNone, sym, ◌∙◌, arith}
-use Rattle.expiry_wheel.specs.declared.TheConstants.{NEVER}
+use Rattle.std.proofs.Common.{◌≡◌, ℕ, ◌+◌, ◌-◌, ◌/◌, ◌<◌, ◌≤◌, length, Option, None, Some, IfNone, subst, arith}
 use Rattle.expiry_wheel.specs.Moments.{kept_at, IsFirstIn}
-use Rattle.expiry_wheel.specs.Blocks.{IsWheel}
-use Rattle.expiry_wheel.proofs.Walks.{block_due, first_is, none_is}
+use Rattle.expiry_wheel.specs.Blocks.{row, leasts_in}
+use Rattle.expiry_wheel.proofs.LeastLists.{leasts_first, leasts_none, leasts_all, leaf_within}
 use Rattle.expiry_wheel.proofs.tree.first_from.Goals as goal
 
-none_when : (found : Option ℕ) (P : Type 0) → is_some found ≡ false → IfNone found P → P
-none_when None P none is = is
-none_when (Some id) P none is = cc
+none_from : (found : Option ℕ) (from long : ℕ) (P : ℕ → Type 0) → IfNone found ((block : ℕ) → block < long → P block) → IfNone found ((block : ℕ) → from ≤ block → block < long → P block)
+none_from None from long P none = λ block after within. none block within
+none_from (Some block) from long P none = tt
 
--- the first id of the first block is the first
-found_first : (moments nodes : List ℕ) (from m leaf : ℕ) (found : Option ℕ) → IsWheel moments nodes → from < 131072 → ((j : ℕ) → from ≤ j → j < 8 * (from / 8) + 8 → m < kept_at moments j) → leaf < 32768 → IsFirstIn nodes (16384 + from / 8 + 1) m leaf → IfSome found (IsFirstIn moments (8 * (leaf - 16384)) m) → IfSome found (λ id. id < 8 * (leaf - 16384) + 8) → IfSome found (IsFirstIn moments from m)
-found_first moments nodes from m leaf None wheel low own high next here near = tt
-found_first moments nodes from m leaf (Some id) wheel low own high next here near = first_is moments nodes from m leaf id wheel low (omega (arith, high, near)) own high next here near
+pub returns-then-from-eq-0-clause-found : goal.returns-then-from-eq-0-clause-found
+returns-then-from-eq-0-clause-found g c = rw c.if-from-eq-0.true c.first.ensures.found
 
--- and there is one
-never_none : (moments nodes : List ℕ) (from m leaf : ℕ) (found : Option ℕ) (P : Type 0) → IsWheel moments nodes → m < NEVER → leaf < 32768 → IsFirstIn nodes (16384 + from / 8 + 1) m leaf → IfNone found ((id : ℕ) → 8 * (leaf - 16384) ≤ id → id < 8 * (leaf - 16384) + 8 → m < kept_at moments id) → IfNone found P
-never_none moments nodes from m leaf None P wheel some high next none = absurd (block_due moments nodes m leaf wheel some (omega (arith, next.from_on)) high next.due none)
-never_none moments nodes from m leaf (Some id) P wheel some high next none = tt
+pub returns-then-from-eq-0-clause-none : goal.returns-then-from-eq-0-clause-none
+returns-then-from-eq-0-clause-none g c =
+    let leasts = leasts_in c.args.levels c.args.nodes.now in
+    none_from c.first.result c.args.from (length leasts) (λ block. c.args.m < kept_at leasts block) c.first.ensures.none
+
+pub returns-then-from-eq-0-clause-cost : goal.returns-then-from-eq-0-clause-cost
+returns-then-from-eq-0-clause-cost g c = omega (arith, c.first.ensures.cost, c.requires.nodes.few)
+
+pub returns-then-from-gt-blocks-clause-none : goal.returns-then-from-gt-blocks-clause-none
+returns-then-from-gt-blocks-clause-none g c block after within =
+    absurd (omega (arith, after, within, leasts_all c.args.levels c.args.nodes.now c.requires.nodes, c.requires.nodes.places, c.if-from-gt-blocks.true))
+
+pub next_block-requires-clause-leaf : goal.next_block-requires-clause-leaf
+next_block-requires-clause-leaf g c = omega (arith, c.requires.nodes.places, c.if-from-eq-0.false)
+
+pub next_block-requires-clause-within : goal.next_block-requires-clause-within
+next_block-requires-clause-within g c = omega (arith, c.requires.nodes.places, c.if-from-eq-0.false, c.if-from-gt-blocks.false)
 
 pub returns-in_default-clause-none : goal.returns-in_default-clause-none
 returns-in_default-clause-none g c =
-    let own = none_when c.first_in-found.result _ (sym c.is_some.ensures ∙ c.if-is_some.false) c.first_in-found.ensures.none in
-    none_is c.args.moments.now c.args.nodes.now c.args.from c.args.m c.requires.wheel own c.in_default.ensures.none
+    let n = c.args.levels in
+    leasts_none n c.args.nodes.now c.requires.nodes c.args.m c.args.from
+    (λ leaf after within. c.in_default.ensures.none leaf (omega (arith, after, c.requires.nodes.places, c.if-from-eq-0.false)) within)
+
+pub returns-in_default-clause-cost : goal.returns-in_default-clause-cost
+returns-in_default-clause-cost g c = omega (arith, c.in_default.ensures.cost, c.requires.nodes.few)
 
 pub returns-clause-found : goal.returns-clause-found
 returns-clause-found g c =
-    let own = none_when c.first_in-found.result _ (sym c.is_some.ensures ∙ c.if-is_some.false) c.first_in-found.ensures.none in
-    found_first c.args.moments.now c.args.nodes.now c.args.from c.args.m c.in-Some.leaf c.first_of.result c.requires.wheel c.requires.from own c.in-Some.ensures.within c.in-Some.ensures.found c.first_of.ensures.found c.first_of.ensures.below
+    let n = c.args.levels in
+    let nodes = c.args.nodes.now in
+    let half : row n ≡ length nodes / 2 = omega (arith, c.requires.nodes.places) in
+    let next : length nodes / 2 + c.args.from - 1 + 1 ≡ row n + c.args.from = omega (arith, half, c.if-from-eq-0.false) in
+    let first = subst (λ k. IsFirstIn nodes k c.args.m c.in-Some.leaf) next c.in-Some.ensures.found in
+    subst (λ k. IsFirstIn (leasts_in n nodes) c.args.from c.args.m (c.in-Some.leaf - k)) half
+    (leasts_first n nodes c.requires.nodes c.args.m c.args.from c.in-Some.leaf (omega (arith, first.from_on)) first)
 
-pub returns-clause-none : goal.returns-clause-none
-returns-clause-none g c =
-    never_none c.args.moments.now c.args.nodes.now c.args.from c.args.m c.in-Some.leaf c.first_of.result _ c.requires.wheel c.requires.sometime c.in-Some.ensures.within c.in-Some.ensures.found c.first_of.ensures.none
+pub returns-clause-within : goal.returns-clause-within
+returns-clause-within g c =
+    let n = c.args.levels in
+    let nodes = c.args.nodes.now in
+    let half : row n ≡ length nodes / 2 = omega (arith, c.requires.nodes.places) in
+    subst (λ k. c.in-Some.leaf - k < length (leasts_in n nodes)) half
+    (leaf_within n nodes c.requires.nodes c.in-Some.leaf (omega (arith, half, c.in-Some.ensures.found.from_on, c.if-from-eq-0.false)) c.in-Some.ensures.within)
 
-pub returns-in_default-clause-looked : goal.returns-in_default-clause-looked
-returns-in_default-clause-looked g c = omega (arith, c.first_in-found.ensures.looked (omega arith), c.in_default.ensures.counted)
-
-pub returns-clause-looked : goal.returns-clause-looked
-returns-clause-looked g c = omega (arith, c.first_in-found.ensures.looked (omega arith), c.in-Some.ensures.counted, c.first_of.ensures.looked)
+pub returns-clause-cost : goal.returns-clause-cost
+returns-clause-cost g c = omega (arith, c.in-Some.ensures.cost, c.requires.nodes.few)

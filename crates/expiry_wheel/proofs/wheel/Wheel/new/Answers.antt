@@ -1,12 +1,14 @@
-use Rattle.std.proofs.Common.{sym, ◌∙◌}
+use Rattle.std.proofs.Common.{List, ℕ, sym, subst, ◌∙◌, ◌^◌, arith}
+use Rattle.expiry_wheel.specs.Blocks.{IsWheel}
 use Rattle.expiry_wheel.proofs.Moments.{expiries_none}
-use Rattle.expiry_wheel.proofs.Writes.{wheel_blank}
+use Rattle.expiry_wheel.proofs.BlockMoments.{wheel_blank}
 use Rattle.expiry_wheel.proofs.wheel.Wheel.new.Goals as goal
 
 pub invariant_of-result : goal.invariant_of-result
-invariant_of-result c = wheel_blank c.in_ok-moments.moments.items c.in_ok-nodes.nodes.items
-    (sym c.in_ok-moments.moments.ok.0 ∙ c.in_ok-moments.ensures.all) (sym c.in_ok-nodes.nodes.ok.0 ∙ c.in_ok-nodes.ensures.all)
-    c.in_ok-moments.ensures.never c.in_ok-nodes.ensures.never
+invariant_of-result c =
+    let moments = c.in_ok-moments.moments.items in
+    subst (λ (leasts : List ℕ). IsWheel moments leasts) (sym c.in_ok-leasts.ensures)
+    (wheel_blank moments (2 ^ 14) (sym c.in_ok-moments.moments.ok.0 ∙ c.in_ok-moments.ensures.all) (omega arith) c.in_ok-moments.ensures.never)
 
 pub returns : goal.returns
 returns c = expiries_none c.in_ok-moments.moments.items c.in_ok-moments.ensures.never

@@ -2,7 +2,7 @@ use Rattle.std.proofs.Common.{◌≡◌, ℕ, suc, ◌+◌, ◌*◌, List, min, 
 use Rattle.expiry_wheel.specs.declared.TheConstants.{NEVER}
 use Rattle.expiry_wheel.specs.Moments.{kept_at}
 use Rattle.expiry_wheel.specs.Blocks.{least_at}
-use Rattle.expiry_wheel.proofs.tree.least_of.Goals as goal
+use Rattle.expiry_wheel.proofs.blocks.least_of.Goals as goal
 
 -- one moment more
 least_of_none : (moments : List ℕ) (at : ℕ) → NEVER ≡ least_at moments at 0

@@ -1,6 +1,6 @@
 use Rattle.std.proofs.Common.{◌≡◌, ℕ, ◌+◌, ◌-◌, ◌<◌, ◌≤◌}
 use Rattle.expiry_wheel.specs.Moments.{kept_at}
-use Rattle.expiry_wheel.proofs.tree.first_in.Given as goal
+use Rattle.expiry_wheel.proofs.blocks.first_in.Given as goal
 
 -- none of those so far is due
 abbrev pub invariant-loop-id : goal.invariant-loop-id

@@ -1,5 +1,5 @@
 use Rattle.std.proofs.Common.{◌≤◌, subst}
-use Rattle.expiry_wheel.proofs.tree.first_in.Goals as goal
+use Rattle.expiry_wheel.proofs.blocks.first_in.Goals as goal
 
 pub returns-then-look-m-clause-found : goal.returns-then-look-m-clause-found
 returns-then-look-m-clause-found g c =

@@ -1,6 +1,6 @@
 use Rattle.std.proofs.Common.{◌≡◌, ◌+◌, ◌*◌}
 use Rattle.expiry_wheel.specs.Blocks.{least_at}
-use Rattle.expiry_wheel.proofs.tree.least_of.Given as goal
+use Rattle.expiry_wheel.proofs.blocks.least_of.Given as goal
 
 -- it is the least of those so far
 abbrev pub invariant-loop-i : goal.invariant-loop-i
