@@ -1,17 +1,27 @@
--- A tree over the least moments of blocks (our own; for proofs alone).
+-- Least moments of blocks, and a tree over them (our own; for proofs alone).
 use Rattle.std.specs.Prelude.{ℕ, zero, suc, List, ◌≡◌, min, ◌+◌, ◌*◌, ◌/◌, ◌<◌, ◌≤◌, length, drop}
 use Rattle.expiry_wheel.specs.declared.TheConstants.{NEVER, IDS}
 use Rattle.expiry_wheel.specs.declared.leasts.TheConstants.{MOST_LEVELS}
 use Rattle.expiry_wheel.specs.declared.blocks.TheConstants.{BLOCKS}
 use Rattle.expiry_wheel.specs.Moments.{kept_at, IsFirstIn}
 
--- the root is at 1, the children of the node at i are at 2 * i and 2 * i + 1, and the second half
--- of the nodes are the blocks
+-- the least that a function has at n places from one on
+unfoldable pub least_at : (ℕ → ℕ) → ℕ → ℕ → ℕ
+least_at f at zero = NEVER
+least_at f at (suc n) = min (least_at f at n) (f (at + n))
 
--- the least of n moments from a place on
-unfoldable pub least_at : List ℕ → ℕ → ℕ → ℕ
-least_at moments at zero = NEVER
-least_at moments at (suc n) = min (least_at moments at n) (kept_at moments (at + n))
+-- n blocks of 8 places, and the least that a function has in each
+pub record AreLeasts (n : ℕ) (f : ℕ → ℕ) (leasts : List ℕ) : Type 0 where
+  pub all : length leasts ≡ n
+  pub blocks : (b : ℕ) → b < n → kept_at leasts b ≡ least_at f (8 * b) 8
+
+-- a moment for each id, and the least one of each block of ids
+pub record IsWheel (moments leasts : List ℕ) : Type 0 where
+  pub ids : length moments ≡ IDS
+  pub leasts : AreLeasts BLOCKS (kept_at moments) leasts
+
+-- of the nodes of a tree the root is at 1, the children of that at i are at 2 * i and 2 * i + 1, and
+-- the second half are the blocks
 
 -- how many nodes there are as many levels below the root; the first of them is at this place
 abbrev pub row : ℕ → ℕ
@@ -60,9 +70,3 @@ pub record IsFirstBelow (n : ℕ) (nodes : List ℕ) (m k node block : ℕ) : Ty
   pub below : above k block ≡ node
   pub due : kept_at nodes block ≤ m
   pub clear : (from : ℕ) → IsClear n nodes m from k node → IsClear n nodes m from 0 block
-
--- a moment for each id, and the least one of each block of ids
-pub record IsWheel (moments leasts : List ℕ) : Type 0 where
-  pub ids : length moments ≡ IDS
-  pub all : length leasts ≡ BLOCKS
-  pub blocks : (b : ℕ) → b < BLOCKS → kept_at leasts b ≡ least_at moments (8 * b) 8

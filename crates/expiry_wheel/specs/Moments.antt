@@ -35,11 +35,15 @@ kept_at cells i = slice_index_or cells i NEVER
 abbrev pub latest : ℕ → ℕ
 latest m = (if m == NEVER then NEVER - 1 else m)
 
--- the first place from one on at which at most m stands
-pub record IsFirstIn (cells : List ℕ) (from m i : ℕ) : Type 0 where
+-- the first place from one on at which a function of places is at most m
+pub record IsFirstOf (f : ℕ → ℕ) (from m i : ℕ) : Type 0 where
   pub from_on : from ≤ i
-  pub due : kept_at cells i ≤ m
-  pub first : (j : ℕ) → from ≤ j → j < i → m < kept_at cells j
+  pub due : f i ≤ m
+  pub first : (j : ℕ) → from ≤ j → j < i → m < f j
+
+-- the first place from one on at which at most m stands
+abbrev pub IsFirstIn : List ℕ → ℕ → ℕ → ℕ → Type 0
+IsFirstIn cells from m i = IsFirstOf (kept_at cells) from m i
 
 -- the first place at which the least of all stands, which is at most m
 pub record IsNextIn (cells : List ℕ) (m i : ℕ) : Type 0 where

@@ -19,7 +19,7 @@ pub const BLOCKS: usize = 16_384;
 fn least_of<L: Ledger>(moments: &[u64], block: usize, steps: &mut Steps<L>) -> u64
     requires ids { length moments.now ≡ IDS }
     requires block { block < BLOCKS }
-    ensures least { result ≡ least_at moments.now (8 * block) 8 }
+    ensures least { result ≡ least_at (kept_at moments.now) (8 * block) 8 }
     ensures cost { steps.new ≡ steps.old + 8 }
 {
     let mut least = NEVER;

@@ -1,6 +1,7 @@
 //! The least moments of blocks, and the tree over them.
 
 ghost use Rattle.std.specs.Prelude.{◌≡◌, ℕ, ◌+◌, ◌^◌, ◌<◌, ◌≤◌, length, replicate, slice_set, IfSome, IfNone, IfOk};
+ghost use Rattle.expiry_wheel.specs.declared.TheConstants.{NEVER};
 ghost use Rattle.expiry_wheel.specs.Moments.{kept_at, IsFirstIn, IsNextIn};
 
 use crate::tree;

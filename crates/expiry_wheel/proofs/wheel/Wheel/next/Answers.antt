@@ -1,6 +1,5 @@
 use Rattle.std.proofs.Common.{ℕ, ◌<◌, List, subst, arith}
-use Rattle.expiry_wheel.specs.Moments.{kept_at}
-use Rattle.expiry_wheel.specs.Moments.{IsNextIn}
+use Rattle.expiry_wheel.specs.Moments.{kept_at, IsNextIn}
 use Rattle.expiry_wheel.proofs.Wheels.{next_seen, none_seen}
 use Rattle.expiry_wheel.proofs.wheel.Wheel.next.Goals as goal
 
