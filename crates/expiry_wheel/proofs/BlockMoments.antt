@@ -72,6 +72,13 @@ module _ (n : ℕ) (f : ℕ → ℕ) (leasts : List ℕ) (are : AreLeasts n f le
     ];
   }
 
+  -- it is another at no place of theirs
+  pub leasts_same : (g : ℕ → ℕ) → ((i : ℕ) → i < 8 * n → g i ≡ f i) → AreLeasts n g leasts
+  leasts_same g same = record {
+    all = are.all;
+    blocks = λ b within. are.blocks b within ∙ sym (least_same f g (8 * b) 8 (λ k h. same (8 * b + k) (omega (arith, h, within))));
+  }
+
   module _ (m : ℕ) where
     -- what a block has, by its least
     pub block_later : (b i : ℕ) → b < n → m < kept_at leasts b → 8 * b ≤ i → i < 8 * b + 8 → m < f i
@@ -145,17 +152,17 @@ pub next_is : (moments leasts : List ℕ) (m least b id : ℕ) → IsWheel momen
 next_is moments leasts m least b id wheel next is within found = record {
   moment = least;
   due = omega (arith, is, next.first.due, next.due);
-  least = λ j low. omega (arith, is, next_least 16384 (kept_at moments) leasts wheel.leasts m b next j (omega (arith, low, wheel.ids)));
-  first = next_first 16384 (kept_at moments) leasts wheel.leasts m b next least id is (omega (arith, within)) found;
+  least = λ j low. omega (arith, is, next_least 16384 (kept_at moments) leasts wheel.blocks m b next j (omega (arith, low, wheel.ids)));
+  first = next_first 16384 (kept_at moments) leasts wheel.blocks m b next least id is (omega (arith, within)) found;
 }
 
 -- a moment is written, and the least of its block
 pub wheel_written : (moments leasts : List ℕ) (id v least : ℕ) → IsWheel moments leasts → id < 131072 → least ≡ least_at (kept_at (slice_set moments id v)) (8 * (id / 8)) 8 → IsWheel (slice_set moments id v) (slice_set leasts (id / 8) least)
 wheel_written moments leasts id v least wheel low is = record {
   ids = length-set moments id v ∙ wheel.ids;
-  leasts = leasts_told 16384 (kept_at moments) leasts wheel.leasts (kept_at (slice_set moments id v)) (id / 8) least (omega (arith, low))
+  blocks = leasts_told 16384 (kept_at moments) leasts wheel.blocks (kept_at (slice_set moments id v)) (id / 8) least (omega (arith, low))
       (λ i apart. get_or-set_other moments id i v NEVER (λ e. apart (ap (λ (k : ℕ). k / 8) e))) is;
 }
 
 pub wheel_blank : (moments : List ℕ) (all : ℕ) → length moments ≡ 131072 → all ≡ 16384 → ((i : ℕ) → kept_at moments i ≡ NEVER) → IsWheel moments (replicate all NEVER)
-wheel_blank moments all ids is never = record { ids = ids; leasts = leasts_never 16384 all (kept_at moments) is never }
+wheel_blank moments all ids is never = record { ids = ids; blocks = leasts_never 16384 all (kept_at moments) is never }

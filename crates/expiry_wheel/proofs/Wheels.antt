@@ -10,7 +10,7 @@ use Rattle.expiry_wheel.proofs.Maps.{same_or_not, cond_same, cond_other, below_o
 use Rattle.expiry_wheel.proofs.Moments.{moment_of, not_never, within_moments, expires_at}
 
 -- the last moment up to m
-latest_either : (m : ℕ) → m ≤ NEVER → (latest m ≤ m) × (latest m < NEVER) × ((e : ℕ) → e ≤ m → e ≢ NEVER → e ≤ latest m)
+pub latest_either : (m : ℕ) → m ≤ NEVER → (latest m ≤ m) × (latest m < NEVER) × ((e : ℕ) → e ≤ m → e ≢ NEVER → e ≤ latest m)
 latest_either m most = elim (same_or_not m NEVER) [
   | inl same ↦
       let is : latest m ≡ NEVER - 1 = cond_same m NEVER (NEVER - 1) m same in

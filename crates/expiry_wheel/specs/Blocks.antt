@@ -18,7 +18,7 @@ pub record AreLeasts (n : ℕ) (f : ℕ → ℕ) (leasts : List ℕ) : Type 0 wh
 -- a moment for each id, and the least one of each block of ids
 pub record IsWheel (moments leasts : List ℕ) : Type 0 where
   pub ids : length moments ≡ IDS
-  pub leasts : AreLeasts BLOCKS (kept_at moments) leasts
+  pub blocks : AreLeasts BLOCKS (kept_at moments) leasts
 
 -- of the nodes of a tree the root is at 1, the children of that at i are at 2 * i and 2 * i + 1, and
 -- the second half are the blocks

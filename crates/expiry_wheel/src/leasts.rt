@@ -1,10 +1,9 @@
 //! The least moments of blocks, and the tree over them.
 
 ghost use Rattle.std.specs.Prelude.{◌≡◌, ℕ, ◌+◌, ◌^◌, ◌<◌, ◌≤◌, length, replicate, slice_set, IfSome, IfNone, IfOk};
-ghost use Rattle.expiry_wheel.specs.declared.TheConstants.{NEVER};
-ghost use Rattle.expiry_wheel.specs.Moments.{kept_at, IsFirstIn, IsNextIn};
+ghost use Rattle.expiry_wheel.specs.Moments.{kept_at, latest, IsFirstIn, IsNextIn};
 
-use crate::tree;
+use crate::{NEVER, tree};
 use pcp_base::Memory;
 use std::alloc::Global;
 use std::marker::{Brand, Model};
@@ -13,6 +12,14 @@ use step_count::Steps;
 
 /// The levels of a tree are at most so many below its root.
 pub const MOST_LEVELS: u32 = 14;
+
+/// The last moment up to `m` at which something may expire: `m`, but before `NEVER`.
+pub fn latest(m: u64) -> u64
+    ensures latest { result ≡ latest m }
+    ensures sometime { result < NEVER }
+{
+    if m == NEVER { NEVER - 1 } else { m }
+}
 
 /// A block with its least moment.
 #[derive(Clone, Copy, Debug, PartialEq, Eq)]

@@ -14,7 +14,7 @@ pub mod plain;
 mod tree;
 mod wheel;
 
-pub use leasts::{DueBlock, Leasts, MOST_LEVELS};
+pub use leasts::{DueBlock, Leasts, MOST_LEVELS, latest};
 pub use wheel::Wheel;
 
 /// Ids from this number on are refused, as for want of memory.

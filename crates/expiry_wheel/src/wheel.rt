@@ -11,7 +11,7 @@ ghost use Rattle.expiry_wheel.specs.Due.{IsFirstDue, IsNextDue};
 
 use crate::blocks::{first_from, set};
 use crate::tree::{blank, wipe};
-use crate::{IDS, Leasts, MOST_LEVELS, NEVER, blocks};
+use crate::{IDS, Leasts, MOST_LEVELS, NEVER, blocks, latest};
 use pcp_base::Memory;
 use std::alloc::Global;
 use std::marker::{Brand, Model};
@@ -46,14 +46,6 @@ impl Model for Wheel {
     ghost view = { λ w. expiries_by w.moments.items };
 
     ghost invariant = { λ w. IsWheel w.moments.items w.leasts };
-}
-
-/// The last moment up to `m` at which an id may expire.
-fn latest(m: u64) -> u64
-    ensures latest { result ≡ latest m }
-    ensures sometime { result < NEVER }
-{
-    if m == NEVER { NEVER - 1 } else { m }
 }
 
 /// The moment of an id.

@@ -1,244 +1,201 @@
--- Runs of last ends, and a wheel of when each is free again.
+-- Runs of last ends, and the least moments of blocks of spots at which they are free again.
 use Rattle.std.specs.Prelude.{◌≢◌}
-use Rattle.std.proofs.Common.{◌≡◌, ℕ, ◌+◌, ◌-◌, ◌<◌, ◌≤◌, ◌==◌, ◌&&◌, nat_lt, nat_le, Bool, true, false, cond, List, [], Option, Some, None, is_some, IfSome, IfNone, refl, sym, ap, ◌∙◌, subst, inl, inr, arith}
-use Rattle.std.specs.Bool.{OnTrue, OnFalse}
+use Rattle.std.proofs.Common.{◌≡◌, ℕ, ◌+◌, ◌-◌, ◌*◌, ◌/◌, ◌<◌, ◌≤◌, ◌==◌, ◌&&◌, nat_lt, nat_le, Bool, true, false, cond, List, [], length, replicate, slice_set, Option, Some, None, is_some, IfSome, IfNone, refl, sym, ap, ◌∙◌, subst, inl, inr, arith}
 use Rattle.std.specs.Option.{option_map}
-use Rattle.std.specs.Ordering.{nat_cmp}
-use Rattle.std.specs.FinMap.{FinMap, get, insert, remove, empty, contains_key, get-empty}
-use Rattle.std.proofs.lemmas.Bool.{and_parts, and_from, lt-ltb, le-leb, leb-true, ltb-true, ltb-false, eqb-true, eq-eqb}
+use Rattle.std.proofs.lemmas.Bool.{and_parts, and_from, le-leb, leb-true, ltb-true, ltb-false}
 use Rattle.pcp_base.specs.declared.leases.End.{End}
-use Rattle.ordered_index.proofs.EntryLaws.{some_one}
 use Rattle.ordered_index.proofs.Entries.{false_by}
-use Rattle.expiry_wheel.specs.Due.{IsFirstDue}
-use Rattle.expiry_wheel.proofs.Maps.{same_or_not, below_or_not, cond_same, cond_other, get-inserted, get-removed}
+use Rattle.expiry_wheel.specs.declared.TheConstants.{NEVER}
+use Rattle.expiry_wheel.specs.Moments.{latest, kept_at, IsFirstOf}
+use Rattle.expiry_wheel.specs.Blocks.{AreLeasts}
+use Rattle.expiry_wheel.proofs.Maps.{same_or_not, below_or_not, cond_same, cond_other}
+use Rattle.expiry_wheel.proofs.BlockMoments.{leasts_never, first_is, block_due}
+use Rattle.expiry_wheel.proofs.Wheels.{latest_either}
 use Rattle.port_spans.specs.declared.runs.Run.{Run}
 use Rattle.port_spans.specs.Runs.{has_place, run_at, part_at, with_value, but_from, AreRuns}
-use Rattle.port_spans.proofs.RunLemmas.{in_by}
-use Rattle.port_spans.proofs.SpotLemmas.{run_has, run_whole, run_from, run_to, run_first}
-use Rattle.leased_ports.specs.Frees.{AreTimed, IsFirst, free_told, is_over, is_over_from}
+use Rattle.port_spans.proofs.RunLemmas.{in_by, in_from, in_to}
+use Rattle.port_spans.proofs.SpotLemmas.{if-some, but_keeps, run_whole, run_from, run_to, run_first}
+use Rattle.leased_ports.specs.Frees.{AreNear, AreTimed, IsFirst, IsNear, free_at, free_of, is_over, is_over_from}
 
-pub none-timed : (runs : List (Run End)) (frees : FinMap nat_cmp ℕ) → runs ≡ [] → frees ≡ empty → AreTimed runs frees
-none-timed runs frees no_runs none =
-    subst (λ (rs : List (Run End)). AreTimed rs frees) (sym no_runs) (record {
-      apart = λ at. tt;
-      timed = λ at. ap (λ (m : FinMap nat_cmp ℕ). get m at) none ∙ get-empty nat_cmp at;
-    })
+pub none-timed : (runs : List (Run End)) (frees : List ℕ) (all : ℕ) → runs ≡ [] → frees ≡ replicate all NEVER → all ≡ 16384 → AreTimed runs frees
+none-timed runs frees all no_runs none is =
+    let blank : AreTimed [] (replicate all NEVER) = record { apart = λ at. tt; near = λ at. tt; leasts = leasts_never 16384 all (free_at []) is (λ at. refl) } in
+    subst (λ (rs : List (Run End)). AreTimed rs frees) (sym no_runs) (subst (λ (ms : List ℕ). AreTimed [] ms) (sym none) blank)
 
--- when the ports of a run are free again is found under its first spot
-module _ (runs : List (Run End)) (frees : FinMap nat_cmp ℕ) (is : AreTimed runs frees) (a : ℕ) (r : Run End) (there : run_at runs a ≡ Some r) where
-  pub run_free : get frees r.first ≡ Some (r.value.end + 120)
-  run_free = is.timed r.first ∙ ap (free_told r.first) (run_first runs is.apart a r there) ∙ cond_same r.first r.first (Some (r.value.end + 120)) None refl
+-- the moment of a run
+pub free_is : (runs : List (Run End)) → AreRuns runs → (a : ℕ) (r : Run End) → run_at runs a ≡ Some r → free_at runs r.first ≡ r.value.end + 120
+free_is runs apart a r there = ap (free_of r.first) (run_first runs apart a r there) ∙ cond_same r.first r.first (r.value.end + 120) NEVER refl
 
-  pub some_free : get frees r.first ≡ None → ⊥
-  some_free none = let no : None ≡ Some (r.value.end + 120) = sym none ∙ run_free in absurd cc
+-- and what has one is a run that begins there
+pub free_some : (at m : ℕ) → m < NEVER → (o : Option (Run End)) → free_of at o ≤ m → (r : Run End) × (o ≡ Some r) × (r.value.end + 120 ≤ m)
+free_some at m some None due = absurd (omega (arith, some, due))
+free_some at m some (Some r) due = elim (same_or_not r.first at) [
+  | inl same ↦ (r, refl, subst (λ v. v ≤ m) (cond_same r.first at (r.value.end + 120) NEVER same) due)
+  | inr other ↦ absurd (let never : NEVER ≤ m = subst (λ v. v ≤ m) (cond_other r.first at (r.value.end + 120) NEVER other) due in omega (arith, some, never))
+]
 
-  pub free_is : (free : ℕ) → get frees r.first ≡ Some free → free ≡ r.value.end + 120
-  free_is free told = some_one (get frees r.first) free (r.value.end + 120) told run_free
-
-  -- but not under another
-  pub none_inside : (a ≡ r.first → ⊥) → get frees a ≡ None
-  none_inside inner = is.timed a ∙ ap (free_told a) there ∙ cond_other r.first a (Some (r.value.end + 120)) None (λ e. inner (sym e))
-
--- an id that comes and goes again
-back-timed : (runs : List (Run End)) (frees : FinMap nat_cmp ℕ) (id free : ℕ) → AreTimed runs frees → get frees id ≡ None → AreTimed runs (remove (insert frees id free) id)
-back-timed runs frees id free is none = record { apart = is.apart; timed = λ at. by at ∙ is.timed at }
-  where
-    by : (at : ℕ) → get (remove (insert frees id free) id) at ≡ get frees at
-    by at = elim (same_or_not at id) [
-      | inl same ↦ get-removed (insert frees id free) id at ∙ cond_same at id None (get (insert frees id free) at) same ∙ sym (ap (get frees) same ∙ none)
-      | inr other ↦ get-removed (insert frees id free) id at ∙ cond_other at id None (get (insert frees id free) at) other
-          ∙ get-inserted frees id free at ∙ cond_other at id (Some free) (get frees at) other
-    ]
-
-pub undone-timed : (runs new : List (Run End)) (frees between next : FinMap nat_cmp ℕ) (id free : ℕ) → AreTimed runs frees → get frees id ≡ None → new ≡ runs → between ≡ insert frees id free → next ≡ remove between id → AreTimed new next
-undone-timed runs new frees between next id free is none same came went =
-    let back : AreTimed runs next = subst (λ (m : FinMap nat_cmp ℕ). AreTimed runs m) (sym (went ∙ ap (λ (m : FinMap nat_cmp ℕ). remove m id) came)) (back-timed runs frees id free is none) in
-    subst (λ (rs : List (Run End)). AreTimed rs next) (sym same) back
+pub run_near : (runs : List (Run End)) → AreNear runs → (a : ℕ) (r : Run End) → run_at runs a ≡ Some r → IsNear r
+run_near runs near a r there = if-some IsNear (run_at runs a) r there (near a)
 
 -- ---- a run is parted
 
-module _ (runs : List (Run End)) (frees : FinMap nat_cmp ℕ) (is : AreTimed runs frees) (p : ℕ) (r : Run End) (there : run_at runs p ≡ Some r) (inner : r.first ≡ p → ⊥)
-    (new : List (Run End)) (apart : AreRuns new) (cut : (at : ℕ) → run_at new at ≡ option_map (part_at p at) (run_at runs at)) where
-  cut_test : (nat_lt r.first p && has_place p r) ≡ true
-  cut_test = and_from _ _ (lt-ltb r.first p (grind (arith, run_from runs is.apart p r there, inner))) (run_has runs is.apart p r there)
+part_other : (p at : ℕ) (q : Run End) → at ≢ p → (t : Bool) → (nat_lt q.first p && has_place p q) ≡ t → (b : Bool) → nat_lt at p ≡ b
+    → free_of at (Some (cond t (cond b (record { first = q.first; count = p - q.first; value = q.value }) (record { first = p; count = q.first + q.count - p; value = q.value })) q)) ≡ free_of at (Some q)
+part_other p at q other false e b h = refl
+part_other p at q other true e true h = refl
+part_other p at q other true e false h =
+    let before = ltb-true q.first p (and_parts (nat_lt q.first p) (has_place p q) e).0 in
+    let past = ltb-false at p h in
+    cond_other p at (q.value.end + 120) NEVER (λ same. other (sym same))
+    ∙ sym (cond_other q.first at (q.value.end + 120) NEVER (λ same. absurd (omega (arith, same, before, past))))
 
-  cut_here : free_told p (run_at new p) ≡ Some (r.value.end + 120)
-  cut_here =
-      ap (free_told p) (cut p ∙ ap (option_map (part_at p p)) there)
-      ∙ ap (λ (t : Bool). free_told p (Some (cond t (cond (nat_lt p p) (record { first = r.first; count = p - r.first; value = r.value }) (record { first = p; count = r.first + r.count - p; value = r.value })) r))) cut_test
-      ∙ ap (λ (t : Bool). free_told p (Some (cond t (record { first = r.first; count = p - r.first; value = r.value }) (record { first = p; count = r.first + r.count - p; value = r.value })))) (false_by (nat_lt p p) (λ t. absurd (omega (arith, ltb-true p p t))))
-      ∙ cond_same p p (Some (r.value.end + 120)) None refl
+part_near : (p : ℕ) (q : Run End) → IsNear q → (t : Bool) → (nat_lt q.first p && has_place p q) ≡ t → (b : Bool)
+    → IsNear (cond t (cond b (record { first = q.first; count = p - q.first; value = q.value }) (record { first = p; count = q.first + q.count - p; value = q.value })) q)
+part_near p q near false e b = near
+part_near p q near true e true =
+    let both = and_parts (nat_lt q.first p) (has_place p q) e in
+    (omega (arith, near.0, ltb-true q.first p both.0, in_to q.first q.count p both.1), near.1)
+part_near p q near true e false =
+    let both = and_parts (nat_lt q.first p) (has_place p q) e in
+    (omega (arith, near.0, in_to q.first q.count p both.1), near.1)
 
-  part_step : (at : ℕ) (q : Run End) → at ≢ p → (t : Bool) → (nat_lt q.first p && has_place p q) ≡ t → (b : Bool) → nat_lt at p ≡ b
-      → free_told at (Some (cond t (cond b (record { first = q.first; count = p - q.first; value = q.value }) (record { first = p; count = q.first + q.count - p; value = q.value })) q)) ≡ free_told at (Some q)
-  part_step at q other false e b h = refl
-  part_step at q other true e true h = refl
-  part_step at q other true e false h =
-      let before = ltb-true q.first p (and_parts (nat_lt q.first p) (has_place p q) e).0 in
-      let past = ltb-false at p h in
-      cond_other p at (Some (q.value.end + 120)) None (λ same. other (sym same))
-      ∙ sym (cond_other q.first at (Some (q.value.end + 120)) None (λ same. absurd (omega (arith, same, before, past))))
+module _ (runs : List (Run End)) (p : ℕ) (new : List (Run End)) (cut : (at : ℕ) → run_at new at ≡ option_map (part_at p at) (run_at runs at)) where
+  part_free : (at : ℕ) → at ≢ p → (o : Option (Run End)) → free_of at (option_map (part_at p at) o) ≡ free_of at o
+  part_free at other None = refl
+  part_free at other (Some q) = part_other p at q other (nat_lt q.first p && has_place p q) refl (nat_lt at p) refl
 
-  cut_other : (at : ℕ) → at ≢ p → (o : Option (Run End)) → free_told at (option_map (part_at p at) o) ≡ free_told at o
-  cut_other at other None = refl
-  cut_other at other (Some q) = part_step at q other (nat_lt q.first p && has_place p q) refl (nat_lt at p) refl
+  pub cut-free : (at : ℕ) → at ≢ p → free_at new at ≡ free_at runs at
+  cut-free at other = ap (free_of at) (cut at) ∙ part_free at other (run_at runs at)
 
-  pub cut-timed : (free : ℕ) → free ≡ r.value.end + 120 → (next : FinMap nat_cmp ℕ) → next ≡ insert frees p free → AreTimed new next
-  cut-timed free told next same = record {
-    apart = apart;
-    timed = λ at. ap (λ (m : FinMap nat_cmp ℕ). get m at) same ∙ get-inserted frees p free at ∙ (elim (same_or_not at p) [
-      | inl here ↦ cond_same at p (Some free) (get frees at) here ∙ ap Some told ∙ sym cut_here ∙ ap (λ (n : ℕ). free_told n (run_at new n)) (sym here)
-      | inr other ↦ cond_other at p (Some free) (get frees at) other ∙ is.timed at ∙ sym (cut_other at other (run_at runs at)) ∙ ap (free_told at) (sym (cut at))
-    ]);
-  }
+  near_part : (at : ℕ) (o : Option (Run End)) → IfSome o IsNear → IfSome (option_map (part_at p at) o) IsNear
+  near_part at None near = tt
+  near_part at (Some q) near = part_near p q near (nat_lt q.first p && has_place p q) refl (nat_lt at p)
+
+  pub cut-near : AreNear runs → AreNear new
+  cut-near near at = subst (λ (o : Option (Run End)). IfSome o IsNear) (sym (cut at)) (near_part at (run_at runs at) (near at))
 
 -- ---- a run comes
 
-module _ (runs : List (Run End)) (frees : FinMap nat_cmp ℕ) (is : AreTimed runs frees) (r : Run End) (some : 1 ≤ r.count) (free : (at : ℕ) → has_place at r ≡ true → run_at runs at ≡ None) where
-  has_first : has_place r.first r ≡ true
-  has_first = in_by r.first r.count r.first (omega arith) (omega (arith, some))
+module _ (runs : List (Run End)) (r : Run End) (free : (at : ℕ) → has_place at r ≡ true → run_at runs at ≡ None)
+    (new : List (Run End)) (comes : (at : ℕ) → run_at new at ≡ cond (has_place at r) (Some r) (run_at runs at)) where
+  comes_free : (at : ℕ) → at ≢ r.first → (t : Bool) → has_place at r ≡ t → free_of at (cond t (Some r) (run_at runs at)) ≡ free_of at (run_at runs at)
+  comes_free at other true h = cond_other r.first at (r.value.end + 120) NEVER (λ same. other (sym same)) ∙ sym (ap (free_of at) (free at h))
+  comes_free at other false h = refl
 
-  pub none_first : get frees r.first ≡ None
-  none_first = is.timed r.first ∙ ap (free_told r.first) (free r.first has_first)
+  pub insert-free : (at : ℕ) → at ≢ r.first → free_at new at ≡ free_at runs at
+  insert-free at other = ap (free_of at) (comes at) ∙ comes_free at other (has_place at r) refl
 
-  module _ (new : List (Run End)) (apart : AreRuns new) (comes : (at : ℕ) → run_at new at ≡ cond (has_place at r) (Some r) (run_at runs at)) where
-    comes_other : (at : ℕ) → at ≢ r.first → (t : Bool) → has_place at r ≡ t → free_told at (run_at runs at) ≡ free_told at (cond t (Some r) (run_at runs at))
-    comes_other at other true h = ap (free_told at) (free at h) ∙ sym (cond_other r.first at (Some (r.value.end + 120)) None (λ same. other (sym same)))
-    comes_other at other false h = refl
+  near_comes : (at : ℕ) → IsNear r → IfSome (run_at runs at) IsNear → (t : Bool) → IfSome (cond t (Some r) (run_at runs at)) IsNear
+  near_comes at own near true = own
+  near_comes at own near false = near
 
-    pub insert-timed : (next : FinMap nat_cmp ℕ) → next ≡ insert frees r.first (r.value.end + 120) → AreTimed new next
-    insert-timed next same = record {
-      apart = apart;
-      timed = λ at. ap (λ (m : FinMap nat_cmp ℕ). get m at) same ∙ get-inserted frees r.first (r.value.end + 120) at ∙ (elim (same_or_not at r.first) [
-        | inl here ↦ cond_same at r.first (Some (r.value.end + 120)) (get frees at) here
-            ∙ sym (ap (λ (n : ℕ). free_told n (run_at new n)) here ∙ ap (free_told r.first) (comes r.first ∙ ap (λ (t : Bool). cond t (Some r) (run_at runs r.first)) has_first)
-            ∙ cond_same r.first r.first (Some (r.value.end + 120)) None refl)
-        | inr other ↦ cond_other at r.first (Some (r.value.end + 120)) (get frees at) other ∙ is.timed at ∙ comes_other at other (has_place at r) refl ∙ ap (free_told at) (sym (comes at))
-      ]);
-    }
+  pub insert-near : IsNear r → AreNear runs → AreNear new
+  insert-near own near at = subst (λ (o : Option (Run End)). IfSome o IsNear) (sym (comes at)) (near_comes at own (near at) (has_place at r))
 
 -- ---- a run gets another last end
 
-value_other : (at first : ℕ) (value : End) → at ≢ first → (o : Option (Run End)) → free_told at o ≡ free_told at (option_map (with_value first value) o)
-value_other at first value other None = refl
-value_other at first value other (Some q) = elim (same_or_not q.first first) [
-  | inl same ↦ cond_other q.first at (Some (q.value.end + 120)) None (λ e. other (sym e ∙ same))
-      ∙ sym (ap (λ (x : Run End). free_told at (Some x)) (cond_same q.first first (record q { value = value }) q same) ∙ cond_other q.first at (Some (value.end + 120)) None (λ e. other (sym e ∙ same)))
-  | inr ne ↦ sym (ap (λ (x : Run End). free_told at (Some x)) (cond_other q.first first (record q { value = value }) q ne))
-]
+module _ (runs : List (Run End)) (first : ℕ) (value : End) (new : List (Run End)) (changed : (at : ℕ) → run_at new at ≡ option_map (with_value first value) (run_at runs at)) where
+  value_free : (at : ℕ) → at ≢ first → (o : Option (Run End)) → free_of at (option_map (with_value first value) o) ≡ free_of at o
+  value_free at other None = refl
+  value_free at other (Some q) = elim (same_or_not q.first first) [
+    | inl same ↦
+        let apart : q.first ≢ at = λ e. other (sym e ∙ same) in
+        ap (λ (x : Run End). free_of at (Some x)) (cond_same q.first first (record q { value = value }) q same)
+        ∙ cond_other q.first at (value.end + 120) NEVER apart ∙ sym (cond_other q.first at (q.value.end + 120) NEVER apart)
+    | inr ne ↦ ap (λ (x : Run End). free_of at (Some x)) (cond_other q.first first (record q { value = value }) q ne)
+  ]
 
--- where one begins at the spot
-value_here : (first : ℕ) (value : End) (o : Option (Run End)) → is_some (free_told first o) ≡ true → free_told first (option_map (with_value first value) o) ≡ Some (value.end + 120)
-value_here first value None some = absurd cc
-value_here first value (Some q) some = elim (same_or_not q.first first) [
-  | inl same ↦ ap (λ (x : Run End). free_told first (Some x)) (cond_same q.first first (record q { value = value }) q same) ∙ cond_same q.first first (Some (value.end + 120)) None same
-  | inr ne ↦ absurd (let no : false ≡ true = sym (ap is_some (cond_other q.first first (Some (q.value.end + 120)) None ne)) ∙ some in cc)
-]
+  pub value-free : (at : ℕ) → at ≢ first → free_at new at ≡ free_at runs at
+  value-free at other = ap (free_of at) (changed at) ∙ value_free at other (run_at runs at)
 
--- and where none does
-value_none : (first : ℕ) (value : End) (o : Option (Run End)) → is_some (free_told first o) ≡ false → free_told first o ≡ free_told first (option_map (with_value first value) o)
-value_none first value None none = refl
-value_none first value (Some q) none = elim (same_or_not q.first first) [
-  | inl same ↦ absurd (let no : true ≡ false = sym (ap is_some (cond_same q.first first (Some (q.value.end + 120)) None same)) ∙ none in cc)
-  | inr ne ↦ sym (ap (λ (x : Run End). free_told first (Some x)) (cond_other q.first first (record q { value = value }) q ne))
-]
+  near_value : value.end < 2 ^ 41 → (o : Option (Run End)) → IfSome o IsNear → IfSome (option_map (with_value first value) o) IsNear
+  near_value low None near = tt
+  near_value low (Some q) near = by (q.first == first)
+    where
+      by : (t : Bool) → IsNear (cond t (record q { value = value }) q)
+      by true = (near.0, low)
+      by false = near
 
-module _ (runs : List (Run End)) (frees : FinMap nat_cmp ℕ) (is : AreTimed runs frees) (first : ℕ) (value : End)
-    (new : List (Run End)) (apart : AreRuns new) (changed : (at : ℕ) → run_at new at ≡ option_map (with_value first value) (run_at runs at)) (next : FinMap nat_cmp ℕ) where
-  moved-timed : contains_key frees first ≡ true → next ≡ insert frees first (value.end + 120) → AreTimed new next
-  moved-timed there same = record {
-    apart = apart;
-    timed = λ at. ap (λ (m : FinMap nat_cmp ℕ). get m at) same ∙ get-inserted frees first (value.end + 120) at ∙ (elim (same_or_not at first) [
-      | inl here ↦ cond_same at first (Some (value.end + 120)) (get frees at) here
-          ∙ sym (ap (λ (n : ℕ). free_told n (run_at new n)) here ∙ ap (free_told first) (changed first)
-          ∙ value_here first value (run_at runs first) (sym (ap is_some (is.timed first)) ∙ there))
-      | inr other ↦ cond_other at first (Some (value.end + 120)) (get frees at) other ∙ is.timed at ∙ value_other at first value other (run_at runs at) ∙ ap (free_told at) (sym (changed at))
-    ]);
-  }
-
-  kept-timed : contains_key frees first ≡ false → next ≡ frees → AreTimed new next
-  kept-timed none same = record {
-    apart = apart;
-    timed = λ at. ap (λ (m : FinMap nat_cmp ℕ). get m at) same ∙ is.timed at ∙ (elim (same_or_not at first) [
-      | inl here ↦ ap (λ (n : ℕ). free_told n (run_at runs n)) here ∙ value_none first value (run_at runs first) (sym (ap is_some (is.timed first)) ∙ none)
-          ∙ ap (free_told first) (sym (changed first)) ∙ ap (λ (n : ℕ). free_told n (run_at new n)) (sym here)
-      | inr other ↦ value_other at first value other (run_at runs at) ∙ ap (free_told at) (sym (changed at))
-    ]);
-  }
-
-  pub value-timed : (moves : Bool) → moves ≡ contains_key frees first → OnTrue moves (next ≡ insert frees first (value.end + 120)) → OnFalse moves (next ≡ frees) → AreTimed new next
-  value-timed true found moved unchanged = moved-timed (sym found) moved
-  value-timed false found moved unchanged = kept-timed (sym found) unchanged
+  pub value-near : value.end < 2 ^ 41 → AreNear runs → AreNear new
+  value-near low near at = subst (λ (o : Option (Run End)). IfSome o IsNear) (sym (changed at)) (near_value low (run_at runs at) (near at))
 
 -- ---- a run goes
 
-gone_step : (at first : ℕ) (t : Bool) → (at == first) ≡ t → (o : Option (Run End)) → cond t None (free_told at o) ≡ free_told at (but_from first o)
-gone_step at first true e None = refl
-gone_step at first false e None = refl
-gone_step at first true e (Some q) = elim (same_or_not q.first first) [
-  | inl same ↦ sym (ap (free_told at) (cond_same q.first first None (Some q) same))
-  | inr ne ↦ sym (ap (free_told at) (cond_other q.first first None (Some q) ne) ∙ cond_other q.first at (Some (q.value.end + 120)) None (λ same. let here : at ≡ first = eqb-true at first e in ne (same ∙ here)))
-]
-gone_step at first false e (Some q) = elim (same_or_not q.first first) [
-  | inl same ↦ cond_other q.first at (Some (q.value.end + 120)) None (λ own. absurd (let here : (at == first) ≡ true = eq-eqb at first (sym own ∙ same) in let no : true ≡ false = sym here ∙ e in cc))
-      ∙ sym (ap (free_told at) (cond_same q.first first None (Some q) same))
-  | inr ne ↦ sym (ap (free_told at) (cond_other q.first first None (Some q) ne))
-]
+module _ (runs : List (Run End)) (first : ℕ) (new : List (Run End)) (left : (at : ℕ) → run_at new at ≡ but_from first (run_at runs at)) where
+  gone_free : (at : ℕ) → at ≢ first → (o : Option (Run End)) → free_of at (but_from first o) ≡ free_of at o
+  gone_free at other None = refl
+  gone_free at other (Some q) = elim (same_or_not q.first first) [
+    | inl same ↦ ap (free_of at) (cond_same q.first first None (Some q) same) ∙ sym (cond_other q.first at (q.value.end + 120) NEVER (λ e. other (sym e ∙ same)))
+    | inr ne ↦ ap (free_of at) (cond_other q.first first None (Some q) ne)
+  ]
 
-pub remove-timed : (runs new : List (Run End)) (frees next : FinMap nat_cmp ℕ) (first : ℕ) → AreTimed runs frees → AreRuns new → ((at : ℕ) → run_at new at ≡ but_from first (run_at runs at)) → next ≡ remove frees first → AreTimed new next
-remove-timed runs new frees next first is apart left same = record {
-  apart = apart;
-  timed = λ at. ap (λ (m : FinMap nat_cmp ℕ). get m at) same ∙ get-removed frees first at ∙ ap (λ (o : Option ℕ). cond (at == first) None o) (is.timed at)
-      ∙ gone_step at first (at == first) refl (run_at runs at) ∙ ap (free_told at) (sym (left at));
-}
+  pub remove-free : (at : ℕ) → at ≢ first → free_at new at ≡ free_at runs at
+  remove-free at other = ap (free_of at) (left at) ∙ gone_free at other (run_at runs at)
+
+  pub remove-near : AreNear runs → AreNear new
+  remove-near near at = subst (λ (o : Option (Run End)). IfSome o IsNear) (sym (left at)) (but_keeps IsNear first (run_at runs at) (near at))
 
 -- ---- the first spot of a run whose rest is over
 
-module _ (runs : List (Run End)) (frees : FinMap nat_cmp ℕ) (is : AreTimed runs frees) (from m : ℕ) where
-  over_step : (id expiry : ℕ) → expiry ≤ m → (o : Option (Run End)) → free_told id o ≡ Some expiry → is_over m o ≡ true
-  over_step id expiry due None h = absurd (let no : None ≡ Some expiry = h in cc)
-  over_step id expiry due (Some r) h = elim (same_or_not r.first id) [
-    | inl same ↦ (let told : Some (r.value.end + 120) ≡ Some expiry = sym (cond_same r.first id (Some (r.value.end + 120)) None same) ∙ h in
-        let is : r.value.end + 120 ≡ expiry = cc in
-        le-leb (r.value.end + 120) m (omega (arith, is, due)))
-    | inr other ↦ absurd (let no : None ≡ Some expiry = sym (cond_other r.first id (Some (r.value.end + 120)) None other) ∙ h in cc)
+module _ (runs : List (Run End)) (frees : List ℕ) (is : AreTimed runs frees) (from m : ℕ) (most : m ≤ NEVER) (here : is_over m (run_at runs from) ≡ false) where
+  -- a run that has a spot from there on, and whose rest is over, begins there or behind it
+  begins_past : (other : ℕ) (q : Run End) → run_at runs other ≡ Some q → from ≤ other → is_over m (Some q) ≡ true → from ≤ q.first
+  begins_past other q own past over = elim (below_or_not q.first from) [
+    | inl less ↦ absurd (
+        let has : has_place from q ≡ true = in_by q.first q.count from (omega (arith, less)) (omega (arith, past, run_to runs is.apart other q own)) in
+        let no : true ≡ false = sym over ∙ ap (is_over m) (sym (run_whole runs is.apart other q own from has)) ∙ here in cc)
+    | inr from_on ↦ from_on
   ]
 
-  module _ (here : is_over m (run_at runs from) ≡ false) where
-    -- a run that has a spot from there on, and whose rest is over, begins there or behind it
-    begins_past : (other : ℕ) (q : Run End) → run_at runs other ≡ Some q → from ≤ other → is_over m (Some q) ≡ true → from ≤ q.first
-    begins_past other q own past over = elim (below_or_not q.first from) [
-      | inl less ↦ absurd (
-          let has : has_place from q ≡ true = in_by q.first q.count from (omega (arith, less)) (omega (arith, past, run_to runs is.apart other q own)) in
-          let no : true ≡ false = sym over ∙ ap (is_over m) (sym (run_whole runs is.apart other q own from has)) ∙ here in cc)
-      | inr from_on ↦ from_on
-    ]
+  -- and it is free again by then
+  found_run : (other : ℕ) → is_over_from from m runs other ≡ true → (first : ℕ) × (from ≤ first) × (first ≤ other) × (first < 131072) × (free_at runs first ≤ latest m)
+  found_run other h = by (run_at runs other) refl
+    where
+      by : (o : Option (Run End)) → run_at runs other ≡ o → (first : ℕ) × (from ≤ first) × (first ≤ other) × (first < 131072) × (free_at runs first ≤ latest m)
+      by None e = absurd (let both = and_parts (nat_le from other) (is_over m (run_at runs other)) h in let no : false ≡ true = sym (ap (is_over m) e) ∙ both.1 in cc)
+      by (Some q) e =
+          let both = and_parts (nat_le from other) (is_over m (run_at runs other)) h in
+          let over : is_over m (Some q) ≡ true = sym (ap (is_over m) e) ∙ both.1 in
+          let due : q.value.end + 120 ≤ m = leb-true (q.value.end + 120) m over in
+          let near : IsNear q = run_near runs is.near other q e in
+          let last = (latest_either m most).2 (q.value.end + 120) due (λ never. omega (arith, never, near.1)) in
+          let from_on = run_from runs is.apart other q e in
+          (q.first, begins_past other q e (leb-true from other both.0) over, from_on, omega (arith, near.0, from_on, run_to runs is.apart other q e), omega (arith, free_is runs is.apart other q e, last))
 
-    found_run : (other : ℕ) → is_over_from from m runs other ≡ true → (q : Run End) × (run_at runs other ≡ Some q) × (from ≤ q.first) × (q.value.end + 120 ≤ m)
-    found_run other h = by (run_at runs other) refl
-      where
-        by : (o : Option (Run End)) → run_at runs other ≡ o → (q : Run End) × (run_at runs other ≡ Some q) × (from ≤ q.first) × (q.value.end + 120 ≤ m)
-        by None e = absurd (let both = and_parts (nat_le from other) (is_over m (run_at runs other)) h in let no : false ≡ true = sym (ap (is_over m) e) ∙ both.1 in cc)
-        by (Some q) e =
-            let both = and_parts (nat_le from other) (is_over m (run_at runs other)) h in
-            let over : is_over m (Some q) ≡ true = sym (ap (is_over m) e) ∙ both.1 in
-            (q, e, begins_past other q e (leb-true from other both.0) over, leb-true (q.value.end + 120) m over)
+  pub over_due : (at : ℕ) → IsFirstOf (free_at runs) from (latest m) at → IsFirst (is_over_from from m runs) (Some at)
+  over_due at due =
+      let run = free_some at (latest m) (latest_either m most).1 (run_at runs at) due.due in
+      let over : is_over m (run_at runs at) ≡ true = ap (is_over m) run.1 ∙ le-leb (run.0.value.end + 120) m (omega (arith, run.2, (latest_either m most).0)) in
+      (
+        and_from _ _ (le-leb from at due.from_on) over,
+        λ other h.
+            let f = found_run other h in
+            elim (below_or_not f.0 at) [
+              | inl less ↦ absurd (omega (arith, due.first f.0 f.1 less, f.4))
+              | inr on ↦ omega (arith, on, f.2)
+            ],
+      )
 
-    over_due : (id : ℕ) → IsFirstDue frees from m id → IsFirst (is_over_from from m runs) (Some id)
-    over_due id due = (
-      and_from _ _ (le-leb from id due.from_on) (over_step id due.expiry due.due (run_at runs id) (sym (is.timed id) ∙ due.expires)),
-      λ other h.
-          let f = found_run other h in
-          let least = due.first f.0.first (f.0.value.end + 120) (run_free runs frees is other f.0 f.1) f.3 f.2 in
-          omega (arith, least, run_from runs is.apart other f.0 f.1),
-    )
+  pub over_none : ((at : ℕ) → from ≤ at → at < 131072 → latest m < free_at runs at) → IsFirst (is_over_from from m runs) None
+  over_none none other = false_by (is_over_from from m runs other) (λ h. let f = found_run other h in absurd (omega (arith, none f.0 f.1 f.3, f.4)))
 
-    over_none : ((id expiry : ℕ) → get frees id ≡ Some expiry → from ≤ id → m < expiry) → IsFirst (is_over_from from m runs) None
-    over_none none other = false_by (is_over_from from m runs other) (λ h.
-        let f = found_run other h in
-        let late = none f.0.first (f.0.value.end + 120) (run_free runs frees is other f.0 f.1) f.2 in
-        absurd (omega (arith, late, f.3)))
+  pub over_found : (o : Option ℕ) → IfSome o (IsFirstOf (free_at runs) from (latest m)) → IfNone o ((at : ℕ) → from ≤ at → at < 131072 → latest m < free_at runs at) → IsFirst (is_over_from from m runs) o
+  over_found None first none = over_none none
+  over_found (Some at) first none = over_due at first
 
-    pub over_found : (o : Option ℕ) → IfSome o (λ id. IsFirstDue frees from m id) → IfNone o ((id expiry : ℕ) → get frees id ≡ Some expiry → from ≤ id → m < expiry) → IsFirst (is_over_from from m runs) o
-    over_found None first none = over_none none
-    over_found (Some id) first none = over_due id first
+-- ---- the next block that has one
+
+pub none_when : (found : Option ℕ) (P : Type 0) → is_some found ≡ false → IfNone found P → P
+none_when None P none is = is
+none_when (Some at) P none is = cc
+
+module _ (runs : List (Run End)) (frees : List ℕ) (is : AreTimed runs frees) (from m b : ℕ) (low : b < 16384) (next : IsFirstOf (kept_at frees) (from / 8 + 1) m b) where
+  -- its first is the first
+  pub block_first : ((j : ℕ) → from ≤ j → j < 8 * (from / 8) + 8 → m < free_at runs j) → (found : Option ℕ) → IfSome found (IsFirstOf (free_at runs) (8 * b) m) → IfSome found (λ at. at < 8 * b + 8) → IfSome found (IsFirstOf (free_at runs) from m)
+  block_first own None here near = tt
+  block_first own (Some at) here near = first_is 16384 (free_at runs) frees is.leasts m from b at (omega (arith, low, near)) own next here
+
+  -- and there is one
+  pub block_none : m < NEVER → (found : Option ℕ) (P : Type 0) → IfNone found ((at : ℕ) → 8 * b ≤ at → at < 8 * b + 8 → m < free_at runs at) → IfNone found P
+  block_none some None P none = absurd (block_due 16384 (free_at runs) frees is.leasts m b some low next.due none)
+  block_none some (Some at) P none = tt

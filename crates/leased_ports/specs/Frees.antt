@@ -1,21 +1,34 @@
 -- Runs of last ends whose rest is over, and when it is (our own).
-use Rattle.std.specs.Prelude.{◌≡◌, ℕ, ◌+◌, ◌≤◌, ◌==◌, ◌&&◌, nat_le, Bool, true, false, List, Option, Some, None, if◌then◌else◌}
-use Rattle.std.specs.Ordering.{nat_cmp}
-use Rattle.std.specs.FinMap.{FinMap, get}
+use Rattle.std.specs.Prelude.{◌≡◌, ℕ, ◌+◌, ◌<◌, ◌≤◌, ◌^◌, ◌==◌, ◌&&◌, nat_le, Bool, true, false, List, Option, Some, None, IfSome, if◌then◌else◌}
 use Rattle.pcp_base.specs.declared.leases.TheConstants.{REST_SECONDS}
 use Rattle.pcp_base.specs.declared.leases.End.{End}
+use Rattle.expiry_wheel.specs.declared.TheConstants.{NEVER}
+use Rattle.expiry_wheel.specs.Blocks.{AreLeasts}
+use Rattle.port_spans.specs.declared.runs.TheConstants.{PLACES}
 use Rattle.port_spans.specs.declared.runs.Run.{Run}
 use Rattle.port_spans.specs.Runs.{run_at, AreRuns}
+use Rattle.leased_ports.specs.declared.timed_ends.TheConstants.{BLOCKS}
 
--- when the ports of a run are free again, which begins at a spot
-abbrev pub free_told : ℕ → Option (Run End) → Option ℕ
-free_told at None = None
-free_told at (Some r) = if r.first == at then Some (r.value.end + REST_SECONDS) else None
+-- when the ports of a run are free again, which begins at a spot; NEVER where none does
+abbrev pub free_of : ℕ → Option (Run End) → ℕ
+free_of at None = NEVER
+free_of at (Some r) = if r.first == at then r.value.end + REST_SECONDS else NEVER
 
--- the wheel has that of each run, under its first spot
-pub record AreTimed (runs : List (Run End)) (frees : FinMap nat_cmp ℕ) : Type 0 where
+abbrev pub free_at : List (Run End) → ℕ → ℕ
+free_at runs at = free_of at (run_at runs at)
+
+-- a run of spots that there are, whose end is a moment
+abbrev pub IsNear : Run End → Type 0
+IsNear r = (r.first + r.count ≤ PLACES) × (r.value.end < 2 ^ 41)
+
+abbrev pub AreNear : List (Run End) → Type 0
+AreNear runs = (at : ℕ) → IfSome (run_at runs at) IsNear
+
+-- of each block of spots the least of when a run that begins there is free again
+pub record AreTimed (runs : List (Run End)) (frees : List ℕ) : Type 0 where
   pub apart : AreRuns runs
-  pub timed : (at : ℕ) → get frees at ≡ free_told at (run_at runs at)
+  pub near : AreNear runs
+  pub leasts : AreLeasts BLOCKS (free_at runs) frees
 
 -- whether the rest of a run is over at m
 abbrev pub is_over : ℕ → Option (Run End) → Bool

@@ -1,13 +1,15 @@
 //! Runs of last ends, with when the rest of each is over.
 
-ghost use Rattle.std.specs.Prelude.{◌≡◌, ◌≤◌, ◌<◌, ◌+◌, ◌^◌, ℕ, [], true, Some, None, IfSome, IfOk, OnOk, if◌then◌else◌};
+ghost use Rattle.std.specs.Prelude.{◌≡◌, ◌≢◌, ◌≤◌, ◌<◌, ◌+◌, ◌*◌, ◌^◌, ℕ, [], length, true, Some, None, IfSome, IfNone, IfOk, OnOk, if◌then◌else◌};
 ghost use Rattle.std.specs.Option.{option_map};
+ghost use Rattle.expiry_wheel.specs.Moments.{IsFirstOf};
+ghost use Rattle.expiry_wheel.specs.Blocks.{AreLeasts, least_at};
 ghost use Rattle.port_spans.specs.Runs as the;
 ghost use Rattle.port_spans.specs.Runs.{AreRuns, IsRunAt, IsNextRun, has_place, part_at, but_from, with_value};
 ghost use Rattle.port_spans.specs.declared.runs.TheConstants.{PLACES};
-ghost use Rattle.leased_ports.specs.Frees.{AreTimed, IsFirst, is_over, is_over_from};
+ghost use Rattle.leased_ports.specs.Frees.{AreNear, AreTimed, IsFirst, IsNear, free_at, is_over, is_over_from};
 
-use expiry_wheel::Wheel;
+use expiry_wheel::{Leasts, MOST_LEVELS, NEVER, latest};
 use pcp_base::{End, Memory, REST_SECONDS};
 use port_spans::{Ends, Run, Spans};
 use std::alloc::Global;
@@ -15,15 +17,22 @@ use std::marker::Model;
 use std::sync::ledger::Ledger;
 use step_count::Steps;
 
-/// Runs of ports with their last ends, as [`Ends`] keeps them, and a wheel that tells which of them
+/// How many spots a block has.
+const BLOCK: u32 = 8;
+
+/// How many blocks there are.
+const BLOCKS: u32 = 16_384;
+
+/// Runs of ports with their last ends, as [`Ends`] keeps them, and a tree that tells which of them
 /// is the first whose rest is over.
 ///
 /// It is seen as the list of runs.
 #[derive(Drop)]
 pub struct TimedEnds {
     ends: Ends,
-    // When the ports of each run are free again, by its first spot.
-    frees: Wheel,
+    // Of each block of spots the least moment at which the ports of a run that begins there are
+    // free again.
+    frees: Leasts,
 }
 
 impl Model for TimedEnds {
@@ -39,32 +48,72 @@ impl Model for TimedEnds {
     ghost invariant = { λ s. AreTimed s.ends s.frees };
 }
 
+/// The run that has a spot.
+fn run_at(ends: &Ends, at: u32) -> Option<Run<End>>
+    requires { AreNear ends.now }
+    ensures run { result ≡ the.run_at ends.now at }
+    ensures near { IfSome result IsNear }
+{
+    ends.run_at(at)
+}
+
+/// When the ports of the run that begins at a spot are free again, `NEVER` where none begins there.
+fn free_at(ends: &Ends, at: u32) -> u64
+    requires { AreNear ends.now }
+    ensures { result ≡ free_at ends.now at }
+{
+    let Some(run) = run_at(ends, at) else {
+        return NEVER;
+    };
+    if run.first == at {
+        run.value.end + REST_SECONDS
+    } else {
+        NEVER
+    }
+}
+
+/// The least moment at which the ports of a run that begins in a block are free again.
+fn least_in(ends: &Ends, block: u32) -> u64
+    requires near { AreNear ends.now }
+    requires block { block < BLOCKS }
+    ensures { result ≡ least_at (free_at ends.now) (8 * block) 8 }
+{
+    let mut least = NEVER;
+    for i in 0..BLOCK {
+        least = least.min(free_at(ends, BLOCK * block + i));
+    }
+    least
+}
+
+/// Makes the least moment of a spot's block anew, where no other spot's was changed.
+fn renew(ends: &Ends, frees: &mut Leasts, at: u32)
+    requires near { AreNear ends.now }
+    requires all { length frees.old ≡ BLOCKS }
+    ensures { (before : ℕ → ℕ) → AreLeasts BLOCKS before frees.old
+        → ((i : ℕ) → i ≢ at → free_at ends.now i ≡ before i)
+        → AreLeasts BLOCKS (free_at ends.now) frees.new }
+{
+    let block = at / BLOCK;
+    if block < BLOCKS {
+        let least = least_in(ends, block);
+        frees.set_uncounted(block as usize, least);
+    }
+}
+
 /// Parts the run that has a spot, so that one begins there.
-fn cut(ends: &mut Ends, frees: &mut Wheel, alloc: Global, at: u32) -> Result<(), Memory>
+fn cut(ends: &mut Ends, frees: &mut Leasts, at: u32) -> Result<(), Memory>
     requires { AreTimed ends.old frees.old }
     ensures timed { AreTimed ends.new frees.new }
     ensures ok { OnOk result ((other : ℕ) → the.run_at ends.new other
         ≡ option_map (part_at at other) (the.run_at ends.old other)) }
 {
-    let Some(run) = ends.run_at(at) else {
-        return Ok(());
-    };
-    if run.first == at {
-        return Ok(());
-    }
-    let Some(free) = frees.expiry(run.first) else {
-        return Ok(());
-    };
-    frees.put(alloc, at, free)?;
-    let Err(refused) = ends.cut(at) else {
-        return Ok(());
-    };
-    frees.remove(at);
-    Err(refused)
+    ends.cut(at)?;
+    renew(ends, frees, at);
+    Ok(())
 }
 
 /// Gives a run of spots that have no last end its own.
-fn insert(ends: &mut Ends, frees: &mut Wheel, alloc: Global, run: Run<End>) -> Result<(), Memory>
+fn insert(ends: &mut Ends, frees: &mut Leasts, run: Run<End>) -> Result<(), Memory>
     requires timed { AreTimed ends.old frees.old }
     requires some { 1 ≤ run.count }
     requires small { run.first + run.count ≤ PLACES }
@@ -74,33 +123,81 @@ fn insert(ends: &mut Ends, frees: &mut Wheel, alloc: Global, run: Run<End>) -> R
     ensures ok { OnOk result ((at : ℕ) → the.run_at ends.new at
         ≡ (if has_place at run then Some run else the.run_at ends.old at)) }
 {
-    frees.put(alloc, run.first, run.value.end + REST_SECONDS)?;
-    let Err(refused) = ends.insert(run) else {
-        return Ok(());
-    };
-    frees.remove(run.first);
-    Err(refused)
+    ends.insert(run)?;
+    renew(ends, frees, run.first);
+    Ok(())
 }
 
 /// Whether a spot is of a run whose rest is over at `m`.
-fn is_over_at(ends: &Ends, frees: &Wheel, at: u32, m: u64) -> bool
-    requires { AreTimed ends.now frees.now }
+fn is_over_at(ends: &Ends, at: u32, m: u64) -> bool
+    requires { AreNear ends.now }
     ensures { result ≡ is_over m (the.run_at ends.now at) }
 {
-    let Some(run) = ends.run_at(at) else {
+    let Some(run) = run_at(ends, at) else {
         return false;
     };
-    let Some(free) = frees.expiry(run.first) else {
-        return false;
+    run.value.end + REST_SECONDS <= m
+}
+
+/// The first spot from `from` up to `to`, which isn't among them, at which a run begins whose ports
+/// are free again by `m`. A step is a spot that is looked at.
+fn first_in<L: Ledger>(
+    ends: &Ends,
+    from: u32,
+    to: u32,
+    m: u64,
+    steps: &mut Steps<L>,
+) -> Option<u32>
+    requires near { AreNear ends.now }
+    requires ordered { from ≤ to }
+    ensures found { IfSome result (IsFirstOf (free_at ends.now) from m) }
+    ensures below { IfSome result (λ at. at < to) }
+    ensures none { IfNone result ((at : ℕ) → from ≤ at → at < to → m < free_at ends.now at) }
+    ensures cost { steps.new ≤ steps.old + (to - from) }
+{
+    for at in from..to {
+        steps.tick();
+        if free_at(ends, at) <= m {
+            return Some(at);
+        }
+    }
+    None
+}
+
+/// The first spot from one on at which a run begins whose ports are free again by `m`: in the spot's
+/// own block, or in the next that has one.
+fn first_free<L: Ledger>(
+    ends: &Ends,
+    frees: &Leasts,
+    from: u32,
+    m: u64,
+    steps: &mut Steps<L>,
+) -> Option<u32>
+    requires timed { AreTimed ends.now frees.now }
+    requires from { from < PLACES }
+    requires sometime { m < NEVER }
+    ensures found { IfSome result (IsFirstOf (free_at ends.now) from m) }
+    ensures none { IfNone result (
+        (at : ℕ) → from ≤ at → at < PLACES → m < free_at ends.now at) }
+    ensures cost { steps.new ≤ steps.old + 43 }
+{
+    let block = from / BLOCK;
+    let found = first_in(ends, from, BLOCK * block + BLOCK, m, steps);
+    if found.is_some() {
+        return found;
+    }
+    let Some(later) = frees.first_from(block as usize + 1, m, steps) else {
+        return None;
     };
-    free <= m
+    let first = BLOCK * later as u32;
+    first_in(ends, first, first + BLOCK, m, steps)
 }
 
 /// The first spot from this one on that is of a run whose rest is over at `m`. The run that has the
 /// spot may begin before it, so it is looked at by itself.
 fn first_over<L: Ledger>(
     ends: &Ends,
-    frees: &Wheel,
+    frees: &Leasts,
     from: u32,
     m: u64,
     steps: &mut Steps<L>,
@@ -110,10 +207,13 @@ fn first_over<L: Ledger>(
     ensures steps { steps.new ≤ steps.old + 44 }
 {
     steps.tick();
-    if is_over_at(ends, frees, from, m) {
+    if is_over_at(ends, from, m) {
         return Some(from);
     }
-    frees.first_due(from, m, steps)
+    if from >= BLOCK * BLOCKS {
+        return None;
+    }
+    first_free(ends, frees, from, latest(m), steps)
 }
 
 impl TimedEnds {
@@ -123,7 +223,7 @@ impl TimedEnds {
     {
         Ok(TimedEnds {
             ends: Spans::new(alloc)?,
-            frees: Wheel::new(alloc)?,
+            frees: Leasts::new(alloc, MOST_LEVELS)?,
         })
     }
 
@@ -162,17 +262,17 @@ impl TimedEnds {
 
     /// Parts the run that has a spot, so that one begins there, as [`Spans::cut`] does. The one
     /// error is want of memory.
-    pub fn cut(&mut self, alloc: Global, at: u32) -> Result<(), Memory>
+    pub fn cut(&mut self, _alloc: Global, at: u32) -> Result<(), Memory>
         ensures runs { AreRuns self.new }
         ensures ok { OnOk result ((other : ℕ) → the.run_at self.new other
             ≡ option_map (part_at at other) (the.run_at self.old other)) }
     {
-        cut(&mut self.ends, &mut self.frees, alloc, at)
+        cut(&mut self.ends, &mut self.frees, at)
     }
 
     /// Gives a run of spots that have no last end its own, as [`Spans::insert`] does. The one error
     /// is want of memory.
-    pub fn insert(&mut self, alloc: Global, run: Run<End>) -> Result<(), Memory>
+    pub fn insert(&mut self, _alloc: Global, run: Run<End>) -> Result<(), Memory>
         requires some { 1 ≤ run.count }
         requires small { run.first + run.count ≤ PLACES }
         requires near { run.value.end < 2 ^ 41 }
@@ -181,7 +281,7 @@ impl TimedEnds {
         ensures ok { OnOk result ((at : ℕ) → the.run_at self.new at
             ≡ (if has_place at run then Some run else the.run_at self.old at)) }
     {
-        insert(&mut self.ends, &mut self.frees, alloc, run)
+        insert(&mut self.ends, &mut self.frees, run)
     }
 
     /// Gives the run that begins at a spot another last end, if one begins there. It takes no
@@ -192,8 +292,8 @@ impl TimedEnds {
         ensures ok { (at : ℕ) →
             the.run_at self.new at ≡ option_map (with_value first value) (the.run_at self.old at) }
     {
-        self.frees.reschedule(first, value.end + REST_SECONDS);
         self.ends.set_value(first, value);
+        renew(&self.ends, &mut self.frees, first);
     }
 
     /// Takes the last ends from the run that begins at a spot, if one begins there. It takes no
@@ -202,7 +302,7 @@ impl TimedEnds {
         ensures runs { AreRuns self.new }
         ensures ok { (at : ℕ) → the.run_at self.new at ≡ but_from first (the.run_at self.old at) }
     {
-        self.frees.remove(first);
         self.ends.remove(first);
+        renew(&self.ends, &mut self.frees, first);
     }
 }

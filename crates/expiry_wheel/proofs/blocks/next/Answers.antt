@@ -13,30 +13,30 @@ module _ (moments leasts : List ℕ) (wheel : IsWheel moments leasts) (m least b
 
   -- and there is one
   never_none : (found : Option ℕ) (P : Type 0) → m < NEVER → IfNone found ((id : ℕ) → 8 * b ≤ id → id < 8 * b + 8 → least < kept_at moments id) → IfNone found P
-  never_none None P some none = absurd (block_due 16384 (kept_at moments) leasts wheel.leasts least b (omega (arith, some, is, next.first.due, next.due)) low (omega (arith, is)) none)
+  never_none None P some none = absurd (block_due 16384 (kept_at moments) leasts wheel.blocks least b (omega (arith, some, is, next.first.due, next.due)) low (omega (arith, is)) none)
   never_none (Some id) P some none = tt
 
 pub first_of-requires-clause-block : goal.first_of-requires-clause-block
-first_of-requires-clause-block g c = omega (arith, c.in-Some.ensures.within, c.requires.wheel.leasts.all)
+first_of-requires-clause-block g c = omega (arith, c.in-Some.ensures.within, c.requires.wheel.blocks.all)
 
 pub returns-in_default-clause-none : goal.returns-in_default-clause-none
-returns-in_default-clause-none g c = all_later 16384 (kept_at c.args.moments.now) c.args.leasts.now c.requires.wheel.leasts c.args.m c.in_default.ensures.none
+returns-in_default-clause-none g c = all_later 16384 (kept_at c.args.moments.now) c.args.leasts.now c.requires.wheel.blocks c.args.m c.in_default.ensures.none
 
 pub returns-clause-next : goal.returns-clause-next
 returns-clause-next g c =
-    found_next c.args.moments.now c.args.leasts.now c.requires.wheel c.args.m c.in-Some.due.least c.in-Some.due.block c.in-Some.ensures.next c.in-Some.ensures.least (omega (arith, c.in-Some.ensures.within, c.requires.wheel.leasts.all))
+    found_next c.args.moments.now c.args.leasts.now c.requires.wheel c.args.m c.in-Some.due.least c.in-Some.due.block c.in-Some.ensures.next c.in-Some.ensures.least (omega (arith, c.in-Some.ensures.within, c.requires.wheel.blocks.all))
     c.first_of.result c.first_of.ensures.found c.first_of.ensures.below
 
 pub returns-clause-none : goal.returns-clause-none
 returns-clause-none g c =
-    never_none c.args.moments.now c.args.leasts.now c.requires.wheel c.args.m c.in-Some.due.least c.in-Some.due.block c.in-Some.ensures.next c.in-Some.ensures.least (omega (arith, c.in-Some.ensures.within, c.requires.wheel.leasts.all))
+    never_none c.args.moments.now c.args.leasts.now c.requires.wheel c.args.m c.in-Some.due.least c.in-Some.due.block c.in-Some.ensures.next c.in-Some.ensures.least (omega (arith, c.in-Some.ensures.within, c.requires.wheel.blocks.all))
     c.first_of.result _ c.requires.sometime c.first_of.ensures.none
 
 pub returns-clause-root : goal.returns-clause-root
 returns-clause-root g c =
-    never_none c.args.moments.now c.args.leasts.now c.requires.wheel c.args.m c.in-Some.due.least c.in-Some.due.block c.in-Some.ensures.next c.in-Some.ensures.least (omega (arith, c.in-Some.ensures.within, c.requires.wheel.leasts.all))
+    never_none c.args.moments.now c.args.leasts.now c.requires.wheel c.args.m c.in-Some.due.least c.in-Some.due.block c.in-Some.ensures.next c.in-Some.ensures.least (omega (arith, c.in-Some.ensures.within, c.requires.wheel.blocks.all))
     c.first_of.result _ c.requires.sometime c.first_of.ensures.none
 
 -- a step for each level, and a moment at least
 pub returns-clause-looked : goal.returns-clause-looked
-returns-clause-looked g c = omega (arith, c.in-Some.ensures.way 14 c.requires.wheel.leasts.all, c.first_of.ensures.looked)
+returns-clause-looked g c = omega (arith, c.in-Some.ensures.way 14 c.requires.wheel.blocks.all, c.first_of.ensures.looked)

@@ -5,7 +5,7 @@ use Rattle.expiry_wheel.proofs.BlockMoments.{wheel_written}
 use Rattle.expiry_wheel.proofs.blocks.set.Goals as goal
 
 pub set-requires : goal.set-requires
-set-requires g c = omega (arith, c.requires.id, c.requires.wheel.leasts.all)
+set-requires g c = omega (arith, c.requires.id, c.requires.wheel.blocks.all)
 
 pub returns-clause-wheel : goal.returns-clause-wheel
 returns-clause-wheel g c =

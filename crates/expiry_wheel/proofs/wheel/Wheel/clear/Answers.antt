@@ -10,7 +10,7 @@ invariant_of-self c =
     let v = c.self.inside.moments in
     let long : length c.wipe.new.cells ≡ length v.items = c.wipe.ensures.len ∙ ap length c.deref_mut.ensures.value in
     rw (with_items_is v c.wipe.new.cells (long ∙ sym v.ok.0), c.clear.ensures)
-    (wheel_blank c.wipe.new.cells (length c.self.inside.leasts) (long ∙ c.self.invariant.ids) c.self.invariant.leasts.all c.wipe.ensures.never)
+    (wheel_blank c.wipe.new.cells (length c.self.inside.leasts) (long ∙ c.self.invariant.ids) c.self.invariant.blocks.all c.wipe.ensures.never)
 
 pub returns : goal.returns
 returns c =

@@ -1,6 +1,16 @@
-use Rattle.leased_ports.proofs.TimedLemmas.{remove-timed}
+use Rattle.leased_ports.specs.Frees.{free_at}
+use Rattle.leased_ports.proofs.TimedLemmas.{remove-near, remove-free}
 use Rattle.leased_ports.proofs.timed_ends.TimedEnds.remove.Goals as goal
 
+pub renew-requires-clause-near : goal.renew-requires-clause-near
+renew-requires-clause-near c = remove-near c.self.inside.ends c.args.first c.remove.new.self c.remove.ensures.ok c.self.invariant.near
+
+pub renew-requires-clause-all : goal.renew-requires-clause-all
+renew-requires-clause-all c = c.self.invariant.leasts.all
+
 pub invariant_of-self : goal.invariant_of-self
-invariant_of-self c =
-    remove-timed c.self.inside.ends c.remove-2.new.self c.self.inside.frees c.remove.new.self c.args.first c.self.invariant c.remove-2.ensures.runs c.remove-2.ensures.ok c.remove.ensures.removed
+invariant_of-self c = record {
+  apart = c.remove.ensures.runs;
+  near = remove-near c.self.inside.ends c.args.first c.remove.new.self c.remove.ensures.ok c.self.invariant.near;
+  leasts = c.renew.ensures (free_at c.self.inside.ends) c.self.invariant.leasts (remove-free c.self.inside.ends c.args.first c.remove.new.self c.remove.ensures.ok);
+}
