@@ -1,6 +1,6 @@
 -- Blocks of places, by the least that a function of places has in each.
-use Rattle.std.proofs.Common.{◌≡◌, ◌≢◌, ℕ, zero, suc, ◌+◌, ◌-◌, ◌*◌, ◌/◌, ◌<◌, ◌≤◌, List, length, replicate, min, slice_set, refl, sym, ap, subst, ◌∙◌, arith, inl, inr}
-use Rattle.std.proofs.Math.Nat.{min-le_left, min-le_right, le-min}
+use Rattle.std.proofs.Common.{◌≡◌, ◌≢◌, ℕ, zero, suc, ◌+◌, ◌-◌, ◌*◌, ◌/◌, ◌<◌, ◌≤◌, List, length, replicate, min, slice_set, refl, sym, ap, subst, ◌∙◌, arith, ◌⊎◌, inl, inr}
+use Rattle.std.proofs.Math.Nat.{min-le_left, min-le_right, min-eq_left, min-eq_right, le-min}
 use Rattle.std.proofs.lemmas.List.{length-set, length-replicate, get_or-replicate, get_or-set_same, get_or-set_other}
 use Rattle.expiry_wheel.specs.declared.TheConstants.{NEVER}
 use Rattle.expiry_wheel.specs.Moments.{kept_at, IsFirstOf, IsFirstIn, IsNextIn}
@@ -45,6 +45,31 @@ least_same f g at (suc n) same =
     ap (λ a. min a (g (at + n))) (least_same f g at n (λ k h. same k (omega (arith, h))))
     ∙ ap (min (least_at f at n)) (same n (omega arith))
 
+-- no less than what is no more than each
+least_low : (f : ℕ → ℕ) (at n m : ℕ) → m ≤ NEVER → ((k : ℕ) → k < n → m ≤ f (at + k)) → m ≤ least_at f at n
+unfolding least_at
+least_low f at zero m most low = most
+least_low f at (suc n) m most low = le-min (least_low f at n m most (λ k h. low k (omega (arith, h)))) (low n (omega arith))
+
+least_never : (f : ℕ → ℕ) (at n : ℕ) → least_at f at n ≤ NEVER
+unfolding least_at
+least_never f at zero = omega arith
+least_never f at (suc n) = omega (arith, min-le_left (least_at f at n) (f (at + n)), least_never f at n)
+
+-- one of them has it, or it is NEVER
+least_found : (f : ℕ → ℕ) (at n : ℕ) → (least_at f at n ≡ NEVER) ⊎ ((k : ℕ) × (k < n) × (f (at + k) ≡ least_at f at n))
+unfolding least_at
+least_found f at zero = inl refl
+least_found f at (suc n) = elim (below_or_not (f (at + n)) (least_at f at n)) [
+  | inl less ↦ inr (n, omega arith, sym (min-eq_right (omega (arith, less))))
+  | inr on ↦
+      let same : min (least_at f at n) (f (at + n)) ≡ least_at f at n = min-eq_left on in
+      elim (least_found f at n) [
+        | inl never ↦ inl (same ∙ never)
+        | inr found ↦ inr (found.0, omega (arith, found.1), found.2 ∙ sym same)
+      ]
+]
+
 -- where each is NEVER
 pub never_least : (f : ℕ → ℕ) (at n : ℕ) → ((i : ℕ) → f i ≡ NEVER) → least_at f at n ≡ NEVER
 unfolding least_at
@@ -78,6 +103,43 @@ module _ (n : ℕ) (f : ℕ → ℕ) (leasts : List ℕ) (are : AreLeasts n f le
     all = are.all;
     blocks = λ b within. are.blocks b within ∙ sym (least_same f g (8 * b) 8 (λ k h. same (8 * b + k) (omega (arith, h, within))));
   }
+
+  -- it is another at one place alone
+  module _ (g : ℕ → ℕ) (at : ℕ) (low : at < 8 * n) (some : g at ≤ NEVER) (others : (i : ℕ) → i ≢ at → g i ≡ f i) where
+    least_was : kept_at leasts (at / 8) ≡ least_at f (8 * (at / 8)) 8
+    least_was = are.blocks (at / 8) (omega (arith, low))
+
+    no_less : (m : ℕ) → m ≤ kept_at leasts (at / 8) → m ≤ g at → m ≤ least_at g (8 * (at / 8)) 8
+    no_less m under own = least_low g (8 * (at / 8)) 8 m (omega (arith, own, some)) (λ k h. elim (same_or_not (8 * (at / 8) + k) at) [
+      | inl e ↦ subst (λ i. m ≤ g i) (sym e) own
+      | inr ne ↦ omega (arith, others (8 * (at / 8) + k) ne, least_most f (8 * (at / 8)) 8 k h, least_was, under)
+    ])
+
+    -- no more there than the least was
+    pub leasts_lower : g at ≤ kept_at leasts (at / 8) → AreLeasts n g (slice_set leasts (at / 8) (g at))
+    leasts_lower under =
+        let block : ℕ = 8 * (at / 8) in
+        let place : block + (at - block) ≡ at = omega arith in
+        let most : least_at g block 8 ≤ g at = subst (λ i. least_at g block 8 ≤ g i) place (least_most g block 8 (at - block) (omega arith)) in
+        leasts_told g (at / 8) (g at) (omega (arith, low)) (λ i apart. others i (λ e. apart (ap (λ (k : ℕ). k / 8) e))) (omega (arith, most, no_less (g at) under (omega arith)))
+
+    -- more there than the least, which was another's
+    pub leasts_stay : kept_at leasts (at / 8) < g at → f at ≢ kept_at leasts (at / 8) → AreLeasts n g leasts
+    leasts_stay over other = record {
+      all = are.all;
+      blocks = λ b within. elim (same_or_not b (at / 8)) [
+        | inl e ↦ subst (λ x. kept_at leasts x ≡ least_at g (8 * x) 8) (sym e) (omega (arith, no_less (kept_at leasts (at / 8)) (omega arith) (omega (arith, over)), no_more))
+        | inr ne ↦ are.blocks b within ∙ sym (least_same f g (8 * b) 8 (λ k h. others (8 * b + k) (λ e. ne (omega (arith, h, e)))))
+      ];
+    }
+      where
+        no_more : least_at g (8 * (at / 8)) 8 ≤ kept_at leasts (at / 8)
+        no_more = elim (least_found f (8 * (at / 8)) 8) [
+          | inl never ↦ absurd (omega (arith, never, least_was, over, some))
+          | inr found ↦
+              let apart : 8 * (at / 8) + found.0 ≢ at = λ e. other (sym (ap f e) ∙ found.2 ∙ sym least_was) in
+              omega (arith, least_most g (8 * (at / 8)) 8 found.0 found.1, others (8 * (at / 8) + found.0) apart, found.2, least_was)
+        ]
 
   module _ (m : ℕ) where
     -- what a block has, by its least

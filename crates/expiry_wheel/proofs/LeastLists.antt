@@ -1,5 +1,5 @@
 -- The list of the least moments of blocks, of the tree over them.
-use Rattle.std.proofs.Common.{◌≡◌, ℕ, zero, suc, ◌+◌, ◌-◌, ◌*◌, ◌%◌, ◌^◌, ◌<◌, ◌≤◌, List, length, drop, replicate, min, slice_set, refl, sym, ap, subst, ◌∙◌, arith, inl, inr}
+use Rattle.std.proofs.Common.{◌≡◌, ℕ, zero, suc, ◌+◌, ◌-◌, ◌*◌, ◌%◌, ◌^◌, ◌<◌, ◌≤◌, List, length, replicate, min, slice_set, refl, sym, ap, subst, ◌∙◌, arith, inl, inr}
 use Rattle.std.proofs.Math.Nat.{min-eq_left, pow-suc}
 use Rattle.std.proofs.lemmas.Nat.{pow_below, shl_whole}
 use Rattle.std.proofs.lemmas.List.{length-set, length-drop, length-replicate, get_or-drop, get_or-replicate, get_or-set_same, get_or-set_other, ext_get_or}
@@ -7,7 +7,7 @@ use Rattle.expiry_wheel.specs.declared.TheConstants.{NEVER}
 use Rattle.expiry_wheel.specs.Moments.{kept_at, IsFirstIn, IsNextIn}
 use Rattle.expiry_wheel.specs.Blocks.{row, IsInRow, IsFirstBelow, AreNodes, leasts_in}
 use Rattle.expiry_wheel.proofs.Maps.{same_or_not, below_or_not}
-use Rattle.expiry_wheel.proofs.Walks.{some_in_row, root_clear, root_least}
+use Rattle.expiry_wheel.proofs.Walks.{root_clear, root_least}
 
 -- how many blocks there are
 pub row_power : (n : ℕ) → row n ≡ 2 ^ n

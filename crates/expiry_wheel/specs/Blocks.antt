@@ -3,7 +3,7 @@ use Rattle.std.specs.Prelude.{ℕ, zero, suc, List, ◌≡◌, min, ◌+◌, ◌
 use Rattle.expiry_wheel.specs.declared.TheConstants.{NEVER, IDS}
 use Rattle.expiry_wheel.specs.declared.leasts.TheConstants.{MOST_LEVELS}
 use Rattle.expiry_wheel.specs.declared.blocks.TheConstants.{BLOCKS}
-use Rattle.expiry_wheel.specs.Moments.{kept_at, IsFirstIn}
+use Rattle.expiry_wheel.specs.Moments.{kept_at}
 
 -- the least that a function has at n places from one on
 unfoldable pub least_at : (ℕ → ℕ) → ℕ → ℕ → ℕ

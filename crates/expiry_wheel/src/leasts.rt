@@ -71,6 +71,14 @@ impl Leasts {
         tree::wipe(&mut self.nodes);
     }
 
+    /// The least moment of a block. It takes no step.
+    pub fn least_of(&self, block: usize) -> u64
+        requires { block < length self.now }
+        ensures { result ≡ kept_at self.now block }
+    {
+        self.nodes[self.nodes.len() / 2 + block]
+    }
+
     /// Sets the least moment of a block.
     ///
     /// A step is a node of the tree that is looked at: the block's own, and two of each level above

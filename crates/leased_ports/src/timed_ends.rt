@@ -60,7 +60,8 @@ fn run_at(ends: &Ends, at: u32) -> Option<Run<End>>
 /// When the ports of the run that begins at a spot are free again, `NEVER` where none begins there.
 fn free_at(ends: &Ends, at: u32) -> u64
     requires { AreNear ends.now }
-    ensures { result ≡ free_at ends.now at }
+    ensures moment { result ≡ free_at ends.now at }
+    ensures most { result ≤ NEVER }
 {
     let Some(run) = run_at(ends, at) else {
         return NEVER;
@@ -85,18 +86,27 @@ fn least_in(ends: &Ends, block: u32) -> u64
     least
 }
 
-/// Makes the least moment of a spot's block anew, where no other spot's was changed.
-fn renew(ends: &Ends, frees: &mut Leasts, at: u32)
+/// Tells the tree the moment of a spot, which was `before`, where no other spot's was changed. The
+/// block is looked through only where its least moment may have gone.
+fn retell(ends: &Ends, frees: &mut Leasts, at: u32, before: u64)
     requires near { AreNear ends.now }
     requires all { length frees.old ≡ BLOCKS }
-    ensures { (before : ℕ → ℕ) → AreLeasts BLOCKS before frees.old
-        → ((i : ℕ) → i ≢ at → free_at ends.now i ≡ before i)
+    ensures { (was : ℕ → ℕ) → AreLeasts BLOCKS was frees.old → was at ≡ before
+        → ((i : ℕ) → i ≢ at → free_at ends.now i ≡ was i)
         → AreLeasts BLOCKS (free_at ends.now) frees.new }
 {
     let block = at / BLOCK;
-    if block < BLOCKS {
-        let least = least_in(ends, block);
-        frees.set_uncounted(block as usize, least);
+    if block >= BLOCKS {
+        return;
+    }
+    let least = frees.least_of(block as usize);
+    let now = free_at(ends, at);
+    if now <= least {
+        frees.set_uncounted(block as usize, now);
+        return;
+    }
+    if before == least {
+        frees.set_uncounted(block as usize, least_in(ends, block));
     }
 }
 
@@ -107,8 +117,9 @@ fn cut(ends: &mut Ends, frees: &mut Leasts, at: u32) -> Result<(), Memory>
     ensures ok { OnOk result ((other : ℕ) → the.run_at ends.new other
         ≡ option_map (part_at at other) (the.run_at ends.old other)) }
 {
+    let before = free_at(ends, at);
     ends.cut(at)?;
-    renew(ends, frees, at);
+    retell(ends, frees, at, before);
     Ok(())
 }
 
@@ -123,8 +134,9 @@ fn insert(ends: &mut Ends, frees: &mut Leasts, run: Run<End>) -> Result<(), Memo
     ensures ok { OnOk result ((at : ℕ) → the.run_at ends.new at
         ≡ (if has_place at run then Some run else the.run_at ends.old at)) }
 {
+    let before = free_at(ends, run.first);
     ends.insert(run)?;
-    renew(ends, frees, run.first);
+    retell(ends, frees, run.first, before);
     Ok(())
 }
 
@@ -292,8 +304,9 @@ impl TimedEnds {
         ensures ok { (at : ℕ) →
             the.run_at self.new at ≡ option_map (with_value first value) (the.run_at self.old at) }
     {
+        let before = free_at(&self.ends, first);
         self.ends.set_value(first, value);
-        renew(&self.ends, &mut self.frees, first);
+        retell(&self.ends, &mut self.frees, first, before);
     }
 
     /// Takes the last ends from the run that begins at a spot, if one begins there. It takes no
@@ -302,7 +315,8 @@ impl TimedEnds {
         ensures runs { AreRuns self.new }
         ensures ok { (at : ℕ) → the.run_at self.new at ≡ but_from first (the.run_at self.old at) }
     {
+        let before = free_at(&self.ends, first);
         self.ends.remove(first);
-        renew(&self.ends, &mut self.frees, first);
+        retell(&self.ends, &mut self.frees, first, before);
     }
 }

@@ -1,4 +1,4 @@
-use Rattle.std.proofs.Common.{◌≡◌, ℕ, suc, ◌+◌, ◌*◌, min, ap, ◌∙◌, arith}
+use Rattle.std.proofs.Common.{◌≡◌, suc, ◌+◌, ◌*◌, min, ap, ◌∙◌, arith}
 use Rattle.expiry_wheel.specs.Moments.{kept_at}
 use Rattle.expiry_wheel.specs.Blocks.{least_at}
 use Rattle.expiry_wheel.proofs.BlockMoments.{least_none, least_one_more}

@@ -37,6 +37,12 @@ returns-clause-root g c =
     never_none c.args.moments.now c.args.leasts.now c.requires.wheel c.args.m c.in-Some.due.least c.in-Some.due.block c.in-Some.ensures.next c.in-Some.ensures.least (omega (arith, c.in-Some.ensures.within, c.requires.wheel.blocks.all))
     c.first_of.result _ c.requires.sometime c.first_of.ensures.none
 
+in_any : (found : Option ℕ) (P : Type 0) → P → IfSome found (λ _. P)
+in_any None P is = tt
+in_any (Some id) P is = is
+
 -- a step for each level, and a moment at least
 pub returns-clause-looked : goal.returns-clause-looked
-returns-clause-looked g c = omega (arith, c.in-Some.ensures.way 14 c.requires.wheel.blocks.all, c.first_of.ensures.looked)
+returns-clause-looked g c =
+    let many : c.args.steps.now + 16 ≤ c.first_of.new.steps = omega (arith, c.in-Some.ensures.way 14 c.requires.wheel.blocks.all, c.first_of.ensures.looked) in
+    in_any c.first_of.result _ many

@@ -1,4 +1,4 @@
-use Rattle.std.proofs.Common.{◌≡◌, ◌-◌, ◌/◌, ◌<◌, length, sym, subst, arith}
+use Rattle.std.proofs.Common.{◌≡◌, ◌-◌, ◌/◌, ◌<◌, length, subst, arith}
 use Rattle.expiry_wheel.specs.Moments.{IsFirstIn}
 use Rattle.expiry_wheel.specs.Blocks.{row, leasts_in, IsFirstBelow}
 use Rattle.expiry_wheel.proofs.Walks.{some_in_row}
@@ -8,11 +8,11 @@ use Rattle.expiry_wheel.proofs.tree.first.Goals as goal
 pub look-requires : goal.look-requires
 look-requires g c = omega (arith, c.requires.nodes.places, some_in_row c.args.levels)
 
-pub returns-then-m-lt-look-clause-none : goal.returns-then-m-lt-look-clause-none
-returns-then-m-lt-look-clause-none g c = root_none c.args.levels c.args.nodes.now c.requires.nodes c.args.m (subst (λ v. c.args.m < v) c.look.ensures.value c.if-m-lt-look.true)
+pub returns-then-m-look-clause-none : goal.returns-then-m-look-clause-none
+returns-then-m-look-clause-none g c = root_none c.args.levels c.args.nodes.now c.requires.nodes c.args.m (subst (λ v. c.args.m < v) c.look.ensures.value c.if-m-look.true)
 
 pub first_block-leaf-requires-clause-due : goal.first_block-leaf-requires-clause-due
-first_block-leaf-requires-clause-due g c = omega (arith, c.look.ensures.value, c.if-m-lt-look.false)
+first_block-leaf-requires-clause-due g c = omega (arith, c.look.ensures.value, c.if-m-look.false)
 
 pub returns-clause-found : goal.returns-clause-found
 returns-clause-found g c =

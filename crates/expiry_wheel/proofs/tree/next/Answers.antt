@@ -1,4 +1,4 @@
-use Rattle.std.proofs.Common.{◌≡◌, ◌-◌, ◌/◌, ◌<◌, length, sym, subst, arith}
+use Rattle.std.proofs.Common.{◌≡◌, ◌-◌, ◌/◌, ◌<◌, length, subst, arith}
 use Rattle.expiry_wheel.specs.Moments.{kept_at, IsNextIn}
 use Rattle.expiry_wheel.specs.Blocks.{row, leasts_in, IsFirstBelow}
 use Rattle.expiry_wheel.proofs.Walks.{some_in_row}

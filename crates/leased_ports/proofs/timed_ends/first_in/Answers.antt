@@ -6,6 +6,6 @@ returns-then-free_at-m-clause-found g c =
     let l = c.loop-at in
     record {
       from_on = l.auto.at;
-      due = subst (λ v. v ≤ c.args.m) c.free_at.ensures c.if-free_at-m.true;
+      due = subst (λ v. v ≤ c.args.m) c.free_at.ensures.moment c.if-free_at-m.true;
       first = l.invariant.later;
     }

@@ -1,6 +1,5 @@
-use Rattle.std.proofs.Common.{◌≡◌, ◌*◌, length, sym, ap, ◌∙◌}
+use Rattle.std.proofs.Common.{◌≡◌, length, sym, ap, ◌∙◌}
 use Rattle.std.proofs.lemmas.List.{with_items_is}
-use Rattle.expiry_wheel.specs.Blocks.{row}
 use Rattle.expiry_wheel.proofs.LeastLists.{nodes_blank, leasts_blank, leasts_all}
 use Rattle.expiry_wheel.proofs.leasts.Leasts.clear.Goals as goal
 

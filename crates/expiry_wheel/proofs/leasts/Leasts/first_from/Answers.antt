@@ -1,4 +1,4 @@
-use Rattle.std.proofs.Common.{◌≡◌, ℕ, ◌<◌, ◌≤◌, List, length, IfSome, IfNone, ap, subst, ◌∙◌}
+use Rattle.std.proofs.Common.{ℕ, ◌<◌, ◌≤◌, List, length, IfSome, IfNone, ap, subst, ◌∙◌}
 use Rattle.expiry_wheel.specs.Moments.{kept_at, IsFirstIn}
 use Rattle.expiry_wheel.specs.Blocks.{leasts_in}
 use Rattle.expiry_wheel.proofs.leasts.Leasts.first_from.Goals as goal

@@ -1,4 +1,4 @@
-use Rattle.std.proofs.Common.{◌≡◌, ◌*◌, ◌^◌, length, sym, ◌∙◌, arith}
+use Rattle.std.proofs.Common.{◌≡◌, ◌*◌, ◌^◌, length, sym, ◌∙◌}
 use Rattle.expiry_wheel.specs.Blocks.{row}
 use Rattle.expiry_wheel.proofs.LeastLists.{row_power, nodes_made, nodes_blank, leasts_blank}
 use Rattle.expiry_wheel.proofs.leasts.Leasts.new.Goals as goal

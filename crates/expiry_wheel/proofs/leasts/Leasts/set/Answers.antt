@@ -1,6 +1,6 @@
-use Rattle.std.proofs.Common.{◌≡◌, ◌*◌, List, ℕ, length, slice_set, sym, ap, subst, ◌∙◌, arith}
+use Rattle.std.proofs.Common.{List, ℕ, length, slice_set, sym, ap, ◌∙◌, arith}
 use Rattle.std.proofs.lemmas.List.{with_items_is}
-use Rattle.expiry_wheel.specs.Blocks.{row, leasts_in, AreNodes}
+use Rattle.expiry_wheel.specs.Blocks.{leasts_in}
 use Rattle.expiry_wheel.proofs.LeastLists.{leasts_all}
 use Rattle.expiry_wheel.proofs.leasts.Leasts.set.Goals as goal
 

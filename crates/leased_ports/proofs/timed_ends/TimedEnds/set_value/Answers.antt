@@ -1,16 +1,17 @@
+use Rattle.std.proofs.Common.{sym}
 use Rattle.leased_ports.specs.Frees.{free_at}
 use Rattle.leased_ports.proofs.TimedLemmas.{value-near, value-free}
 use Rattle.leased_ports.proofs.timed_ends.TimedEnds.set_value.Goals as goal
 
-pub renew-requires-clause-near : goal.renew-requires-clause-near
-renew-requires-clause-near c = value-near c.self.inside.ends c.args.first c.args.value c.set_value.new.self c.set_value.ensures.ok c.requires c.self.invariant.near
+pub retell-requires-clause-near : goal.retell-requires-clause-near
+retell-requires-clause-near c = value-near c.self.inside.ends c.args.first c.args.value c.set_value.new.self c.set_value.ensures.ok c.requires c.self.invariant.near
 
-pub renew-requires-clause-all : goal.renew-requires-clause-all
-renew-requires-clause-all c = c.self.invariant.leasts.all
+pub retell-requires-clause-all : goal.retell-requires-clause-all
+retell-requires-clause-all c = c.self.invariant.leasts.all
 
 pub invariant_of-self : goal.invariant_of-self
 invariant_of-self c = record {
   apart = c.set_value.ensures.runs;
   near = value-near c.self.inside.ends c.args.first c.args.value c.set_value.new.self c.set_value.ensures.ok c.requires c.self.invariant.near;
-  leasts = c.renew.ensures (free_at c.self.inside.ends) c.self.invariant.leasts (value-free c.self.inside.ends c.args.first c.args.value c.set_value.new.self c.set_value.ensures.ok);
+  leasts = c.retell.ensures (free_at c.self.inside.ends) c.self.invariant.leasts (sym c.free_at-before.ensures.moment) (value-free c.self.inside.ends c.args.first c.args.value c.set_value.new.self c.set_value.ensures.ok);
 }
