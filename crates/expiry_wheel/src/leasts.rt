@@ -76,7 +76,7 @@ impl Leasts {
         requires { block < length self.now }
         ensures { result ≡ kept_at self.now block }
     {
-        self.nodes[self.nodes.len() / 2 + block]
+        tree::least_of(&self.nodes, block)
     }
 
     /// Sets the least moment of a block.

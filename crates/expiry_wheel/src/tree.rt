@@ -25,6 +25,14 @@ pub fn look<L: Ledger>(cells: &[u64], i: usize, steps: &mut Steps<L>) -> u64
     cells[i]
 }
 
+/// The moment of a block. It takes no step.
+pub fn least_of(nodes: &[u64], block: usize) -> u64
+    requires { length nodes.now / 2 + block < length nodes.now }
+    ensures { result ≡ kept_at nodes.now (length nodes.now / 2 + block) }
+{
+    nodes[nodes.len() / 2 + block]
+}
+
 /// `count` moments or nodes, of which each is `NEVER`.
 pub fn blank(alloc: Global, count: usize) -> Result<Vec<u64>, AllocError>
     ensures all { IfOk result (λ cells. vec_len cells ≡ count) }

@@ -1,6 +1,6 @@
 //! Runs of last ends, with when the rest of each is over.
 
-ghost use Rattle.std.specs.Prelude.{◌≡◌, ◌≢◌, ◌≤◌, ◌<◌, ◌+◌, ◌*◌, ◌^◌, ℕ, [], length, true, Some, None, IfSome, IfNone, IfOk, OnOk, if◌then◌else◌};
+ghost use Rattle.std.specs.Prelude.{◌≡◌, ◌≢◌, ◌≤◌, ◌<◌, ◌+◌, ◌-◌, ◌*◌, ◌^◌, ℕ, [], length, true, Some, None, IfSome, IfNone, IfOk, OnOk, if◌then◌else◌};
 ghost use Rattle.std.specs.Option.{option_map};
 ghost use Rattle.expiry_wheel.specs.Moments.{IsFirstOf};
 ghost use Rattle.expiry_wheel.specs.Blocks.{AreLeasts, least_at};

@@ -4,7 +4,7 @@ use Rattle.leased_ports.proofs.TimedLemmas.{cut-near, cut-free}
 use Rattle.leased_ports.proofs.timed_ends.cut.Goals as goal
 
 pub retell-requires-clause-near : goal.retell-requires-clause-near
-retell-requires-clause-near c = cut-near c.args.ends.now c.args.at c.cut.new.self c.in_ok.ensures.ok c.requires.near
+retell-requires-clause-near c = cut-near c.args.ends.now c.args.at c.cut.new.self c.in_ok-cut.ensures.ok c.requires.near
 
 pub retell-requires-clause-all : goal.retell-requires-clause-all
 retell-requires-clause-all c = c.requires.leasts.all
@@ -12,6 +12,6 @@ retell-requires-clause-all c = c.requires.leasts.all
 pub returns-clause-timed : goal.returns-clause-timed
 returns-clause-timed c = record {
   apart = c.cut.ensures.runs;
-  near = cut-near c.args.ends.now c.args.at c.cut.new.self c.in_ok.ensures.ok c.requires.near;
-  leasts = c.retell.ensures (free_at c.args.ends.now) c.requires.leasts (sym c.free_at-before.ensures.moment) (cut-free c.args.ends.now c.args.at c.cut.new.self c.in_ok.ensures.ok);
+  near = cut-near c.args.ends.now c.args.at c.cut.new.self c.in_ok-cut.ensures.ok c.requires.near;
+  leasts = c.retell.ensures (free_at c.args.ends.now) c.requires.leasts (sym c.free_at-before.ensures.moment) (cut-free c.args.ends.now c.args.at c.cut.new.self c.in_ok-cut.ensures.ok);
 }

@@ -5,10 +5,10 @@ use Rattle.leased_ports.specs.Frees.{is_over, free_at}
 use Rattle.leased_ports.proofs.TimedLemmas.{over_found, over_none}
 use Rattle.leased_ports.proofs.timed_ends.first_over.Goals as goal
 
-pub returns-then-from-ge-clause-first : goal.returns-then-from-ge-clause-first
-returns-then-from-ge-clause-first g c =
+pub returns-then-from-clause-first : goal.returns-then-from-clause-first
+returns-then-from-clause-first g c =
     let here : is_over c.args.m (run_at c.args.ends.now c.args.from) ≡ false = sym c.is_over_at.ensures ∙ c.if-is_over_at.false in
-    over_none c.args.ends.now c.args.frees.now c.requires c.args.from c.args.m (omega arith) here (λ at after low. absurd (omega (arith, after, low, c.if-from-ge.true)))
+    over_none c.args.ends.now c.args.frees.now c.requires c.args.from c.args.m (omega arith) here (λ at after low. absurd (omega (arith, after, low, c.if-from.true)))
 
 pub returns-clause-first : goal.returns-clause-first
 returns-clause-first g c =

@@ -1,4 +1,4 @@
-use Rattle.std.proofs.Common.{◌≡◌, ◌≢◌, ◌/◌, ◌*◌, ℕ, sym, ap, subst, ◌∙◌, arith}
+use Rattle.std.proofs.Common.{◌≡◌, ◌≢◌, ◌/◌, ◌*◌, ◌<◌, ◌≤◌, ℕ, sym, ap, subst, ◌∙◌, arith}
 use Rattle.expiry_wheel.specs.Moments.{kept_at}
 use Rattle.expiry_wheel.proofs.BlockMoments.{leasts_told, leasts_same, leasts_lower, leasts_stay}
 use Rattle.leased_ports.specs.Frees.{free_at}
@@ -11,8 +11,8 @@ returns-then-block-ge-BLOCKS c old are was same =
 pub least_of-least-requires : goal.least_of-least-requires
 least_of-least-requires c = omega (arith, c.requires.all, c.if-block-ge-BLOCKS.false)
 
-pub set_uncounted-requires-then-now-least : goal.set_uncounted-requires-then-now-least
-set_uncounted-requires-then-now-least c = omega (arith, c.requires.all, c.if-block-ge-BLOCKS.false)
+pub set_uncounted-requires : goal.set_uncounted-requires
+set_uncounted-requires c = omega (arith, c.requires.all, c.if-block-ge-BLOCKS.false)
 
 pub returns-then-now-least : goal.returns-then-now-least
 returns-then-now-least c old are was same =
@@ -22,17 +22,17 @@ returns-then-now-least c old are was same =
     let under : g c.args.at ≤ kept_at c.args.frees.now (c.args.at / 8) = omega (arith, c.free_at-now.ensures.moment, c.least_of-least.ensures, c.if-now-least.true) in
     rw (c.set_uncounted.ensures, c.free_at-now.ensures.moment) (leasts_lower 16384 old c.args.frees.now are g c.args.at low some same under)
 
-pub set_uncounted-requires : goal.set_uncounted-requires
-set_uncounted-requires c = omega (arith, c.requires.all, c.if-block-ge-BLOCKS.false)
+pub set_uncounted-requires-then-before-least : goal.set_uncounted-requires-then-before-least
+set_uncounted-requires-then-before-least c = omega (arith, c.requires.all, c.if-block-ge-BLOCKS.false)
 
 pub returns-then-before-least : goal.returns-then-before-least
 returns-then-before-least c old are was same =
-    rw c.set_uncounted-2.ensures
+    rw c.set_uncounted-then-before-least.ensures
     (leasts_told 16384 old c.args.frees.now are (free_at c.args.ends.now) (c.args.at / 8) c.least_in.result (omega (arith, c.if-block-ge-BLOCKS.false))
     (λ i apart. same i (λ e. apart (ap (λ (k : ℕ). k / 8) e))) c.least_in.ensures)
 
-pub returns : goal.returns
-returns c old are was same =
+pub returns-else-before-least : goal.returns-else-before-least
+returns-else-before-least c old are was same =
     let g = free_at c.args.ends.now in
     let low : c.args.at < 8 * 16384 = omega (arith, c.if-block-ge-BLOCKS.false) in
     let some : g c.args.at ≤ 18446744073709551615 = subst (λ v. v ≤ 18446744073709551615) c.free_at-now.ensures.moment c.free_at-now.ensures.most in
