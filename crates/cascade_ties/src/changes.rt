@@ -24,7 +24,8 @@ pub(crate) fn append(kept: &mut Numbers, tied: Tied) -> Result<(), Memory>
 {
     let (client, local) = (client_of(&tied), local_of(&tied));
     let until_ms = tied.tie.until_ms;
-    kept.append(tied, client, local, until_ms)
+    kept.append(tied, client, local, until_ms)?;
+    Ok(())
 }
 
 /// Writes a tie at a number that has one with its client and local port, whose time was `before`.

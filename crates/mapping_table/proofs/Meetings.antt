@@ -1,5 +1,5 @@
 -- Which leases another one overlaps.
-use Rattle.std.proofs.Common.{◌≡◌, ℕ, ◌+◌, ◌-◌, ◌<◌, ◌≤◌, ◌⊎◌, ◌&&◌, not, Bool, true, false, cond, List, [], ◌∷◌, map, find, Contains, Option, Some, None, IsSome, refl, inl, inr, sym, ap, ◌∙◌, subst, arith}
+use Rattle.std.proofs.Common.{◌≡◌, ℕ, ◌+◌, ◌-◌, ◌<◌, ◌≤◌, ◌⊎◌, ◌&&◌, ◌||◌, not, Bool, true, false, cond, List, [], ◌∷◌, map, find, Contains, Option, Some, None, IsSome, refl, inl, inr, sym, ap, ◌∙◌, subst, arith}
 use Rattle.std.specs.List.{list_any}
 use Rattle.std.specs.Ordering.{is_gt}
 use Rattle.std.proofs.lemmas.Bool.{and_parts, and_from, or_left, or_right, or_cases, ltb-true, lt-ltb, cases_lt}
@@ -17,7 +17,7 @@ use Rattle.pcp_base.proofs.TableLemmas.{covers-from_IsCovered, covers-first}
 use Rattle.ordered_index.specs.Orders.{Place, port_at, port_cmp, place_cmp}
 use Rattle.ordered_index.proofs.Entries.{false_by}
 use Rattle.ordered_index.proofs.OrderLaws.{address_same, protocol_one, ports_between, ports_up_to, places_between, places_up_to}
-use Rattle.mapping_table.specs.Kept.{place_of_lease, port_of_lease, bare, whole, overlapped_key, IsLastPlace, IsLastPort, IsNearest, TellsMet}
+use Rattle.mapping_table.specs.Kept.{place_of_lease, port_of_lease, bare, whole, overlapped_key, is_renewed, IsLastPlace, IsLastPort, IsNearest, TellsMet}
 use Rattle.mapping_table.specs.MapLists.{map_covering, map_owning, meet_inside, meet_outside, overlaps, AreSeparate, AreSoundMaps, IsOverlapped}
 use Rattle.mapping_table.proofs.Separates.{owns-from_IsOwned, cover_apart, own_apart}
 
@@ -167,6 +167,16 @@ module _ (ls : List MapLease) (sound : AreSoundMaps ls) where
     pub single_outside : l.count ≡ 1 → (o : Option MapLease) → o ≡ map_owning l.protocol l.external ls → TellsMet meet_outside l ls o
     single_outside one o is =
         single_among meet_outside (owns l.protocol l.external) (overlap_outside l) (λ x meets. single_owned x one meets) (own_apart l.protocol l.external) o (sym is)
+
+    -- one that owns its port is the only one
+    pub only_owner : (x : MapLease) → IsIn x ls → owns l.protocol l.external x ≡ true → (o : Option MapLease) → find (owns l.protocol l.external) ls ≡ o → Some x ≡ o
+    only_owner x i owned None none = absurd (clash (owns l.protocol l.external x) owned (All-IsIn (λ y. owns l.protocol l.external y ≡ false) ls x (find-none (owns l.protocol l.external) ls none) i))
+    only_owner x i owned (Some y) found =
+        let y_is = find-some (owns l.protocol l.external) ls y found in
+        elim (two_in x y i y_is.0) [
+          | inl same ↦ ap Some same
+          | inr separate ↦ absurd (own_apart l.protocol l.external x y separate owned y_is.1)
+        ]
 
     -- inside, the last lease that begins up to the last port tells of all
     module _ (k : Place) (last : IsLastPlace l k) where
@@ -349,3 +359,18 @@ module _ (ls : List MapLease) (l : MapLease) where
 pub overlapped_whole : (kept : Place → List Filter) (l : MapLease) (ls : List MapLease) (r : Option Endpoint) → IsOverlapped (bare l) ls r → IsOverlapped l (map (whole kept) ls) r
 overlapped_whole kept l ls None h = record { among = tt; none = any-map (overlaps l) (whole kept) ls ∙ h.none }
 overlapped_whole kept l ls (Some key) h = record { among = any-map (λ y. is_map_of key y && overlaps l y) (whole kept) ls ∙ h.among; none = tt }
+
+-- where the one with its key owns its port, a lease of a single port overlaps none
+module _ (ls : List MapLease) (sound : AreSoundMaps ls) (l : MapLease) (one : l.count ≡ 1) where
+  own_key : (x : MapLease) → is_map_of (first_endpoint l) x ≡ true → None ≡ overlapped_key l (Some x)
+  own_key x key = sym (ap (λ b. cond (not b && (meet_inside l x || meet_outside l x)) (Some (first_endpoint x)) None) key)
+
+  renewed_by : (x : MapLease) → Some x ≡ map_covering (first_endpoint l) ls → is_map_of (first_endpoint l) x ≡ true → owns l.protocol l.external x ≡ true → IsOverlapped l ls None
+  renewed_by x found key owned =
+      let i = (find-some (λ y. covers y (first_endpoint l)) ls x (sym found)).0 in
+      let owner = only_owner ls sound l x i owned (find (owns l.protocol l.external) ls) refl in
+      second_tells ls l (Some x) (Some x) (single_inside ls sound l one (Some x) found) (single_outside ls sound l one (Some x) owner) (own_key x key) None (own_key x key)
+
+  pub renewed_tells : (o : Option MapLease) → o ≡ map_covering (first_endpoint l) ls → is_renewed l o ≡ true → IsOverlapped l ls None
+  renewed_tells None found renewed = absurd (let no : false ≡ true = renewed in cc)
+  renewed_tells (Some x) found renewed = let both = and_parts _ _ renewed in renewed_by x found both.0 both.1

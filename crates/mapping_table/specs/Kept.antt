@@ -1,17 +1,18 @@
 -- How a table keeps its leases (our own; for proofs alone).
-use Rattle.std.specs.Prelude.{◌≡◌, ℕ, ◌+◌, ◌<◌, ◌≤◌, ◌==◌, nat_lt, Bool, true, false, List, [], ◌∷◌, length, Contains, count_by, slice_index, Option, Some, None, IsSome, IfSome, IfNone, if◌then◌else◌}
+use Rattle.std.specs.Prelude.{◌≡◌, ℕ, ◌+◌, ◌<◌, ◌≤◌, ◌==◌, ◌&&◌, nat_lt, Bool, true, false, List, [], ◌∷◌, length, Contains, count_by, slice_index, Option, Some, None, IsSome, IfSome, IfNone, if◌then◌else◌}
 use Rattle.std.specs.Ordering.{is_gt}
 use Rattle.std.specs.declared.cmp.Ordering.{Ordering}
 use Rattle.std.specs.BTreeMap.{BTreeMap, get, is_at, values}
 use Rattle.pcp_base.specs.declared.leases.Filter.{Filter}
 use Rattle.pcp_base.specs.declared.leases.Endpoint.{Endpoint}
 use Rattle.pcp_base.specs.declared.leases.MapLease.{MapLease}
+use Rattle.pcp_base.specs.Owners.{owns}
 use Rattle.pcp_base.specs.Protocols.{protocol_number}
 use Rattle.pcp_base.specs.Tables.{first_endpoint, is_map_of}
 use Rattle.ordered_index.specs.declared.numbered.Numbered.{Numbered}
 use Rattle.ordered_index.specs.Kept.{Keying, IsKept}
 use Rattle.ordered_index.specs.Orders.{Place, port_at, place_of, port_cmp, place_cmp}
-use Rattle.ordered_index.specs.Sieves.{slot_of, no_places}
+use Rattle.ordered_index.specs.Sieves.{bucket_of, no_places}
 use Rattle.mapping_table.specs.MapLists.{AreSoundMaps, is_live_map, overlaps}
 
 abbrev pub place_of_lease : MapLease → Place
@@ -48,15 +49,15 @@ pub record AreCountedMaps (it : Numbered MapLease Place (ℕ × ℕ)) (sets : �
   pub kept : AreKeptMaps it
   pub counted : sets ≡ count_by is_set (values it.leases)
 
--- whether the place of the lease's first endpoint falls on the number
+-- whether the place of the lease's first endpoint falls on the bucket
 abbrev pub falls_on : ℕ → MapLease → Bool
-falls_on slot l = slot_of (place_of_lease l) == slot
+falls_on bucket l = bucket_of (place_of_lease l) == bucket
 
--- where the sieve has less than 255 for a number, that is how many leases fall on it
+-- where the sieve has less than 255 for a bucket, that is how many leases fall on it
 pub record SievesMaps (sieve : List ℕ) (ls : List MapLease) : Type 0 where
   pub whole : length sieve ≡ length no_places
-  pub tells : (slot : ℕ) → slice_index sieve slot < 255
-      → slice_index sieve slot ≡ count_by (falls_on slot) ls
+  pub tells : (bucket : ℕ) → slice_index sieve bucket < 255
+      → slice_index sieve bucket ≡ count_by (falls_on bucket) ls
 
 -- the leases with their maps, how many of them are sets, and the sieve
 pub record AreSievedMaps (it : Numbered MapLease Place (ℕ × ℕ)) (sets : ℕ) (sieve : List ℕ)
@@ -179,6 +180,11 @@ pub record IsNearest {K : Type 0} (cmp : K → K → Ordering) (key : MapLease �
 abbrev pub overlapped_key : MapLease → Option MapLease → Option Endpoint
 overlapped_key l None = None
 overlapped_key l (Some x) = if overlaps l x then Some (first_endpoint x) else None
+
+-- whether what was looked up has the key of this lease and owns its first external port
+abbrev pub is_renewed : MapLease → Option MapLease → Bool
+is_renewed l None = false
+is_renewed l (Some x) = is_map_of (first_endpoint l) x && owns l.protocol l.external x
 
 -- one of the leases, which this one overlaps where it meets one with another key at all
 pub record TellsMet (meet : MapLease → MapLease → Bool) (l : MapLease) (ls : List MapLease)

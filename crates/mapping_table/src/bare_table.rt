@@ -1,23 +1,25 @@
 //! Leases without their filters, by numbers that grow, and ordered maps to the numbers beside them.
 
-ghost use Rattle.std.specs.Prelude.{◌≡◌, ◌≤◌, ◌<◌, ◌+◌, ◌-◌, ◌*◌, ◌++◌, [], not, map, filter, take, count_by, length, IfOk, OnOk};
+ghost use Rattle.std.specs.Prelude.{◌≡◌, ◌≤◌, ◌<◌, ◌+◌, ◌-◌, ◌*◌, ◌++◌, [], not, map, filter, take, count_by, length, Some, IfSome, IfOk, OnOk};
 ghost use Rattle.std.specs.List.{AllByRecursion, list_any};
 ghost use Rattle.std.specs.Option.{option_copied};
+ghost use Rattle.std.specs.Ordering.{nat_cmp};
 ghost use Rattle.std.specs.BTreeMap.{get, values};
 ghost use Rattle.step_count.specs.Levels.{levels};
+ghost use Rattle.pcp_base.specs.declared.leases.MapLease.{MapLease};
 ghost use Rattle.pcp_base.specs.Records.{IsWellFormedRecord};
 ghost use Rattle.pcp_base.specs.Snapshots.{map_record};
 ghost use Rattle.mapping_table.specs.MapLists.{is_live_map, some_live_map, map_covering, map_owning, IsDeadMap, IsNextCovered, AreSoundMaps, IsOverlapped, with_map, PutsMap, RemovesMap, CopiesLiveMaps};
 ghost use Rattle.ordered_index.specs.Orders.{place_cmp};
-ghost use Rattle.mapping_table.specs.Kept.{AreKeptMaps, SievesMaps, AreSievedMaps, filters_at, whole};
+ghost use Rattle.mapping_table.specs.Kept.{AreKeptMaps, SievesMaps, AreSievedMaps, place_of_lease, filters_at, whole};
 
 use crate::bare::BareLease;
 use crate::begins::first_live;
 use crate::changes::{append, replace};
 use crate::filters::{live_whole, whole};
 use crate::looks::{lease_at, look};
-use crate::overlaps::{overlapped_key, overlapping_set};
-use ordered_index::{Numbered, Place, Port, Sieve, Slots, last_up_to, place_of, port_at};
+use crate::overlaps::{is_renewed, overlapped_key, overlapping_set};
+use ordered_index::{Hints, Numbered, Place, Port, Sieve, Slots, last_up_to, place_of, port_at};
 use pcp_base::{Change, Endpoint, Filters, MapLease, Memory, Moment, Protocol, Record};
 use record_sink::RecordSink;
 use std::alloc::{AllocError, Global};
@@ -34,8 +36,10 @@ pub(crate) struct BareTable {
     kept: Numbered<BareLease, Place, Port>,
     /// How many of them are sets of ports. A lease of a single port is found by that port alone.
     sets: u32,
-    /// How many of their first endpoints fall on each number. Most look-ups that miss end here.
+    /// How many of their first endpoints fall on each bucket. Most look-ups that miss end here.
     sieve: Sieve,
+    /// A slot for each bucket. Most look-ups that hit end at the lease there.
+    hints: Hints,
 }
 
 impl Model for BareTable {
@@ -94,15 +98,42 @@ fn append_records<K: RecordSink>(
     Ok(())
 }
 
-/// The number at the place. The ordered map is asked only where the sieve doesn't tell that there
-/// is none.
-fn number_at(sieve: &Sieve, kept: &Numbered<BareLease, Place, Port>, place: &Place) -> Option<u64>
+/// The number and the place of the lease in a slot.
+fn entry_in(kept: &Numbered<BareLease, Place, Port>, slot: usize) -> Option<(u64, Place)>
+    ensures { IfSome result (λ entry. (l : MapLease)
+        × (get nat_cmp kept.now.leases entry.0 ≡ Some l) × (place_of_lease l ≡ entry.1)) }
+{
+    let Some(entry) = kept.leases.in_slot(slot) else {
+        return None;
+    };
+    let (number, lease) = entry;
+    Some((*number, lease.place()))
+}
+
+/// The number at the place. The ordered map is asked only where neither the sieve nor the lease that
+/// is hinted at tells.
+fn number_at(
+    sieve: &Sieve,
+    hints: &Hints,
+    kept: &Numbered<BareLease, Place, Port>,
+    place: &Place,
+) -> Option<u64>
     requires kept { AreKeptMaps kept.now }
     requires sieved { SievesMaps sieve.now (values kept.now.leases) }
     ensures { result ≡ get place_cmp kept.now.keys place.now }
 {
-    if sieve.lacks(place) {
+    let count = sieve.count(place);
+    if count == 0 {
         return None;
+    }
+    if let Some(entry) = entry_in(kept, hints.slot(place)) {
+        let (number, held) = entry;
+        if held == *place {
+            return Some(number);
+        }
+        if count == 1 && held.falls_with(place) {
+            return None;
+        }
     }
     kept.keys.get(place).copied()
 }
@@ -121,6 +152,7 @@ fn is_live_at(found: Option<&BareLease>, m: Moment) -> bool
 fn put_kept<L: Ledger>(
     kept: &mut Numbered<BareLease, Place, Port>,
     sieve: &mut Sieve,
+    hints: &mut Hints,
     sets: &mut u32,
     lease: BareLease,
     steps: &mut Steps<L>,
@@ -133,9 +165,13 @@ fn put_kept<L: Ledger>(
 {
     levels_grow();
     look(kept, steps);
-    match number_at(sieve, kept, &lease.place()) {
-        Some(number) => replace(kept, sets, number, lease, steps),
-        None => append(kept, sieve, sets, lease, steps),
+    let place = lease.place();
+    match number_at(sieve, hints, kept, &place) {
+        Some(number) => {
+            hints.note(&place, number);
+            replace(kept, sets, number, lease, steps)
+        }
+        None => append(kept, sieve, hints, sets, lease, steps),
     }
 }
 
@@ -144,10 +180,14 @@ impl BareTable {
     pub(crate) fn new(alloc: Global) -> Result<BareTable, Memory>
         ensures { IfOk result (λ table. table ≡ []) }
     {
+        let kept = Numbered::new(alloc);
+        let sieve = Sieve::new(alloc)?;
+        let hints = Hints::new(alloc)?;
         Ok(BareTable {
-            kept: Numbered::new(alloc),
+            kept,
             sets: 0,
-            sieve: Sieve::new(alloc)?,
+            sieve,
+            hints,
         })
     }
 
@@ -178,7 +218,7 @@ impl BareTable {
     {
         let kept = &self.kept;
         look(kept, steps);
-        if let Some(number) = number_at(&self.sieve, kept, &place_of(endpoint)) {
+        if let Some(number) = number_at(&self.sieve, &self.hints, kept, &place_of(endpoint)) {
             return lease_at(kept, number, steps);
         }
         if self.sets == 0 {
@@ -271,7 +311,8 @@ impl BareTable {
     }
 
     /// The first endpoint of a lease that this one of a single port overlaps: of the lease that
-    /// covers its endpoint, or of the one that owns its external port.
+    /// covers its endpoint, or of the one that owns its external port, which isn't asked for where
+    /// the first has its key and owns its port.
     fn overlapping_single<L: Ledger>(
         &self,
         lease: &BareLease,
@@ -282,7 +323,11 @@ impl BareTable {
         ensures overlapped { IsOverlapped lease.now self.now result }
         ensures steps { steps.new ≤ steps.old + 6 * levels (length self.now) }
     {
-        let Some(key) = overlapped_key(lease, self.find(&lease.first_endpoint(), steps)) else {
+        let found = self.find(&lease.first_endpoint(), steps);
+        if is_renewed(lease, found) {
+            return None;
+        }
+        let Some(key) = overlapped_key(lease, found) else {
             let owner = self.by_external(lease.protocol(), lease.external(), steps);
             return overlapped_key(lease, owner);
         };
@@ -359,6 +404,7 @@ impl BareTable {
         put_kept(
             &mut self.kept,
             &mut self.sieve,
+            &mut self.hints,
             &mut self.sets,
             lease,
             steps,
@@ -376,7 +422,7 @@ impl BareTable {
     {
         look(&self.kept, steps);
         let place = place_of(key);
-        let Some(number) = number_at(&self.sieve, &self.kept, &place) else {
+        let Some(number) = number_at(&self.sieve, &self.hints, &self.kept, &place) else {
             return None;
         };
         let Some(lease) = lease_at(&self.kept, number, steps).copied() else {

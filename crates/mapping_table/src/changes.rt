@@ -8,7 +8,7 @@ ghost use Rattle.mapping_table.specs.MapLists.{AreSoundMaps, with_map, PutsMap};
 ghost use Rattle.mapping_table.specs.Kept.{place_of_lease, AreCountedMaps, SievesMaps};
 
 use crate::bare::BareLease;
-use ordered_index::{Numbered, Place, Port, Sieve};
+use ordered_index::{Hints, Numbered, Place, Port, Sieve};
 use pcp_base::Memory;
 use std::sync::ledger::Ledger;
 use step_count::{Steps, levels};
@@ -18,6 +18,7 @@ use step_count::{Steps, levels};
 pub(crate) fn append<L: Ledger>(
     kept: &mut Numbered<BareLease, Place, Port>,
     sieve: &mut Sieve,
+    hints: &mut Hints,
     sets: &mut u32,
     lease: BareLease,
     steps: &mut Steps<L>,
@@ -33,9 +34,10 @@ pub(crate) fn append<L: Ledger>(
 {
     steps.take(7 * levels(kept.leases.len() + 1));
     let place = lease.place();
-    kept.append(lease, place, lease.port(), lease.expiry())?;
+    let number = kept.append(lease, place, lease.port(), lease.expiry())?;
     *sets += lease.sets();
     sieve.add(&place);
+    hints.note(&place, number);
     Ok(())
 }
 

@@ -6,7 +6,7 @@ ghost use Rattle.std.specs.BTreeMap.{values};
 ghost use Rattle.step_count.specs.Levels.{levels};
 ghost use Rattle.ordered_index.specs.Orders.{place_cmp, port_cmp};
 ghost use Rattle.mapping_table.specs.MapLists.{meet_inside, meet_outside, IsOverlapped};
-ghost use Rattle.mapping_table.specs.Kept.{AreKeptMaps, place_of_lease, port_of_lease, overlapped_key, IsNearest, TellsMet};
+ghost use Rattle.mapping_table.specs.Kept.{AreKeptMaps, place_of_lease, port_of_lease, overlapped_key, is_renewed, IsNearest, TellsMet};
 
 use crate::bare::BareLease;
 use crate::looks::{lease_at, look};
@@ -26,6 +26,16 @@ pub(crate) fn overlapped_key(lease: &BareLease, found: Option<&BareLease>) -> Op
         Some(other.first_endpoint())
     } else {
         None
+    }
+}
+
+/// Whether what was looked up has the key of the lease and owns its first external port.
+pub(crate) fn is_renewed(lease: &BareLease, found: Option<&BareLease>) -> bool
+    ensures { result ≡ is_renewed lease.now (option_copied found.entry) }
+{
+    match found {
+        Some(other) => other.has_key_of(lease) && other.owns(lease.protocol(), lease.external()),
+        None => false,
     }
 }
 

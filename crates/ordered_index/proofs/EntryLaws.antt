@@ -36,6 +36,24 @@ count-some p (y ∷ ys) x h t =
       | inr later ↦ (let rest = count-some p ys x later t in omega (arith, all, rest))
     ]
 
+-- two that pass are counted
+pub two-counted : {X : Type 0} (p : X → Bool) (xs : List X) (x y : X) → IsIn x xs → IsIn y xs → (x ≡ y → ⊥) → p x ≡ true → p y ≡ true → 1 < count_by p xs
+two-counted p [] x y hx hy other px py = absurd hx
+two-counted p (z ∷ zs) x y hx hy other px py =
+    let all = count-cons p z zs in
+    elim hx [
+      | inl x_is ↦ (let one : tally (p z) ≡ 1 = tally-true (p z) (ap p x_is ∙ px) in
+          elim hy [
+            | inl y_is ↦ absurd (other (sym x_is ∙ y_is))
+            | inr y_later ↦ (let rest = count-some p zs y y_later py in omega (arith, all, one, rest))
+          ])
+      | inr x_later ↦ (let rest = count-some p zs x x_later px in
+          elim hy [
+            | inl y_is ↦ (let one : tally (p z) ≡ 1 = tally-true (p z) (ap p y_is ∙ py) in omega (arith, all, one, rest))
+            | inr y_later ↦ (let two = two-counted p zs x y x_later y_later other px py in omega (arith, all, two))
+          ])
+    ]
+
 some_step : {X : Type 0} (p : X → Bool) (y : X) (ys : List X) (b : Bool) → p y ≡ b → (0 < count_by p ys → (x : X) × IsIn x ys × (p x ≡ true)) → 0 < tally b + count_by p ys → (x : X) × IsIn x (y ∷ ys) × (p x ≡ true)
 some_step p y ys true e rest h = (y, inl refl, e)
 some_step p y ys false e rest h =

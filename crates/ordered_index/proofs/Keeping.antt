@@ -40,7 +40,7 @@ pub record Tells {L K P : Type 0} (by : Keying L K P) (has : L → Bool) (k : K)
   pub to : (l : L) → has l ≡ true → by.key l ≡ k
   pub from : (l : L) → by.key l ≡ k → has l ≡ true
 
-next_step : (next after : ℕ) → next % 131072 ≡ 0 → after ≡ next + 131072 → after % 131072 ≡ 0
+next_step : (next after : ℕ) → next % 32768 ≡ 0 → after ≡ next + 32768 → after % 32768 ≡ 0
 next_step next after step more = omega (arith, step, more)
 
 -- by equations of both lists

@@ -12,9 +12,9 @@ use Rattle.ordered_index.specs.declared.slots.TheConstants.{MOST_SLOTS}
 use Rattle.ordered_index.specs.MapSteps.{IsBlankMap, Inserts, Overwrites, Removes}
 use Rattle.ordered_index.specs.Slots.{AreSlots, entries_of, lease_at, lease_of, leases_of}
 use Rattle.ordered_index.proofs.Entries.{number_same}
-use Rattle.ordered_index.proofs.SlotLaws.{changed-slots, lease-get, none_is, own, own_lease, same-entries, same-slots, seen-inserts, seen-ordered, seen-overwrites, seen-removes, slot-changed}
+use Rattle.ordered_index.proofs.SlotLaws.{AreNamed, changed-slots, lease-get, named-updated, none_is, own, own_lease, same-entries, same-slots, seen-inserts, seen-ordered, seen-overwrites, seen-removes, slot-changed}
 
-slot_named : (next slot n : ℕ) → next % 131072 ≡ 0 → slot < 131072 → n ≡ next + slot → n % 131072 ≡ slot
+slot_named : (next slot n : ℕ) → next % 32768 ≡ 0 → slot < 32768 → n ≡ next + slot → n % 32768 ≡ slot
 slot_named next slot n step below is = omega (arith, step, below, is)
 
 -- the slot that a number names
@@ -47,6 +47,7 @@ module _ {L : Type 0} where
       listed = λ n.
           ap (λ (s : List (Option (ℕ × L))). is_some (lease_of n (slice_index_or s (n % MOST_SLOTS) None))) blank
           ∙ sym (ap (λ (es : List (ℕ × ⊤)). is_some (lookup (is_at (nat_cmp n)) es)) none);
+      named = λ slot. subst (λ (s : List (Option (ℕ × L))). IfSome (slice_index_or s slot None) (λ e. e.0 % MOST_SLOTS ≡ slot)) (sym blank) tt;
     }
 
     pub blank-seen : IsBlankMap nat_cmp (leases_of slots order)
@@ -58,9 +59,12 @@ module _ {L : Type 0} where
       mid_same : (n : ℕ) → lease_at mid n ≡ lease_at slots n
       mid_same n = ap (λ (s : slab.Slab (ℕ × L)). lease_at s n) kept
 
+      mid_named : AreNamed mid
+      mid_named slot = subst (λ (s : slab.Slab (ℕ × L)). IfSome (slab.get s slot) (λ e. e.0 % MOST_SLOTS ≡ slot)) (sym kept) (h.named slot)
+
       module _ (order' : BTreeMap ℕ ⊤) (entries : order'.entries ≡ order.entries) where
         pub roomy-slots : AreSlots mid order'
-        roomy-slots = same-slots slots mid order order' h mid_same entries
+        roomy-slots = same-slots slots mid order order' h mid_same entries mid_named
 
         pub roomy-entries : (leases_of mid order').entries ≡ (leases_of slots order).entries
         roomy-entries = same-entries slots mid order order' h mid_same entries
@@ -79,8 +83,11 @@ module _ {L : Type 0} where
         was : IfSome (slab.get mid (n % MOST_SLOTS)) (λ e. e.0 ≡ n)
         was = subst (λ (o : Option (ℕ × L)). IfSome o (λ e. e.0 ≡ n)) (sym vacant_here) tt
 
+        updates_here : slab.Updates mid new (n % MOST_SLOTS) (Some (n, l))
+        updates_here = subst (λ k. slab.Updates mid new k (Some (n, l))) key_is updates
+
         changed : (m : ℕ) → lease_at new m ≡ cond (is_at (nat_cmp n) m) (lease_of n (Some (n, l))) (lease_at mid m)
-        changed = slot-changed mid new n (Some (n, l)) (subst (λ k. slab.Updates mid new k (Some (n, l))) key_is updates) was refl
+        changed = slot-changed mid new n (Some (n, l)) updates_here was refl
 
         free_number : get nat_cmp order n ≡ None
         free_number = none_is (get nat_cmp order n) (sym (roomy.listed n) ∙ ap (λ o. is_some (lease_of n o)) vacant_here)
@@ -92,7 +99,7 @@ module _ {L : Type 0} where
         own_put = ap is_some (own_lease n (n, l) refl)
 
         pub appended-slots : AreSlots new order'
-        appended-slots = changed-slots mid new order order' roomy n (lease_of n (Some (n, l))) (Some tt) changed own_put ordered gets
+        appended-slots = changed-slots mid new order order' roomy n (lease_of n (Some (n, l))) (Some tt) changed (named-updated mid new n (Some (n, l)) roomy.named updates_here refl) own_put ordered gets
 
         pub appended-inserts : Inserts nat_cmp (leases_of slots order) (leases_of new order') n l
         appended-inserts = subst (λ (m : BTreeMap ℕ L). Inserts nat_cmp m (leases_of new order') n l) (ap (λ (s : slab.Slab (ℕ × L)). leases_of s order) kept)
@@ -119,7 +126,7 @@ module _ {L : Type 0} where
         pub overwritten-slots : AreSlots new order
         overwritten-slots =
             changed-slots slots new order order h n (lease_of n (Some (n, l))) (get nat_cmp order n) rewritten
-            (ap is_some (own_lease n (n, l) refl) ∙ sym held ∙ h.listed n) h.ordered (λ m. same_put (get nat_cmp order) n m (get nat_cmp order n) refl)
+            (named-updated slots new n (Some (n, l)) h.named updates refl) (ap is_some (own_lease n (n, l) refl) ∙ sym held ∙ h.listed n) h.ordered (λ m. same_put (get nat_cmp order) n m (get nat_cmp order n) refl)
 
         pub overwritten : Overwrites nat_cmp (leases_of slots order) (leases_of new order) n l
         overwritten = seen-overwrites slots new order order h n (lease_of n (Some (n, l))) (get nat_cmp order n) rewritten l (own_lease n (n, l) refl) overwritten-slots refl
@@ -137,7 +144,7 @@ module _ {L : Type 0} where
         gone = slot-changed slots new n None updates its_own.1 tt
 
         pub taken-slots : AreSlots new order'
-        taken-slots = changed-slots slots new order order' h n None None gone refl ordered gets
+        taken-slots = changed-slots slots new order order' h n None None gone (named-updated slots new n None h.named updates tt) refl ordered gets
 
         pub taken : Removes nat_cmp (leases_of slots order) (leases_of new order') n
         taken = seen-removes slots new order order' h n None None gone refl taken-slots entries
@@ -156,7 +163,7 @@ module _ {L : Type 0} where
         stays m = same_put (lease_at slots) n m None none_held
 
         pub none-slots : AreSlots slots order'
-        none-slots = changed-slots slots slots order order' h n None None stays refl ordered gets
+        none-slots = changed-slots slots slots order order' h n None None stays h.named refl ordered gets
 
         pub none-taken : Removes nat_cmp (leases_of slots order) (leases_of slots order') n
         none-taken = seen-removes slots slots order order' h n None None stays refl none-slots entries

@@ -1,6 +1,8 @@
 -- Leases in slots after one came, changed or went.
 use Rattle.std.specs.Prelude.{⊤, is_some}
 use Rattle.std.proofs.Common.{◌≡◌, ℕ, ◌%◌, ◌==◌, ◌⊎◌, Bool, true, false, cond, List, [], ◌∷◌, length, Option, Some, None, IsSome, IfSome, refl, sym, ap, ◌∙◌, subst, inl, inr}
+use Rattle.std.specs.Borrow.{Bor}
+use Rattle.std.specs.Option.{option_copied}
 use Rattle.std.specs.List.{AllByRecursion, cons_option, filter_map}
 use Rattle.std.specs.List.Sorted.{IsStrictlySortedBy}
 use Rattle.std.specs.Map.{lookup, set_value, remove_entry, keys_of, values_of}
@@ -47,6 +49,21 @@ module _ {L : Type 0} where
 
   pub own_lease : (n : ℕ) (e : ℕ × L) → e.0 ≡ n → lease_of n (Some e) ≡ Some e.1
   own_lease n e same = ap (λ t. cond t (Some e.1) None) (eq-eqb e.0 n same)
+
+  named_by : (o : Option (ℕ × L)) (n slot : ℕ) → IfSome o (λ e. e.0 ≡ n) → n % MOST_SLOTS ≡ slot → IfSome o (λ e. e.0 % MOST_SLOTS ≡ slot)
+  named_by None n slot is key = tt
+  named_by (Some e) n slot is key = ap (λ m. m % MOST_SLOTS) is ∙ key
+
+  -- what stands in a slot has a number that names it
+  abbrev pub AreNamed : slab.Slab (ℕ × L) → Type 0
+  AreNamed s = (slot : ℕ) → IfSome (slab.get s slot) (λ e. e.0 % MOST_SLOTS ≡ slot)
+
+  -- so it is after a slot was changed
+  pub named-updated : (old new : slab.Slab (ℕ × L)) (n : ℕ) (o : Option (ℕ × L)) → AreNamed old → slab.Updates old new (n % MOST_SLOTS) o → IfSome o (λ e. e.0 ≡ n) → AreNamed new
+  named-updated old new n o named updates is slot = elim (same_or slot (n % MOST_SLOTS)) [
+    | inl same ↦ subst (λ (q : Option (ℕ × L)). IfSome q (λ e. e.0 % MOST_SLOTS ≡ slot)) (sym (ap (slab.get new) same ∙ updates.changed)) (named_by o n slot is (sym same))
+    | inr apart ↦ subst (λ (q : Option (ℕ × L)). IfSome q (λ e. e.0 % MOST_SLOTS ≡ slot)) (sym (updates.others slot apart)) (named slot)
+  ]
 
   -- a slot is changed, which is free or the number's own
   module _ (old new : slab.Slab (ℕ × L)) (n : ℕ) (slot : Option (ℕ × L)) (updates : slab.Updates old new (n % MOST_SLOTS) slot)
@@ -236,14 +253,26 @@ module _ {L : Type 0} (slots : slab.Slab (ℕ × L)) (order : BTreeMap ℕ ⊤) 
   pub seen-values : filter_map (lease_at slots) (keys order) ≡ values seen
   seen-values = sym (entries-values (lease_at slots) order.entries)
 
+  -- what stands in a slot is the lease with its number
+  slot_entry : (slot : ℕ) (e : ℕ × L) → slab.get slots slot ≡ Some e → e.0 % MOST_SLOTS ≡ slot → get nat_cmp seen e.0 ≡ Some e.1
+  slot_entry slot e is key = sym (lease-get e.0) ∙ ap (λ s. lease_of e.0 (slab.get slots s)) key ∙ ap (lease_of e.0) is ∙ own_lease e.0 e refl
+
+  pub slot-entry : (slot : ℕ) (e : ℕ × L) → slab.get slots slot ≡ Some e → get nat_cmp seen e.0 ≡ Some e.1
+  slot-entry slot e is = slot_entry slot e is (subst (λ (q : Option (ℕ × L)). IfSome q (λ x. x.0 % MOST_SLOTS ≡ slot)) is (h.named slot))
+
+  pub slot-told : (slot : ℕ) (r : Option (Bor (ℕ × L))) → option_copied r ≡ slab.get slots slot → IfSome r (λ e. get nat_cmp seen e.now.0 ≡ Some e.now.1)
+  slot-told slot None is = tt
+  slot-told slot (Some e) is = slot-entry slot e.now (sym is)
+
 -- ---- a change
 module _ {L : Type 0} (slots slots' : slab.Slab (ℕ × L)) (order order' : BTreeMap ℕ ⊤) (h : AreSlots slots order) where
   -- where each number keeps its lease
   module _ (same : (n : ℕ) → lease_at slots' n ≡ lease_at slots n) (entries : order'.entries ≡ order.entries) where
-    pub same-slots : AreSlots slots' order'
-    same-slots = record {
+    pub same-slots : AreNamed slots' → AreSlots slots' order'
+    same-slots named = record {
       ordered = subst (λ (es : List (ℕ × ⊤)). IsStrictlySortedBy nat_cmp (keys_of es)) (sym entries) h.ordered;
       listed = λ n. ap is_some (same n) ∙ h.listed n ∙ sym (ap (λ (es : List (ℕ × ⊤)). is_some (lookup (is_at (nat_cmp n)) es)) entries);
+      named = named;
     }
 
     pub same-entries : (leases_of slots' order').entries ≡ (leases_of slots order).entries
@@ -257,10 +286,11 @@ module _ {L : Type 0} (slots slots' : slab.Slab (ℕ × L)) (order order' : BTre
     both_some true o q x y = x
     both_some false o q x y = y
 
-    pub changed-slots : is_some w ≡ is_some u → IsOrdered nat_cmp order' → ((m : ℕ) → get nat_cmp order' m ≡ cond (is_at (nat_cmp n) m) u (get nat_cmp order m)) → AreSlots slots' order'
-    changed-slots same ordered updates = record {
+    pub changed-slots : AreNamed slots' → is_some w ≡ is_some u → IsOrdered nat_cmp order' → ((m : ℕ) → get nat_cmp order' m ≡ cond (is_at (nat_cmp n) m) u (get nat_cmp order m)) → AreSlots slots' order'
+    changed-slots named same ordered updates = record {
       ordered = ordered;
       listed = λ m. ap is_some (changed m) ∙ both_some (is_at (nat_cmp n) m) (lease_at slots m) (get nat_cmp order m) same (h.listed m) ∙ sym (ap is_some (updates m));
+      named = named;
     }
 
     seen_changed : AreSlots slots' order' → (m : ℕ) → get nat_cmp (leases_of slots' order') m ≡ cond (is_at (nat_cmp n) m) w (get nat_cmp (leases_of slots order) m)

@@ -6,3 +6,4 @@ pub mod Lesser
 pub mod Kept
 pub mod Orders
 pub mod Sieves
+pub mod Hints

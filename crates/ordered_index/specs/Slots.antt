@@ -1,5 +1,5 @@
 -- How leases stand in slots (our own; for proofs alone).
-use Rattle.std.specs.Prelude.{◌≡◌, ℕ, ◌%◌, ◌==◌, List, [], ◌∷◌, Option, Some, None, is_some, if◌then◌else◌, ⊤}
+use Rattle.std.specs.Prelude.{◌≡◌, ℕ, ◌%◌, ◌==◌, List, [], ◌∷◌, Option, Some, None, is_some, IfSome, if◌then◌else◌, ⊤}
 use Rattle.std.specs.Ordering.{nat_cmp}
 use Rattle.std.specs.BTreeMap.{BTreeMap, IsOrdered, get}
 use Rattle.std_collections.specs.Layout.BTreeMap.{btree_map}
@@ -27,10 +27,12 @@ module _ {L : Type 0} where
   entries_of lease [] = []
   entries_of lease (e ∷ es) = with_lease e.0 (lease e.0) (entries_of lease es)
 
-  -- the numbers in order, and a lease for each of them and for no other
+  -- the numbers in order, and a lease for each of them and for no other, which stands in the slot
+  -- that its number names
   pub record AreSlots (slots : slab.Slab (ℕ × L)) (order : BTreeMap ℕ ⊤) : Type 0 where
     pub ordered : IsOrdered nat_cmp order
     pub listed : (n : ℕ) → is_some (lease_at slots n) ≡ is_some (get nat_cmp order n)
+    pub named : (slot : ℕ) → IfSome (slab.get slots slot) (λ e. e.0 % MOST_SLOTS ≡ slot)
 
   -- what they are seen as
   abbrev pub leases_of : slab.Slab (ℕ × L) → BTreeMap ℕ ⊤ → BTreeMap ℕ L

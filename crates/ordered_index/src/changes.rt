@@ -1,5 +1,5 @@
 //! Leases that come, change and go.
-ghost use Rattle.std.specs.Prelude.{◌≡◌, ℕ, ◌%◌, None, OnOk, OnErr, IsSome, count_by};
+ghost use Rattle.std.specs.Prelude.{◌≡◌, ◌%◌, None, IfOk, OnOk, OnErr, IsSome, count_by};
 ghost use Rattle.std.specs.Ordering.{nat_cmp};
 ghost use Rattle.std.specs.BTreeMap.{get};
 ghost use Rattle.ordered_index.specs.Ended.{has_ended, IsOneEnded};
@@ -39,14 +39,14 @@ impl<L: Drop, K: Ord + Copy, P: Ord + Copy> Numbered<L, K, P> {
         self.expiries.clear();
     }
 
-    /// Appends a lease under a key and a port that have none. The one error is want of memory, of
-    /// slots or of numbers, which changes nothing.
-    pub fn append(&mut self, lease: L, key: K, port: P, expiry: u64) -> Result<(), Memory>
+    /// Appends a lease under a key and a port that have none, and gives its number. The one error is
+    /// want of memory, of slots or of numbers, which changes nothing.
+    pub fn append(&mut self, lease: L, key: K, port: P, expiry: u64) -> Result<u64, Memory>
         requires step { self.old.next % MOST_SLOTS ≡ 0 }
         requires key { get K.cmp self.old.keys key ≡ None }
         requires port { get P.cmp self.old.ports port ≡ None }
-        ensures ok { OnOk result ((number : ℕ)
-            × Appends K.cmp P.cmp self.old self.new lease key port expiry number) }
+        ensures ok { IfOk result (λ number.
+            Appends K.cmp P.cmp self.old self.new lease key port expiry number) }
         ensures err { OnErr result (Stays self.old self.new) }
     {
         let Some(after) = self.next.checked_add(MOST_SLOTS) else {
@@ -69,7 +69,7 @@ impl<L: Drop, K: Ord + Copy, P: Ord + Copy> Numbered<L, K, P> {
             return Err(error.into());
         }
         self.next = after;
-        Ok(())
+        Ok(number)
     }
 
     /// Writes a lease at a number that has one with this key: its port moves, and its expiry, each

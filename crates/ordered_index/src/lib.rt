@@ -3,6 +3,7 @@
 
 mod changes;
 mod expiries;
+mod hints;
 mod keys;
 mod maps;
 mod numbered;
@@ -11,6 +12,7 @@ mod ports;
 mod sieves;
 mod slots;
 
+pub use hints::Hints;
 pub use keys::{Port, first_from, last_up_to, port_at};
 pub use numbered::Numbered;
 pub use places::{Place, is_beside, place_of, port_in};

@@ -1,10 +1,10 @@
 //! The places of endpoints, in an order that takes few steps to tell.
-ghost use Rattle.std.specs.Prelude.{◌≡◌, ◌↔◌, IsTrue, refl};
+ghost use Rattle.std.specs.Prelude.{◌≡◌, ◌↔◌, ◌==◌, IsTrue, refl};
 ghost use Rattle.std.specs.Ordering.{eq_by_cmp, as_partial_cmp};
 ghost use Rattle.std.specs.Cmp.{partial_equiv_from_equiv, partial_order_from_total, eq_by_cmp_equiv};
 ghost use Rattle.pcp_base.specs.Protocols.{protocol_number};
 ghost use Rattle.ordered_index.specs.Orders.{place_of, place_cmp, place_total};
-ghost use Rattle.ordered_index.specs.Sieves.{slot_of};
+ghost use Rattle.ordered_index.specs.Sieves.{bucket_of};
 
 use crate::keys::{Port, port_at};
 use octet_order::compare_octets;
@@ -71,19 +71,27 @@ impl Ord for Place {
     }
 }
 
-/// An odd number near 2^128 over the golden ratio: its products spread places over the numbers.
+/// An odd number near 2^128 over the golden ratio: its products spread places over the buckets.
 pub(crate) const MIXER: u128 = 0x9e37_79b9_7f4a_7c15_f39c_c060_5ced_c835;
 
 impl Place {
-    /// The number below 2^18 that it falls on.
+    /// The bucket, below 2^17, that it falls on.
     #[inline]
-    pub(crate) fn slot(&self) -> usize
-        ensures { result ≡ slot_of self.now }
+    pub(crate) fn bucket(&self) -> usize
+        ensures { result ≡ bucket_of self.now }
     {
         let (protocol, port) = self.port;
         let port = u128::from(protocol) * 65536 + u128::from(port);
         let number = u128::from_be_bytes(self.address).wrapping_add(port * (1 << 64));
-        (number.wrapping_mul(MIXER) >> 110) as usize
+        (number.wrapping_mul(MIXER) >> 111) as usize
+    }
+
+    /// Whether the other falls on the same bucket.
+    #[inline]
+    pub fn falls_with(&self, other: &Place) -> bool
+        ensures { result ≡ (bucket_of self.now == bucket_of other.now) }
+    {
+        self.bucket() == other.bucket()
     }
 }
 

@@ -1,16 +1,16 @@
-//! How many places fall on each number of a range, by which most look-ups that miss are told.
+//! How many places fall on each of some buckets, by which most look-ups that miss are told.
 
-ghost use Rattle.std.specs.Prelude.{◌≡◌, ◌==◌, IfOk, replicate, slice_index};
-ghost use Rattle.ordered_index.specs.Sieves.{slot_of, no_places, with_place, without_place};
+ghost use Rattle.std.specs.Prelude.{◌≡◌, IfOk, replicate, slice_index};
+ghost use Rattle.ordered_index.specs.Sieves.{bucket_of, no_places, with_place, without_place};
 
 use crate::places::Place;
 use std::alloc::{AllocError, Global};
 use std::marker::Model;
 
-/// How many numbers places may fall on.
-pub(crate) const SLOTS: usize = 262_144;
+/// How many buckets places may fall on.
+pub(crate) const BUCKETS: usize = 131_072;
 
-/// How many places fall on each number, up to 254; 255 sticks, and stands for any number.
+/// How many places fall on each bucket, up to 254; 255 sticks, and stands for any number.
 #[derive(Drop)]
 pub struct Sieve {
     counts: Vec<u8>,
@@ -18,13 +18,13 @@ pub struct Sieve {
 
 impl Model for Sieve {
     ghost use Rattle.std.specs.Prelude.{◌≡◌, ℕ, List, length};
-    ghost use Rattle.ordered_index.specs.declared.sieves.TheConstants.{SLOTS};
+    ghost use Rattle.ordered_index.specs.declared.sieves.TheConstants.{BUCKETS};
 
     ghost Value = { List ℕ };
 
     ghost view = { λ s. s.counts.items };
 
-    ghost invariant = { λ s. length s.counts.items ≡ SLOTS };
+    ghost invariant = { λ s. length s.counts.items ≡ BUCKETS };
 }
 
 fn zeros(alloc: Global, count: usize) -> Result<Vec<u8>, AllocError>
@@ -34,12 +34,12 @@ fn zeros(alloc: Global, count: usize) -> Result<Vec<u8>, AllocError>
 }
 
 impl Sieve {
-    /// No place falls on any number. The one error is want of memory.
+    /// No place falls on any bucket. The one error is want of memory.
     pub fn new(alloc: Global) -> Result<Sieve, AllocError>
         ensures { IfOk result (λ sieve. sieve ≡ no_places) }
     {
         Ok(Sieve {
-            counts: zeros(alloc, SLOTS)?,
+            counts: zeros(alloc, BUCKETS)?,
         })
     }
 
@@ -50,31 +50,31 @@ impl Sieve {
         self.counts.fill(0);
     }
 
-    /// Whether no place falls on this one's number.
+    /// How many places fall on this one's bucket, up to 254; 255 tells nothing.
     #[inline]
-    pub fn lacks(&self, place: &Place) -> bool
-        ensures { result ≡ (slice_index self.now (slot_of place.now) == 0) }
+    pub fn count(&self, place: &Place) -> u8
+        ensures { result ≡ slice_index self.now (bucket_of place.now) }
     {
-        self.counts[place.slot()] == 0
+        self.counts[place.bucket()]
     }
 
     /// One place more.
     pub fn add(&mut self, place: &Place)
-        ensures { self.new ≡ with_place (slot_of place.now) self.old }
+        ensures { self.new ≡ with_place (bucket_of place.now) self.old }
     {
-        let slot = place.slot();
-        let count = self.counts[slot];
-        self.counts[slot] = count.saturating_add(1);
+        let bucket = place.bucket();
+        let count = self.counts[bucket];
+        self.counts[bucket] = count.saturating_add(1);
     }
 
     /// One place less.
     pub fn take(&mut self, place: &Place)
-        ensures { self.new ≡ without_place (slot_of place.now) self.old }
+        ensures { self.new ≡ without_place (bucket_of place.now) self.old }
     {
-        let slot = place.slot();
-        let count = self.counts[slot];
+        let bucket = place.bucket();
+        let count = self.counts[bucket];
         if count < 255 {
-            self.counts[slot] = count.saturating_sub(1);
+            self.counts[bucket] = count.saturating_sub(1);
         }
     }
 }

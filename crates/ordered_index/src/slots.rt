@@ -1,5 +1,5 @@
 //! Leases in slots, by numbers that name their slots.
-ghost use Rattle.std.specs.Prelude.{◌≡◌, ◌≤◌, ◌<◌, ◌+◌, ◌%◌, ◌^◌, Some, None, IfOk, OnErr, IsSome};
+ghost use Rattle.std.specs.Prelude.{◌≡◌, ◌≤◌, ◌<◌, ◌+◌, ◌%◌, ◌^◌, Some, None, IfOk, IfSome, OnErr, IsSome};
 ghost use Rattle.std.specs.Option.{option_copied};
 ghost use Rattle.std.specs.Ordering.{nat_cmp};
 ghost use Rattle.std.specs.BTreeMap.{IsOrdered, btree_map_len, get, values};
@@ -17,7 +17,7 @@ use std::marker::Model;
 use std::ops::Index;
 
 /// How many slots there may be. A lease's number modulo this is its slot.
-pub(crate) const MOST_SLOTS: u64 = 131_072;
+pub(crate) const MOST_SLOTS: u64 = 32_768;
 
 /// Leases by their numbers, seen as an ordered map. Each stands in a slot that its number names, so
 /// that a look-up is one look into an array.
@@ -100,6 +100,15 @@ impl<L: Drop> Slots<L> {
         find(&self.slots, *number)
     }
 
+    /// What stands in a slot: a number and its lease.
+    #[inline]
+    pub fn in_slot(&self, slot: usize) -> Option<&(u64, L)>
+        ensures { IfSome result (λ entry.
+            get nat_cmp self.now entry.now.0 ≡ Some entry.now.1) }
+    {
+        self.slots.get(slot)
+    }
+
     /// The leases, in the order of their numbers.
     pub fn values(&self) -> Values<'_, L>
         ensures rest { result ≡ values self.now }
@@ -110,7 +119,7 @@ impl<L: Drop> Slots<L> {
         }
     }
 
-    /// Puts a lease in under a number from `next` on and below `next` and 131,072 more, which names
+    /// Puts a lease in under a number from `next` on and below `next` and 32,768 more, which names
     /// a free slot, and gives the number. The one error is want of memory or of slots, which changes
     /// nothing.
     pub fn append(&mut self, next: u64, lease: L) -> Result<u64, AllocError>

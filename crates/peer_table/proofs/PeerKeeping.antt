@@ -1,10 +1,11 @@
 -- PEER leases and their maps after a call.
-use Rattle.std.proofs.Common.{◌≡◌, ℕ, ◌&&◌, ◌==◌, Bool, true, false, List, not, Option, Some, None, IsSome, Result, OnOk, OnErr, sym, ap, ◌∙◌, subst}
+use Rattle.std.proofs.Common.{◌≡◌, ℕ, ◌&&◌, ◌==◌, Bool, true, false, List, not, Option, Some, None, IsSome, Result, Ok, Err, OnOk, OnErr, sym, ap, ◌∙◌, subst}
 use Rattle.std.specs.Prelude.{is_some}
 use Rattle.std.specs.List.{list_any}
 use Rattle.std.specs.Ordering.{nat_cmp}
 use Rattle.std.specs.Cmp.{IsTotalOrder, nat_cmp_total}
 use Rattle.std.specs.BTreeMap.{get, values}
+use Rattle.std.specs.Result.{IsErr}
 use Rattle.std.proofs.lemmas.Bool.{and_parts, and_from, eqb-true}
 use Rattle.std.proofs.lemmas.Bool.Decides.{Decides-eqb}
 use Rattle.std.proofs.lemmas.Cmp.{on_total, then_total, nat_list_cmp_total}
@@ -22,7 +23,7 @@ use Rattle.ordered_index.specs.Orders.{place_of}
 use Rattle.ordered_index.specs.Steps.{Appends, Replaces, Forgets, Stays}
 use Rattle.ordered_index.proofs.Endings.{one-none, one-stands}
 use Rattle.ordered_index.proofs.Entries.{any_at}
-use Rattle.ordered_index.proofs.Keeping.{each_weaker, AreLaws, Tells, TellsPort, port-free, number-has, put-appended, put-replaced, taken-out, none-found, none-gone, put-either}
+use Rattle.ordered_index.proofs.Keeping.{each_weaker, AreLaws, Tells, TellsPort, port-free, number-has, put-appended, put-replaced, taken-out, none-found, none-gone, put-either, same-values, same-kept}
 use Rattle.ordered_index.proofs.OrderLaws.{both_equal, place_of-one, protocol_one, address_same}
 use Rattle.peer_table.specs.PeerLists.{is_ended_peer, AreFellows, AreSoundPeers, opens, with_peer, PutsPeer, RemovesPeer}
 use Rattle.pcp_base.specs.Protocols.{protocol_number}
@@ -125,6 +126,15 @@ module _ (it : Numbered PeerLease PeerKey Opening) (h : AreKeptPeers it) where
       peer_replaced n x from to number at_n from_is to_is ok err =
           let put = put-replaced peer_keying peer_laws it h.kept new is_l l tells_l (openings_apart (with_peer l (values it.leases)) sound) r n x from to number at_n from_is to_is ok err in
           (record { sound = put-either AreSoundPeers (values it.leases) (with_peer l (values it.leases)) (values new.leases) r put.ok put.err h.sound sound; kept = put.kept }, record { ok = put.ok; err = put.err })
+
+  -- where nothing changes
+  module _ (new : Numbered PeerLease PeerKey Opening) (stays : Stays it new) where
+    pub peers_stay : AreKeptPeers new
+    peers_stay = record { sound = subst AreSoundPeers (sym (same-values peer_keying peer_laws it h.kept new stays)) h.sound; kept = same-kept peer_keying peer_laws it h.kept new stays }
+
+    pub peer_not_put : {X E : Type 0} (l : PeerLease) (r : Result X E) → IsErr r → PutsPeer (values it.leases) l r (values new.leases)
+    peer_not_put l (Ok v) failed = absurd (let no : false ≡ true = failed in cc)
+    peer_not_put l (Err e) failed = record { ok = tt; err = same-values peer_keying peer_laws it h.kept new stays }
 
   -- a number that stands under a key has a lease
   pub key_has : (k : PeerKey) (n : ℕ) → get key_cmp it.keys k ≡ Some n → IsSome (get nat_cmp it.leases n)

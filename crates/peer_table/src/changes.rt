@@ -28,7 +28,8 @@ pub(crate) fn append<L: Ledger>(
     ensures steps { steps.new ≡ steps.old + 7 * levels (length (values kept.old.leases) + 1) }
 {
     look_beside_one_more(kept, 7, steps);
-    kept.append(lease, key_of(&lease), opening_of(&lease), lease.expiry)
+    kept.append(lease, key_of(&lease), opening_of(&lease), lease.expiry)?;
+    Ok(())
 }
 
 /// Puts a lease in the place of the one with its key, which has this number. It looks at that one,

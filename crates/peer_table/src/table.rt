@@ -292,7 +292,7 @@ impl PeerTable {
     }
 
     /// Puts a lease in the place of the one with its key, or at the end. The one error is want of
-    /// memory, or of a slot where there are 131,072 leases, which changes nothing.
+    /// memory, or of a slot where there are 32,768 leases, which changes nothing.
     pub fn put<L: Ledger>(
         &mut self,
         _alloc: Global,

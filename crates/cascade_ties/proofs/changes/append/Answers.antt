@@ -1,4 +1,4 @@
-use Rattle.std.proofs.Common.{ℕ, OnOk, ap, ◌∙◌, subst}
+use Rattle.std.proofs.Common.{ℕ, ap, ◌∙◌, subst}
 use Rattle.std.specs.BTreeMap.{get}
 use Rattle.ordered_index.specs.Orders.{Place, place_cmp, port_cmp}
 use Rattle.ordered_index.specs.Steps.{Appends}
@@ -16,5 +16,8 @@ append-requires-clause-port c = ap (get port_cmp c.args.kept.now.ports) c.local_
 
 pub returns-clause-ok : goal.returns-clause-ok
 returns-clause-ok c =
-    subst (λ (p : ℕ × ℕ). OnOk c.append.result ((n : ℕ) × Appends place_cmp port_cmp c.args.kept.now c.append.new.self c.args.tied (place_of_tie c.args.tied) p c.args.tied.tie.until_ms n)) c.local_of-local.ensures
-    (subst (λ (k : Place). OnOk c.append.result ((n : ℕ) × Appends place_cmp port_cmp c.args.kept.now c.append.new.self c.args.tied k c.local_of-local.result c.args.tied.tie.until_ms n)) c.client_of-client.ensures c.append.ensures.ok)
+    let n = c.in_ok-append.field-0 in (
+      n,
+      subst (λ (p : ℕ × ℕ). Appends place_cmp port_cmp c.args.kept.now c.append.new.self c.args.tied (place_of_tie c.args.tied) p c.args.tied.tie.until_ms n) c.local_of-local.ensures
+          (subst (λ (k : Place). Appends place_cmp port_cmp c.args.kept.now c.append.new.self c.args.tied k c.local_of-local.result c.args.tied.tie.until_ms n) c.client_of-client.ensures c.in_ok-append.ensures.ok),
+    )

@@ -1,7 +1,9 @@
-use Rattle.std.proofs.Common.{ap, ◌∙◌}
+use Rattle.std.proofs.Common.{Ok, ap, ◌∙◌}
+use Rattle.std.specs.Prelude.{⊤}
 use Rattle.std.specs.BTreeMap.{get}
+use Rattle.pcp_base.specs.declared.errors.Memory.{Memory}
 use Rattle.peer_table.specs.Kept.{key_cmp, opening_cmp}
-use Rattle.peer_table.proofs.PeerKeeping.{opening_is_free, peer_appended}
+use Rattle.peer_table.proofs.PeerKeeping.{opening_is_free, peer_appended, peer_not_put, peers_stay}
 use Rattle.peer_table.proofs.changes.append.Goals as goal
 
 pub append-requires-clause-step : goal.append-requires-clause-step
@@ -16,10 +18,17 @@ append-requires-clause-port g c =
 
 pub returns-clause-kept : goal.returns-clause-kept
 returns-clause-kept g c =
-    (peer_appended c.args.kept.now c.requires.kept c.args.lease c.requires.sound c.append.new.self c.append.result
-    c.key_of.result c.opening_of.result c.key_of.ensures c.opening_of.ensures c.requires.free c.append.ensures.ok c.append.ensures.err).0
+    (peer_appended c.args.kept.now c.requires.kept c.args.lease c.requires.sound {X = ⊤} {E = Memory} c.append.new.self (Ok tt)
+    c.key_of.result c.opening_of.result c.key_of.ensures c.opening_of.ensures c.requires.free (c.in_ok-append.field-0, c.in_ok-append.ensures.ok) tt).0
 
 pub returns-clause-put : goal.returns-clause-put
 returns-clause-put g c =
-    (peer_appended c.args.kept.now c.requires.kept c.args.lease c.requires.sound c.append.new.self c.append.result
-    c.key_of.result c.opening_of.result c.key_of.ensures c.opening_of.ensures c.requires.free c.append.ensures.ok c.append.ensures.err).1
+    (peer_appended c.args.kept.now c.requires.kept c.args.lease c.requires.sound {X = ⊤} {E = Memory} c.append.new.self (Ok tt)
+    c.key_of.result c.opening_of.result c.key_of.ensures c.opening_of.ensures c.requires.free (c.in_ok-append.field-0, c.in_ok-append.ensures.ok) tt).1
+
+pub returns-in_err-append-clause-kept : goal.returns-in_err-append-clause-kept
+returns-in_err-append-clause-kept g c = peers_stay c.args.kept.now c.requires.kept c.append.new.self c.in_err-append.ensures.err
+
+pub returns-in_err-append-clause-put : goal.returns-in_err-append-clause-put
+returns-in_err-append-clause-put g c =
+    peer_not_put c.args.kept.now c.requires.kept c.append.new.self c.in_err-append.ensures.err c.args.lease c.from_residual.result c.from_residual.ensures.0

@@ -1,13 +1,13 @@
 use Rattle.std.proofs.Common.{arith}
-use Rattle.ordered_index.proofs.PlaceCounts.{below_slots}
+use Rattle.ordered_index.proofs.PlaceCounts.{below_buckets}
 use Rattle.ordered_index.proofs.sieves.Sieve.take.Goals as goal
 
 pub index-count-requires : goal.index-count-requires
 index-count-requires c =
-    let below = below_slots c.args.place.now in
-    omega (arith, below, c.slot-slot.ensures, c.self.invariant)
+    let below = below_buckets c.args.place.now in
+    omega (arith, below, c.bucket-bucket.ensures, c.self.invariant)
 
 pub index_mut-requires : goal.index_mut-requires
 index_mut-requires c =
-    let below = below_slots c.args.place.now in
-    omega (arith, below, c.slot-slot.ensures, c.self.invariant)
+    let below = below_buckets c.args.place.now in
+    omega (arith, below, c.bucket-bucket.ensures, c.self.invariant)

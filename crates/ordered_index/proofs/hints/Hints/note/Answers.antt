@@ -1,0 +1,8 @@
+use Rattle.std.proofs.Common.{arith}
+use Rattle.ordered_index.proofs.PlaceCounts.{below_buckets}
+use Rattle.ordered_index.proofs.hints.Hints.note.Goals as goal
+
+pub index_mut-requires : goal.index_mut-requires
+index_mut-requires c =
+    let below = below_buckets c.args.place.now in
+    omega (arith, below, c.bucket.ensures, c.self.invariant)
