@@ -7,7 +7,7 @@ use std::collections::BTreeMap;
 /// table that owns it keeps the maps in step.
 #[derive(Drop)]
 pub struct Numbered<L, K: Ord, P: Ord> {
-    /// A multiple of 131,072, above the numbers of all leases that were granted.
+    /// A multiple of 32,768, above the numbers of all leases that were granted.
     pub next: u64,
     /// The leases by their numbers, so in the order granted.
     pub leases: Slots<L>,
