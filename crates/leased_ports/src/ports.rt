@@ -520,12 +520,16 @@ impl LeasedPorts {
         )
     }
 
-    /// The first vacant port of a protocol, though what is due isn't seen to.
+    /// The first vacant port of a protocol, though what is due isn't seen to. The pool alone knows it
+    /// where nothing is.
     fn first_vacant<L: Ledger>(&self, protocol: Protocol, steps: &mut Steps<L>) -> Option<Picked>
         ensures first { IsLongest (uses_now self.now protocol) None 1 result }
         ensures steps { steps.new ≤ steps.old + SEARCH_STEPS }
     {
         let known = self.pool.longest(protocol, 1, None, steps);
+        if self.settled == self.reached {
+            return known;
+        }
         let (low, high, m) = (self.low, self.high, self.reached);
         let over = first_over(&self.ends, low, high, m, protocol, steps);
         one_port(lesser(start_of(known), over))
