@@ -252,7 +252,8 @@ fn settle(
 ) -> Result<(), Memory>
     requires time { IsTime now_ms }
     requires tied { IsTied ties.old tie.client tie }
-    ensures { MakesTies ties.old (ties_after now_ms response.now common.now tie ties.old) result ties.new }
+    ensures { MakesTies ties.old (ties_after now_ms response.now common.now tie ties.old)
+        result ties.new }
 {
     let success = is_success(response.code);
     if success && response.lifetime != 0 {
