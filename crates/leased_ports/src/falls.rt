@@ -17,7 +17,7 @@ use std::sync::ledger::Ledger;
 use step_count::Steps;
 
 /// How many runs that are due a call of `reach` sees to at most.
-pub const MOST_RUNS: u64 = 4;
+pub const MOST_RUNS: u64 = 2;
 
 /// How many steps it takes at most to see to a run, beside those that find it: 39 moments and nodes
 /// of the wheel, one to tell its phase and 38 to move or take out what waits, and two looks
@@ -89,7 +89,7 @@ fn fall<L: Ledger>(
     true
 }
 
-/// Sees to the first four runs at most that fall due by `m`, where none falls due by `settled` any
+/// Sees to the first two runs at most that fall due by `m`, where none falls due by `settled` any
 /// more. By the moment that it gives none does then: `m`, where that was all.
 pub fn see_to_some<L: Ledger>(
     pool: &mut Vacancies,

@@ -253,7 +253,7 @@ impl LeasedPorts {
     }
 
     /// Moves on to a moment that isn't below the one reached. Of the runs of ports that go to rest
-    /// or awake by then it sees to four at most, whatever falls due; the others wait for later
+    /// or awake by then it sees to two at most, whatever falls due; the others wait for later
     /// calls. Where something falls due at fewer ports, it sees to all. One step is taken where
     /// nothing falls due, and steps for each run that is seen to. It takes no memory.
     pub fn reach<L: Ledger>(&mut self, m: Moment, steps: &mut Steps<L>)

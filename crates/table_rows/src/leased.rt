@@ -304,7 +304,7 @@ static UNSEEN_SETS: [Call; 17] = [
     PutRun(2, Udp, 1, 1068, 64468, 2000),
     Reach(124),
     Pick(3, Udp, 9000, 0, 4, Any, Err(NoPort)),
-    // All but the first four wait to be seen to.
+    // All but the first two wait to be seen to.
     Reach(125),
     Pick(3, Udp, 9000, 0, 4, Any, Ok((1024, 4))),
     Pick(3, Udp, 9000, 0, 4, First(1), Ok((1025, 4))),

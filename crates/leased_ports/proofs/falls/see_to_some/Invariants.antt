@@ -10,8 +10,8 @@ invariant-loop-left g l = record {
   in_step : AreInStep l.ends l.pool l.wheel;
   begun : HaveBegun l.m l.ends l.wheel;
   late : NoneDue l.settled l.wheel;
-  done : due_below l.m l.wheel 131072 + 4 ≤ due_below l.m l.fn.wheel 131072 + l.left;
-  paid : l.steps + 190 * l.left ≤ l.fn.steps + 760;
+  done : due_below l.m l.wheel 131072 + 2 ≤ due_below l.m l.fn.wheel 131072 + l.left;
+  paid : l.steps + 190 * l.left ≤ l.fn.steps + 380;
 }
 
 abbrev pub decreases-loop-left : goal.decreases-loop-left
