@@ -1,10 +1,8 @@
 //! Until when leases hold ports.
 ghost use Rattle.std.specs.Prelude.{◌≡◌, ℕ, ◌≤◌, ◌<◌, ◌+◌, ◌*◌, ◌^◌, false, length, IfSome, IfOk, OnOk, if◌then◌else◌};
-ghost use Rattle.std.specs.Option.{option_map};
 ghost use Rattle.step_count.specs.Levels.{levels};
 ghost use Rattle.pcp_base.specs.declared.leases.Protocol.{Protocol};
 ghost use Rattle.pcp_base.specs.Ends.{end_at};
-ghost use Rattle.mapping_table.specs.MapLists.{map_owning};
 ghost use Rattle.lease_store.specs.declared.terms.Terms.{Terms};
 ghost use Rattle.leased_ports.specs.declared.steps.TheConstants.{PUT_STEPS, TAKEN_STEPS};
 ghost use Rattle.leased_ports.specs.Leased.{IsOnTerms, end_of};
@@ -53,38 +51,20 @@ fn later(m: u64, other: Option<u64>) -> u64
 }
 
 impl Leases {
-    /// When the MAP lease expires that owns the port.
-    fn map_expiry<L: Ledger>(
-        &self,
-        protocol: Protocol,
-        port: u16,
-        steps: &mut Steps<L>,
-    ) -> Option<u64>
-        ensures expiry { result
-            ≡ option_map (λ l. l.expiry) (map_owning protocol port self.now.maps) }
-        ensures steps { steps.new ≤ steps.old + 4 * levels (length self.now.maps) }
-    {
-        let Some(lease) = self.maps.by_external(protocol, port, steps) else {
-            return None;
-        };
-        Some(lease.expiry)
-    }
-
-    /// The later of `m` and of the expiry of the MAP lease that owns the port.
-    fn held_by_map<L: Ledger>(
-        &self,
-        m: Moment,
-        protocol: Protocol,
-        port: u16,
-        steps: &mut Steps<L>,
-    ) -> u64
+    /// The later of `m` and of the expiry of the MAP lease that owns the port. If there is one, it is
+    /// most often the endpoint's.
+    fn held_by_map<L: Ledger>(&self, m: Moment, owner: &Owner, steps: &mut Steps<L>) -> u64
         requires { AreNearAt m self.now }
-        ensures value { result ≡ held_by_map m self.now.maps protocol port }
+        ensures value { result
+            ≡ held_by_map m self.now.maps owner.now.protocol owner.now.external }
         ensures bounds { (m ≤ result) × (result < 2 ^ 41) }
         ensures steps { steps.new ≤ steps.old + 4 * most_levels }
     {
         levels_grow();
-        later(m.get(), self.map_expiry(protocol, port, steps))
+        let expiry =
+            self.maps
+                .owner_expiry(owner.protocol, owner.external, &owner.endpoint, steps);
+        later(m.get(), expiry)
     }
 }
 
@@ -225,7 +205,7 @@ pub(crate) fn hold_run<L: Ledger>(
     ensures steps { unowned ≡ Rests →
         steps.new ≤ steps.old + hold_steps ports.old leases.now.peers run.now }
 {
-    let from = leases.held_by_map(m, run.first.protocol, run.first.external, steps);
+    let from = leases.held_by_map(m, &run.first, steps);
     let mut done = 0;
     while done < run.count {
         let rest = run.behind(done);

@@ -31,6 +31,11 @@ whole_same old new same (l ∷ ls) =
     ap (λ (fs : List Filter). with_filters fs l ∷ map (whole new) ls) (same (place_of_lease l)) ∙ ap (λ (xs : List MapLease). whole old l ∷ xs) (whole_same old new same ls)
 
 module _ (kept : Place → List Filter) where
+  -- a lease with its filters expires when it does without
+  pub expiry_whole : (o : Option MapLease) → option_map (λ (l : MapLease). l.expiry) (option_map (whole kept) o) ≡ option_map (λ (l : MapLease). l.expiry) o
+  expiry_whole None = refl
+  expiry_whole (Some l) = refl
+
   -- a test that looks at no filters
   module _ (p : MapLease → Bool) (blind : (fs : List Filter) (l : MapLease) → p (with_filters fs l) ≡ p l) where
     find_step : (b : Bool) (l : MapLease) (ls : List MapLease) → find p (map (whole kept) ls) ≡ option_map (whole kept) (find p ls) →

@@ -2,7 +2,7 @@
 
 ghost use Rattle.std.specs.Prelude.{◌≡◌, ◌≤◌, ◌<◌, ◌+◌, ◌-◌, ◌*◌, ◌++◌, [], not, map, filter, take, count_by, length, Some, IfSome, IfOk, OnOk};
 ghost use Rattle.std.specs.List.{AllByRecursion, list_any};
-ghost use Rattle.std.specs.Option.{option_copied};
+ghost use Rattle.std.specs.Option.{option_copied, option_map};
 ghost use Rattle.std.specs.Ordering.{nat_cmp};
 ghost use Rattle.std.specs.BTreeMap.{get, values};
 ghost use Rattle.step_count.specs.Levels.{levels};
@@ -136,6 +136,29 @@ fn number_at(
         }
     }
     kept.keys.get(place).copied()
+}
+
+/// When the lease expires that is hinted at for the endpoint, where it owns the external port.
+fn hinted_expiry(
+    hints: &Hints,
+    kept: &Numbered<BareLease, Place, Port>,
+    endpoint: &Endpoint,
+    protocol: Protocol,
+    port: u16,
+) -> Option<u64>
+    requires kept { AreKeptMaps kept.now }
+    ensures { IfSome result (λ expiry. Some expiry
+        ≡ option_map (λ l. l.expiry) (map_owning protocol port (values kept.now.leases))) }
+{
+    let Some(entry) = kept.leases.in_slot(hints.slot(&place_of(endpoint))) else {
+        return None;
+    };
+    let (_number, lease) = entry;
+    if lease.owns(protocol, port) {
+        Some(lease.expiry())
+    } else {
+        None
+    }
 }
 
 /// Whether there is a lease that is live at `m`.
@@ -308,6 +331,30 @@ impl BareTable {
         } else {
             None
         }
+    }
+
+    /// When the lease expires that owns the external port. The one that is hinted at for the endpoint
+    /// is looked at first.
+    pub(crate) fn owner_expiry<L: Ledger>(
+        &self,
+        protocol: Protocol,
+        port: u16,
+        near: &Endpoint,
+        steps: &mut Steps<L>,
+    ) -> Option<u64>
+        ensures expiry { result
+            ≡ option_map (λ l. l.expiry) (map_owning protocol port self.now) }
+        ensures steps { steps.new ≤ steps.old + 4 * levels (length self.now) }
+    {
+        look(&self.kept, steps);
+        let hinted = hinted_expiry(&self.hints, &self.kept, near, protocol, port);
+        if hinted.is_some() {
+            return hinted;
+        }
+        let Some(lease) = self.by_external(protocol, port, steps) else {
+            return None;
+        };
+        Some(lease.expiry())
     }
 
     /// The first endpoint of a lease that this one of a single port overlaps: of the lease that

@@ -1,7 +1,7 @@
 //! The plain body: a list that is searched, and nothing beside it.
 
 ghost use Rattle.std.specs.Prelude.{◌≡◌, [], ◌∷◌, ◌<◌, ◌≤◌, filter, find, count_by, position, not, IfOk, OnOk, OnErr};
-ghost use Rattle.std.specs.Option.{option_copied};
+ghost use Rattle.std.specs.Option.{option_copied, option_map};
 ghost use Rattle.std.specs.List.{AllByRecursion, list_any};
 ghost use Rattle.pcp_base.specs.Owners.{owns};
 ghost use Rattle.pcp_base.specs.Tables.{is_map_of, IsMapLease};
@@ -202,6 +202,24 @@ impl PlainMapTable {
         ensures steps { _steps.new ≡ _steps.old }
     {
         lease_owning(&self.leases, protocol, port).copied()
+    }
+
+    /// When the lease expires that owns the external port.
+    pub fn owner_expiry<L: Ledger>(
+        &self,
+        protocol: Protocol,
+        port: u16,
+        _near: &Endpoint,
+        _steps: &mut Steps<L>,
+    ) -> Option<u64>
+        ensures expiry { result
+            ≡ option_map (λ l. l.expiry) (map_owning protocol port self.now) }
+        ensures steps { _steps.new ≡ _steps.old }
+    {
+        let Some(lease) = lease_owning(&self.leases, protocol, port) else {
+            return None;
+        };
+        Some(lease.expiry)
     }
 
     /// The first endpoint of one of the leases that this one overlaps, live or not: those that have

@@ -2,6 +2,7 @@
 
 ghost use Rattle.std.specs.Prelude.{◌≡◌, ◌≤◌, ◌<◌, ◌+◌, ◌-◌, ◌*◌, ◌++◌, [], not, filter, map, count_by, length, IfOk, OnOk};
 ghost use Rattle.std.specs.List.{AllByRecursion, list_any};
+ghost use Rattle.std.specs.Option.{option_map};
 ghost use Rattle.step_count.specs.Levels.{levels};
 ghost use Rattle.pcp_base.specs.Records.{IsWellFormedRecord};
 ghost use Rattle.pcp_base.specs.Snapshots.{map_record};
@@ -99,6 +100,22 @@ impl MapTable {
     {
         let found = self.leases.by_external(protocol, port, steps);
         whole_by_look(&self.filters, found, self.leases.len(), steps)
+    }
+
+    /// When the lease expires that owns the external port. It looks at no filters, and first at a
+    /// lease that begins near the endpoint, as the owner does where it begins there.
+    pub fn owner_expiry<L: Ledger>(
+        &self,
+        protocol: Protocol,
+        port: u16,
+        near: &Endpoint,
+        steps: &mut Steps<L>,
+    ) -> Option<u64>
+        ensures expiry { result
+            ≡ option_map (λ l. l.expiry) (map_owning protocol port self.now) }
+        ensures steps { steps.new ≤ steps.old + 4 * levels (length self.now) }
+    {
+        self.leases.owner_expiry(protocol, port, near, steps)
     }
 
     /// The first endpoint of one of the leases that this one overlaps, live or not: those that have

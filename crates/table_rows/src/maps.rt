@@ -235,6 +235,22 @@ fn are_allowed<L: Ledger>(
         && allowed(owning.as_ref()) == wanted
 }
 
+/// Whether both bodies tell when this lease expires as when the port's owner does, whatever endpoint
+/// they look at first.
+fn are_held<L: Ledger>(
+    table: &MapTable,
+    plain: &PlainMapTable,
+    port: u16,
+    owner: Option<&MapLease>,
+    steps: &mut Steps<L>,
+) -> bool {
+    let wanted = owner.map(|lease| lease.expiry);
+    let own = owner.map_or(at(Udp, 1, 5000), |lease| lease.first_endpoint());
+    table.owner_expiry(Udp, port, &own, steps) == wanted
+        && table.owner_expiry(Udp, port, &at(Udp, 1, 5000), steps) == wanted
+        && plain.owner_expiry(Udp, port, &own, steps) == wanted
+}
+
 /// Whether a lease that is live at 0 covers the endpoint, by both bodies, where one is wanted.
 fn are_covered<L: Ledger>(
     table: &MapTable,
@@ -282,6 +298,7 @@ fn is_told<L: Ledger>(
             let found = table.by_external(Udp, port, steps);
             let plainly = plain.by_external(Udp, port, steps);
             (told(found.as_ref()), told(plainly.as_ref())) == (wanted, wanted)
+                && are_held(table, plain, port, found.as_ref(), steps)
         }
         Allowed(host, external, wanted) => {
             are_allowed(table, plain, &at(Udp, host, 5000), external, wanted, steps)
