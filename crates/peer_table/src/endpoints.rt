@@ -67,6 +67,9 @@ pub(crate) fn first_live<L: Ledger>(
         ≤ steps.old + (1 + MOST_PEERS) * levels (length (values kept.now.leases)) }
 {
     look(kept, steps);
+    if kept.keys.is_empty() {
+        return None;
+    }
     for (_, number) in kept.keys.range(from..to) {
         if is_live_at(kept, *number, m, steps) {
             return Some(*number);
