@@ -6,6 +6,7 @@ pub mod JournalLemmas
 pub mod JudgeLemmas
 pub mod KeptLemmas
 pub mod OpenLemmas
+pub mod OverlongLemmas
 pub mod PairRuns
 pub mod ReadingRuns
 pub mod ReplayLemmas

@@ -1,5 +1,5 @@
 //! Writing records to a journal, together with what stands for them.
-ghost use Rattle.std.specs.Prelude.{◌≡◌, ◌≢◌, ◌≤◌, ◌<◌, ◌+◌, ◌-◌, ◌*◌, ◌^◌, max, [], ◌∷◌, ◌++◌, length, true, false, if◌then◌else◌, Ok, Err, IfOk, IfErr, OnOk};
+ghost use Rattle.std.specs.Prelude.{◌≡◌, ◌≢◌, ◌≤◌, ◌<◌, ◌+◌, ◌-◌, ◌*◌, ◌^◌, [], ◌∷◌, ◌++◌, length, true, false, if◌then◌else◌, Ok, Err, IfOk, IfErr, OnOk};
 ghost use Rattle.std.specs.List.{AllByRecursion};
 ghost use Rattle.pcp_base.specs.Apply.{apply, apply_all, state_of};
 ghost use Rattle.pcp_base.specs.Fits.{AllFit, Fits};
@@ -18,7 +18,7 @@ ghost use Rattle.journal_sides.specs.Texts.{AreTexts, records_in};
 ghost use Rattle.lease_journal.specs.Views.{IsSettled};
 ghost use Rattle.shard_book.specs.Books.{IsWritable};
 ghost use Rattle.shard_book.specs.Insides.{IsKnownAs};
-ghost use Rattle.shard_book.specs.Keepings.{IsAppended, IsBeside, Journals, frame_octets, is_overlong, unsure_after};
+ghost use Rattle.shard_book.specs.Keepings.{IsAppended, IsBeside, frame_octets, is_overlong, unsure_after};
 ghost use Rattle.shard_book.specs.Openings.{IsOnOther};
 
 use crate::lengths::LONGEST_SIDE;

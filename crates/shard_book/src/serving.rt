@@ -2,7 +2,7 @@
 ghost use Rattle.std.specs.Prelude.{◌≡◌, ◌≤◌, ◌<◌, ◌^◌, ◌∷◌, [], length, IfOk, IfErr, OnOk, Err};
 ghost use Rattle.std.specs.List.{AllByRecursion};
 ghost use Rattle.pcp_base.specs.declared.records.Change.TheVariants.{Lose};
-ghost use Rattle.pcp_base.specs.Apply.{apply, apply_all, state_of};
+ghost use Rattle.pcp_base.specs.Apply.{apply, apply_all};
 ghost use Rattle.pcp_base.specs.Asks.{IsWellFormedAsk};
 ghost use Rattle.lease_store.specs.Lookups.{lease_count};
 ghost use Rattle.lease_disk.specs.Pairs.{PairHasCause, PairLeavesOnly};

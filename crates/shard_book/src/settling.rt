@@ -47,7 +47,6 @@ fn states_expected<S: LeaseStore>(
 ) -> Result<Expected, Memory>
     requires fit { AllFit empty_state texts.now.sure }
     requires fit_added { AllFit (state_of texts.now.sure) texts.now.added }
-    requires started { (state_of texts.now.sure).started ≡ true }
     ensures without { IfOk result (λ expected. expected.without
         ≡ record { sure = snapshot (state_of texts.now.sure); added = [] }) }
     ensures with { IfOk result (λ expected. expected.with

@@ -9,11 +9,12 @@ use Rattle.lease_disk.specs.Pairs.{PairLeavesOnly}
 use Rattle.journal_sides.specs.Journals.{StandsForWithOrWithout}
 use Rattle.shard_book.specs.Batches.{decide_all, records_kept}
 use Rattle.shard_book.specs.Insides.{StandAlone}
-use Rattle.shard_book.specs.Keepings.{unsure_after}
+use Rattle.shard_book.specs.Keepings.{Journals, unsure_after}
 use Rattle.shard_book.specs.KeptTexts.{KeptRecords}
 use Rattle.shard_book.proofs.BookLemmas.{stand_more}
 use Rattle.shard_book.proofs.JournalLemmas.{still_settled, without}
-use Rattle.shard_book.proofs.ResultLemmas.{any_err}
+use Rattle.shard_book.proofs.OverlongLemmas.{journals_by, overlong_next}
+use Rattle.shard_book.proofs.ResultLemmas.{any_err, at_ok}
 use Rattle.shard_book.proofs.StateLemmas.{formed_all}
 use Rattle.shard_book.proofs.serving.write_batch.Goals as goal
 
@@ -46,6 +47,9 @@ commit-requires-clause-snapshot g c = λ anew.
     let same : c.add.new.self.sure ≡ c.renew_if_overlong.new.texts.sure = ap (λ (k : KeptRecords). k.sure) c.in_ok-add.ensures.ok in
     same ∙ c.in_ok-anew.ensures.snapshot anew ∙ ap snapshot (sym (ap state_of same ∙ c.renew_if_overlong.ensures.state))
 
+pub commit-requires-clause-next : goal.commit-requires-clause-next
+commit-requires-clause-next g c = λ anew. overlong_next c.args.journal.now (sym c.in_ok-anew.ensures.overlong ∙ anew)
+
 pub returns-clause-texts : goal.returns-clause-texts
 returns-clause-texts g c =
     let s = g.S.LeaseStore.state c.args.core.now in
@@ -62,3 +66,14 @@ returns-clause-moments g c = λ told.
     let first : state_of c.add.new.self.sure ≡ g.S.LeaseStore.state c.args.core.now = ap (λ (k : KeptRecords). state_of k.sure) c.in_ok-add.ensures.ok ∙ c.renew_if_overlong.ensures.state in
     subst (λ (l : List Record). PairLeavesOnly d.moment d.left_since d.may_leave c.args.journal.now.pair c.commit.new.journal.pair (StandsForWithOrWithout (g.S.LeaseStore.state c.args.core.now) l)) (c.deref-2.ensures.value ∙ c.in_ok-batch.ensures.records)
     (subst (λ (s : State). PairLeavesOnly d.moment d.left_since d.may_leave c.args.journal.now.pair c.commit.new.journal.pair (StandsForWithOrWithout s c.deref-2.result.now)) first (c.commit.ensures.moments told))
+
+pub returns-clause-journal : goal.returns-clause-journal
+returns-clause-journal g c =
+    let d = g.D.LeaseDisk in
+    let old = c.args.journal.now in
+    let new = c.commit.new.journal in
+    subst (λ (l : List Record). Journals d.tells l old new) (c.deref-2.ensures.value ∙ c.in_ok-batch.ensures.records)
+    (journals_by d.tells c.deref-2.result.now old new c.in_ok-anew.anew c.in_ok-anew.ensures.overlong c.commit.ensures.idle
+    (λ e. at_ok _ _ _ c.in_ok-commit.was (c.commit.ensures.plain e)) (λ e. at_ok _ _ _ c.in_ok-commit.was (c.commit.ensures.plain_first e))
+    (λ told e. at_ok _ _ _ c.in_ok-commit.was (c.commit.ensures.grown told e))
+    (λ e. at_ok _ _ _ c.in_ok-commit.was (c.commit.ensures.compacted e)) (λ told e. at_ok _ _ _ c.in_ok-commit.was (c.commit.ensures.short told e)))

@@ -1,7 +1,7 @@
-use Rattle.std.proofs.Common.{◌≡◌, ◌-◌, List, [], ℕ, ◌∷◌, ◌++◌, length, take, drop, sym, subst, ◌∙◌, ap, arith, append_assoc, drop-drop, length-drop}
+use Rattle.std.proofs.Common.{List, [], ℕ, ◌∷◌, ◌++◌, length, drop, sym, subst, ◌∙◌, ap, arith, append_assoc, drop-drop, length-drop}
 use Rattle.std.proofs.lemmas.List.{append-nil}
 use Rattle.pcp_base.specs.declared.records.Record.{Record}
-use Rattle.journal_sides.specs.Texts.{AreTexts, records_in}
+use Rattle.journal_sides.specs.Texts.{AreTexts}
 use Rattle.journal_sides.proofs.RecordTextLaws.{next_left, none_left, slice_rest}
 use Rattle.shard_book.proofs.texts.records_of.Goals as goal
 

@@ -1,4 +1,4 @@
-use Rattle.std.proofs.Common.{◌≡◌, ◌-◌, List, ℕ, ◌∷◌, length, take, drop, sym, subst, ◌∙◌, ap, arith, drop-drop, length-drop}
+use Rattle.std.proofs.Common.{List, ℕ, ◌∷◌, length, drop, sym, subst, ◌∙◌, ap, arith, drop-drop, length-drop}
 use Rattle.journal_sides.proofs.RecordTextLaws.{slice_rest}
 use Rattle.pcp_base.specs.Apply.{apply_all}
 use Rattle.pcp_base.specs.Fits.{AllFit}
@@ -19,7 +19,6 @@ loop-at-preserved g c =
     let texts = c.args.texts.now in
     let at = c.loop-at.at in
     let n = c.in_ok-at.field-0 in
-    let slice = take (length texts - at) (drop at texts) in
     let h = has_next texts at (g.R.Replay.state c.args.replay.now) (g.R.Replay.state c.loop-at.replay) (records_in texts) c.loop-at.invariant.left c.loop-at-test.true in
     let turned = c.in_ok-at.ensures.first h.r h.rs (subst (λ (l : List ℕ). AreTexts l (h.r ∷ h.rs)) (sym (slice_rest texts at)) h.texts) in
     record {

@@ -1,4 +1,4 @@
-use Rattle.std.proofs.Common.{[], List, ℕ, length, sym, subst, ap, arith}
+use Rattle.std.proofs.Common.{[], List, ℕ, length, sym, subst, ap}
 use Rattle.journal_sides.specs.Texts.{AreTexts}
 use Rattle.journal_sides.proofs.RecordTextLaws.{no_texts}
 use Rattle.shard_book.proofs.KeptLemmas.{shows_whole}
