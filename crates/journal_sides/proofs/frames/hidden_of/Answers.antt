@@ -1,4 +1,4 @@
-use Rattle.std.proofs.Common.{◌<◌, length, ap, arith, length-drop}
+use Rattle.std.proofs.Common.{length, ap, arith, length-drop}
 use Rattle.journal_sides.proofs.HiddenLaws.{hidden_first, hidden_last, hidden_more, slice_texts}
 use Rattle.journal_sides.proofs.RecordTextLaws.{slice_rest}
 use Rattle.journal_sides.proofs.frames.hidden_of.Goals as goal

@@ -1,8 +1,8 @@
-use Rattle.std.proofs.Common.{◌≡◌, ◌∷◌, [], List, ℕ, length, ap, arith, subst, sym}
+use Rattle.std.proofs.Common.{◌∷◌, [], List, ℕ, length, ap, arith, subst, sym}
 use Rattle.std.specs.Prelude.{IfOk}
 use Rattle.pcp_base.specs.declared.records.Record.{Record}
 use Rattle.journal_sides.specs.Shut.{IsHidden}
-use Rattle.journal_sides.specs.Texts.{AreTexts, records_in}
+use Rattle.journal_sides.specs.Texts.{AreTexts}
 use Rattle.journal_sides.proofs.RecordTextLaws.{texts_again, texts_in}
 use Rattle.lease_journal.proofs.openings.hidden_start.Goals as goal
 
