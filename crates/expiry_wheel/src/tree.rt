@@ -67,13 +67,7 @@ fn look_beside<L: Ledger>(nodes: &[u64], i: usize, steps: &mut Steps<L>) -> u64
 }
 
 /// Writes the node of a block, and the nodes above it up to the first that stays as it was.
-fn write<L: Ledger>(
-    nodes: &mut [u64],
-    levels: usize,
-    leaf: usize,
-    least: u64,
-    steps: &mut Steps<L>,
-)
+fn write<L: Ledger>(nodes: &mut [u64], levels: usize, leaf: usize, least: u64, steps: &mut Steps<L>)
     requires nodes { AreNodes levels nodes.old }
     requires leaf { row levels ≤ leaf }
     requires within { leaf < 2 * row levels }

@@ -108,6 +108,23 @@ module _ (runs : List (Run End)) (first : ℕ) (value : End) (new : List (Run En
   pub value-free : (at : ℕ) → at ≢ first → free_at new at ≡ free_at runs at
   value-free at other = ap (free_of at) (changed at) ∙ value_free at other (run_at runs at)
 
+  -- and there
+  value_now : (o : Option (Run End)) → IfSome o IsNear → free_of first (option_map (with_value first value) o) ≡ cond (free_of first o == NEVER) NEVER (value.end + 120)
+  value_now None near = sym (cond_same NEVER NEVER NEVER (value.end + 120) refl)
+  value_now (Some q) near = elim (same_or_not q.first first) [
+    | inl same ↦
+        let was : free_of first (Some q) ≡ q.value.end + 120 = cond_same q.first first (q.value.end + 120) NEVER same in
+        let some : free_of first (Some q) ≢ NEVER = λ e. omega (arith, e, was, near.1) in
+        ap (λ (x : Run End). free_of first (Some x)) (cond_same q.first first (record q { value = value }) q same)
+        ∙ cond_same q.first first (value.end + 120) NEVER same ∙ sym (cond_other (free_of first (Some q)) NEVER NEVER (value.end + 120) some)
+    | inr ne ↦
+        let was : free_of first (Some q) ≡ NEVER = cond_other q.first first (q.value.end + 120) NEVER ne in
+        ap (λ (x : Run End). free_of first (Some x)) (cond_other q.first first (record q { value = value }) q ne) ∙ was ∙ sym (cond_same (free_of first (Some q)) NEVER NEVER (value.end + 120) was)
+  ]
+
+  pub value-now : AreNear runs → free_at new first ≡ cond (free_at runs first == NEVER) NEVER (value.end + 120)
+  value-now near = ap (free_of first) (changed first) ∙ value_now (run_at runs first) (near first)
+
   near_value : value.end < 2 ^ 41 → (o : Option (Run End)) → IfSome o IsNear → IfSome (option_map (with_value first value) o) IsNear
   near_value low None near = tt
   near_value low (Some q) near = by (q.first == first)
@@ -131,6 +148,17 @@ module _ (runs : List (Run End)) (first : ℕ) (new : List (Run End)) (left : (a
 
   pub remove-free : (at : ℕ) → at ≢ first → free_at new at ≡ free_at runs at
   remove-free at other = ap (free_of at) (left at) ∙ gone_free at other (run_at runs at)
+
+  -- none begins there
+  gone_now : (o : Option (Run End)) → free_of first (but_from first o) ≡ NEVER
+  gone_now None = refl
+  gone_now (Some q) = elim (same_or_not q.first first) [
+    | inl same ↦ ap (free_of first) (cond_same q.first first None (Some q) same)
+    | inr ne ↦ ap (free_of first) (cond_other q.first first None (Some q) ne) ∙ cond_other q.first first (q.value.end + 120) NEVER ne
+  ]
+
+  pub remove-now : free_at new first ≡ NEVER
+  remove-now = ap (free_of first) (left first) ∙ gone_now (run_at runs first)
 
   pub remove-near : AreNear runs → AreNear new
   remove-near near at = subst (λ (o : Option (Run End)). IfSome o IsNear) (sym (left at)) (but_keeps IsNear first (run_at runs at) (near at))
@@ -165,8 +193,7 @@ module _ (runs : List (Run End)) (frees : List ℕ) (is : AreTimed runs frees) (
   pub over_due : (at : ℕ) → IsFirstOf (free_at runs) from (latest m) at → IsFirst (is_over_from from m runs) (Some at)
   over_due at due =
       let run = free_some at (latest m) (latest_either m most).1 (run_at runs at) due.due in
-      let over : is_over m (run_at runs at) ≡ true = ap (is_over m) run.1 ∙ le-leb (run.0.value.end + 120) m (omega (arith, run.2, (latest_either m most).0)) in
-      (
+      let over : is_over m (run_at runs at) ≡ true = ap (is_over m) run.1 ∙ le-leb (run.0.value.end + 120) m (omega (arith, run.2, (latest_either m most).0)) in (
         and_from _ _ (le-leb from at due.from_on) over,
         λ other h.
             let f = found_run other h in

@@ -32,9 +32,9 @@ use step_count::Steps;
 /// one, isn't counted.
 pub const TAKEN_STEPS: u64 = 207;
 
-/// How many steps it takes at most to part the run that has a spot: four looks at runs, two at
-/// moments, 37 and 38 moments and nodes for when both rests are over, 38 for when the part behind
-/// falls due, and one for its value.
+/// How many steps it takes at most to part the run that has a spot: seven looks at runs, one at a
+/// moment, 37 spots and nodes for each of both when its rest is over, and 38 for when the part
+/// behind falls due.
 pub const PART_STEPS: u64 = 120;
 
 /// How many steps it takes at most to free ports in a row, beside those for each run among them:

@@ -1,6 +1,6 @@
 //! Runs of last ends, with when the rest of each is over.
 
-ghost use Rattle.std.specs.Prelude.{◌≡◌, ◌≢◌, ◌≤◌, ◌<◌, ◌+◌, ◌-◌, ◌*◌, ◌^◌, ℕ, [], length, true, Some, None, IfSome, IfNone, IfOk, OnOk, if◌then◌else◌};
+ghost use Rattle.std.specs.Prelude.{◌≡◌, ◌≢◌, ◌≤◌, ◌<◌, ◌==◌, ◌+◌, ◌-◌, ◌*◌, ◌^◌, ℕ, [], length, true, Some, None, IfSome, IfNone, IfOk, OnOk, if◌then◌else◌};
 ghost use Rattle.std.specs.Option.{option_map};
 ghost use Rattle.expiry_wheel.specs.Moments.{IsFirstOf};
 ghost use Rattle.expiry_wheel.specs.Blocks.{AreLeasts, least_at};
@@ -60,8 +60,7 @@ fn run_at(ends: &Ends, at: u32) -> Option<Run<End>>
 /// When the ports of the run that begins at a spot are free again, `NEVER` where none begins there.
 fn free_at(ends: &Ends, at: u32) -> u64
     requires { AreNear ends.now }
-    ensures moment { result ≡ free_at ends.now at }
-    ensures most { result ≤ NEVER }
+    ensures { result ≡ free_at ends.now at }
 {
     let Some(run) = run_at(ends, at) else {
         return NEVER;
@@ -73,24 +72,49 @@ fn free_at(ends: &Ends, at: u32) -> u64
     }
 }
 
-/// The least moment at which the ports of a run that begins in a block are free again.
-fn least_in(ends: &Ends, block: u32) -> u64
+/// When the ports of a run are free again that gets another end, `NEVER` where there is no run.
+fn free_then(before: u64, end: u64) -> u64
+    requires { end < 2 ^ 41 }
+    ensures { result ≡ (if before == NEVER then NEVER else end + REST_SECONDS) }
+{
+    if before == NEVER {
+        NEVER
+    } else {
+        end + REST_SECONDS
+    }
+}
+
+/// When the ports of the run are free again that begins at a spot, where it is known of one.
+fn free_beside(ends: &Ends, at: u32, known: u32, free: u64) -> u64
+    requires near { AreNear ends.now }
+    requires known { free ≡ free_at ends.now known }
+    ensures { result ≡ free_at ends.now at }
+{
+    if at == known { free } else { free_at(ends, at) }
+}
+
+/// The least moment at which the ports of a run that begins in a block are free again. It is known
+/// at one spot.
+fn least_in(ends: &Ends, block: u32, known: u32, free: u64) -> u64
     requires near { AreNear ends.now }
     requires block { block < BLOCKS }
+    requires known { free ≡ free_at ends.now known }
     ensures { result ≡ least_at (free_at ends.now) (8 * block) 8 }
 {
     let mut least = NEVER;
     for i in 0..BLOCK {
-        least = least.min(free_at(ends, BLOCK * block + i));
+        least = least.min(free_beside(ends, BLOCK * block + i, known, free));
     }
     least
 }
 
 /// Tells the tree the moment of a spot, which was `before`, where no other spot's was changed. The
-/// block is looked through only where its least moment may have gone.
-fn retell(ends: &Ends, frees: &mut Leasts, at: u32, before: u64)
+/// block is looked through only where its least moment may have gone: that takes 7 looks at spots,
+/// and the tree 30 at nodes.
+fn retell(ends: &Ends, frees: &mut Leasts, at: u32, before: u64, free: u64)
     requires near { AreNear ends.now }
     requires all { length frees.old ≡ BLOCKS }
+    requires free { free ≡ free_at ends.now at }
     ensures { (was : ℕ → ℕ) → AreLeasts BLOCKS was frees.old → was at ≡ before
         → ((i : ℕ) → i ≢ at → free_at ends.now i ≡ was i)
         → AreLeasts BLOCKS (free_at ends.now) frees.new }
@@ -100,13 +124,12 @@ fn retell(ends: &Ends, frees: &mut Leasts, at: u32, before: u64)
         return;
     }
     let least = frees.least_of(block as usize);
-    let now = free_at(ends, at);
-    if now <= least {
-        frees.set_uncounted(block as usize, now);
+    if free <= least {
+        frees.set_uncounted(block as usize, free);
         return;
     }
     if before == least {
-        frees.set_uncounted(block as usize, least_in(ends, block));
+        frees.set_uncounted(block as usize, least_in(ends, block, at, free));
     }
 }
 
@@ -119,7 +142,8 @@ fn cut(ends: &mut Ends, frees: &mut Leasts, at: u32) -> Result<(), Memory>
 {
     let before = free_at(ends, at);
     ends.cut(at)?;
-    retell(ends, frees, at, before);
+    let free = free_at(ends, at);
+    retell(ends, frees, at, before, free);
     Ok(())
 }
 
@@ -136,7 +160,8 @@ fn insert(ends: &mut Ends, frees: &mut Leasts, run: Run<End>) -> Result<(), Memo
 {
     let before = free_at(ends, run.first);
     ends.insert(run)?;
-    retell(ends, frees, run.first, before);
+    let free = free_at(ends, run.first);
+    retell(ends, frees, run.first, before, free);
     Ok(())
 }
 
@@ -153,13 +178,7 @@ fn is_over_at(ends: &Ends, at: u32, m: u64) -> bool
 
 /// The first spot from `from` up to `to`, which isn't among them, at which a run begins whose ports
 /// are free again by `m`. A step is a spot that is looked at.
-fn first_in<L: Ledger>(
-    ends: &Ends,
-    from: u32,
-    to: u32,
-    m: u64,
-    steps: &mut Steps<L>,
-) -> Option<u32>
+fn first_in<L: Ledger>(ends: &Ends, from: u32, to: u32, m: u64, steps: &mut Steps<L>) -> Option<u32>
     requires near { AreNear ends.now }
     requires ordered { from ≤ to }
     ensures found { IfSome result (IsFirstOf (free_at ends.now) from m) }
@@ -306,7 +325,8 @@ impl TimedEnds {
     {
         let before = free_at(&self.ends, first);
         self.ends.set_value(first, value);
-        retell(&self.ends, &mut self.frees, first, before);
+        let free = free_then(before, value.end);
+        retell(&self.ends, &mut self.frees, first, before, free);
     }
 
     /// Takes the last ends from the run that begins at a spot, if one begins there. It takes no
@@ -317,6 +337,6 @@ impl TimedEnds {
     {
         let before = free_at(&self.ends, first);
         self.ends.remove(first);
-        retell(&self.ends, &mut self.frees, first, before);
+        retell(&self.ends, &mut self.frees, first, before, NEVER);
     }
 }

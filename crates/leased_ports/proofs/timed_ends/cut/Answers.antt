@@ -13,5 +13,5 @@ pub returns-clause-timed : goal.returns-clause-timed
 returns-clause-timed c = record {
   apart = c.cut.ensures.runs;
   near = cut-near c.args.ends.now c.args.at c.cut.new.self c.in_ok-cut.ensures.ok c.requires.near;
-  leasts = c.retell.ensures (free_at c.args.ends.now) c.requires.leasts (sym c.free_at-before.ensures.moment) (cut-free c.args.ends.now c.args.at c.cut.new.self c.in_ok-cut.ensures.ok);
+  leasts = c.retell.ensures (free_at c.args.ends.now) c.requires.leasts (sym c.free_at-before.ensures) (cut-free c.args.ends.now c.args.at c.cut.new.self c.in_ok-cut.ensures.ok);
 }

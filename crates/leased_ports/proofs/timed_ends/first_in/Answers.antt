@@ -1,4 +1,4 @@
-use Rattle.std.proofs.Common.{◌≤◌, subst}
+use Rattle.std.proofs.Common.{arith}
 use Rattle.leased_ports.proofs.timed_ends.first_in.Goals as goal
 
 pub returns-then-free_at-m-clause-found : goal.returns-then-free_at-m-clause-found
@@ -6,6 +6,6 @@ returns-then-free_at-m-clause-found g c =
     let l = c.loop-at in
     record {
       from_on = l.auto.at;
-      due = subst (λ v. v ≤ c.args.m) c.free_at.ensures.moment c.if-free_at-m.true;
+      due = omega (arith, c.free_at.ensures, c.if-free_at-m.true);
       first = l.invariant.later;
     }

@@ -13,5 +13,5 @@ pub returns-clause-timed : goal.returns-clause-timed
 returns-clause-timed c = record {
   apart = c.insert.ensures.runs;
   near = insert-near c.args.ends.now c.args.run c.requires.free c.insert.new.self c.in_ok-insert.ensures.ok (c.requires.small, c.requires.near) c.requires.timed.near;
-  leasts = c.retell.ensures (free_at c.args.ends.now) c.requires.timed.leasts (sym c.free_at-before.ensures.moment) (insert-free c.args.ends.now c.args.run c.requires.free c.insert.new.self c.in_ok-insert.ensures.ok);
+  leasts = c.retell.ensures (free_at c.args.ends.now) c.requires.timed.leasts (sym c.free_at-before.ensures) (insert-free c.args.ends.now c.args.run c.requires.free c.insert.new.self c.in_ok-insert.ensures.ok);
 }

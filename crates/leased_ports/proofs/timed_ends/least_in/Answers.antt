@@ -11,5 +11,5 @@ pub loop-i-preserved : goal.loop-i-preserved
 loop-i-preserved c =
     let l = c.loop-i in
     let one_more : suc l.i ≡ l.i + 1 = omega arith in
-    c.min-least.ensures ∙ ap (min l.least) c.free_at.ensures.moment ∙ least_one_more (free_at c.args.ends.now) (8 * c.args.block) l.i l.least l.invariant
+    c.min-least.ensures ∙ ap (min l.least) c.free_beside.ensures ∙ least_one_more (free_at c.args.ends.now) (8 * c.args.block) l.i l.least l.invariant
     ∙ ap (least_at (free_at c.args.ends.now) (8 * c.args.block)) one_more
