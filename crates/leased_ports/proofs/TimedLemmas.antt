@@ -1,19 +1,18 @@
 -- Runs of last ends, and the least moments of blocks of spots at which they are free again.
 use Rattle.std.specs.Prelude.{◌≢◌}
-use Rattle.std.proofs.Common.{◌≡◌, ℕ, ◌+◌, ◌-◌, ◌*◌, ◌/◌, ◌<◌, ◌≤◌, ◌^◌, ◌==◌, ◌&&◌, nat_lt, nat_le, Bool, true, false, cond, List, [], length, replicate, slice_set, Option, Some, None, is_some, IfSome, IfNone, refl, sym, ap, ◌∙◌, subst, inl, inr, arith}
+use Rattle.std.proofs.Common.{◌≡◌, ℕ, ◌+◌, ◌-◌, ◌*◌, ◌/◌, ◌<◌, ◌≤◌, ◌^◌, ◌==◌, ◌&&◌, nat_lt, nat_le, Bool, true, false, cond, List, [], replicate, Option, Some, None, is_some, IfSome, IfNone, refl, sym, ap, ◌∙◌, subst, inl, inr, arith}
 use Rattle.std.specs.Option.{option_map}
 use Rattle.std.proofs.lemmas.Bool.{and_parts, and_from, le-leb, leb-true, ltb-true, ltb-false}
 use Rattle.pcp_base.specs.declared.leases.End.{End}
 use Rattle.ordered_index.proofs.Entries.{false_by}
 use Rattle.expiry_wheel.specs.declared.TheConstants.{NEVER}
 use Rattle.expiry_wheel.specs.Moments.{latest, kept_at, IsFirstOf}
-use Rattle.expiry_wheel.specs.Blocks.{AreLeasts}
 use Rattle.expiry_wheel.proofs.Maps.{same_or_not, below_or_not, cond_same, cond_other}
 use Rattle.expiry_wheel.proofs.BlockMoments.{leasts_never, first_is, block_due}
 use Rattle.expiry_wheel.proofs.Wheels.{latest_either}
 use Rattle.port_spans.specs.declared.runs.Run.{Run}
 use Rattle.port_spans.specs.Runs.{has_place, run_at, part_at, with_value, but_from, AreRuns}
-use Rattle.port_spans.proofs.RunLemmas.{in_by, in_from, in_to}
+use Rattle.port_spans.proofs.RunLemmas.{in_by, in_to}
 use Rattle.port_spans.proofs.SpotLemmas.{if-some, but_keeps, run_whole, run_from, run_to, run_first}
 use Rattle.leased_ports.specs.Frees.{AreNear, AreTimed, IsFirst, IsNear, free_at, free_of, is_over, is_over_from}
 

@@ -1,5 +1,4 @@
-use Rattle.std.proofs.Common.{◌≡◌, ℕ, ◌+◌, ◌*◌, ◌/◌, ◌<◌, ◌≤◌, Option, None, Some, is_some, false, IfSome, IfNone, sym, ◌∙◌, arith}
-use Rattle.expiry_wheel.specs.Moments.{IsFirstOf}
+use Rattle.std.proofs.Common.{sym, ◌∙◌, arith}
 use Rattle.expiry_wheel.proofs.BlockMoments.{none_is}
 use Rattle.leased_ports.specs.Frees.{free_at}
 use Rattle.leased_ports.proofs.TimedLemmas.{none_when, block_first, block_none}

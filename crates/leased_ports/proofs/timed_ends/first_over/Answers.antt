@@ -1,4 +1,4 @@
-use Rattle.std.proofs.Common.{◌≡◌, ℕ, ◌<◌, ◌≤◌, Option, IfSome, IfNone, false, sym, subst, ◌∙◌, arith}
+use Rattle.std.proofs.Common.{◌≡◌, ℕ, ◌<◌, ◌≤◌, IfSome, IfNone, false, sym, subst, ◌∙◌, arith}
 use Rattle.expiry_wheel.specs.Moments.{IsFirstOf}
 use Rattle.port_spans.specs.Runs.{run_at}
 use Rattle.leased_ports.specs.Frees.{is_over, free_at}

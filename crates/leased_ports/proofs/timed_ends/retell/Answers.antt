@@ -1,4 +1,4 @@
-use Rattle.std.proofs.Common.{◌≡◌, ◌≢◌, ◌/◌, ◌*◌, ◌<◌, ◌≤◌, ℕ, sym, ap, subst, ◌∙◌, arith}
+use Rattle.std.proofs.Common.{◌≢◌, ◌/◌, ◌*◌, ◌<◌, ◌≤◌, ℕ, ap, arith}
 use Rattle.expiry_wheel.specs.Moments.{kept_at}
 use Rattle.expiry_wheel.proofs.BlockMoments.{leasts_told, leasts_same, leasts_lower, leasts_stay}
 use Rattle.leased_ports.specs.Frees.{free_at}
