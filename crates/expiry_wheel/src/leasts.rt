@@ -71,7 +71,7 @@ impl Leasts {
         tree::wipe(&mut self.nodes);
     }
 
-    /// The least moment of a block. It takes no step.
+    /// The least moment of a block. It counts no step.
     pub fn least_of(&self, block: usize) -> u64
         requires { block < length self.now }
         ensures { result ≡ kept_at self.now block }

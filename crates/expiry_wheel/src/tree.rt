@@ -25,7 +25,7 @@ pub fn look<L: Ledger>(cells: &[u64], i: usize, steps: &mut Steps<L>) -> u64
     cells[i]
 }
 
-/// The moment of a block. It takes no step.
+/// The moment of a block. It counts no step.
 pub fn least_of(nodes: &[u64], block: usize) -> u64
     requires { length nodes.now / 2 + block < length nodes.now }
     ensures { result ≡ kept_at nodes.now (length nodes.now / 2 + block) }
