@@ -93,6 +93,49 @@ static FIRST: [Call; 4] = [
     FirstRun(1, None, None),
 ];
 
+// Of the ports 50 to 149, which stand in three words of 64.
+static THREE_WORDS: [Call; 39] = [
+    FirstRun(100, None, Some(50)),
+    FirstRun(101, None, None),
+    LongestRun(Some(1), 99),
+    Take(64, 64, true),
+    FirstRun(15, None, Some(128)),
+    LongestRun(None, 22),
+    RunAt(50, 99, 14),
+    RunAt(63, 9, 1),
+    RunAt(64, 1, 0),
+    RunAt(127, 5, 0),
+    RunAt(128, 70, 22),
+    Give(96, 1),
+    Take(50, 14, true),
+    FirstRun(1, None, Some(96)),
+    FirstRun(1, Some(1), Some(129)),
+    FirstRun(2, None, Some(128)),
+    Give(60, 10),
+    FirstRun(10, None, Some(60)),
+    FirstRun(9, Some(1), Some(61)),
+    RunAt(60, 50, 10),
+    RunAt(62, 8, 8),
+    RunAt(63, 9, 7),
+    Take(63, 2, true),
+    FirstRun(4, None, Some(65)),
+    FirstRun(3, None, Some(60)),
+    FirstRun(3, Some(1), Some(65)),
+    FirstRun(5, Some(0), Some(128)),
+    LongestRun(Some(1), 21),
+    Give(120, 8),
+    FirstRun(30, None, Some(120)),
+    FirstRun(30, Some(1), None),
+    FirstRun(29, Some(1), Some(121)),
+    LongestRun(None, 30),
+    RunAt(125, 99, 25),
+    Take(149, 1, true),
+    LongestRun(Some(0), 29),
+    LongestRun(Some(1), 28),
+    Take(69, 2, false),
+    RunAt(69, 9, 1),
+];
+
 // Of all ports.
 static ALL: [Call; 19] = [
     FirstRun(65535, None, Some(1)),
@@ -205,6 +248,13 @@ fn runs_are_found_of_one_port(rt: HostRuntime) -> Result<(), Memory> {
     assert!(rt; last.is_none(), "{last:?}");
     let first = first_other::<Brand>(rt.alloc(), Blank::new(1), 1, 1, &FIRST)?;
     assert!(rt; first.is_none(), "{first:?}");
+    Ok(())
+}
+
+#[test]
+fn runs_are_found_across_words(rt: HostRuntime) -> Result<(), Memory> {
+    let other = first_other::<Brand>(rt.alloc(), Blank::new(1), 50, 149, &THREE_WORDS)?;
+    assert!(rt; other.is_none(), "{other:?}");
     Ok(())
 }
 
