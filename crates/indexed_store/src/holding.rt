@@ -61,9 +61,9 @@ impl Leases {
         ensures steps { steps.new ≤ steps.old + 4 * most_levels }
     {
         levels_grow();
-        let expiry =
-            self.maps
-                .owner_expiry(owner.protocol, owner.external, &owner.endpoint, steps);
+        let expiry = self
+            .maps
+            .owner_expiry(owner.protocol, owner.external, &owner.endpoint, steps);
         later(m.get(), expiry)
     }
 }
