@@ -18,11 +18,11 @@ use Rattle.ordered_index.specs.declared.numbered.Numbered.{Numbered}
 use Rattle.ordered_index.specs.Ended.{IsOneEnded}
 use Rattle.ordered_index.specs.Orders.{Place, place_of, port_at, place_cmp, port_cmp}
 use Rattle.ordered_index.specs.MapSteps.{HasEntry}
-use Rattle.ordered_index.specs.Steps.{Appends, Replaces, Forgets, Stays, IsBlank, expiry_cmp}
+use Rattle.ordered_index.specs.Steps.{Appends, Replaces, Forgets, Stays, IsBlank}
 use Rattle.ordered_index.proofs.Endings.{one-stands, one-none}
 use Rattle.ordered_index.proofs.Entries.{All-at}
 use Rattle.ordered_index.proofs.EntryLaws.{none_some, some_one}
-use Rattle.ordered_index.proofs.Keeping.{IsTakenOut, blank-kept, blank-values, due-there, none-found, none-gone, number-has, one-found, port-there, same-values}
+use Rattle.ordered_index.proofs.Keeping.{IsTakenOut, blank-kept, blank-values, none-found, none-gone, number-has, one-found, port-there, same-values}
 use Rattle.cascade_ties.specs.declared.ties.Tied.{Tied}
 use Rattle.cascade_ties.specs.Kept.{HasLocal, IsTiePool, IsTieTable, place_of_tie, port_of_tie, tie_keying, ties_of}
 use Rattle.cascade_ties.specs.Ties.{AreOtherTies, MakesTies, MayChange, MayTie, Ties, TiesDiffer, has_client, has_local, is_over, still, tie_of, with_change, with_tie, without}
@@ -68,7 +68,7 @@ module _ (it : Numbers) (pool : Holdings) (h : IsTieTable it pool) where
       pub may_free : MayRelease pool e.address e.protocol x.tie.local 1
       may_free = subst (λ (z : Endpoint). MayRelease pool z.address z.protocol x.tie.local 1) is_of (may_release pool ts h.pool h.ties.differ e x found_at local_at)
 
-      module _ (new : Numbers) (after : Holdings) (forgets : Forgets place_cmp port_cmp it new n (place_of e) (port_at e.protocol x.tie.local) x.tie.until_ms)
+      module _ (new : Numbers) (after : Holdings) (forgets : Forgets place_cmp port_cmp it new n (place_of e) (port_at e.protocol x.tie.local))
           (freed : after ≡ with_use e.protocol x.tie.local 1 Free pool) where
         out : IsTakenOut tie_keying (has_client e) x it new
         out = is_taken it h.ties e n x number at_n new forgets
@@ -124,13 +124,13 @@ module _ (it : Numbers) (pool : Holdings) (h : IsTieTable it pool) where
     pool_put = put_pool pool ts h.pool t vacant local_there
 
     module _ (new : Numbers) (after : Holdings) (holds : after ≡ held) where
-      pub put_table : (n : ℕ) × Appends place_cmp port_cmp it new t (place_of_tie t) (port_of_tie t) t.tie.until_ms n → IsTieTable new after
+      pub put_table : (n : ℕ) × Appends place_cmp port_cmp it new t (place_of_tie t) (port_of_tie t) n → IsTieTable new after
       put_table appends = record {
         ties = appended_ties it h.ties t none_there vacant new appends.0 appends.1 local_there;
         pool = subst (λ (p : Holdings). IsTiePool p (values new.leases)) (sym holds) (subst (IsTiePool held) (sym (tie_appended it h.ties t none_there vacant new appends.0 appends.1)) pool_put);
       }
 
-      pub put_seen : (n : ℕ) × Appends place_cmp port_cmp it new t (place_of_tie t) (port_of_tie t) t.tie.until_ms n → ties_of after (values new.leases) ≡ with_tie (ties_of pool ts) t
+      pub put_seen : (n : ℕ) × Appends place_cmp port_cmp it new t (place_of_tie t) (port_of_tie t) n → ties_of after (values new.leases) ≡ with_tie (ties_of pool ts) t
       put_seen appends = seen after pool (values new.leases) (ts ++ t ∷ [])
           (ap (λ (p : Holdings). p.tcp.low) holds ∙ low_stays t.tie.client.protocol t.tie.local 1 (Held t.tie.client.address) pool)
           (ap (λ (p : Holdings). p.tcp.high) holds ∙ high_stays t.tie.client.protocol t.tie.local 1 (Held t.tie.client.address) pool)
@@ -174,10 +174,7 @@ module _ (it : Numbers) (pool : Holdings) (h : IsTieTable it pool) where
       pub port_stands : HasEntry port_cmp it.ports (port_of_tie t) n
       port_stands = port-there tie_keying tie_laws it h.ties.kept n x (port_of_tie t) at_n (port_same it h.ties t.tie.client n x number at_n t same_tie)
 
-      pub due_stands : HasEntry expiry_cmp it.expiries (x.tie.until_ms, n) tt
-      due_stands = due-there tie_keying tie_laws it h.ties.kept n x x.tie.until_ms at_n refl
-
-      module _ (new : Numbers) (replaces : Replaces port_cmp it new n t (port_of_tie t) (port_of_tie t) x.tie.until_ms t.tie.until_ms) where
+      module _ (new : Numbers) (replaces : Replaces port_cmp it new n t (port_of_tie t) (port_of_tie t)) where
         zip : AllZip IsSameTie ts (values new.leases)
         zip = replaced_zip it h.ties t.tie.client n x number at_n t same_tie new replaces (found_at t.tie.client n x number at_n)
 
@@ -190,11 +187,11 @@ module _ (it : Numbers) (pool : Holdings) (h : IsTieTable it pool) where
         changed_seen : ties_of pool (values new.leases) ≡ with_change (ties_of pool ts) t
         changed_seen = ap (ties_of pool) (tie_replaced it h.ties t.tie.client n x number at_n t same_tie new replaces)
 
-      pub change_table : {X E : Type 0} (new : Numbers) (r : Result X E) → OnOk r (Replaces port_cmp it new n t (port_of_tie t) (port_of_tie t) x.tie.until_ms t.tie.until_ms) → OnErr r (Stays it new) → IsTieTable new pool
+      pub change_table : {X E : Type 0} (new : Numbers) (r : Result X E) → OnOk r (Replaces port_cmp it new n t (port_of_tie t) (port_of_tie t)) → OnErr r (Stays it new) → IsTieTable new pool
       change_table new (Ok v) ok err = changed_table new ok
       change_table new (Err e) ok err = record { ties = tie_stays it h.ties new err; pool = subst (IsTiePool pool) (sym (same-values tie_keying tie_laws it h.ties.kept new err)) h.pool }
 
-      pub change_seen : {X E : Type 0} (new : Numbers) (r : Result X E) → OnOk r (Replaces port_cmp it new n t (port_of_tie t) (port_of_tie t) x.tie.until_ms t.tie.until_ms) → OnErr r (Stays it new) →
+      pub change_seen : {X E : Type 0} (new : Numbers) (r : Result X E) → OnOk r (Replaces port_cmp it new n t (port_of_tie t) (port_of_tie t)) → OnErr r (Stays it new) →
           MakesTies (ties_of pool ts) (with_change (ties_of pool ts) t) r (ties_of pool (values new.leases))
       change_seen new (Ok v) ok err = record { ok = changed_seen new ok; err = tt }
       change_seen new (Err e) ok err = record { ok = tt; err = ap (ties_of pool) (same-values tie_keying tie_laws it h.ties.kept new err) }
@@ -204,13 +201,13 @@ module _ (it : Numbers) (pool : Holdings) (h : IsTieTable it pool) where
   over_is m t = grind (arith, nat_tests)
 
   module _ (m : ℕ) where
-    pub over_there : (n : ℕ) → IsOneEnded m it.expiries (Some n) → IsSome (get nat_cmp it.leases n)
-    over_there n ended = let y = one-stands tie_keying tie_laws it h.ties.kept m n ended in subst IsSome (sym y.1) refl
+    pub over_there : (n : ℕ) → IsOneEnded (λ (t : Tied). t.tie.until_ms) m it.leases (Some n) → IsSome (get nat_cmp it.leases n)
+    over_there n ended = let y = one-stands (λ (t : Tied). t.tie.until_ms) it.leases h.ties.kept.ordered m n ended in subst IsSome (sym y.1) refl
 
-    module _ (n : ℕ) (x : Tied) (ended : IsOneEnded m it.expiries (Some n)) (at_n : get nat_cmp it.leases n ≡ Some x) where
+    module _ (n : ℕ) (x : Tied) (ended : IsOneEnded (λ (t : Tied). t.tie.until_ms) m it.leases (Some n)) (at_n : get nat_cmp it.leases n ≡ Some x) where
       over_at : is_over m x ≡ true
       over_at =
-          let y = one-stands tie_keying tie_laws it h.ties.kept m n ended in
+          let y = one-stands (λ (t : Tied). t.tie.until_ms) it.leases h.ties.kept.ordered m n ended in
           let one : y.0 ≡ x = some_one (get nat_cmp it.leases n) y.0 x y.1 at_n in
           over_is m x ∙ ap not (ap (λ (z : Tied). nat_lt m z.tie.until_ms) (sym one) ∙ y.2)
 
@@ -225,9 +222,9 @@ module _ (it : Numbers) (pool : Holdings) (h : IsTieTable it pool) where
           let less = fewer-out (has_client x.tie.client) x ts (once_client x.tie.client ts h.ties.differ) found_over in
           let same = ap (λ (z : Ties). length z.each) is in omega (arith, less, same)
 
-    pub all_still : IsOneEnded m it.expiries None → still m (ties_of pool ts) ≡ ties_of pool ts
+    pub all_still : IsOneEnded (λ (t : Tied). t.tie.until_ms) m it.leases None → still m (ties_of pool ts) ≡ ties_of pool ts
     all_still ended =
-        let none = find-none (λ (t : Tied). not (nat_lt m t.tie.until_ms)) ts (one-none tie_keying tie_laws it h.ties.kept m ended) in
+        let none = find-none (λ (t : Tied). not (nat_lt m t.tie.until_ms)) ts (one-none (λ (t : Tied). t.tie.until_ms) it.leases h.ties.kept.ordered m ended) in
         ap (ties_of pool) (filter-all (λ t. not (is_over m t)) ts (All-weaker (λ t. not (nat_lt m t.tie.until_ms) ≡ false) (λ t. not (is_over m t) ≡ true)
         (λ t e. ap not (over_is m t ∙ e)) ts none))
 

@@ -96,7 +96,7 @@ module _ (it : Numbered Tied Place (ℕ × ℕ)) (h : AreKeptTies it) where
         (λ y both. record { clients = both.0; locals = both.1 }) (values it.leases)
         (All-both _ _ (values it.leases) (find-none (has_client t.tie.client) (values it.leases) none) (any-none (has_local t.tie.client.protocol t.tie.local) (values it.leases) vacant))
 
-    module _ (new : Numbered Tied Place (ℕ × ℕ)) (n : ℕ) (appends : Appends place_cmp port_cmp it new t (place_of_tie t) (port_of_tie t) t.tie.until_ms n) where
+    module _ (new : Numbered Tied Place (ℕ × ℕ)) (n : ℕ) (appends : Appends place_cmp port_cmp it new t (place_of_tie t) (port_of_tie t) n) where
       pub tie_appended : values new.leases ≡ values it.leases ++ t ∷ []
       tie_appended =
           appended-values tie_keying tie_laws it h.kept new t (place_of_tie t) (port_of_tie t) n refl refl appends (client_free t.tie.client none) (local_free t.tie.client.protocol t.tie.local vacant)
@@ -126,7 +126,7 @@ module _ (it : Numbered Tied Place (ℕ × ℕ)) (h : AreKeptTies it) where
     client_is = let one : Some x ≡ Some at_from.0 = sym at_n ∙ at_from.1 in let same : x ≡ at_from.0 = cc in
         place_of-one x.tie.client e (ap place_of_tie same ∙ at_from.2)
 
-    pub is_taken : (new : Numbered Tied Place (ℕ × ℕ)) → Forgets place_cmp port_cmp it new n (place_of e) (port_at e.protocol x.tie.local) x.tie.until_ms → IsTakenOut tie_keying (has_client e) x it new
+    pub is_taken : (new : Numbered Tied Place (ℕ × ℕ)) → Forgets place_cmp port_cmp it new n (place_of e) (port_at e.protocol x.tie.local) → IsTakenOut tie_keying (has_client e) x it new
     is_taken new forgets = taken-out tie_keying tie_laws it h.kept new (has_client e) (place_of e) (place_of e) (port_at e.protocol x.tie.local) n x (tells_client e) refl
         (ap (λ (z : Endpoint). port_at z.protocol x.tie.local) (sym client_is)) number at_n forgets
 
@@ -142,7 +142,7 @@ module _ (it : Numbered Tied Place (ℕ × ℕ)) (h : AreKeptTies it) where
       pub port_same : port_of_tie t ≡ port_of_tie x
       port_same = ap (λ (z : Endpoint). port_at z.protocol t.tie.local) (sym is.client) ∙ ap (port_at x.tie.client.protocol) (sym is.local)
 
-    module _ (t : Tied) (is : IsSameTie x t) (new : Numbered Tied Place (ℕ × ℕ)) (replaces : Replaces port_cmp it new n t (port_of_tie t) (port_of_tie t) x.tie.until_ms t.tie.until_ms) where
+    module _ (t : Tied) (is : IsSameTie x t) (new : Numbered Tied Place (ℕ × ℕ)) (replaces : Replaces port_cmp it new n t (port_of_tie t) (port_of_tie t)) where
       key_same : place_of_tie x ≡ place_of_tie t
       key_same = ap place_of is.client
 

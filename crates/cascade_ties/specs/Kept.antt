@@ -29,7 +29,6 @@ abbrev pub tie_keying : Keying Tied Place (ℕ × ℕ)
 tie_keying = record {
   key = place_of_tie;
   port = port_of_tie;
-  expiry = λ t. t.tie.until_ms;
   key_cmp = place_cmp;
   port_cmp = port_cmp;
 }

@@ -4,7 +4,7 @@ ghost use Rattle.std.specs.Ordering.{nat_cmp};
 ghost use Rattle.std.specs.BTreeMap.{get};
 ghost use Rattle.ordered_index.specs.MapSteps.{HasEntry};
 ghost use Rattle.ordered_index.specs.Orders.{place_cmp, place_of, port_at, port_cmp};
-ghost use Rattle.ordered_index.specs.Steps.{expiry_cmp, Appends, Replaces, Forgets, Stays};
+ghost use Rattle.ordered_index.specs.Steps.{Appends, Replaces, Forgets, Stays};
 ghost use Rattle.cascade_ties.specs.Kept.{AreKeptTies, place_of_tie, port_of_tie};
 
 use crate::lookups::{Numbers, client_of, local_of};
@@ -19,40 +19,32 @@ pub(crate) fn append(kept: &mut Numbers, tied: Tied) -> Result<(), Memory>
     requires key { get place_cmp kept.old.keys (place_of_tie tied) ≡ None }
     requires port { get port_cmp kept.old.ports (port_of_tie tied) ≡ None }
     ensures ok { OnOk result ((number : ℕ) × Appends place_cmp port_cmp kept.old kept.new tied
-        (place_of_tie tied) (port_of_tie tied) tied.tie.until_ms number) }
+        (place_of_tie tied) (port_of_tie tied) number) }
     ensures err { OnErr result (Stays kept.old kept.new) }
 {
     let (client, local) = (client_of(&tied), local_of(&tied));
-    let until_ms = tied.tie.until_ms;
-    kept.append(tied, client, local, until_ms)?;
+    kept.append(tied, client, local)?;
     Ok(())
 }
 
-/// Writes a tie at a number that has one with its client and local port, whose time was `before`.
-/// The one error is want of memory, which changes nothing.
-pub(crate) fn replace(
-    kept: &mut Numbers,
-    number: u64,
-    tied: Tied,
-    before: u64,
-) -> Result<(), Memory>
+/// Writes a tie at a number that has one with its client and local port. The one error is want of
+/// memory, which changes nothing.
+pub(crate) fn replace(kept: &mut Numbers, number: u64, tied: Tied) -> Result<(), Memory>
     requires there { IsSome (get nat_cmp kept.old.leases number) }
     requires port { HasEntry port_cmp kept.old.ports (port_of_tie tied) number }
-    requires due { HasEntry expiry_cmp kept.old.expiries (before, number) tt }
     ensures ok { OnOk result (Replaces port_cmp kept.old kept.new number tied
-        (port_of_tie tied) (port_of_tie tied) before tied.tie.until_ms) }
+        (port_of_tie tied) (port_of_tie tied)) }
     ensures err { OnErr result (Stays kept.old kept.new) }
 {
     let local = local_of(&tied);
-    let after = tied.tie.until_ms;
-    kept.replace(number, tied, (local, local), (before, after))
+    kept.replace(number, tied, (local, local))
 }
 
 /// Takes out the tie with a number, of this client and with these terms.
 pub(crate) fn forget(kept: &mut Numbers, number: u64, client: &Endpoint, tie: &Tie)
     ensures { Forgets place_cmp port_cmp kept.old kept.new number (place_of client.now)
-        (port_at client.now.protocol tie.now.local) tie.now.until_ms }
+        (port_at client.now.protocol tie.now.local) }
 {
     let local = port_at(client.protocol, tie.local);
-    kept.forget(number, place_of(client), local, tie.until_ms);
+    kept.forget(number, place_of(client), local);
 }

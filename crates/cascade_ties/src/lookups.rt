@@ -5,7 +5,7 @@ ghost use Rattle.cascade_ties.specs.Kept.{place_of_tie, port_of_tie};
 use crate::ties::Tied;
 use ordered_index::{Numbered, Place, Port, place_of, port_at};
 
-/// Ties by numbers that grow, and the numbers by clients, by local ports and by their times.
+/// Ties by numbers that grow, and the numbers by clients and by local ports.
 pub(crate) type Numbers = Numbered<Tied, Place, Port>;
 
 /// The place of the client's endpoint.

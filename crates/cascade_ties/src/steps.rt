@@ -2,7 +2,6 @@
 ghost use Rattle.std.specs.Prelude.{◌≡◌, ◌<◌, length, OnOk, OnErr};
 ghost use Rattle.std.specs.Bool.{OnTrue, OnFalse};
 ghost use Rattle.std.specs.BTreeMap.{values};
-ghost use Rattle.ordered_index.specs.Ended.{IsOneEnded};
 ghost use Rattle.cascade_ties.specs.Kept.{IsTieTable, ties_of};
 ghost use Rattle.cascade_ties.specs.Ties.{MakesTies, MayChange, MayTie, still, with_change, with_tie, without};
 
@@ -13,7 +12,6 @@ use external_pool::Pool;
 use ordered_index::place_of;
 use pcp_base::{Endpoint, Memory};
 use std::alloc::Global;
-use std::collections::BTreeMap;
 
 /// Appends a tie of an endpoint that has none, to a vacant port.
 pub(crate) fn put_tie(
@@ -51,8 +49,7 @@ pub(crate) fn change_tie(kept: &mut Numbers, pool: &Pool, tied: Tied) -> Result<
     let Some(number) = kept.keys.get(&client_of(&tied)).copied() else {
         return Ok(());
     };
-    let before = kept.leases[&number].tie.until_ms;
-    replace(kept, number, tied, before)
+    replace(kept, number, tied)
 }
 
 /// Takes out the tie of an endpoint, where it has one, and frees its local port.
@@ -70,20 +67,6 @@ pub(crate) fn take_tie(kept: &mut Numbers, pool: &mut Pool, client: &Endpoint)
     pool.release(&client.address, client.protocol, tie.local, 1);
 }
 
-/// The number of the tie whose time comes first, where it has come.
-fn first_over(expiries: &BTreeMap<(u64, u64), ()>, now_ms: u64) -> Option<u64>
-    ensures { IsOneEnded now_ms expiries.now result }
-{
-    let Some((first, _)) = expiries.first_key_value() else {
-        return None;
-    };
-    let (until_ms, number) = *first;
-    if now_ms < until_ms {
-        return None;
-    }
-    Some(number)
-}
-
 /// Takes out a tie whose time has come; false where there is none.
 fn drop_one(kept: &mut Numbers, pool: &mut Pool, now_ms: u64) -> bool
     requires { IsTieTable kept.old pool.old }
@@ -95,7 +78,7 @@ fn drop_one(kept: &mut Numbers, pool: &mut Pool, now_ms: u64) -> bool
     ensures all { OnFalse result (still now_ms (ties_of pool.new (values kept.new.leases))
         ≡ ties_of pool.new (values kept.new.leases)) }
 {
-    let Some(number) = first_over(&kept.expiries, now_ms) else {
+    let Some(number) = kept.leases.one_ended(now_ms) else {
         return false;
     };
     let client = kept.leases[&number].tie.client;

@@ -44,10 +44,9 @@ impl TieTable {
         requires ordered { low ≤ high }
         ensures { IfOk result (λ ties. ties ≡ no_ties low high) }
     {
-        Ok(TieTable {
-            kept: Numbered::new(alloc),
-            pool: Pool::new(alloc, low, high, TIE_QUOTA)?,
-        })
+        let kept = Numbered::new(alloc)?;
+        let pool = Pool::new(alloc, low, high, TIE_QUOTA)?;
+        Ok(TieTable { kept, pool })
     }
 
     /// How many ties there are.

@@ -1,5 +1,6 @@
 //! A tie, and the request that waits for it.
 
+use ordered_index::Expires;
 use pcp_base::{Address, Endpoint, Nonce, Octets};
 use pcp_options::Items;
 
@@ -44,4 +45,13 @@ pub struct Waiting {
 pub struct Tied {
     pub tie: Tie,
     pub waiting: Option<Waiting>,
+}
+
+impl Expires for Tied {
+    ghost expiry = { λ tied. tied.tie.until_ms };
+
+    #[inline]
+    fn expires_at(&self) -> u64 {
+        self.tie.until_ms
+    }
 }

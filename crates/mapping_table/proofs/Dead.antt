@@ -10,16 +10,15 @@ use Rattle.ordered_index.specs.Ended.{IsOneEnded}
 use Rattle.ordered_index.specs.Orders.{Place}
 use Rattle.ordered_index.proofs.Endings.{one-none, one-stands, one-among}
 use Rattle.mapping_table.specs.MapLists.{is_live_map}
-use Rattle.mapping_table.specs.Kept.{map_keying, AreKeptMaps}
-use Rattle.mapping_table.proofs.MapKeeping.{map_laws}
+use Rattle.mapping_table.specs.Kept.{AreKeptMaps}
 
 module _ (m : ℕ) (it : Numbered MapLease Place (ℕ × ℕ)) (h : AreKeptMaps it) where
   abbrev dead : MapLease → Bool
   dead l = not (is_live_map m l)
 
   -- where the number of one that isn't live is told
-  pub some-ended : (o : Option ℕ) → IsOneEnded m it.expiries o → is_some o ≡ list_any dead (values it.leases)
-  some-ended None ended = sym (none-any dead (values it.leases) (find-none dead (values it.leases) (one-none map_keying map_laws it h.kept m ended)))
+  pub some-ended : (o : Option ℕ) → IsOneEnded (λ (l : MapLease). l.expiry) m it.leases o → is_some o ≡ list_any dead (values it.leases)
+  some-ended None ended = sym (none-any dead (values it.leases) (find-none dead (values it.leases) (one-none (λ (l : MapLease). l.expiry) it.leases h.kept.ordered m ended)))
   some-ended (Some n) ended =
-      let y = one-stands map_keying map_laws it h.kept m n ended in
-      sym (some-any dead (values it.leases) y.0 (IsIn-from_Contains (values it.leases) y.0 (one-among map_keying map_laws it h.kept m n y.0 y.1)) (ap not y.2))
+      let y = one-stands (λ (l : MapLease). l.expiry) it.leases h.kept.ordered m n ended in
+      sym (some-any dead (values it.leases) y.0 (IsIn-from_Contains (values it.leases) y.0 (one-among it.leases n y.0 y.1)) (ap not y.2))

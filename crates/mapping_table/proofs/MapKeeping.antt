@@ -34,17 +34,16 @@ module _ (it : Numbered MapLease Place (ℕ × ℕ)) (h : AreKeptMaps it) where
         port-free map_keying map_laws it h.kept (is_map_of (first_endpoint l)) (place_of_lease l) (map_tells (first_endpoint l)) free l (ports_apart (with_map l (values it.leases)) sound)
 
     module _ {X E : Type 0} (new : Numbered MapLease Place (ℕ × ℕ)) (r : Result X E) where
-      pub map_appended : (k : Place) (p : ℕ × ℕ) (at : ℕ) → k ≡ place_of_lease l → p ≡ port_of_lease l → at ≡ l.expiry → get place_cmp it.keys (place_of_lease l) ≡ None →
-          OnOk r ((n : ℕ) × Appends place_cmp port_cmp it new l k p at n) → OnErr r (Stays it new) → AreKeptMaps new × PutsMap (values it.leases) l r (values new.leases)
-      map_appended k p at k_is p_is at_is free ok err =
-          let put = put-appended map_keying map_laws it h.kept new (is_map_of (first_endpoint l)) l (map_tells (first_endpoint l)) (ports_apart (with_map l (values it.leases)) sound) r k p k_is p_is free (subst (λ (z : ℕ). OnOk r ((n : ℕ) × Appends place_cmp port_cmp it new l k p z n)) at_is ok) err in
+      pub map_appended : (k : Place) (p : ℕ × ℕ) → k ≡ place_of_lease l → p ≡ port_of_lease l → get place_cmp it.keys (place_of_lease l) ≡ None →
+          OnOk r ((n : ℕ) × Appends place_cmp port_cmp it new l k p n) → OnErr r (Stays it new) → AreKeptMaps new × PutsMap (values it.leases) l r (values new.leases)
+      map_appended k p k_is p_is free ok err =
+          let put = put-appended map_keying map_laws it h.kept new (is_map_of (first_endpoint l)) l (map_tells (first_endpoint l)) (ports_apart (with_map l (values it.leases)) sound) r k p k_is p_is free ok err in
           (record { sound = put-either AreSoundMaps (values it.leases) (with_map l (values it.leases)) (values new.leases) r put.ok put.err h.sound sound; kept = put.kept }, record { ok = put.ok; err = put.err })
 
-      pub map_replaced : (n : ℕ) (x : MapLease) (from to : ℕ × ℕ) (before after : ℕ) → get place_cmp it.keys (place_of_lease l) ≡ Some n → get nat_cmp it.leases n ≡ Some x → from ≡ port_of_lease x → to ≡ port_of_lease l → before ≡ x.expiry → after ≡ l.expiry →
-          OnOk r (Replaces port_cmp it new n l from to before after) → OnErr r (Stays it new) → AreKeptMaps new × PutsMap (values it.leases) l r (values new.leases)
-      map_replaced n x from to before after number at_n from_is to_is before_is after_is ok err =
-          let put = put-replaced map_keying map_laws it h.kept new (is_map_of (first_endpoint l)) l (map_tells (first_endpoint l)) (ports_apart (with_map l (values it.leases)) sound) r n x from to number at_n from_is to_is
-          (subst (λ z. OnOk r (Replaces port_cmp it new n l from to x.expiry z)) after_is (subst (λ z. OnOk r (Replaces port_cmp it new n l from to z after)) before_is ok)) err in
+      pub map_replaced : (n : ℕ) (x : MapLease) (from to : ℕ × ℕ) → get place_cmp it.keys (place_of_lease l) ≡ Some n → get nat_cmp it.leases n ≡ Some x → from ≡ port_of_lease x → to ≡ port_of_lease l →
+          OnOk r (Replaces port_cmp it new n l from to) → OnErr r (Stays it new) → AreKeptMaps new × PutsMap (values it.leases) l r (values new.leases)
+      map_replaced n x from to number at_n from_is to_is ok err =
+          let put = put-replaced map_keying map_laws it h.kept new (is_map_of (first_endpoint l)) l (map_tells (first_endpoint l)) (ports_apart (with_map l (values it.leases)) sound) r n x from to number at_n from_is to_is ok err in
           (record { sound = put-either AreSoundMaps (values it.leases) (with_map l (values it.leases)) (values new.leases) r put.ok put.err h.sound sound; kept = put.kept }, record { ok = put.ok; err = put.err })
 
   -- where nothing changes
@@ -69,8 +68,8 @@ module _ (it : Numbered MapLease Place (ℕ × ℕ)) (h : AreKeptMaps it) where
           removed = none-gone map_keying map_laws it h.kept (is_map_of e) (place_of e) (map_tells e) here;
         }
 
-    pub map_removed : (new : Numbered MapLease Place (ℕ × ℕ)) (p : ℕ × ℕ) (n at : ℕ) (x : MapLease) → p ≡ port_of_lease x → at ≡ x.expiry → get place_cmp it.keys k ≡ Some n → get nat_cmp it.leases n ≡ Some x →
-        Forgets place_cmp port_cmp it new n k p at → AreKeptMaps new × RemovesMap (values it.leases) e (Some x) (values new.leases)
-    map_removed new p n at x p_is at_is number at_n forgets =
-        let out = taken-out map_keying map_laws it h.kept new (is_map_of e) (place_of e) k p n x (map_tells e) k_is p_is number at_n (subst (λ z. Forgets place_cmp port_cmp it new n k p z) at_is forgets) in
+    pub map_removed : (new : Numbered MapLease Place (ℕ × ℕ)) (p : ℕ × ℕ) (n : ℕ) (x : MapLease) → p ≡ port_of_lease x → get place_cmp it.keys k ≡ Some n → get nat_cmp it.leases n ≡ Some x →
+        Forgets place_cmp port_cmp it new n k p → AreKeptMaps new × RemovesMap (values it.leases) e (Some x) (values new.leases)
+    map_removed new p n x p_is number at_n forgets =
+        let out = taken-out map_keying map_laws it h.kept new (is_map_of e) (place_of e) k p n x (map_tells e) k_is p_is number at_n forgets in
         (record { sound = subst AreSoundMaps (sym out.gone) (AreSoundMaps-filter (λ y. not (is_map_of e y)) (values it.leases) h.sound); kept = out.kept }, record { answer = out.found; removed = out.gone })

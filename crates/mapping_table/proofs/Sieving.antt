@@ -18,7 +18,7 @@ use Rattle.ordered_index.proofs.EntryLaws.{tally, count-some, two-counted, count
 use Rattle.ordered_index.proofs.Endings.{count-values}
 use Rattle.ordered_index.proofs.Keeping.{none-found, key-from, key-to, key-found, same-values}
 use Rattle.ordered_index.proofs.OrderLaws.{at_exact, place_exact, place_total}
-use Rattle.ordered_index.proofs.Leasts.{same_number}
+use Rattle.ordered_index.proofs.Entries.{same_number}
 use Rattle.ordered_index.proofs.Mirrorings.{at-entry}
 use Rattle.ordered_index.proofs.PlaceCounts.{bucket_of-below, no_places-none}
 use Rattle.mapping_table.specs.Kept.{place_of_lease, map_keying, falls_on, AreKeptMaps, SievesMaps}

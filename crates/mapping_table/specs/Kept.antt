@@ -26,7 +26,6 @@ abbrev pub map_keying : Keying MapLease Place (ℕ × ℕ)
 map_keying = record {
   key = place_of_lease;
   port = port_of_lease;
-  expiry = λ l. l.expiry;
   key_cmp = place_cmp;
   port_cmp = port_cmp;
 }

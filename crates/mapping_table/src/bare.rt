@@ -8,7 +8,7 @@ ghost use Rattle.mapping_table.specs.MapLists.{runs_meet, meet_inside, meet_outs
 ghost use Rattle.ordered_index.specs.Orders.{port_at};
 ghost use Rattle.mapping_table.specs.Kept.{bare, with_filters, place_of_lease, port_of_lease, sets_of, IsLastBefore, IsLastPlace, IsLastPort};
 
-use ordered_index::{Place, Port, place_of, port_at};
+use ordered_index::{Expires, Place, Port, place_of, port_at};
 use pcp_base::{Address, Endpoint, Filters, MapLease, Moment, Nonce, Protocol};
 use std::marker::Model;
 
@@ -53,6 +53,15 @@ impl Model for BareLease {
       granted = l.granted;
       expiry = l.expiry;
     } };
+}
+
+impl Expires for BareLease {
+    ghost expiry = { λ lease. lease.expiry };
+
+    #[inline]
+    fn expires_at(&self) -> u64 {
+        self.expiry
+    }
 }
 
 /// The last of `count` ports from the first one on, where that is at most 65535.
@@ -179,13 +188,6 @@ impl BareLease {
         ensures { result ≡ port_at self.now.protocol (self.now.external - 1) }
     {
         port_at(self.protocol, self.external - 1)
-    }
-
-    /// It is live at each moment below this one, in seconds.
-    pub(crate) fn expiry(&self) -> u64
-        ensures { result ≡ self.now.expiry }
-    {
-        self.expiry
     }
 
     /// One for a set of ports, and none for a single port.

@@ -203,7 +203,7 @@ impl BareTable {
     pub(crate) fn new(alloc: Global) -> Result<BareTable, Memory>
         ensures { IfOk result (λ table. table ≡ []) }
     {
-        let kept = Numbered::new(alloc);
+        let kept = Numbered::new(alloc)?;
         let sieve = Sieve::new(alloc)?;
         let hints = Hints::new(alloc)?;
         Ok(BareTable {
@@ -397,7 +397,7 @@ impl BareTable {
         overlapping_set(kept, lease, steps)
     }
 
-    /// How many leases are live at `m`. It looks at those that have ended alone.
+    /// How many leases are live at `m`. It looks at blocks of leases of which one has ended alone.
     pub(crate) fn live(&self, m: Moment) -> u32
         ensures { result ≡ count_by (is_live_map m) self.now }
     {
@@ -458,7 +458,8 @@ impl BareTable {
         )
     }
 
-    /// Takes out the lease with this first endpoint, and an entry of each of four maps.
+    /// Takes out the lease with this first endpoint, and an entry of each of three maps and of the tree of
+    /// expiries.
     pub(crate) fn remove<L: Ledger>(
         &mut self,
         key: &Endpoint,
@@ -476,8 +477,7 @@ impl BareTable {
             return None;
         };
         steps.take(4 * levels(self.kept.leases.len()));
-        self.kept
-            .forget(number, place, lease.port(), lease.expiry());
+        self.kept.forget(number, place, lease.port());
         self.sets -= lease.sets();
         self.sieve.take(&place);
         Some(lease)
@@ -492,7 +492,7 @@ impl BareTable {
         self.kept.one_ended(m).is_some()
     }
 
-    /// One of the leases that aren't live at `m` and expired first. It looks at that one alone.
+    /// One of the leases that aren't live at `m` and expired first. It looks at one block of them.
     pub(crate) fn one_ended<L: Ledger>(&self, m: Moment, steps: &mut Steps<L>) -> Option<&BareLease>
         ensures ended { IsDeadMap m self.now (option_copied result) }
         ensures steps { steps.new ≤ steps.old + 2 * levels (length self.now) }

@@ -13,8 +13,8 @@ use pcp_base::Memory;
 use std::sync::ledger::Ledger;
 use step_count::{Steps, levels};
 
-/// Appends a lease whose key has no number. It puts an entry into each of four maps; where the last
-/// one fails, it takes out the three others.
+/// Appends a lease whose key has no number. It puts an entry into each of three maps and into the
+/// tree of expiries; where a map fails, it takes out what came before.
 pub(crate) fn append<L: Ledger>(
     kept: &mut Numbered<BareLease, Place, Port>,
     sieve: &mut Sieve,
@@ -34,7 +34,7 @@ pub(crate) fn append<L: Ledger>(
 {
     steps.take(7 * levels(kept.leases.len() + 1));
     let place = lease.place();
-    let number = kept.append(lease, place, lease.port(), lease.expiry())?;
+    let number = kept.append(lease, place, lease.port())?;
     *sets += lease.sets();
     sieve.add(&place);
     hints.note(&place, number);
@@ -42,7 +42,7 @@ pub(crate) fn append<L: Ledger>(
 }
 
 /// Puts a lease in the place of the one with its key, which has this number. It looks at that one,
-/// puts a port and an expiry in, takes two out, and writes the lease.
+/// puts a port in, takes one out, and writes the lease and its expiry.
 pub(crate) fn replace<L: Ledger>(
     kept: &mut Numbered<BareLease, Place, Port>,
     sets: &mut u32,
@@ -62,7 +62,7 @@ pub(crate) fn replace<L: Ledger>(
     steps.take(6 * levels(kept.leases.len() + 1));
     let old = kept.leases[&number];
     let ports = (old.port(), lease.port());
-    kept.replace(number, lease, ports, (old.expiry(), lease.expiry()))?;
+    kept.replace(number, lease, ports)?;
     *sets = *sets + lease.sets() - old.sets();
     Ok(())
 }

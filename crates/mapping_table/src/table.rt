@@ -23,8 +23,8 @@ use step_count::{Steps, levels};
 /// MAP leases, seen as a list in the order granted. Those that have ended stay until they are taken
 /// out.
 ///
-/// A step is a look at a level of one of its ordered maps, of which each has at most as many levels
-/// as its number of leases has binary digits.
+/// A step is a look at a level of one of its ordered maps or of the tree of expiries, of which each
+/// has at most as many levels as its number of leases has binary digits.
 #[derive(Drop)]
 pub struct MapTable {
     /// The leases without their filters.
@@ -128,7 +128,7 @@ impl MapTable {
         self.leases.overlapping(&BareLease::of(lease), steps)
     }
 
-    /// How many leases are live at `m`. It looks at those that have ended alone.
+    /// How many leases are live at `m`. It looks at blocks of leases of which one has ended alone.
     pub fn live(&self, m: Moment) -> u32
         ensures { result ≡ count_by (is_live_map m) self.now }
     {
@@ -198,7 +198,7 @@ impl MapTable {
         self.leases.has_ended(m, steps)
     }
 
-    /// One of the leases that aren't live at `m` and expired first. It looks at that one alone.
+    /// One of the leases that aren't live at `m` and expired first. It looks at one block of them.
     pub fn one_ended<L: Ledger>(&self, m: Moment, steps: &mut Steps<L>) -> Option<MapLease>
         ensures ended { IsDeadMap m self.now result }
         ensures steps { steps.new ≤ steps.old + 3 * levels (length self.now) }

@@ -8,7 +8,7 @@ use Rattle.std.specs.Ordering.{nat_cmp, is_eq, match_ordering}
 use Rattle.std.specs.declared.cmp.Ordering.TheVariants.{Less, Equal, Greater}
 use Rattle.std.specs.Cmp.{nat_cmp_total}
 use Rattle.std.proofs.lemmas.Cmp.{tied_itself}
-use Rattle.std.proofs.lemmas.Bool.{eqb-true, ltb-true, or_left, or_right, or_cases}
+use Rattle.std.proofs.lemmas.Bool.{eqb-true, eq-eqb, ltb-true, or_left, or_right, or_cases}
 use Rattle.std.proofs.lemmas.Grind.{common_steps}
 use Rattle.std.proofs.lemmas.Map.Keys.{sorted_head, sorted_tail}
 use Rattle.std.proofs.lemmas.Map.Lookups.{exact_unsigned}
@@ -22,6 +22,9 @@ is_at-nat a b = by_tests (nat_lt a b) (a == b) (λ less. grind (arith, common_st
 
 pub number_same : (a b : ℕ) → is_at (nat_cmp a) b ≡ true → a ≡ b
 number_same a b h = eqb-true a b (sym (is_at-nat a b) ∙ h)
+
+pub same_number : (n : ℕ) → (n == n) ≡ true
+same_number n = eq-eqb n n refl
 
 pub number_self : (a : ℕ) → is_at (nat_cmp a) a ≡ true
 number_self a = ap is_eq (tied_itself nat_cmp_total a)

@@ -8,25 +8,18 @@ use Rattle.std.specs.Ordering.{nat_cmp}
 use Rattle.std.specs.declared.cmp.Ordering.{Ordering}
 use Rattle.std.specs.Cmp.{IsTotalOrder, nat_cmp_total}
 use Rattle.std.specs.BTreeMap.{BTreeMap, IsOrdered, get, is_at, values}
-use Rattle.std.proofs.lemmas.Cmp.{on_total, then_total}
-use Rattle.std.proofs.lemmas.Map.Lookups.{CmpEqualImpliesEq, exact_unsigned, exact_pairs}
+use Rattle.std.proofs.lemmas.Map.Lookups.{CmpEqualImpliesEq, exact_unsigned}
 use Rattle.pcp_base.specs.Tables.{EachTwo, put}
 use Rattle.pcp_base.proofs.Members.{All-weaker}
 use Rattle.ordered_index.specs.declared.numbered.Numbered.{Numbered}
 use Rattle.ordered_index.specs.declared.slots.TheConstants.{MOST_SLOTS}
 use Rattle.ordered_index.specs.MapSteps.{HasEntry}
-use Rattle.ordered_index.specs.Steps.{expiry_cmp, IsBlank, Appends, Replaces, Forgets, Stays}
+use Rattle.ordered_index.specs.Steps.{IsBlank, Appends, Replaces, Forgets, Stays}
 use Rattle.ordered_index.specs.Kept.{Mirrors, Keying, IsKept}
 use Rattle.ordered_index.proofs.EntryLaws.{tally, count-set, none_some, none_by, some_one, key-self}
 use Rattle.ordered_index.proofs.Mirrorings.{entry-at, at-entry, mirrored-to, mirrored-from, mirrors-inserted, mirrors-removed, mirrors-moved, index-to, index-from}
 use Rattle.ordered_index.proofs.OrderLaws.{at_exact}
 use Rattle.ordered_index.proofs.Entries.{All-at, number_same, number_self, number_other, values_append, insert_last, keys_below, none_passes, passes_at, set_value-put, remove_entry-filter, find_is, find_none, one_passes}
-
-pub expiry_total : IsTotalOrder expiry_cmp
-expiry_total = then_total (on_total (λ (p : ℕ × ℕ). p.0) nat_cmp_total) (on_total (λ (p : ℕ × ℕ). p.1) nat_cmp_total)
-
-pub expiry_exact : CmpEqualImpliesEq expiry_cmp
-expiry_exact = exact_pairs nat_cmp nat_cmp exact_unsigned exact_unsigned
 
 -- the orders of the keys are total and tell all keys apart
 pub record AreLaws {L K P : Type 0} (by : Keying L K P) : Type 0 where
@@ -87,25 +80,6 @@ module _ {L K P : Type 0} (by : Keying L K P) (laws : AreLaws by) (it : Numbered
   abbrev port_of : ℕ × L → P × ℕ
   port_of e = (by.port e.1, e.0)
 
-  abbrev due_of : ℕ × L → (ℕ × ℕ) × ⊤
-  due_of e = ((by.expiry e.1, e.0), tt)
-
-  unit_is : (u : ⊤) → u ≡ tt
-  unit_is u = refl
-
-  pub due-to : (n : ℕ) (l : L) → get nat_cmp it.leases n ≡ Some l → get expiry_cmp it.expiries (by.expiry l, n) ≡ Some tt
-  due-to n l a =
-      let r = mirrored-to due_of it.leases.entries it.expiries.entries kept.expiries (λ b. is_at (expiry_cmp (by.expiry l, n)) b.0) (n, l) (at-entry nat_cmp_total exact_unsigned it.leases kept.ordered n l a)
-      (key-self expiry_total (by.expiry l, n)) in
-      ap (get expiry_cmp it.expiries) (at_exact expiry_exact (by.expiry l, n) r.0.0 r.2) ∙ entry-at expiry_total expiry_exact it.expiries kept.expiries_ordered r.0.0 r.0.1 r.1
-
-  pub due-from : (k : ℕ × ℕ) → get expiry_cmp it.expiries k ≡ Some tt → (l : L) × (get nat_cmp it.leases k.1 ≡ Some l) × (by.expiry l ≡ k.0)
-  due-from k a =
-      let r = mirrored-from due_of it.leases.entries it.expiries.entries kept.expiries (λ b. is_at (expiry_cmp k) b.0) (k, tt) (at-entry expiry_total expiry_exact it.expiries kept.expiries_ordered k tt a)
-      (key-self expiry_total k) in
-      let same : k ≡ (by.expiry r.0.1, r.0.0) = at_exact expiry_exact k (by.expiry r.0.1, r.0.0) r.2 in
-      (r.0.1, ap (λ (z : ℕ × ℕ). get nat_cmp it.leases z.1) same ∙ entry-at nat_cmp_total exact_unsigned it.leases kept.ordered r.0.0 r.0.1 r.1, ap (λ (z : ℕ × ℕ). z.0) (sym same))
-
   pub number-has : (k : K) (n : ℕ) → get by.key_cmp it.keys k ≡ Some n → IsSome (get nat_cmp it.leases n)
   number-has k n a = subst IsSome (sym (key-from k n a).1) refl
 
@@ -151,9 +125,6 @@ module _ {L K P : Type 0} (by : Keying L K P) (laws : AreLaws by) (it : Numbered
   pub port-there : (n : ℕ) (x : L) (p : P) → get nat_cmp it.leases n ≡ Some x → p ≡ by.port x → HasEntry by.port_cmp it.ports p n
   port-there n x p at_n same = record { ordered = kept.ports_ordered; found = ap (get by.port_cmp it.ports) same ∙ port-to n x at_n }
 
-  pub due-there : (n : ℕ) (x : L) (at : ℕ) → get nat_cmp it.leases n ≡ Some x → at ≡ by.expiry x → HasEntry expiry_cmp it.expiries (at, n) tt
-  due-there n x at at_n same = record { ordered = kept.expiries_ordered; found = ap (λ (z : ℕ). get expiry_cmp it.expiries (z, n)) same ∙ due-to n x at_n }
-
   -- a number that isn't below the next step is free
   module _ (n : ℕ) (from : it.next ≤ n) where
     below_n : (m : ℕ) (l : L) → get nat_cmp it.leases m ≡ Some l → m < n
@@ -162,10 +133,7 @@ module _ {L K P : Type 0} (by : Keying L K P) (laws : AreLaws by) (it : Numbered
     no_number : get nat_cmp it.leases n ≡ None
     no_number = none_by (get nat_cmp it.leases n) (λ l a. let less : n < n = below_n n l a in omega (arith, less))
 
-    no_due : (x : ℕ) → get expiry_cmp it.expiries (x, n) ≡ None
-    no_due x = none_by (get expiry_cmp it.expiries (x, n)) (λ u a. none_some (get nat_cmp it.leases n) (due-from (x, n) a).0 no_number (due-from (x, n) a).1)
-
-  module _ (new : Numbered L K P) (l : L) (k : K) (p : P) (n : ℕ) (k_is : k ≡ by.key l) (p_is : p ≡ by.port l) (h : Appends by.key_cmp by.port_cmp it new l k p (by.expiry l) n)
+  module _ (new : Numbered L K P) (l : L) (k : K) (p : P) (n : ℕ) (k_is : k ≡ by.key l) (p_is : p ≡ by.port l) (h : Appends by.key_cmp by.port_cmp it new l k p n)
       (free : get by.key_cmp it.keys k ≡ None) (free_port : get by.port_cmp it.ports p ≡ None) where
     pub appended-values : (has : L → Bool) → Tells by has k → values new.leases ≡ put has l (values it.leases)
     appended-values has tells =
@@ -185,12 +153,10 @@ module _ {L K P : Type 0} (by : Keying L K P) (laws : AreLaws by) (it : Numbered
       keys = mirrored key_of _ _ _ _ h.leases.entries h.keys.entries (mirrors-inserted laws.key_total laws.key_exact key_of it.leases.entries it.keys.entries kept.keys n l k n (ap (λ z. (z, n)) (sym k_is)) (no_number n h.from) free);
       ports_ordered = h.ports.ordered;
       ports = mirrored port_of _ _ _ _ h.leases.entries h.ports.entries (mirrors-inserted laws.port_total laws.port_exact port_of it.leases.entries it.ports.entries kept.ports n l p n (ap (λ z. (z, n)) (sym p_is)) (no_number n h.from) free_port);
-      expiries_ordered = h.expiries.ordered;
-      expiries = mirrored due_of _ _ _ _ h.leases.entries h.expiries.entries (mirrors-inserted expiry_total expiry_exact due_of it.leases.entries it.expiries.entries kept.expiries n l (by.expiry l, n) tt refl (no_number n h.from) (no_due n h.from (by.expiry l)));
     }
 
   module _ (new : Numbered L K P) (n : ℕ) (x l : L) (at_n : get nat_cmp it.leases n ≡ Some x) (key : by.key x ≡ by.key l)
-      (from to : P) (from_is : from ≡ by.port x) (to_is : to ≡ by.port l) (h : Replaces by.port_cmp it new n l from to (by.expiry x) (by.expiry l)) where
+      (from to : P) (from_is : from ≡ by.port x) (to_is : to ≡ by.port l) (h : Replaces by.port_cmp it new n l from to) where
     pub replaced-values : (has : L → Bool) → Tells by has (by.key l) → values new.leases ≡ put has l (values it.leases)
     replaced-values has tells = ap values_of h.leases.entries ∙ overwritten has (by.key l) tells n x at_n key l
 
@@ -218,14 +184,6 @@ module _ {L K P : Type 0} (by : Keying L K P) (laws : AreLaws by) (it : Numbered
         let yes : is_at (nat_cmp n) m ≡ true = ap (is_at (nat_cmp n)) same ∙ number_self n in
         let both : true ≡ false = sym yes ∙ apart in cc)
 
-    due_free : is_at (expiry_cmp (by.expiry x, n)) (by.expiry l, n) ≡ false → get expiry_cmp it.expiries (by.expiry l, n) ≡ None
-    due_free other = none_by (get expiry_cmp it.expiries (by.expiry l, n)) (λ u a.
-        let y = due-from (by.expiry l, n) a in
-        let is : x ≡ y.0 = some_one (get nat_cmp it.leases n) x y.0 at_n y.1 in
-        let same : (by.expiry x, n) ≡ (by.expiry l, n) = ap (λ (z : ℕ). (z, n)) (ap by.expiry is ∙ y.2) in
-        let yes : is_at (expiry_cmp (by.expiry x, n)) (by.expiry l, n) ≡ true = ap (is_at (expiry_cmp (by.expiry x, n))) (sym same) ∙ key-self expiry_total (by.expiry x, n) in
-        let both : true ≡ false = sym yes ∙ other in cc)
-
     mirrors_set : Mirrors key_of (set_value (is_at (nat_cmp n)) it.leases.entries l) it.keys.entries
     mirrors_set test =
         let b = count-set nat_cmp_total n (λ z. test (key_of z)) exact_unsigned x l it.leases.entries at_n in
@@ -243,13 +201,10 @@ module _ {L K P : Type 0} (by : Keying L K P) (laws : AreLaws by) (it : Numbered
       ports_ordered = h.ports.ordered;
       ports = mirrored port_of _ _ _ _ h.leases.entries h.ports.entries (mirrors-moved laws.port_total laws.port_exact port_of it.leases.entries it.ports.entries kept.ports n x l from to n
           (ap (λ z. (z, n)) (sym from_is)) (ap (λ z. (z, n)) (sym to_is)) kept.ports_ordered at_n (ap (get by.port_cmp it.ports) from_is ∙ port-to n x at_n) (port_free two));
-      expiries_ordered = h.expiries.ordered;
-      expiries = mirrored due_of _ _ _ _ h.leases.entries h.expiries.entries (mirrors-moved expiry_total expiry_exact due_of it.leases.entries it.expiries.entries kept.expiries n x l
-          (by.expiry x, n) (by.expiry l, n) tt refl refl kept.expiries_ordered at_n (due-to n x at_n) due_free);
     }
 
   module _ (new : Numbered L K P) (n : ℕ) (x : L) (at_n : get nat_cmp it.leases n ≡ Some x) (k : K) (p : P) (k_is : k ≡ by.key x) (p_is : p ≡ by.port x)
-      (h : Forgets by.key_cmp by.port_cmp it new n k p (by.expiry x)) where
+      (h : Forgets by.key_cmp by.port_cmp it new n k p) where
     pub forgotten-values : (has : L → Bool) → Tells by has k → values new.leases ≡ filter (λ l. not (has l)) (values it.leases)
     forgotten-values has tells = ap values_of h.leases.entries ∙ forgotten has k tells n x at_n (sym k_is)
 
@@ -268,9 +223,6 @@ module _ {L K P : Type 0} (by : Keying L K P) (laws : AreLaws by) (it : Numbered
       ports_ordered = h.ports.ordered;
       ports = mirrored port_of _ _ _ _ h.leases.entries h.ports.entries (mirrors-removed laws.port_total laws.port_exact port_of it.leases.entries it.ports.entries kept.ports n x p n
           (ap (λ z. (z, n)) (sym p_is)) at_n (ap (get by.port_cmp it.ports) p_is ∙ port-to n x at_n));
-      expiries_ordered = h.expiries.ordered;
-      expiries = mirrored due_of _ _ _ _ h.leases.entries h.expiries.entries (mirrors-removed expiry_total expiry_exact due_of it.leases.entries it.expiries.entries kept.expiries n x (by.expiry x, n) tt
-          refl at_n (due-to n x at_n));
     }
 
   module _ (new : Numbered L K P) (h : Stays it new) where
@@ -289,8 +241,6 @@ module _ {L K P : Type 0} (by : Keying L K P) (laws : AreLaws by) (it : Numbered
       keys = mirrored key_of _ _ _ _ h.leases h.keys kept.keys;
       ports_ordered = ordered_too by.port_cmp it.ports new.ports h.ports kept.ports_ordered;
       ports = mirrored port_of _ _ _ _ h.leases h.ports kept.ports;
-      expiries_ordered = ordered_too expiry_cmp it.expiries new.expiries h.expiries kept.expiries_ordered;
-      expiries = mirrored due_of _ _ _ _ h.leases h.expiries kept.expiries;
     }
 
 -- the test passes the leases with this port
@@ -332,7 +282,7 @@ pub record IsTakenOut {L K P : Type 0} (by : Keying L K P) (has : L → Bool) (x
 
 module _ {L K P : Type 0} (by : Keying L K P) (laws : AreLaws by) (it : Numbered L K P) (kept : IsKept by it) (new : Numbered L K P) where
   module _ (has : L → Bool) (l : L) (tells : Tells by has (by.key l)) (two : EachTwo (λ a b. by.port a ≡ by.port b → ⊥) (put has l (values it.leases))) where
-    put_new : (k : K) (p : P) (n : ℕ) → k ≡ by.key l → p ≡ by.port l → get by.key_cmp it.keys (by.key l) ≡ None → Appends by.key_cmp by.port_cmp it new l k p (by.expiry l) n → IsKept by new × (values new.leases ≡ put has l (values it.leases))
+    put_new : (k : K) (p : P) (n : ℕ) → k ≡ by.key l → p ≡ by.port l → get by.key_cmp it.keys (by.key l) ≡ None → Appends by.key_cmp by.port_cmp it new l k p n → IsKept by new × (values new.leases ≡ put has l (values it.leases))
     put_new k p n k_is p_is free h =
         let free_key : get by.key_cmp it.keys k ≡ None = ap (get by.key_cmp it.keys) k_is ∙ free in
         let free_port : get by.port_cmp it.ports p ≡ None = ap (get by.port_cmp it.ports) p_is ∙ port-free by laws it kept has (by.key l) tells free l two in (
@@ -341,12 +291,12 @@ module _ {L K P : Type 0} (by : Keying L K P) (laws : AreLaws by) (it : Numbered
         )
 
     pub put-appended : {X E : Type 0} (r : Result X E) (k : K) (p : P) → k ≡ by.key l → p ≡ by.port l → get by.key_cmp it.keys (by.key l) ≡ None →
-        OnOk r ((n : ℕ) × Appends by.key_cmp by.port_cmp it new l k p (by.expiry l) n) → OnErr r (Stays it new) → IsPutInto by has l it new r
+        OnOk r ((n : ℕ) × Appends by.key_cmp by.port_cmp it new l k p n) → OnErr r (Stays it new) → IsPutInto by has l it new r
     put-appended (Ok v) k p k_is p_is free ok err = let both = put_new k p ok.0 k_is p_is free ok.1 in record { kept = both.0; ok = both.1; err = tt }
     put-appended (Err e) k p k_is p_is free ok err = record { kept = same-kept by laws it kept new err; ok = tt; err = same-values by laws it kept new err }
 
     put_old : (n : ℕ) (x : L) (from to : P) → get by.key_cmp it.keys (by.key l) ≡ Some n → get nat_cmp it.leases n ≡ Some x → from ≡ by.port x → to ≡ by.port l →
-        Replaces by.port_cmp it new n l from to (by.expiry x) (by.expiry l) → IsKept by new × (values new.leases ≡ put has l (values it.leases))
+        Replaces by.port_cmp it new n l from to → IsKept by new × (values new.leases ≡ put has l (values it.leases))
     put_old n x from to number at_n from_is to_is h =
         let y = key-from by laws it kept (by.key l) n number in
         let key : by.key x ≡ by.key l = ap by.key (some_one (get nat_cmp it.leases n) x y.0 at_n y.1) ∙ y.2 in
@@ -354,12 +304,12 @@ module _ {L K P : Type 0} (by : Keying L K P) (laws : AreLaws by) (it : Numbered
         (replaced-kept by laws it kept new n x l at_n key from to from_is to_is h (subst (EachTwo (λ a b. by.port a ≡ by.port b → ⊥)) (sym is) two), is)
 
     pub put-replaced : {X E : Type 0} (r : Result X E) (n : ℕ) (x : L) (from to : P) → get by.key_cmp it.keys (by.key l) ≡ Some n → get nat_cmp it.leases n ≡ Some x → from ≡ by.port x → to ≡ by.port l →
-        OnOk r (Replaces by.port_cmp it new n l from to (by.expiry x) (by.expiry l)) → OnErr r (Stays it new) → IsPutInto by has l it new r
+        OnOk r (Replaces by.port_cmp it new n l from to) → OnErr r (Stays it new) → IsPutInto by has l it new r
     put-replaced (Ok v) n x from to number at_n from_is to_is ok err = let both = put_old n x from to number at_n from_is to_is ok in record { kept = both.0; ok = both.1; err = tt }
     put-replaced (Err e) n x from to number at_n from_is to_is ok err = record { kept = same-kept by laws it kept new err; ok = tt; err = same-values by laws it kept new err }
 
   pub taken-out : (has : L → Bool) (k q : K) (p : P) (n : ℕ) (x : L) → Tells by has k → q ≡ k → p ≡ by.port x → get by.key_cmp it.keys q ≡ Some n → get nat_cmp it.leases n ≡ Some x →
-      Forgets by.key_cmp by.port_cmp it new n q p (by.expiry x) → IsTakenOut by has x it new
+      Forgets by.key_cmp by.port_cmp it new n q p → IsTakenOut by has x it new
   taken-out has k q p n x tells q_is p_is number at_n h =
       let y = key-from by laws it kept q n number in
       let key : by.key x ≡ q = ap by.key (some_one (get nat_cmp it.leases n) x y.0 at_n y.1) ∙ y.2 in
@@ -383,6 +333,4 @@ module _ {L K P : Type 0} (by : Keying L K P) (it : Numbered L K P) (h : IsBlank
     keys = mirrored (λ (e : ℕ × L). (by.key e.1, e.0)) _ _ _ _ h.leases.entries h.keys.entries (λ test. refl);
     ports_ordered = h.ports.ordered;
     ports = mirrored (λ (e : ℕ × L). (by.port e.1, e.0)) _ _ _ _ h.leases.entries h.ports.entries (λ test. refl);
-    expiries_ordered = h.expiries.ordered;
-    expiries = mirrored (λ (e : ℕ × L). ((by.expiry e.1, e.0), tt)) _ _ _ _ h.leases.entries h.expiries.entries (λ test. refl);
   }

@@ -1,11 +1,12 @@
 pub mod EntryLaws
-pub mod EndedLaws
-pub mod Leasts
 pub mod Mirrorings
 pub mod Entries
 pub mod OrderLaws
 pub mod SlotLaws
 pub mod SlotCalls
+pub mod SlotCounts
+pub mod SlotMoments
+pub mod DueSlots
 pub mod Keeping
 pub mod Endings
 pub mod FirstAndRest

@@ -12,7 +12,7 @@ use Rattle.std.proofs.lemmas.Map.Views.{btree_map_get_iff}
 use Rattle.pcp_base.proofs.Members.{IsIn, IsIn-from_Contains, Contains-from_IsIn}
 use Rattle.ordered_index.specs.MapSteps.{without_other}
 use Rattle.ordered_index.specs.Kept.{Mirrors}
-use Rattle.ordered_index.proofs.Leasts.{same_number}
+use Rattle.ordered_index.proofs.Entries.{same_number}
 use Rattle.ordered_index.proofs.OrderLaws.{at_exact}
 use Rattle.ordered_index.proofs.EntryLaws.{tally, key-self, count-some, some-counted, count-inserted, count-removed, count-set, inserted-same, lookup-inserted}
 

@@ -20,7 +20,7 @@ use Rattle.ordered_index.specs.MapSteps.{Inserts, Overwrites, Removes}
 use Rattle.ordered_index.specs.Slots.{AreSlots, entries_of, lease_at, lease_of, leases_of, with_lease}
 use Rattle.ordered_index.proofs.Entries.{entry_at, false_by, number_other, number_same, number_self}
 
-same_or : (a b : ℕ) → (a ≡ b) ⊎ (a ≡ b → ⊥)
+pub same_or : (a b : ℕ) → (a ≡ b) ⊎ (a ≡ b → ⊥)
 same_or a b = step (a == b) refl
   where
     step : (c : Bool) → (a == b) ≡ c → (a ≡ b) ⊎ (a ≡ b → ⊥)

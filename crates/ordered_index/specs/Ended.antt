@@ -1,15 +1,16 @@
 -- Which leases have ended, by their expiries (our own).
-use Rattle.std.specs.Prelude.{◌≡◌, ℕ, ◌<◌, ◌≤◌, nat_lt, not, Bool, Option, Some, IsSome, IfSome, IfNone, ⊤}
+use Rattle.std.specs.Prelude.{◌≡◌, ℕ, nat_lt, not, Bool, true, false, Option, Some, IfSome, IfNone}
+use Rattle.std.specs.Ordering.{nat_cmp}
 use Rattle.std.specs.BTreeMap.{BTreeMap, get}
-use Rattle.ordered_index.specs.Steps.{expiry_cmp}
 
--- whether the expiry of the entry is at most m
-abbrev pub has_ended : ℕ → (ℕ × ℕ) × ⊤ → Bool
-has_ended m e = not (nat_lt m e.0.0)
+-- whether the expiry of the lease is at most m
+abbrev pub has_ended : {L : Type 0} → (L → ℕ) → ℕ → L → Bool
+has_ended expiry m l = not (nat_lt m (expiry l))
 
--- the number of an expiry that is at most m, None exactly where there is none
-pub record IsOneEnded (m : ℕ) (expiries : BTreeMap (ℕ × ℕ) ⊤) (result : Option ℕ) : Type 0 where
+-- the number of a lease that has ended by m, None exactly where none has
+pub record IsOneEnded {L : Type 0} (expiry : L → ℕ) (m : ℕ) (leases : BTreeMap ℕ L)
+    (result : Option ℕ) : Type 0 where
   pub ended : IfSome result (λ n.
-      (expiry : ℕ) × (expiry ≤ m) × (get expiry_cmp expiries (expiry, n) ≡ Some tt))
-  pub none : IfNone result (
-      (expiry n : ℕ) → IsSome (get expiry_cmp expiries (expiry, n)) → m < expiry)
+      (l : L) × (get nat_cmp leases n ≡ Some l) × (has_ended expiry m l ≡ true))
+  pub none : IfNone result ((n : ℕ) (l : L) → get nat_cmp leases n ≡ Some l
+      → has_ended expiry m l ≡ false)

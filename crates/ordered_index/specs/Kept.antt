@@ -5,7 +5,6 @@ use Rattle.std.specs.Ordering.{nat_cmp}
 use Rattle.std.specs.BTreeMap.{IsOrdered, get}
 use Rattle.ordered_index.specs.declared.numbered.Numbered.{Numbered}
 use Rattle.ordered_index.specs.declared.slots.TheConstants.{MOST_SLOTS}
-use Rattle.ordered_index.specs.Steps.{expiry_cmp}
 
 -- the images of the first list are the second list, in some order: each test passes as many
 abbrev pub Mirrors : {A B : Type 0} → (A → B) → List A → List B → Type 0
@@ -16,7 +15,6 @@ Mirrors {A} {B} image from to =
 pub record Keying (L K P : Type 0) : Type 0 where
   pub key : L → K
   pub port : L → P
-  pub expiry : L → ℕ
   pub key_cmp : K → K → Ordering
   pub port_cmp : P → P → Ordering
 
@@ -30,5 +28,3 @@ pub record IsKept {L K P : Type 0} (by : Keying L K P) (it : Numbered L K P) : T
   pub keys : Mirrors (λ e. (by.key e.1, e.0)) it.leases.entries it.keys.entries
   pub ports_ordered : IsOrdered by.port_cmp it.ports
   pub ports : Mirrors (λ e. (by.port e.1, e.0)) it.leases.entries it.ports.entries
-  pub expiries_ordered : IsOrdered expiry_cmp it.expiries
-  pub expiries : Mirrors (λ e. ((by.expiry e.1, e.0), tt)) it.leases.entries it.expiries.entries

@@ -1,10 +1,12 @@
 -- How leases stand in slots (our own; for proofs alone).
-use Rattle.std.specs.Prelude.{◌≡◌, ℕ, ◌%◌, ◌==◌, List, [], ◌∷◌, Option, Some, None, is_some, IfSome, if◌then◌else◌, ⊤}
+use Rattle.std.specs.Prelude.{◌≡◌, ℕ, zero, suc, ◌+◌, ◌%◌, ◌==◌, Bool, false, List, [], ◌∷◌, count_by, Option, Some, None, is_some, IfSome, if◌then◌else◌, ⊤}
 use Rattle.std.specs.Ordering.{nat_cmp}
-use Rattle.std.specs.BTreeMap.{BTreeMap, IsOrdered, get}
+use Rattle.std.specs.BTreeMap.{BTreeMap, IsOrdered, get, values}
 use Rattle.std_collections.specs.Layout.BTreeMap.{btree_map}
 use Rattle.slab.specs.Slab as slab
-use Rattle.ordered_index.specs.declared.slots.TheConstants.{MOST_SLOTS}
+use Rattle.ordered_index.specs.declared.slots.TheConstants.{MOST_SLOTS, BLOCKS}
+use Rattle.expiry_wheel.specs.declared.TheConstants.{NEVER}
+use Rattle.expiry_wheel.specs.Blocks.{AreLeasts}
 use mathlib.Core.Logic.{inl}
 
 module _ {L : Type 0} where
@@ -34,6 +36,34 @@ module _ {L : Type 0} where
     pub listed : (n : ℕ) → is_some (lease_at slots n) ≡ is_some (get nat_cmp order n)
     pub named : (slot : ℕ) → IfSome (slab.get slots slot) (λ e. e.0 % MOST_SLOTS ≡ slot)
 
+  -- the expiry of what stands in a slot, NEVER where nothing does
+  abbrev pub moment_of : (L → ℕ) → Option (ℕ × L) → ℕ
+  moment_of expiry None = NEVER
+  moment_of expiry (Some e) = expiry e.1
+
+  abbrev pub moment_at : (L → ℕ) → slab.Slab (ℕ × L) → ℕ → ℕ
+  moment_at expiry slots slot = moment_of expiry (slab.get slots slot)
+
+  -- whether a lease stands there that passes the test
+  abbrev pub holds : (L → Bool) → Option (ℕ × L) → Bool
+  holds test None = false
+  holds test (Some e) = test e.1
+
+  -- in how many of the slots below one
+  unfoldable pub held_below : (L → Bool) → slab.Slab (ℕ × L) → ℕ → ℕ
+  held_below test slots zero = 0
+  held_below test slots (suc n) =
+      held_below test slots n + (if holds test (slab.get slots n) then 1 else 0)
+
   -- what they are seen as
   abbrev pub leases_of : slab.Slab (ℕ × L) → BTreeMap ℕ ⊤ → BTreeMap ℕ L
   leases_of slots order = btree_map (entries_of (lease_at slots) order.entries) (inl tt)
+
+  -- the leases in their slots, of which as many pass a test as leases do, and the least expiry of
+  -- each block of them
+  pub record AreDueSlots (expiry : L → ℕ) (slots : slab.Slab (ℕ × L)) (order : BTreeMap ℕ ⊤)
+      (leasts : List ℕ) : Type 0 where
+    pub are : AreSlots slots order
+    pub counted : (test : L → Bool)
+        → held_below test slots MOST_SLOTS ≡ count_by test (values (leases_of slots order))
+    pub due : AreLeasts BLOCKS (moment_at expiry slots) leasts

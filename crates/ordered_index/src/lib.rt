@@ -2,7 +2,8 @@
 #![tactic(auto)]
 
 mod changes;
-mod expiries;
+mod due;
+mod expires;
 mod hints;
 mod keys;
 mod maps;
@@ -12,6 +13,7 @@ mod ports;
 mod sieves;
 mod slots;
 
+pub use expires::Expires;
 pub use hints::Hints;
 pub use keys::{Port, first_from, last_up_to, port_at};
 pub use numbered::Numbered;

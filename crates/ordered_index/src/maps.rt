@@ -1,5 +1,5 @@
 //! Steps over one ordered map or two.
-ghost use Rattle.std.specs.Prelude.{◌≡◌, IfOk, OnOk, OnErr, IsSome};
+ghost use Rattle.std.specs.Prelude.{◌≡◌, OnOk, OnErr, IsSome};
 ghost use Rattle.std.specs.BTreeMap.{IsOrdered, get};
 ghost use Rattle.ordered_index.specs.MapSteps.{HasEntry, Enters, Inserts, Overwrites, Removes, restored, without_other};
 
@@ -42,47 +42,21 @@ pub(crate) fn insert_both<A: Ord + Copy, X: Copy, B: Ord + Copy, Y: Copy>(
     Ok(())
 }
 
-/// Inserts a value that stands under one key under another, if that is another, and gives the value
-/// that this one had.
-fn insert_other<K: Ord + Copy, V: Copy>(
+/// Inserts a value that stands under one key under another, if that is another.
+pub(crate) fn insert_other<K: Ord + Copy, V: Copy>(
     map: &mut BTreeMap<K, V>,
     from: K,
     to: K,
     value: V,
-) -> Result<Option<V>, AllocError>
+) -> Result<(), AllocError>
     requires { HasEntry K.cmp map.old from value }
-    ensures old { IfOk result (λ old. old ≡ get K.cmp map.old to) }
     ensures enters { OnOk result (Enters K.cmp map.old map.new to value) }
     ensures err { OnErr result (map.new.entries ≡ map.old.entries) }
 {
     if from.cmp(&to).is_eq() {
-        return Ok(Some(value));
+        return Ok(());
     }
-    Ok(map.insert(to, value)?)
-}
-
-/// Inserts into both maps what stands there under one key under another, or into neither.
-pub(crate) fn insert_others<A: Ord + Copy, X: Copy, B: Ord + Copy, Y: Copy>(
-    first: &mut BTreeMap<A, X>,
-    second: &mut BTreeMap<B, Y>,
-    first_move: (A, A, X),
-    second_move: (B, B, Y),
-) -> Result<(), AllocError>
-    requires first { HasEntry A.cmp first.old first_move.0 first_move.2 }
-    requires second { HasEntry B.cmp second.old second_move.0 second_move.2 }
-    ensures first { OnOk result (Enters A.cmp first.old first.new first_move.1 first_move.2) }
-    ensures second { OnOk result
-        (Enters B.cmp second.old second.new second_move.1 second_move.2) }
-    ensures first_stays { OnErr result (first.new.entries ≡ first.old.entries) }
-    ensures second_stays { OnErr result (second.new.entries ≡ second.old.entries) }
-{
-    let (first_from, first_to, first_value) = first_move;
-    let (second_from, second_to, second_value) = second_move;
-    let old = insert_other(first, first_from, first_to, first_value)?;
-    if let Err(error) = insert_other(second, second_from, second_to, second_value) {
-        restore(first, first_to, old);
-        return Err(error);
-    }
+    map.insert(to, value)?;
     Ok(())
 }
 

@@ -1,14 +1,19 @@
-//! Leases in slots, by numbers that name their slots.
-ghost use Rattle.std.specs.Prelude.{◌≡◌, ◌≤◌, ◌<◌, ◌+◌, ◌%◌, ◌^◌, Some, None, IfOk, IfSome, OnErr, IsSome};
+//! Leases in slots, by numbers that name their slots, and the least expiry of each block of slots.
+ghost use Rattle.std.specs.Prelude.{◌≡◌, ◌≤◌, ◌<◌, ◌+◌, ◌%◌, ◌^◌, Some, None, IfOk, IfSome, OnErr, IsSome, count_by};
 ghost use Rattle.std.specs.Option.{option_copied};
 ghost use Rattle.std.specs.Ordering.{nat_cmp};
 ghost use Rattle.std.specs.BTreeMap.{IsOrdered, btree_map_len, get, values};
 ghost use Rattle.std.specs.Map.Iter.{TakesFirst, deref};
 ghost use Rattle.std.specs.Iterator.{item_count};
 ghost use Rattle.slab.specs.Slab.{ContainsKey, Updates};
+ghost use Rattle.ordered_index.specs.Ended.{has_ended, IsOneEnded};
 ghost use Rattle.ordered_index.specs.MapSteps.{IsBlankMap, Inserts, Overwrites, Removes};
 ghost use Rattle.ordered_index.specs.Slots.{lease_at};
 
+use crate::due::{count_ended, first_ended, moment_at, tell_least};
+use crate::expires::Expires;
+use expiry_wheel::{Leasts, NEVER};
+use pcp_base::Memory;
 use slab::Slab;
 use std::alloc::{AllocError, Global};
 use std::collections::BTreeMap;
@@ -19,22 +24,30 @@ use std::ops::Index;
 /// How many slots there may be. A lease's number modulo this is its slot.
 pub(crate) const MOST_SLOTS: u64 = 32_768;
 
+/// How many blocks of 8 slots they are.
+pub(crate) const BLOCKS: usize = 4_096;
+
+/// The levels of a tree over so many blocks.
+const LEVELS: u32 = 12;
+
 /// Leases by their numbers, seen as an ordered map. Each stands in a slot that its number names, so
 /// that a look-up is one look into an array.
 #[derive(Drop)]
-pub struct Slots<L> {
+pub struct Slots<L: Expires> {
     /// The leases, each beside its number.
     slots: Slab<(u64, L)>,
     /// The numbers, in order.
     order: BTreeMap<u64, ()>,
+    /// The least expiry of each block of slots.
+    leasts: Leasts,
 }
 
-impl<L> Model for Slots<L> {
+impl<L: Expires> Model for Slots<L> {
     ghost use Rattle.std.specs.Prelude.{ℕ};
     ghost use Rattle.std.specs.Coded.{coded_ℕ};
     ghost use Rattle.std.specs.BTreeMap.{BTreeMap as Map};
     ghost use Rattle.std_collections.specs.Layout.BTreeMap.{btree_map_code};
-    ghost use Rattle.ordered_index.specs.Slots.{AreSlots, leases_of};
+    ghost use Rattle.ordered_index.specs.Slots.{AreDueSlots, leases_of};
 
     ghost Value = { Map ℕ L };
 
@@ -42,7 +55,7 @@ impl<L> Model for Slots<L> {
 
     ghost view = { λ s. leases_of s.slots s.order };
 
-    ghost invariant = { λ s. AreSlots s.slots s.order };
+    ghost invariant = { λ s. AreDueSlots L.expiry s.slots s.order s.leasts };
 }
 
 /// The lease in the slot that the number names, if it has this number.
@@ -65,15 +78,17 @@ fn write<T: Drop>(slots: &mut Slab<T>, slot: usize, value: T)
     }
 }
 
-impl<L: Drop> Slots<L> {
-    /// No lease.
-    pub fn new(alloc: Global) -> Slots<L>
-        ensures { IsBlankMap nat_cmp result }
+impl<L: Expires + Drop> Slots<L> {
+    /// No lease. The one error is want of memory.
+    pub fn new(alloc: Global) -> Result<Slots<L>, Memory>
+        ensures { IfOk result (λ slots. IsBlankMap nat_cmp slots) }
     {
-        Slots {
+        let leasts = Leasts::new(alloc, LEVELS)?;
+        Ok(Slots {
             slots: Slab::new(alloc),
             order: BTreeMap::new(alloc),
-        }
+            leasts,
+        })
     }
 
     /// Forgets all leases. It takes no memory.
@@ -82,6 +97,7 @@ impl<L: Drop> Slots<L> {
     {
         self.slots.clear();
         self.order.clear();
+        self.leasts.clear();
     }
 
     /// How many leases there are.
@@ -140,6 +156,7 @@ impl<L: Drop> Slots<L> {
         self.slots.reserve(1)?;
         self.order.insert(number, ())?;
         self.slots.insert_reserved((number, lease));
+        tell_least(&self.slots, &mut self.leasts, slot as usize, NEVER);
         Ok(number)
     }
 
@@ -149,7 +166,9 @@ impl<L: Drop> Slots<L> {
         ensures { Overwrites nat_cmp self.old self.new number lease }
     {
         let slot = (number % MOST_SLOTS) as usize;
+        let was = moment_at(&self.slots, slot);
         write(&mut self.slots, slot, (number, lease));
+        tell_least(&self.slots, &mut self.leasts, slot, was);
     }
 
     /// Takes out the lease with a number.
@@ -160,12 +179,31 @@ impl<L: Drop> Slots<L> {
         if self.order.remove(number).is_none() {
             return None;
         }
-        let (_, lease) = self.slots.remove((*number % MOST_SLOTS) as usize);
+        let slot = (*number % MOST_SLOTS) as usize;
+        let was = moment_at(&self.slots, slot);
+        let (_, lease) = self.slots.remove(slot);
+        tell_least(&self.slots, &mut self.leasts, slot, was);
         Some(lease)
+    }
+
+    /// How many leases have an expiry of at most `m`. It looks at the blocks of slots in which one
+    /// has alone.
+    pub fn ended(&self, m: u64) -> usize
+        ensures { result ≡ count_by (has_ended L.expiry m) (values self.now) }
+    {
+        count_ended(&self.slots, &self.leasts, m)
+    }
+
+    /// The number of one of the leases that expire first, where their expiry is at most `m`. It
+    /// looks at one block of slots, or at the last moment of all at each slot.
+    pub fn one_ended(&self, m: u64) -> Option<u64>
+        ensures { IsOneEnded L.expiry m self.now result }
+    {
+        first_ended(&self.slots, &self.leasts, m)
     }
 }
 
-impl<L> Index<&u64> for Slots<L> {
+impl<L: Expires> Index<&u64> for Slots<L> {
     type Output = L;
 
     ghost can_index = { λ slots number. IsSome (get nat_cmp slots number.now) };

@@ -48,7 +48,7 @@ module _ (it : Numbered PeerLease PeerKey Opening) (h : AreKeptPeers it) (e : En
   of_key f some =
       let number = some_of (get key_cmp it.keys f) some in
       let y = key-from peer_keying peer_laws it h.kept f number.0 number.1 in
-      (y.0, IsIn-from_Contains ls y.0 (one-among peer_keying peer_laws it h.kept 0 number.0 y.0 y.1), y.2)
+      (y.0, IsIn-from_Contains ls y.0 (one-among it.leases number.0 y.0 y.1), y.2)
 
   -- a lease that names a port
   record Naming (q : ℕ) : Type 0 where

@@ -116,13 +116,13 @@ module _ (it : Numbered PeerLease PeerKey Opening) (h : AreKeptPeers it) where
 
     module _ {X E : Type 0} (new : Numbered PeerLease PeerKey Opening) (r : Result X E) where
       pub peer_appended : (k : PeerKey) (p : Opening) → k ≡ key_of_lease l → p ≡ opening_of_lease l → get key_cmp it.keys (key_of_lease l) ≡ None →
-          OnOk r ((n : ℕ) × Appends key_cmp opening_cmp it new l k p l.expiry n) → OnErr r (Stays it new) → AreKeptPeers new × PutsPeer (values it.leases) l r (values new.leases)
+          OnOk r ((n : ℕ) × Appends key_cmp opening_cmp it new l k p n) → OnErr r (Stays it new) → AreKeptPeers new × PutsPeer (values it.leases) l r (values new.leases)
       peer_appended k p k_is p_is free ok err =
           let put = put-appended peer_keying peer_laws it h.kept new is_l l tells_l (openings_apart (with_peer l (values it.leases)) sound) r k p k_is p_is free ok err in
           (record { sound = put-either AreSoundPeers (values it.leases) (with_peer l (values it.leases)) (values new.leases) r put.ok put.err h.sound sound; kept = put.kept }, record { ok = put.ok; err = put.err })
 
       pub peer_replaced : (n : ℕ) (x : PeerLease) (from to : Opening) → get key_cmp it.keys (key_of_lease l) ≡ Some n → get nat_cmp it.leases n ≡ Some x → from ≡ opening_of_lease x → to ≡ opening_of_lease l →
-          OnOk r (Replaces opening_cmp it new n l from to x.expiry l.expiry) → OnErr r (Stays it new) → AreKeptPeers new × PutsPeer (values it.leases) l r (values new.leases)
+          OnOk r (Replaces opening_cmp it new n l from to) → OnErr r (Stays it new) → AreKeptPeers new × PutsPeer (values it.leases) l r (values new.leases)
       peer_replaced n x from to number at_n from_is to_is ok err =
           let put = put-replaced peer_keying peer_laws it h.kept new is_l l tells_l (openings_apart (with_peer l (values it.leases)) sound) r n x from to number at_n from_is to_is ok err in
           (record { sound = put-either AreSoundPeers (values it.leases) (with_peer l (values it.leases)) (values new.leases) r put.ok put.err h.sound sound; kept = put.kept }, record { ok = put.ok; err = put.err })
@@ -153,14 +153,14 @@ module _ (it : Numbered PeerLease PeerKey Opening) (h : AreKeptPeers it) where
         }
 
     pub peer_removed : (new : Numbered PeerLease PeerKey Opening) (p : Opening) (n : ℕ) (x : PeerLease) → p ≡ opening_of_lease x → get key_cmp it.keys k ≡ Some n → get nat_cmp it.leases n ≡ Some x →
-        Forgets key_cmp opening_cmp it new n k p x.expiry → AreKeptPeers new × RemovesPeer (values it.leases) e remote port (Some x) (values new.leases)
+        Forgets key_cmp opening_cmp it new n k p → AreKeptPeers new × RemovesPeer (values it.leases) e remote port (Some x) (values new.leases)
     peer_removed new p n x p_is number at_n forgets =
         let out = taken-out peer_keying peer_laws it h.kept new (is_peer_of e remote port) (key_at e remote port) k p n x (peer_tells e remote port) k_is p_is number at_n forgets in
         (record { sound = subst AreSoundPeers (sym out.gone) (AreSoundPeers-filter (λ y. not (is_peer_of e remote port y)) (values it.leases) h.sound); kept = out.kept }, record { answer = out.found; removed = out.gone })
 
   -- whether a lease has ended, by the first of the expiries
-  pub one_told : (m : ℕ) (r : Option ℕ) → IsOneEnded m it.expiries r → is_some r ≡ list_any (is_ended_peer m) (values it.leases)
-  one_told m None is = sym (none-any (is_ended_peer m) (values it.leases) (find-none (is_ended_peer m) (values it.leases) (one-none peer_keying peer_laws it h.kept m is)))
+  pub one_told : (m : ℕ) (r : Option ℕ) → IsOneEnded (λ (l : PeerLease). l.expiry) m it.leases r → is_some r ≡ list_any (is_ended_peer m) (values it.leases)
+  one_told m None is = sym (none-any (is_ended_peer m) (values it.leases) (find-none (is_ended_peer m) (values it.leases) (one-none (λ (l : PeerLease). l.expiry) it.leases h.kept.ordered m is)))
   one_told m (Some n) is =
-      let y = one-stands peer_keying peer_laws it h.kept m n is in
+      let y = one-stands (λ (l : PeerLease). l.expiry) it.leases h.kept.ordered m n is in
       sym (any_at (is_ended_peer m) it.leases.entries n y.0 y.1 (ap not y.2))

@@ -162,7 +162,7 @@ module _ (it : Numbered PeerLease PeerKey Opening) (h : AreKeptPeers it) (e : En
     ended_first n has =
         let f = first_stands (is_ended_peer m) n has in
         subst (IsEndedOf e m (values it.leases)) (sym f.stands) (record {
-          among = one-among peer_keying peer_laws it h.kept m n f.lease f.stands;
+          among = one-among it.leases n f.lease f.stands;
           names = f.named;
           dead = is_false (is_live_peer m f.lease) f.passes;
           none = tt;

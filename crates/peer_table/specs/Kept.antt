@@ -70,7 +70,6 @@ abbrev pub peer_keying : Keying PeerLease PeerKey Opening
 peer_keying = record {
   key = key_of_lease;
   port = opening_of_lease;
-  expiry = λ l. l.expiry;
   key_cmp = key_cmp;
   port_cmp = opening_cmp;
 }

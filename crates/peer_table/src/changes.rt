@@ -13,8 +13,8 @@ use pcp_base::{Memory, PeerLease};
 use std::sync::ledger::Ledger;
 use step_count::Steps;
 
-/// Appends a lease whose key has no number. It looks into four maps, and where the last one finds
-/// no memory, once more into the three before.
+/// Appends a lease whose key has no number. It looks into three maps and the tree of expiries, and
+/// where the last map finds no memory, once more into those before.
 pub(crate) fn append<L: Ledger>(
     kept: &mut Numbered<PeerLease, Key, Opening>,
     lease: PeerLease,
@@ -28,12 +28,12 @@ pub(crate) fn append<L: Ledger>(
     ensures steps { steps.new ≡ steps.old + 7 * levels (length (values kept.old.leases) + 1) }
 {
     look_beside_one_more(kept, 7, steps);
-    kept.append(lease, key_of(&lease), opening_of(&lease), lease.expiry)?;
+    kept.append(lease, key_of(&lease), opening_of(&lease))?;
     Ok(())
 }
 
 /// Puts a lease in the place of the one with its key, which has this number. It looks at that one,
-/// twice into the maps of openings and expiries, and once more into the leases.
+/// twice into the map of openings and the tree of expiries, and once more into the leases.
 pub(crate) fn replace<L: Ledger>(
     kept: &mut Numbered<PeerLease, Key, Opening>,
     number: u64,
@@ -50,5 +50,5 @@ pub(crate) fn replace<L: Ledger>(
     look_beside_one_more(kept, 6, steps);
     let old = kept.leases[&number];
     let openings = (opening_of(&old), opening_of(&lease));
-    kept.replace(number, lease, openings, (old.expiry, lease.expiry))
+    kept.replace(number, lease, openings)
 }

@@ -34,8 +34,8 @@ use step_count::{Steps, levels};
 /// PEER leases, seen as a list in the order granted. Those that have ended stay until they are
 /// taken out.
 ///
-/// A step is a look at a level of one of its ordered maps, of which each has at most as many levels
-/// as its number of leases has binary digits.
+/// A step is a look at a level of one of its ordered maps or of the tree of expiries, of which each
+/// has at most as many levels as its number of leases has binary digits.
 #[derive(Drop)]
 pub struct PeerTable {
     /// The leases, by their endpoints and remotes, and by their external ports and remotes.
@@ -55,7 +55,7 @@ impl Model for PeerTable {
     ghost invariant = { λ t. AreKeptPeers t.kept };
 }
 
-/// How many leases are live at `m`. It looks at those that have ended alone.
+/// How many leases are live at `m`. It looks at blocks of leases of which one has ended alone.
 fn count_live_of(kept: &Numbered<PeerLease, Key, Opening>, m: Moment) -> usize
     requires { AreKeptPeers kept.now }
     ensures { result ≡ count_by (is_live_peer m) (values kept.now.leases) }
@@ -124,7 +124,7 @@ impl PeerTable {
         ensures { IfOk result (λ table. table ≡ []) }
     {
         Ok(PeerTable {
-            kept: Numbered::new(alloc),
+            kept: Numbered::new(alloc)?,
         })
     }
 
@@ -324,14 +324,13 @@ impl PeerTable {
         let Some(lease) = lease_at(&self.kept, number, steps).copied() else {
             return None;
         };
-        // The lease leaves each of the four maps.
+        // The lease leaves each of the three maps, and the tree of expiries.
         steps.take(4 * levels(self.kept.leases.len()));
-        self.kept
-            .forget(number, key, opening_of(&lease), lease.expiry);
+        self.kept.forget(number, key, opening_of(&lease));
         Some(lease)
     }
 
-    /// How many leases are live at `m`. It looks at those that have ended alone.
+    /// How many leases are live at `m`. It looks at blocks of leases of which one has ended alone.
     pub fn live(&self, m: Moment) -> u32
         ensures live { result ≡ count_by (is_live_peer m) self.now }
     {
@@ -354,7 +353,7 @@ impl PeerTable {
         self.kept.leases.len()
     }
 
-    /// One of the leases that aren't live at `m` and expired first. It looks at that one alone.
+    /// One of the leases that aren't live at `m` and expired first. It looks at one block of them.
     pub fn one_ended<L: Ledger>(&self, m: Moment, steps: &mut Steps<L>) -> Option<&PeerLease>
         ensures ended { IsDeadPeer m self.now (option_copied result) }
         ensures steps { steps.new ≤ steps.old + 2 * levels (length self.now) }

@@ -18,6 +18,6 @@ pub returns-clause-ok : goal.returns-clause-ok
 returns-clause-ok c =
     let n = c.in_ok-append.field-0 in (
       n,
-      subst (λ (p : ℕ × ℕ). Appends place_cmp port_cmp c.args.kept.now c.append.new.self c.args.tied (place_of_tie c.args.tied) p c.args.tied.tie.until_ms n) c.local_of-local.ensures
-          (subst (λ (k : Place). Appends place_cmp port_cmp c.args.kept.now c.append.new.self c.args.tied k c.local_of-local.result c.args.tied.tie.until_ms n) c.client_of-client.ensures c.in_ok-append.ensures.ok),
+      subst (λ (p : ℕ × ℕ). Appends place_cmp port_cmp c.args.kept.now c.append.new.self c.args.tied (place_of_tie c.args.tied) p n) c.local_of-local.ensures
+          (subst (λ (k : Place). Appends place_cmp port_cmp c.args.kept.now c.append.new.self c.args.tied k c.local_of-local.result n) c.client_of-client.ensures c.in_ok-append.ensures.ok),
     )

@@ -5,5 +5,5 @@ use Rattle.cascade_ties.proofs.changes.forget.Goals as goal
 
 pub returns : goal.returns
 returns c =
-    subst (λ (p : ℕ × ℕ). Forgets place_cmp port_cmp c.args.kept.now c.forget.new.self c.args.number (place_of c.args.client.now) p c.args.tie.now.until_ms) c.port_at-local.ensures
-    (subst (λ (k : Place). Forgets place_cmp port_cmp c.args.kept.now c.forget.new.self c.args.number k c.port_at-local.result c.args.tie.now.until_ms) c.place_of.ensures c.forget.ensures)
+    subst (λ (p : ℕ × ℕ). Forgets place_cmp port_cmp c.args.kept.now c.forget.new.self c.args.number (place_of c.args.client.now) p) c.port_at-local.ensures
+    (subst (λ (k : Place). Forgets place_cmp port_cmp c.args.kept.now c.forget.new.self c.args.number k c.port_at-local.result) c.place_of.ensures c.forget.ensures)

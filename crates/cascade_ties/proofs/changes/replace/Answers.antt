@@ -9,4 +9,4 @@ replace-requires-clause-port c = subst (λ (p : ℕ × ℕ). HasEntry port_cmp c
 
 pub returns-clause-ok : goal.returns-clause-ok
 returns-clause-ok c =
-    subst (λ (p : ℕ × ℕ). OnOk c.replace.result (Replaces port_cmp c.args.kept.now c.replace.new.self c.args.number c.args.tied p p c.args.before c.args.tied.tie.until_ms)) c.local_of-local.ensures c.replace.ensures.ok
+    subst (λ (p : ℕ × ℕ). OnOk c.replace.result (Replaces port_cmp c.args.kept.now c.replace.new.self c.args.number c.args.tied p p)) c.local_of-local.ensures c.replace.ensures.ok

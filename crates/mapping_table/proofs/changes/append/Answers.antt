@@ -19,12 +19,12 @@ append-requires-clause-port g c =
 pub returns-clause-put : goal.returns-clause-put
 returns-clause-put g c =
     (map_appended c.args.kept.now c.requires.counted.kept c.args.lease c.requires.sound c.append.new.self (Ok tt)
-    c.place-place.result c.port.result c.expiry.result c.place-place.ensures c.port.ensures c.expiry.ensures c.requires.free (c.in_ok-number.number, c.in_ok-number.ensures.ok) tt).1
+    c.place-place.result c.port.result c.place-place.ensures c.port.ensures c.requires.free (c.in_ok-number.number, c.in_ok-number.ensures.ok) tt).1
 
 pub returns-clause-counted : goal.returns-clause-counted
 returns-clause-counted g c =
     let put = map_appended c.args.kept.now c.requires.counted.kept c.args.lease c.requires.sound {X = ⊤} {E = Memory} c.append.new.self (Ok tt)
-    c.place-place.result c.port.result c.expiry.result c.place-place.ensures c.port.ensures c.expiry.ensures c.requires.free (c.in_ok-number.number, c.in_ok-number.ensures.ok) tt in
+    c.place-place.result c.port.result c.place-place.ensures c.port.ensures c.requires.free (c.in_ok-number.number, c.in_ok-number.ensures.ok) tt in
     counted_appended c.args.kept.now c.args.sets.now c.requires.counted c.append.new.self c.args.lease put.0 put.1.ok c.requires.free c.sets.result c.sets.ensures
 
 pub returns-in_err-number-clause-put : goal.returns-in_err-number-clause-put
@@ -38,7 +38,7 @@ returns-in_err-number-clause-counted g c =
 pub returns-clause-sieved : goal.returns-clause-sieved
 returns-clause-sieved g c =
     let put = map_appended c.args.kept.now c.requires.counted.kept c.args.lease c.requires.sound {X = ⊤} {E = Memory} c.append.new.self (Ok tt)
-    c.place-place.result c.port.result c.expiry.result c.place-place.ensures c.port.ensures c.expiry.ensures c.requires.free (c.in_ok-number.number, c.in_ok-number.ensures.ok) tt in
+    c.place-place.result c.port.result c.place-place.ensures c.port.ensures c.requires.free (c.in_ok-number.number, c.in_ok-number.ensures.ok) tt in
     subst (λ (s : List ℕ). SievesMaps s (values c.append.new.self.leases)) (sym c.add.ensures)
     (sieved_more c.args.kept.now c.requires.counted.kept c.args.sieve.now c.requires.sieved c.append.new.self c.args.lease put.1.ok c.requires.free c.place-place.result c.place-place.ensures)
 

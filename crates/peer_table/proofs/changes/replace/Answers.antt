@@ -1,7 +1,7 @@
-use Rattle.std.proofs.Common.{rules, ◌≡◌, Some, refl}
+use Rattle.std.proofs.Common.{rules, ◌≡◌, Some}
 use Rattle.std.specs.Ordering.{nat_cmp}
 use Rattle.std.specs.BTreeMap.{get}
-use Rattle.ordered_index.proofs.Keeping.{port-there, due-there}
+use Rattle.ordered_index.proofs.Keeping.{port-there}
 use Rattle.peer_table.specs.Kept.{key_of_lease, peer_keying}
 use Rattle.peer_table.proofs.PeerKeeping.{key_has, peer_laws, peer_replaced}
 use Rattle.peer_table.proofs.changes.replace.Goals as goal
@@ -13,11 +13,6 @@ pub replace-requires-clause-port : goal.replace-requires-clause-port
 replace-requires-clause-port g c =
     let at_n : get nat_cmp c.args.kept.now.leases c.args.number ≡ Some c.index.result.now = search rules in
     port-there peer_keying peer_laws c.args.kept.now c.requires.kept.kept c.args.number c.index.result.now c.opening_of.result at_n c.opening_of.ensures
-
-pub replace-requires-clause-expiry : goal.replace-requires-clause-expiry
-replace-requires-clause-expiry g c =
-    let at_n : get nat_cmp c.args.kept.now.leases c.args.number ≡ Some c.index.result.now = search rules in
-    due-there peer_keying peer_laws c.args.kept.now c.requires.kept.kept c.args.number c.index.result.now c.index.result.now.expiry at_n refl
 
 pub returns-clause-kept : goal.returns-clause-kept
 returns-clause-kept g c =

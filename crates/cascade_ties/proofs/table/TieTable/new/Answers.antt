@@ -6,4 +6,4 @@ use Rattle.cascade_ties.proofs.table.TieTable.new.Goals as goal
 pub invariant_of-result : goal.invariant_of-result
 invariant_of-result c =
     let top : c.args.high ≤ 65535 = omega (arith, c.ranges.high.fits) in
-    subst (IsTieTable c.new.result) (sym c.in_ok-new.ensures) (fresh_table c.new.result c.args.low c.args.high c.new.ensures c.requires.some top)
+    subst (IsTieTable c.in_ok-kept.kept) (sym c.in_ok-pool.ensures) (fresh_table c.in_ok-kept.kept c.args.low c.args.high c.in_ok-kept.ensures c.requires.some top)

@@ -1,24 +1,22 @@
 use Rattle.std.proofs.Common.{Contains, Option, List, sym, ap, ◌∙◌, subst}
 use Rattle.pcp_base.specs.declared.leases.MapLease.{MapLease}
 use Rattle.mapping_table.specs.MapLists.{first_dead_map, IsDeadMap}
-use Rattle.mapping_table.specs.Kept.{map_keying}
 use Rattle.ordered_index.proofs.Endings.{one-none, one-stands, one-among}
-use Rattle.mapping_table.proofs.MapKeeping.{map_laws}
 use Rattle.mapping_table.proofs.bare_table.BareTable.one_ended.Goals as goal
 
 pub returns-in_default-clause-ended : goal.returns-in_default-clause-ended
 returns-in_default-clause-ended g c = record {
   among = tt;
   dead = tt;
-  none = ap (first_dead_map c.args.m) (sym c.self.view_is) ∙ one-none map_keying map_laws c.self.inside.kept c.self.invariant.counted.kept.kept c.args.m c.in_default.ensures;
+  none = ap (first_dead_map c.args.m) (sym c.self.view_is) ∙ one-none (λ (l : MapLease). l.expiry) c.self.inside.kept.leases c.self.invariant.counted.kept.kept.ordered c.args.m c.in_default.ensures;
 }
 
 pub returns-clause-ended : goal.returns-clause-ended
 returns-clause-ended g c =
     let t = c.self.inside.kept in
-    let y = one-stands map_keying map_laws t c.self.invariant.counted.kept.kept c.args.m c.in-Some.number c.in-Some.ensures in
+    let y = one-stands (λ (l : MapLease). l.expiry) t.leases c.self.invariant.counted.kept.kept.ordered c.args.m c.in-Some.number c.in-Some.ensures in
     subst (λ (o : Option MapLease). IsDeadMap c.args.m c.args.self.now o) (sym (c.lease_at.ensures.lease ∙ y.1)) (record {
-      among = subst (λ (ls : List MapLease). Contains ls y.0) c.self.view_is (one-among map_keying map_laws t c.self.invariant.counted.kept.kept c.args.m c.in-Some.number y.0 y.1);
+      among = subst (λ (ls : List MapLease). Contains ls y.0) c.self.view_is (one-among t.leases c.in-Some.number y.0 y.1);
       dead = y.2;
       none = tt;
     })

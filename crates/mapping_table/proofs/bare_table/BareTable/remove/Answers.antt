@@ -24,8 +24,8 @@ overflow_sub-self g c =
 
 pub invariant_of-self : goal.invariant_of-self
 invariant_of-self g c =
-    let removed = map_removed c.self.inside.kept c.self.invariant.counted.kept c.args.key.now c.place_of-place.result c.place_of-place.ensures c.forget.new.self c.port.result c.in-Some.number c.expiry.result c.in-Some-copied.lease
-    c.port.ensures c.expiry.ensures (sym c.in-Some.ensures) (sym (c.in-Some-copied.ensures ∙ c.lease_at.ensures.lease)) c.forget.ensures in
+    let removed = map_removed c.self.inside.kept c.self.invariant.counted.kept c.args.key.now c.place_of-place.result c.place_of-place.ensures c.forget.new.self c.port.result c.in-Some.number c.in-Some-copied.lease
+    c.port.ensures (sym c.in-Some.ensures) (sym (c.in-Some-copied.ensures ∙ c.lease_at.ensures.lease)) c.forget.ensures in
     let at_number = sym (c.in-Some-copied.ensures ∙ c.lease_at.ensures.lease) in
     let kept = c.self.inside.kept in let x = c.in-Some-copied.lease in
     record {
@@ -37,6 +37,6 @@ invariant_of-self g c =
 
 pub returns-clause-removed : goal.returns-clause-removed
 returns-clause-removed g c =
-    let removed = (map_removed c.self.inside.kept c.self.invariant.counted.kept c.args.key.now c.place_of-place.result c.place_of-place.ensures c.forget.new.self c.port.result c.in-Some.number c.expiry.result c.in-Some-copied.lease
-    c.port.ensures c.expiry.ensures (sym c.in-Some.ensures) (sym (c.in-Some-copied.ensures ∙ c.lease_at.ensures.lease)) c.forget.ensures).1 in
+    let removed = (map_removed c.self.inside.kept c.self.invariant.counted.kept c.args.key.now c.place_of-place.result c.place_of-place.ensures c.forget.new.self c.port.result c.in-Some.number c.in-Some-copied.lease
+    c.port.ensures (sym c.in-Some.ensures) (sym (c.in-Some-copied.ensures ∙ c.lease_at.ensures.lease)) c.forget.ensures).1 in
     subst (λ (v : List MapLease). RemovesMap v c.args.key.now (Some c.in-Some-copied.lease) (values c.forget.new.self.leases)) c.self.view_is removed

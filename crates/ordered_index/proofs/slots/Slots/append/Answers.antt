@@ -1,25 +1,36 @@
-use Rattle.std.proofs.Common.{ℕ, ◌+◌, refl, sym, ap, ◌∙◌, subst}
+use Rattle.std.proofs.Common.{ℕ, ◌+◌, refl, sym, ap, ◌∙◌, subst, arith}
 use Rattle.std.specs.BTreeMap.{BTreeMap, get}
 use Rattle.std.specs.Ordering.{nat_cmp}
 use Rattle.ordered_index.specs.MapSteps.{Inserts}
 use Rattle.ordered_index.specs.Slots.{leases_of}
-use Rattle.ordered_index.proofs.SlotCalls.{appended-free, appended-inserts, appended-slots, key-named, on-err, roomy-entries, roomy-slots}
+use Rattle.ordered_index.proofs.SlotCalls.{appended-free, appended-inserts, key-named, on-err, roomy-entries, slot-named}
+use Rattle.ordered_index.proofs.SlotMoments.{appended-due, roomy-due}
 use Rattle.ordered_index.proofs.slots.Slots.append.Goals as goal
 
 pub invariant_of-self : goal.invariant_of-self
 invariant_of-self g c =
-    roomy-slots c.self.inside.slots c.self.inside.order c.self.invariant c.reserve.new.self c.reserve.ensures.rest_kept c.self.inside.order refl
+    roomy-due g.L.Expires.expiry c.self.inside.slots c.self.inside.order c.self.inside.leasts c.self.invariant c.reserve.new.self c.reserve.ensures.rest_kept c.self.inside.order refl
+
+pub invariant_of-self-in_err-insert : goal.invariant_of-self-in_err-insert
+invariant_of-self-in_err-insert g c =
+    roomy-due g.L.Expires.expiry c.self.inside.slots c.self.inside.order c.self.inside.leasts c.self.invariant c.reserve.new.self c.reserve.ensures.rest_kept c.insert.new.self c.in_err-insert.ensures.err
+
+pub tell_least-requires-clause-slot : goal.tell_least-requires-clause-slot
+tell_least-requires-clause-slot g c = let low = c.if-slot-ge-MOST_SLOTS.false in omega (arith, low)
+
+pub tell_least-requires-clause-all : goal.tell_least-requires-clause-all
+tell_least-requires-clause-all g c = c.self.invariant.due.all
 
 pub returns-in_err-reserve-clause-err : goal.returns-in_err-reserve-clause-err
 returns-in_err-reserve-clause-err g c =
     on-err c.from_residual.result
-    (roomy-entries c.self.inside.slots c.self.inside.order c.self.invariant c.reserve.new.self c.reserve.ensures.rest_kept c.self.inside.order refl
+    (roomy-entries c.self.inside.slots c.self.inside.order c.self.invariant.are c.reserve.new.self c.reserve.ensures.rest_kept c.self.inside.order refl
     ∙ ap (λ (m : BTreeMap ℕ g.row.L.Denot). m.entries) c.self.view_is)
 
 pub returns-in_err-insert-clause-err : goal.returns-in_err-insert-clause-err
 returns-in_err-insert-clause-err g c =
     on-err c.from_residual-in_err-insert.result
-    (roomy-entries c.self.inside.slots c.self.inside.order c.self.invariant c.reserve.new.self c.reserve.ensures.rest_kept c.insert.new.self c.in_err-insert.ensures.err
+    (roomy-entries c.self.inside.slots c.self.inside.order c.self.invariant.are c.reserve.new.self c.reserve.ensures.rest_kept c.insert.new.self c.in_err-insert.ensures.err
     ∙ ap (λ (m : BTreeMap ℕ g.row.L.Denot). m.entries) c.self.view_is)
 
 pub invariant_of-self-2 : goal.invariant_of-self-2
@@ -27,9 +38,10 @@ invariant_of-self-2 g c =
     let slot = c.vacant_key-slot.result in
     let key = key-named c.self.inside.slots c.reserve.new.self c.args.next slot c.insert_reserved.result c.requires.step c.if-slot-ge-MOST_SLOTS.false
     c.vacant_key-slot.ensures.value c.reserve.ensures.rest_kept c.insert_reserved.ensures.key in
-    appended-slots c.self.inside.slots c.self.inside.order c.self.invariant c.reserve.new.self c.reserve.ensures.rest_kept c.insert_reserved.new.self c.insert.new.self
+    let named = slot-named c.args.next slot (c.args.next + slot) c.requires.step c.if-slot-ge-MOST_SLOTS.false refl in
+    appended-due g.L.Expires.expiry c.self.inside.slots c.self.inside.order c.self.inside.leasts c.self.invariant c.reserve.new.self c.reserve.ensures.rest_kept c.insert_reserved.new.self c.insert.new.self
     (c.args.next + slot) c.args.lease c.insert_reserved.result key c.insert_reserved.ensures.updates c.insert_reserved.ensures.was_vacant
-    c.in_ok-insert.ensures.ordered c.in_ok-insert.ensures.entries c.in_ok-insert.ensures.updates.0
+    c.in_ok-insert.ensures.ordered c.in_ok-insert.ensures.entries c.in_ok-insert.ensures.updates.0 c.tell_least.new.leasts slot (sym named ∙ sym key) c.tell_least.ensures
 
 pub returns-clause-free : goal.returns-clause-free
 returns-clause-free g c =
@@ -37,7 +49,7 @@ returns-clause-free g c =
     let key = key-named c.self.inside.slots c.reserve.new.self c.args.next slot c.insert_reserved.result c.requires.step c.if-slot-ge-MOST_SLOTS.false
     c.vacant_key-slot.ensures.value c.reserve.ensures.rest_kept c.insert_reserved.ensures.key in
     ap (λ (m : BTreeMap ℕ g.row.L.Denot). get nat_cmp m (c.args.next + slot)) (sym c.self.view_is)
-    ∙ appended-free c.self.inside.slots c.self.inside.order c.self.invariant c.reserve.new.self c.reserve.ensures.rest_kept c.insert_reserved.new.self c.insert.new.self
+    ∙ appended-free c.self.inside.slots c.self.inside.order c.self.invariant.are c.reserve.new.self c.reserve.ensures.rest_kept c.insert_reserved.new.self c.insert.new.self
     (c.args.next + slot) c.args.lease c.insert_reserved.result key c.insert_reserved.ensures.updates c.insert_reserved.ensures.was_vacant
     c.in_ok-insert.ensures.ordered c.in_ok-insert.ensures.entries c.in_ok-insert.ensures.updates.0
 
@@ -47,6 +59,6 @@ returns-clause-inserts g c =
     let key = key-named c.self.inside.slots c.reserve.new.self c.args.next slot c.insert_reserved.result c.requires.step c.if-slot-ge-MOST_SLOTS.false
     c.vacant_key-slot.ensures.value c.reserve.ensures.rest_kept c.insert_reserved.ensures.key in
     subst (λ (m : BTreeMap ℕ g.row.L.Denot). Inserts nat_cmp m (leases_of c.insert_reserved.new.self c.insert.new.self) (c.args.next + slot) c.args.lease) c.self.view_is
-    (appended-inserts c.self.inside.slots c.self.inside.order c.self.invariant c.reserve.new.self c.reserve.ensures.rest_kept c.insert_reserved.new.self c.insert.new.self
+    (appended-inserts c.self.inside.slots c.self.inside.order c.self.invariant.are c.reserve.new.self c.reserve.ensures.rest_kept c.insert_reserved.new.self c.insert.new.self
     (c.args.next + slot) c.args.lease c.insert_reserved.result key c.insert_reserved.ensures.updates c.insert_reserved.ensures.was_vacant
     c.in_ok-insert.ensures.ordered c.in_ok-insert.ensures.entries c.in_ok-insert.ensures.updates.0)

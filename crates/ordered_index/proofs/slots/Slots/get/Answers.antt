@@ -6,6 +6,6 @@ use Rattle.ordered_index.proofs.slots.Slots.get.Goals as goal
 
 pub returns : goal.returns
 returns g c = record {
-  value = c.find.ensures ∙ lease-get c.self.inside.slots c.self.inside.order c.self.invariant c.args.number.now
+  value = c.find.ensures ∙ lease-get c.self.inside.slots c.self.inside.order c.self.invariant.are c.args.number.now
       ∙ ap (λ (m : BTreeMap ℕ g.row.L.Denot). get nat_cmp m c.args.number.now) c.self.view_is;
 }

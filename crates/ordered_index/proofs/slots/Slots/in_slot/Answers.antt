@@ -7,4 +7,4 @@ use Rattle.ordered_index.proofs.slots.Slots.in_slot.Goals as goal
 pub returns : goal.returns
 returns g c =
     subst (λ (m : BTreeMap ℕ g.row.L.Denot). IfSome c.get.result (λ e. get nat_cmp m e.now.0 ≡ Some e.now.1)) c.self.view_is
-    (slot-told c.self.inside.slots c.self.inside.order c.self.invariant c.args.slot c.get.result c.get.ensures)
+    (slot-told c.self.inside.slots c.self.inside.order c.self.invariant.are c.args.slot c.get.result c.get.ensures)

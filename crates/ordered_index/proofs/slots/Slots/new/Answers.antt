@@ -1,8 +1,13 @@
-use Rattle.ordered_index.proofs.SlotCalls.{blank-seen, blank-slots}
+use Rattle.std.proofs.Common.{◌^◌, refl}
+use Rattle.ordered_index.specs.declared.slots.TheConstants.{LEVELS}
+use Rattle.ordered_index.proofs.SlotCalls.{blank-seen}
+use Rattle.ordered_index.proofs.SlotMoments.{blank-due}
 use Rattle.ordered_index.proofs.slots.Slots.new.Goals as goal
 
 pub invariant_of-result : goal.invariant_of-result
-invariant_of-result g c = blank-slots c.new.result c.new-2.result c.new.ensures.empty c.new-2.ensures.empty c.new-2.ensures.ordered
+invariant_of-result g c =
+    blank-due g.L.Expires.expiry c.new-2.result c.new-3.result c.in_ok-leasts.leasts c.new-2.ensures.empty c.new-3.ensures.empty c.new-3.ensures.ordered
+    (2 ^ LEVELS) refl c.in_ok-leasts.ensures
 
 pub returns : goal.returns
-returns g c = blank-seen c.new.result c.new-2.result c.new.ensures.empty c.new-2.ensures.empty c.new-2.ensures.ordered
+returns g c = blank-seen c.new-2.result c.new-3.result c.new-2.ensures.empty c.new-3.ensures.empty c.new-3.ensures.ordered

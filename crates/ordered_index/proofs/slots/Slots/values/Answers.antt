@@ -7,10 +7,10 @@ use Rattle.ordered_index.proofs.slots.Slots.values.Goals as goal
 
 pub invariant_of-result : goal.invariant_of-result
 invariant_of-result g c =
-    subst (λ (ns : List ℕ). AllByRecursion (λ n. IsSome (lease_at c.self.inside.slots n)) ns) (sym c.keys.ensures.rest) (held-keys c.self.inside.slots c.self.inside.order c.self.invariant)
+    subst (λ (ns : List ℕ). AllByRecursion (λ n. IsSome (lease_at c.self.inside.slots n)) ns) (sym c.keys.ensures.rest) (held-keys c.self.inside.slots c.self.inside.order c.self.invariant.are)
 
 pub returns : goal.returns
 returns g c = record {
-  rest = ap (filter_map (lease_at c.self.inside.slots)) c.keys.ensures.rest ∙ seen-values c.self.inside.slots c.self.inside.order c.self.invariant
+  rest = ap (filter_map (lease_at c.self.inside.slots)) c.keys.ensures.rest ∙ seen-values c.self.inside.slots c.self.inside.order c.self.invariant.are
       ∙ ap (λ (m : BTreeMap ℕ g.row.L.Denot). values m) c.self.view_is;
 }

@@ -14,12 +14,12 @@ copied_some (Some x) o h some = refl
 pub unwrap-requires : goal.unwrap-requires
 unwrap-requires g c =
     copied_some c.find.result (get nat_cmp c.args.self.now c.args.number.now)
-    (c.find.ensures ∙ lease-get c.self.inside.slots c.self.inside.order c.self.invariant c.args.number.now
+    (c.find.ensures ∙ lease-get c.self.inside.slots c.self.inside.order c.self.invariant.are c.args.number.now
     ∙ ap (λ (m : BTreeMap ℕ g.row.L.Denot). get nat_cmp m c.args.number.now) c.self.view_is)
     c.requires
 
 pub returns : goal.returns
 returns g c =
-    sym (c.find.ensures ∙ lease-get c.self.inside.slots c.self.inside.order c.self.invariant c.args.number.now
+    sym (c.find.ensures ∙ lease-get c.self.inside.slots c.self.inside.order c.self.invariant.are c.args.number.now
     ∙ ap (λ (m : BTreeMap ℕ g.row.L.Denot). get nat_cmp m c.args.number.now) c.self.view_is)
     ∙ ap option_copied c.unwrap.ensures
