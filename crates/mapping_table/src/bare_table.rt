@@ -19,7 +19,7 @@ use crate::changes::{append, replace};
 use crate::filters::{live_whole, whole};
 use crate::looks::{lease_at, look};
 use crate::overlaps::{is_renewed, overlapped_key, overlapping_set};
-use ordered_index::{Hints, Numbered, Place, Port, Sieve, Slots, last_up_to, place_of, port_at};
+use ordered_index::{Expires, Hints, Numbered, Place, Port, Sieve, Slots, last_up_to, place_of, port_at};
 use pcp_base::{Change, Endpoint, Filters, MapLease, Memory, Moment, Protocol, Record};
 use record_sink::RecordSink;
 use std::alloc::{AllocError, Global};
@@ -155,7 +155,7 @@ fn hinted_expiry(
     };
     let (_number, lease) = entry;
     if lease.owns(protocol, port) {
-        Some(lease.expiry())
+        Some(lease.expires_at())
     } else {
         None
     }
@@ -354,7 +354,7 @@ impl BareTable {
         let Some(lease) = self.by_external(protocol, port, steps) else {
             return None;
         };
-        Some(lease.expiry())
+        Some(lease.expires_at())
     }
 
     /// The first endpoint of a lease that this one of a single port overlaps: of the lease that

@@ -23,8 +23,9 @@ use step_count::{Steps, levels};
 /// MAP leases, seen as a list in the order granted. Those that have ended stay until they are taken
 /// out.
 ///
-/// A step is a look at a level of one of its ordered maps or of the tree of expiries, of which each
-/// has at most as many levels as its number of leases has binary digits.
+/// A step is a look at a level of one of its ordered maps, of which each has at most as many levels
+/// as its number of leases has binary digits. The tree of their expiries counts as such a map,
+/// though it has twelve levels, whatever there is.
 #[derive(Drop)]
 pub struct MapTable {
     /// The leases without their filters.
