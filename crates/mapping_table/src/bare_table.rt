@@ -19,7 +19,9 @@ use crate::changes::{append, replace};
 use crate::filters::{live_whole, whole};
 use crate::looks::{lease_at, look};
 use crate::overlaps::{is_renewed, overlapped_key, overlapping_set};
-use ordered_index::{Expires, Hints, Numbered, Place, Port, Sieve, Slots, last_up_to, place_of, port_at};
+use ordered_index::{
+    Expires, Hints, Numbered, Place, Port, Sieve, Slots, last_up_to, place_of, port_at,
+};
 use pcp_base::{Change, Endpoint, Filters, MapLease, Memory, Moment, Protocol, Record};
 use record_sink::RecordSink;
 use std::alloc::{AllocError, Global};
