@@ -20,9 +20,9 @@ use Rattle.ordered_index.proofs.Entries.{entry_at, false_by}
 use Rattle.ordered_index.proofs.Keeping.{key-from, key-to, port-from, port-to}
 use Rattle.ordered_index.proofs.Mirrorings.{entry-at, at-entry}
 use Rattle.peer_table.specs.PeerLists.{has_other_port, has_other_endpoint, overlaps, AreFellows, IsOverlapped}
-use Rattle.peer_table.specs.Kept.{PeerKey, Opening, key_cmp, opening_cmp, key_of_lease, opening_of_lease, peer_keying, AreKeptPeers, IsBound, IsOpeningBound, has_remote, first_number, overlapped, TellsOther}
+use Rattle.peer_table.specs.Kept.{PeerKey, Opening, key_cmp, opening_cmp, key_of_lease, opening_of_lease, peer_keying, AreKeptPeers, IsBound, IsOpeningBound, has_remote, first_number, overlapped, TellsOther, key_total, opening_total}
 use Rattle.peer_table.proofs.LastExpiries.{owning_within}
-use Rattle.peer_table.proofs.PeerKeeping.{peer_laws, key_total, key_exact, opening_total, opening_exact}
+use Rattle.peer_table.proofs.PeerKeeping.{peer_laws, key_exact, opening_exact}
 use Rattle.peer_table.proofs.PortUses.{within_names}
 
 pub clash : (b : Bool) → b ≡ true → b ≡ false → ⊥

@@ -21,8 +21,8 @@ use Rattle.ordered_index.proofs.OrderLaws.{port_total, port_exact, at_self, at_e
 use Rattle.std.specs.Cmp.{nat_cmp_total}
 use Rattle.std.proofs.lemmas.Map.Lookups.{exact_unsigned}
 use Rattle.peer_table.specs.PeerLists.{IsLastExpiry}
-use Rattle.peer_table.specs.Kept.{PeerKey, Opening, opening_cmp, opening_of_lease, peer_keying, AreKeptPeers, IsOpeningBound, expiry_in, later, last_of}
-use Rattle.peer_table.proofs.PeerKeeping.{peer_laws, opening_total, opening_exact, protocol_of_number}
+use Rattle.peer_table.specs.Kept.{PeerKey, Opening, opening_cmp, opening_of_lease, peer_keying, AreKeptPeers, IsOpeningBound, expiry_in, later, last_of, opening_total}
+use Rattle.peer_table.proofs.PeerKeeping.{peer_laws, opening_exact, protocol_of_number}
 use Rattle.peer_table.proofs.PeerKeys.{within_cases, bound_cases}
 
 -- ---- the later of two

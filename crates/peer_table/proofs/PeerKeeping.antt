@@ -3,12 +3,10 @@ use Rattle.std.proofs.Common.{◌≡◌, ℕ, ◌&&◌, ◌==◌, Bool, true, fa
 use Rattle.std.specs.Prelude.{is_some}
 use Rattle.std.specs.List.{list_any}
 use Rattle.std.specs.Ordering.{nat_cmp}
-use Rattle.std.specs.Cmp.{IsTotalOrder, nat_cmp_total}
 use Rattle.std.specs.BTreeMap.{get, values}
 use Rattle.std.specs.Result.{IsErr}
 use Rattle.std.proofs.lemmas.Bool.{and_parts, and_from, eqb-true}
 use Rattle.std.proofs.lemmas.Bool.Decides.{Decides-eqb}
-use Rattle.std.proofs.lemmas.Cmp.{on_total, then_total, nat_list_cmp_total}
 use Rattle.std.proofs.lemmas.Map.Lookups.{CmpEqualImpliesEq, exact_unsigned, exact_bytes}
 use Rattle.pcp_base.specs.declared.addresses.Address.{Address}
 use Rattle.pcp_base.specs.declared.leases.Protocol.{Protocol}
@@ -27,17 +25,8 @@ use Rattle.ordered_index.proofs.Keeping.{each_weaker, AreLaws, Tells, TellsPort,
 use Rattle.ordered_index.proofs.OrderLaws.{both_equal, place_of-one, protocol_one, address_same}
 use Rattle.peer_table.specs.PeerLists.{is_ended_peer, AreFellows, AreSoundPeers, opens, with_peer, PutsPeer, RemovesPeer}
 use Rattle.pcp_base.specs.Protocols.{protocol_number}
-use Rattle.peer_table.specs.Kept.{PeerKey, Opening, key_at, opening_at, place_in, key_cmp, opening_cmp, key_of_lease, opening_of_lease, peer_keying, AreKeptPeers}
+use Rattle.peer_table.specs.Kept.{PeerKey, Opening, key_at, opening_at, place_in, key_cmp, key_total, opening_cmp, opening_total, key_of_lease, opening_of_lease, peer_keying, AreKeptPeers}
 use Rattle.peer_table.proofs.Sounds.{AreSoundPeers-filter}
-
-pub key_total : IsTotalOrder key_cmp
-key_total = then_total (then_total (then_total (then_total (then_total
-    (on_total (λ (k : PeerKey). k.0) nat_list_cmp_total) (on_total (λ (k : PeerKey). k.1) nat_cmp_total)) (on_total (λ (k : PeerKey). k.2) nat_cmp_total)) (on_total (λ (k : PeerKey). k.3) nat_cmp_total))
-    (on_total (λ (k : PeerKey). k.4) nat_list_cmp_total)) (on_total (λ (k : PeerKey). k.5) nat_cmp_total)
-
-pub opening_total : IsTotalOrder opening_cmp
-opening_total = then_total (then_total (then_total (then_total
-    (on_total (λ (o : Opening). o.0) nat_cmp_total) (on_total (λ (o : Opening). o.1) nat_cmp_total)) (on_total (λ (o : Opening). o.2) nat_cmp_total)) (on_total (λ (o : Opening). o.3) nat_list_cmp_total)) (on_total (λ (o : Opening). o.4) nat_cmp_total)
 
 key_same : (x y : PeerKey) → x.0 ≡ y.0 → x.1 ≡ y.1 → x.2 ≡ y.2 → x.3 ≡ y.3 → x.4 ≡ y.4 → x.5 ≡ y.5 → x ≡ y
 key_same x y a b c d e f =

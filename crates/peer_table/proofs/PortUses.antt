@@ -25,8 +25,8 @@ use Rattle.ordered_index.proofs.Keeping.{key-from}
 use Rattle.ordered_index.proofs.Mirrorings.{entry-at}
 use Rattle.ordered_index.proofs.OrderLaws.{at_self, at_exact, place_total, place_exact, place_of-one}
 use Rattle.peer_table.specs.PeerLists.{is_live_peer, is_live_of, is_ended_peer, IsEndedOf, IsPortUse}
-use Rattle.peer_table.specs.Kept.{PeerKey, Opening, key_cmp, key_of_lease, peer_keying, AreKeptPeers, IsBound, some_that}
-use Rattle.peer_table.proofs.PeerKeeping.{peer_laws, key_total, key_exact}
+use Rattle.peer_table.specs.Kept.{PeerKey, Opening, key_cmp, key_of_lease, peer_keying, AreKeptPeers, IsBound, some_that, key_total}
+use Rattle.peer_table.proofs.PeerKeeping.{peer_laws, key_exact}
 use Rattle.peer_table.proofs.Finds.{none_counted, is_false}
 use Rattle.peer_table.proofs.PeerKeys.{within_bounds}
 

@@ -3,7 +3,8 @@ use Rattle.std.specs.Prelude.{◌≡◌, ℕ, ◌&&◌, ◌==◌, nat_lt, Bool, 
 use Rattle.std.specs.List.{fold}
 use Rattle.std.specs.Ordering.{nat_cmp, ordering_then}
 use Rattle.std.specs.declared.cmp.Ordering.{Ordering}
-use Rattle.std.specs.Cmp.Lexicographic.{slice_cmp}
+use Rattle.std.specs.Cmp.{IsTotalOrder, nat_cmp_total, on_total, then_total}
+use Rattle.std.specs.Cmp.Lexicographic.{slice_cmp, nat_list_cmp_total}
 use Rattle.std.specs.BTreeMap.{values}
 use Rattle.pcp_base.specs.declared.addresses.Address.{Address}
 use Rattle.pcp_base.specs.declared.leases.Protocol.{Protocol}
@@ -58,6 +59,24 @@ abbrev pub opening_cmp : Opening → Opening → Ordering
 opening_cmp a b = ordering_then (ordering_then (ordering_then (ordering_then
     (nat_cmp a.0 b.0) (nat_cmp a.1 b.1)) (nat_cmp a.2 b.2)) (slice_cmp nat_cmp a.3 b.3))
     (nat_cmp a.4 b.4)
+
+-- both are total orders
+pub key_total : IsTotalOrder key_cmp
+key_total = then_total (then_total (then_total (then_total (then_total
+    (on_total (λ (k : PeerKey). k.0) nat_list_cmp_total)
+    (on_total (λ (k : PeerKey). k.1) nat_cmp_total))
+    (on_total (λ (k : PeerKey). k.2) nat_cmp_total))
+    (on_total (λ (k : PeerKey). k.3) nat_cmp_total))
+    (on_total (λ (k : PeerKey). k.4) nat_list_cmp_total))
+    (on_total (λ (k : PeerKey). k.5) nat_cmp_total)
+
+pub opening_total : IsTotalOrder opening_cmp
+opening_total = then_total (then_total (then_total (then_total
+    (on_total (λ (o : Opening). o.0) nat_cmp_total)
+    (on_total (λ (o : Opening). o.1) nat_cmp_total))
+    (on_total (λ (o : Opening). o.2) nat_cmp_total))
+    (on_total (λ (o : Opening). o.3) nat_list_cmp_total))
+    (on_total (λ (o : Opening). o.4) nat_cmp_total)
 
 abbrev pub key_of_lease : PeerLease → PeerKey
 key_of_lease l = key_at l.endpoint l.remote l.remote_port

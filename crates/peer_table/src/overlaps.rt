@@ -79,8 +79,7 @@ pub(crate) fn overlapped<'a>(
 fn has_remote(key: Key, lease: &PeerLease) -> bool
     ensures { result ≡ has_remote lease.now.remote lease.now.remote_port key }
 {
-    let (_, _, _, _, remote, port) = key;
-    remote == lease.remote.0 && port == lease.remote_port
+    key.remote == lease.remote.0 && key.remote_port == lease.remote_port
 }
 
 /// The first number from one key to before another whose key hasn't the remote of the lease. As one
