@@ -1,9 +1,11 @@
 //! How many ports each address holds.
 
-ghost use Rattle.std.specs.Prelude.{◌≡◌, ◌+◌, ◌-◌, ◌≤◌, ◌<◌, ◌^◌, ℕ, List, Some, IsSome, OnOk, OnErr, if◌then◌else◌};
+ghost use Rattle.std.specs.Prelude.{◌≡◌, ◌+◌, ◌-◌, ◌≤◌, ◌<◌, ◌^◌, ℕ, List, OnOk, OnErr, if◌then◌else◌};
 ghost use Rattle.std.specs.Ordering.{nat_cmp};
 ghost use Rattle.std.specs.Cmp.Lexicographic.{slice_cmp};
-ghost use Rattle.std.specs.BTreeMap.{get, is_at};
+ghost use Rattle.std.specs.BTreeMap.{get};
+ghost use Rattle.std.specs.Map.{count_at};
+ghost use Rattle.std.specs.Str.{bytes_eq};
 ghost use Rattle.pcp_base.specs.declared.addresses.Address.{Address};
 ghost use Rattle.pcp_base.specs.Tables.{same_address};
 ghost use Rattle.external_pool.specs.Kept.{count_held};
@@ -29,22 +31,28 @@ pub fn raise(counts: &mut BTreeMap<Host, u32>, who: &Address, n: u32) -> Result<
     ensures err { OnErr result ((other : Address) →
         count_held counts.new other ≡ count_held counts.old other) }
 {
-    let count = count_of(counts, who) + n;
-    counts.insert(Host { octets: who.0 }, count)?;
+    let host = Host { octets: who.0 };
+    if let Some(count) = counts.get_mut(&host) {
+        *count += n;
+        return Ok(());
+    }
+    counts.insert(host, n)?;
     Ok(())
 }
 
-/// Gives an address that is counted another count.
-fn overwrite(counts: &mut BTreeMap<Host, u32>, who: &Address, count: u32)
-    requires { IsSome (get (slice_cmp nat_cmp) counts.old who.now.0) }
-    ensures { (other : List ℕ) → get (slice_cmp nat_cmp) counts.new other
-        ≡ (if is_at (slice_cmp nat_cmp who.now.0) other then Some count
-        else get (slice_cmp nat_cmp) counts.old other) }
+/// Counts `n` fewer of an address, and tells how many are left; 0 where it isn't counted.
+fn lessen(counts: &mut BTreeMap<Host, u32>, host: &Host, n: u32) -> u32
+    requires { n ≤ count_at (get (slice_cmp nat_cmp) counts.old) host.now }
+    ensures left { result ≡ count_at (get (slice_cmp nat_cmp) counts.old) host.now - n }
+    ensures counted { (other : List ℕ) → count_at (get (slice_cmp nat_cmp) counts.new) other
+        ≡ (if bytes_eq host.now other then result
+        else count_at (get (slice_cmp nat_cmp) counts.old) other) }
 {
-    let host = Host { octets: who.0 };
-    if let Some(place) = counts.get_mut(&host) {
-        *place = count;
-    }
+    let Some(count) = counts.get_mut(host) else {
+        return 0;
+    };
+    *count -= n;
+    *count
 }
 
 /// Counts `n` fewer, and forgets an address that holds none.
@@ -54,11 +62,8 @@ pub fn lower(counts: &mut BTreeMap<Host, u32>, who: &Address, n: u32)
         count_held counts.new other
         ≡ count_held counts.old other - (if same_address who.now other then n else 0) }
 {
-    let count = count_of(counts, who) - n;
-    if count == 0 {
-        let host = Host { octets: who.0 };
+    let host = Host { octets: who.0 };
+    if lessen(counts, &host, n) == 0 {
         counts.remove(&host);
-    } else {
-        overwrite(counts, who, count);
     }
 }
