@@ -74,6 +74,20 @@ module _ (uses : PortUses) (parity : Option ℕ) (room most count : ℕ) (is : I
     greatest = no_more;
   }
 
+-- of at most one port the longest run is the first vacant one
+module _ (uses : PortUses) (parity : Option ℕ) where
+  pub first_none : IsLeast (IsVacantRun uses 1 parity) None → IsLongest uses parity 1 None
+  first_none is n some few run = let one : n ≡ 1 = omega (arith, some, few) in is.none run.0 (subst (λ (k : ℕ). IsVacantRun uses k parity run.0) one run.1)
+
+  pub first_found : (found : ℕ) → IsLeast (IsVacantRun uses 1 parity) (Some found) → IsLongest uses parity 1 (Some (record { start = found; count = 1 }))
+  first_found found is = record {
+    some = omega arith;
+    within = omega arith;
+    vacant = is.fits;
+    least = is.least;
+    greatest = λ n few run. few;
+  }
+
 -- a use painted over the part of a run that lies in the range
 painted_tests : (r s : Bool) (value later old : Use) → is_free_use later ≡ is_free_use value → cond (r && s) (not (is_free_use value)) (r && not (is_free_use old)) ≡ (r && not (is_free_use (cond s later old)))
 painted_tests true true value later old same = ap not (sym same)

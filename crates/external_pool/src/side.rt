@@ -6,7 +6,7 @@ ghost use Rattle.external_pool.specs.Choosing.{GoesBack, IsLongest, IsPick};
 
 use crate::asks::Picked;
 use crate::uses::{PORTS, Use, cleared, is_free_to, is_free_use, paint};
-use crate::vacant::{longest, meets, settle_in_range};
+use crate::vacant::{is_in_range, longest, meets, settle_in_range};
 use pcp_base::{Address, Memory};
 use port_runs::Runs;
 use std::alloc::Global;
@@ -85,7 +85,7 @@ impl Side {
     fn is_open(&self, who: &Address, internal: u64, port: u64) -> bool
         ensures { result ≡ the.is_open self.now who.now internal port }
     {
-        if port < u64::from(self.low) || port > u64::from(self.high) {
+        if !is_in_range(self.low, self.high, port) {
             return false;
         }
         is_free_to(self.each[port as usize], who, internal)

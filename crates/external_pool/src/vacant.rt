@@ -22,6 +22,13 @@ pub fn meets(port: u16, parity: Option<u8>) -> bool
     }
 }
 
+/// Whether a port is in a range.
+pub fn is_in_range(low: u16, high: u16, port: u64) -> bool
+    ensures { result ≡ is_in_range low high port }
+{
+    u64::from(low) <= port && port <= u64::from(high)
+}
+
 /// Takes a port of the range, unless it is taken already.
 fn take_one(runs: &mut Runs, port: u16)
     requires low { runs.old.low ≤ port }
@@ -91,6 +98,18 @@ pub fn settle_in_range(runs: &mut Runs, low: u16, high: u16, start: u16, n: u32,
     }
 }
 
+/// The least vacant port that meets the parity asked, which is the longest run of at most one.
+fn first<L: Ledger>(runs: &Runs, parity: Option<u8>, steps: &mut Steps<L>) -> Option<Picked>
+    ensures longest { (low high : ℕ) (each : List Use) → IsKept low high runs.now each →
+        IsLongest (uses_over low high each) parity 1 result }
+    ensures steps { steps.new ≤ steps.old + 68 }
+{
+    let Some(start) = runs.first_run(1, parity, steps) else {
+        return None;
+    };
+    Some(Picked { start, count: 1 })
+}
+
 /// The longest run of vacant ports whose first meets the parity asked, of at most `room`, and of
 /// these runs the one with the least start.
 pub fn longest<L: Ledger>(
@@ -103,6 +122,9 @@ pub fn longest<L: Ledger>(
         IsLongest (uses_over low high each) parity room result }
     ensures steps { steps.new ≤ steps.old + 69 }
 {
+    if room == 1 {
+        return first(runs, parity, steps);
+    }
     let count = runs.longest_run(parity, steps).min(room);
     if count == 0 {
         return None;
