@@ -9,7 +9,7 @@ use Rattle.pcp_base.specs.declared.leases.PeerLease.{PeerLease}
 use Rattle.pcp_base.specs.Apply.{table_changed}
 use Rattle.pcp_base.specs.Sound.{Sound}
 use Rattle.pcp_base.specs.Tables.{Table, EachTwo, first_endpoint, is_map_of, is_peer_of, live, names, put, same_protocol}
-use Rattle.pcp_base.proofs.Members.{IsIn, IsIn-from_Contains, filter-IsIn, All-IsIn, any-some}
+use Rattle.pcp_base.proofs.Members.{IsIn, IsIn-from_Contains, filter-IsIn, All-IsIn, any-some, some-any}
 use Rattle.pcp_base.proofs.Same.{same_endpoint-Decides, same_protocol-Decides}
 use Rattle.pcp_base.proofs.StageLaws.{unlike}
 use Rattle.pcp_base.proofs.TableLemmas.{key-own}
@@ -119,6 +119,20 @@ module _ (law : SoundTablesHaveSoundPeers) (m : ℕ) (t : Table) (l : PeerLease)
 
   peer-dead : (x : PeerLease) → overlaps_peer l x ≡ true → IsIn x t.peers → nat_lt m x.expiry ≡ false
   peer-dead x meets i = false_from_ne_true (nat_lt m x.expiry) (λ alive. peer-not_live x meets i alive)
+
+-- ---- where no lease has ended, none is overlapped
+
+pub map-clear : SoundTablesHaveSoundMaps → (m : ℕ) (t : Table) (l : MapLease) → Sound (table_changed (Map l) (live t m))
+    → list_any (λ x. not (nat_lt m x.expiry)) t.maps ≡ false → list_any (overlaps_map l) t.maps ≡ false
+map-clear law m t l after none = false_from_ne_true (list_any (overlaps_map l) t.maps) (λ some.
+    let x = any-some (overlaps_map l) t.maps some in
+    unlike (list_any (λ y. not (nat_lt m y.expiry)) t.maps) (some-any (λ y. not (nat_lt m y.expiry)) t.maps x.0 x.1 (ap not (map-dead law m t l after x.0 x.2 x.1))) none)
+
+pub peer-clear : SoundTablesHaveSoundPeers → (m : ℕ) (t : Table) (l : PeerLease) → Sound (table_changed (Peer l) (live t m))
+    → list_any (λ x. not (nat_lt m x.expiry)) t.peers ≡ false → list_any (overlaps_peer l) t.peers ≡ false
+peer-clear law m t l after none = false_from_ne_true (list_any (overlaps_peer l) t.peers) (λ some.
+    let x = any-some (overlaps_peer l) t.peers some in
+    unlike (list_any (λ y. not (nat_lt m y.expiry)) t.peers) (some-any (λ y. not (nat_lt m y.expiry)) t.peers x.0 x.1 (ap not (peer-dead law m t l after x.0 x.2 x.1))) none)
 
 -- ---- while leases go, of which the first were those of a table (start), and some are left (here)
 

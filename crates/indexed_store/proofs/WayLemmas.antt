@@ -102,6 +102,14 @@ module _ {X : Type 0} (p q : X → Bool) where
   pub count-all_kept : (xs : List X) → ((x : X) → IsIn x xs → p x ≡ true → q x ≡ true) → count_by p xs ≡ count_by p (filter q xs)
   count-all_kept xs kept = count-kept xs (none-out xs kept)
 
+  lives : (b : Bool) → not b ≡ false → b ≡ true
+  lives true h = refl
+  lives false h = sym h
+
+  -- so it is where all pass the other test
+  pub count-all : (xs : List X) → list_any (λ x. not (q x)) xs ≡ false → count_by p xs ≡ count_by p (filter q xs)
+  count-all xs none = count-all_kept xs (λ x i passes. lives (q x) (All-IsIn (λ y. not (q y) ≡ false) xs x (any-none (λ y. not (q y)) xs none) i))
+
   none-counted : (xs : List X) → count_by left_out xs ≡ 0 → (x : X) → IsIn x xs → left_out x ≡ true → ⊥
   none-counted [] none x i out = absurd i
   none-counted (y ∷ ys) none x (inl same) out =
@@ -141,7 +149,7 @@ own-within {X} has Q xs ys one part of = at_part (find has ys) refl
     at_part None is = tt
     at_part (Some x) is = let f = find-some has ys x is in at_whole (find has xs) refl of x (part x f.0) f.1
 
-none-overlap : {X : Type 0} (p : X → Bool) (xs ys : List X) → ((x : X) → Contains ys x → Contains xs x) → list_any p xs ≡ false → list_any p ys ≡ false
+pub none-overlap : {X : Type 0} (p : X → Bool) (xs ys : List X) → ((x : X) → Contains ys x → Contains xs x) → list_any p xs ≡ false → list_any p ys ≡ false
 none-overlap p xs ys part none = none-any p ys (All-from_IsIn (λ x. p x ≡ false) ys (λ x i.
     All-IsIn (λ y. p y ≡ false) xs x (any-none p xs none) (IsIn-from_Contains xs x (part x (Contains-from_IsIn ys x i)))))
 
@@ -215,18 +223,17 @@ module _ (m : ℕ) (l : PeerLease) where
       (none-within has_peer_key alive t.peers (ap (λ (v : Table). find has_peer_key v.peers) (sym same) ∙ none)))
   peer-room t u false is room same none = room
 
-  -- of a table without what is overlapped (s) one without what ended of the endpoint (t), and of that one with room (u)
-  pub peer-way : (s t u : Table) (there : Bool) → Sound (table_changed (Peer l) (live u m)) → list_any (overlaps_peer l) s.peers ≡ false
-      → ((x : PeerLease) → Contains t.peers x → Contains s.peers x)
+  -- of a table without what is in the way (t) that one with room (u)
+  pub peer-way : (t u : Table) (there : Bool) → Sound (table_changed (Peer l) (live u m)) → list_any (overlaps_peer l) t.peers ≡ false
       → count_by of_endpoint t.peers ≡ count_by of_endpoint (live t m).peers → there ≡ is_some (find has_peer_key (live t m).peers)
       → AreTabled u → ((x : PeerLease) → Contains u.peers x → Contains t.peers x)
       → OnFalse there (length u.maps + length u.peers < MOST_LEASES) → OnTrue there (u ≡ t) → HasWayForPeer m l u
-  peer-way s t u there after apart from counts is tabled new_from room same =
+  peer-way t u there after apart counts is tabled new_from room same =
       let live_of : (x : PeerLease) → IsIn x u.peers → of_endpoint x ≡ true → alive x ≡ true =
       λ x i named. kept-all of_endpoint alive t.peers counts x (members t.peers u.peers new_from x i) named in
       record {
         tabled = tabled;
-        apart = none-overlap (overlaps_peer l) s.peers u.peers (λ x i. from x (new_from x i)) apart;
+        apart = none-overlap (overlaps_peer l) t.peers u.peers new_from apart;
         own = own_live (find has_peer_key u.peers) refl live_of;
         room = peer-room t u there is room same;
         of_endpoint = peer-few u after live_of;

@@ -74,7 +74,7 @@ puts_peer change = false
 
 -- what the leases take that change
 abbrev pub change_steps : ℕ → Change → Table → ℕ
-change_steps m change t = 44 * most_levels + 24 * (in_way m change t * most_levels)
+change_steps m change t = 45 * most_levels + 24 * (in_way m change t * most_levels)
 
 -- whether a run of ports that have their last ends together is exactly this one
 abbrev pub is_own : OwnerRun → Option (Run End) → Bool

@@ -1,5 +1,5 @@
 //! Leases that have ended make way for one that is put.
-ghost use Rattle.std.specs.Prelude.{◌≡◌, ◌<◌, ◌≤◌, ◌+◌, ◌*◌, ◌⊎◌, length, count_by, find, is_some, nat_lt, Bool, true, false, Contains, IfSome};
+ghost use Rattle.std.specs.Prelude.{◌≡◌, ◌<◌, ◌≤◌, ◌+◌, ◌*◌, ◌⊎◌, length, count_by, find, is_some, nat_lt, not, Bool, true, false, Contains, IfSome};
 ghost use Rattle.std.specs.List.{list_any};
 ghost use Rattle.std.specs.Bool.{OnTrue, OnFalse};
 ghost use Rattle.pcp_base.specs.declared.leases.TheConstants.{MOST_LEASES};
@@ -9,8 +9,8 @@ ghost use Rattle.pcp_base.specs.declared.records.Change.TheVariants.{Map, Peer};
 ghost use Rattle.pcp_base.specs.Apply.{table_changed};
 ghost use Rattle.pcp_base.specs.Sound.{Sound};
 ghost use Rattle.pcp_base.specs.Tables.{is_map_of, is_peer_of, live, names};
-ghost use Rattle.mapping_table.specs.MapLists.{overlaps as overlaps_map};
-ghost use Rattle.peer_table.specs.PeerLists.{overlaps as overlaps_peer, is_ended_of};
+ghost use Rattle.mapping_table.specs.MapLists.{is_live_map, overlaps as overlaps_map};
+ghost use Rattle.peer_table.specs.PeerLists.{overlaps as overlaps_peer, is_ended_of, is_ended_peer};
 ghost use Rattle.indexed_store.specs.MakingWay.{HasWayForMap, HasWayForPeer};
 ghost use Rattle.indexed_store.specs.Tabled.{AreTabled};
 ghost use Rattle.indexed_store.specs.Looks.{most_levels};
@@ -117,7 +117,28 @@ impl Leases {
         }
     }
 
-    /// Takes out the MAP leases that this one overlaps. None of them is live at `m`.
+    /// Whether a MAP lease has ended by `m`.
+    fn has_ended_map<L: Ledger>(&self, m: Moment, steps: &mut Steps<L>) -> bool
+        requires { AreTabled self.now }
+        ensures ended { result ≡ list_any (λ l. not (is_live_map m l)) self.now.maps }
+        ensures steps { steps.new ≤ steps.old + most_levels }
+    {
+        levels_grow();
+        self.maps.has_ended(m, steps)
+    }
+
+    /// Whether a PEER lease has ended by `m`.
+    fn has_ended_peer<L: Ledger>(&self, m: Moment, steps: &mut Steps<L>) -> bool
+        requires { AreTabled self.now }
+        ensures ended { result ≡ list_any (is_ended_peer m) self.now.peers }
+        ensures steps { steps.new ≤ steps.old + most_levels }
+    {
+        levels_grow();
+        self.peers.has_ended(m, steps)
+    }
+
+    /// Takes out the MAP leases that this one overlaps. None of them is live at `m`, so there are none
+    /// where no lease has ended.
     fn drop_overlapped_maps<L: Ledger>(&mut self, m: Moment, lease: &MapLease, steps: &mut Steps<L>)
         requires tabled { AreTabled self.old }
         requires after { Sound (table_changed (Map lease.now) (live self.old m)) }
@@ -125,12 +146,15 @@ impl Leases {
         ensures live { live self.new m ≡ live self.old m }
         ensures apart { list_any (overlaps_map lease.now) self.new.maps ≡ false }
         ensures peers { self.new.peers ≡ self.old.peers }
-        ensures steps { steps.new ≤ steps.old + 6 * most_levels
+        ensures steps { steps.new ≤ steps.old + 7 * most_levels
             + 14 * (count_by (overlaps_map lease.now) self.old.maps * most_levels) }
     {
         levels_grow();
         sound_tables_have_sound_maps();
         fewer_maps_are_sound();
+        if !self.has_ended_map(m, steps) {
+            return;
+        }
         while let Some(key) = self.maps.overlapping(lease, steps) {
             self.maps.remove(&key, steps);
         }
@@ -182,6 +206,28 @@ impl Leases {
         }
     }
 
+    /// Takes out the PEER leases that this one overlaps, and those of its endpoint that have ended by
+    /// `m`. None of them is live, so there are none where no lease has ended.
+    fn drop_peers_in_way<L: Ledger>(&mut self, m: Moment, lease: &PeerLease, steps: &mut Steps<L>)
+        requires tabled { AreTabled self.old }
+        requires after { Sound (table_changed (Peer lease.now) (live self.old m)) }
+        ensures tabled { AreTabled self.new }
+        ensures live { live self.new m ≡ live self.old m }
+        ensures apart { list_any (overlaps_peer lease.now) self.new.peers ≡ false }
+        ensures of_endpoint { count_by (λ l. names l lease.now.endpoint) self.new.peers
+            ≡ count_by (λ l. names l lease.now.endpoint) (live self.new m).peers }
+        ensures steps { steps.new ≤ steps.old + 24 * most_levels
+            + 11 * (count_by (overlaps_peer lease.now) self.old.peers * most_levels)
+            + 24 * (count_by (is_ended_of lease.now.endpoint m) self.old.peers * most_levels) }
+    {
+        sound_tables_have_sound_peers();
+        if !self.has_ended_peer(m, steps) {
+            return;
+        }
+        self.drop_overlapped_peers(m, lease, steps);
+        self.drop_ended_of(m, &lease.endpoint, steps);
+    }
+
     /// Whether there is a MAP lease with this key. One that has ended by `m` is taken out.
     fn keeps_map<L: Ledger>(&mut self, m: Moment, key: &Endpoint, steps: &mut Steps<L>) -> bool
         requires { AreTabled self.old }
@@ -230,7 +276,7 @@ impl Leases {
         ensures live { live self.new m ≡ live self.old m }
         ensures peers_from { (l : PeerLease) → Contains self.new.peers l
             → Contains self.old.peers l }
-        ensures steps { steps.new ≤ steps.old + 29 * most_levels
+        ensures steps { steps.new ≤ steps.old + 30 * most_levels
             + 14 * (count_by (overlaps_map lease.now) self.old.maps * most_levels) }
     {
         self.drop_overlapped_maps(m, lease, steps);
@@ -249,12 +295,11 @@ impl Leases {
         requires after { Sound (table_changed (Peer lease.now) (live self.old m)) }
         ensures way { HasWayForPeer m lease.now self.new }
         ensures live { live self.new m ≡ live self.old m }
-        ensures steps { steps.new ≤ steps.old + 36 * most_levels
+        ensures steps { steps.new ≤ steps.old + 37 * most_levels
             + 11 * (count_by (overlaps_peer lease.now) self.old.peers * most_levels)
             + 24 * (count_by (is_ended_of lease.now.endpoint m) self.old.peers * most_levels) }
     {
-        self.drop_overlapped_peers(m, lease, steps);
-        self.drop_ended_of(m, &lease.endpoint, steps);
+        self.drop_peers_in_way(m, lease, steps);
         let there = self.keeps_peer(m, lease, steps);
         self.make_room_unless(m, there, steps);
     }

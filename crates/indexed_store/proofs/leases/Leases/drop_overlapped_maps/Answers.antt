@@ -1,11 +1,16 @@
-use Rattle.std.proofs.Common.{◌≤◌, suc, length, arith}
+use Rattle.std.proofs.Common.{◌≤◌, suc, length, sym, ◌∙◌, arith}
 use Rattle.mapping_table.specs.MapLists.{overlaps}
 use Rattle.pcp_base.specs.Tables.{Table, is_map_of}
 use Rattle.indexed_store.specs.Looks.{most_levels}
 use Rattle.indexed_store.proofs.DeadGo.{rest-then}
 use Rattle.indexed_store.proofs.DropSteps.{count-any, less-times, maps-most}
-use Rattle.indexed_store.proofs.OverlappedDead.{overlapped_map-goes}
+use Rattle.indexed_store.proofs.OverlappedDead.{map-clear, overlapped_map-goes}
 use Rattle.indexed_store.proofs.leases.Leases.drop_overlapped_maps.Goals as goal
+
+pub returns-then-not-has_ended_map-clause-apart : goal.returns-then-not-has_ended_map-clause-apart
+returns-then-not-has_ended_map-clause-apart g c =
+    map-clear c.sound_tables_have_sound_maps.ensures c.args.m c.args.self.now c.args.lease.now c.requires.after
+    (sym c.has_ended_map.ensures.ended ∙ c.if-not-has_ended_map.true)
 
 pub loop-key-smaller : goal.loop-key-smaller
 loop-key-smaller g c =

@@ -8,7 +8,7 @@ abbrev pub invariant-loop-key : goal.invariant-loop-key
 invariant-loop-key g l = IsRest l.fn.m l.fn.self (record { maps = l.self-inside.maps; peers = l.self-inside.peers })
     × (l.self-inside.peers ≡ l.fn.self.peers)
     × (l.steps + 14 * (count_by (overlaps l.fn.lease) l.self-inside.maps * most_levels)
-    ≤ l.fn.steps + 14 * (count_by (overlaps l.fn.lease) l.fn.self.maps * most_levels))
+    ≤ l.fn.steps + most_levels + 14 * (count_by (overlaps l.fn.lease) l.fn.self.maps * most_levels))
 
 abbrev pub decreases-loop-key : goal.decreases-loop-key
 decreases-loop-key g l = length l.self-inside.maps
