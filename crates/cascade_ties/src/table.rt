@@ -133,7 +133,7 @@ fn ties_in(alloc: Global, ties: &Slots<Tied>) -> Result<Vec<Tie>, AllocError>
     ensures { IfOk result (λ list. list.items ≡ map (λ t. t.tie) (values ties.now)) }
 {
     let mut list = Vec::new(alloc);
-    for tied in ties.values() {
+    for tied in ties.values()? {
         list.push(tied.tie)?;
     }
     Ok(list)

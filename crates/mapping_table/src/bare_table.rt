@@ -71,7 +71,7 @@ fn append_live(
 {
     out.extend(
         leases
-            .values()
+            .values()?
             .filter_map(|lease| live_whole(filters, lease, m)),
     )
 }
@@ -89,7 +89,7 @@ fn append_records<K: RecordSink>(
     ensures { OnOk result (K.taken out.new ≡ K.taken out.old ++ map (map_record m)
         (filter (is_live_map m) (map (whole (filters_at filters.now)) (values leases.now)))) }
 {
-    for lease in leases.values() {
+    for lease in leases.values()? {
         if lease.is_live(m) {
             out.take(&Record {
                 moment: m,

@@ -2,7 +2,9 @@ pub mod EntryLaws
 pub mod Mirrorings
 pub mod Entries
 pub mod OrderLaws
+pub mod NumberLaws
 pub mod SlotLaws
+pub mod SlotNumbers
 pub mod SlotCalls
 pub mod SlotCounts
 pub mod SlotMoments

@@ -1,9 +1,8 @@
 -- What the calls of leases in slots do, by what they call.
-use Rattle.std.specs.Prelude.{⊤, is_some, MatchOption}
-use Rattle.std.proofs.Common.{◌≡◌, ℕ, ◌+◌, ◌%◌, ◌<◌, Bool, true, false, cond, List, [], ◌∷◌, Option, Some, None, IsSome, IfSome, Result, Ok, Err, OnErr, slice_index_or, refl, sym, ap, ◌∙◌, subst, arith}
+use Rattle.std.specs.Prelude.{⊤, is_some}
+use Rattle.std.proofs.Common.{◌≡◌, ℕ, ◌+◌, ◌%◌, ◌<◌, Bool, true, false, not, cond, List, [], Option, Some, None, IsSome, IfSome, Result, Ok, Err, OnErr, slice_index_or, refl, sym, ap, ◌∙◌, subst, arith}
 use Rattle.std.specs.Borrow.{Bor}
 use Rattle.std.specs.Option.{option_copied}
-use Rattle.std.specs.List.{cons_option, filter_map}
 use Rattle.std.specs.Map.{lookup, remove_entry}
 use Rattle.std.specs.Ordering.{nat_cmp}
 use Rattle.std.specs.BTreeMap.{BTreeMap, IsOrdered, get, is_at, insert_entry}
@@ -12,6 +11,7 @@ use Rattle.ordered_index.specs.declared.slots.TheConstants.{MOST_SLOTS}
 use Rattle.ordered_index.specs.MapSteps.{IsBlankMap, Inserts, Overwrites, Removes}
 use Rattle.ordered_index.specs.Slots.{AreSlots, entries_of, lease_at, lease_of, leases_of}
 use Rattle.ordered_index.proofs.Entries.{number_same}
+use Rattle.ordered_index.proofs.SlotCounts.{none-removed}
 use Rattle.ordered_index.proofs.SlotLaws.{AreNamed, changed-slots, lease-get, named-updated, none_is, own, own_lease, same-entries, same-slots, seen-inserts, seen-ordered, seen-overwrites, seen-removes, slot-changed}
 
 slot_named : (next slot n : ℕ) → next % 32768 ≡ 0 → slot < 32768 → n ≡ next + slot → n % 32768 ≡ slot
@@ -40,6 +40,14 @@ same_put f n m u h = step (is_at (nat_cmp n) m) refl
     step false e = refl
 
 module _ {L : Type 0} where
+  copied_some : (r : Option (Bor L)) → is_some (option_copied r) ≡ is_some r
+  copied_some None = refl
+  copied_some (Some x) = refl
+
+  -- whether a look-up told something
+  pub looked-up : (r : Option (Bor L)) (o : Option L) (is_none : Bool) (b : Bool) → option_copied r ≡ o → is_some r ≡ not is_none → is_none ≡ b → is_some o ≡ not b
+  looked-up r o is_none b is tells at = ap is_some (sym is) ∙ copied_some r ∙ tells ∙ ap not at
+
   module _ (slots : slab.Slab (ℕ × L)) (order : BTreeMap ℕ ⊤) (blank : slots.slots ≡ []) (none : order.entries ≡ []) (ordered : IsOrdered nat_cmp order) where
     pub blank-slots : AreSlots slots order
     blank-slots = record {
@@ -105,8 +113,19 @@ module _ {L : Type 0} where
         appended-inserts = subst (λ (m : BTreeMap ℕ L). Inserts nat_cmp m (leases_of new order') n l) (ap (λ (s : slab.Slab (ℕ × L)). leases_of s order) kept)
             (seen-inserts mid new order order' roomy n (lease_of n (Some (n, l))) (Some tt) changed l (own_lease n (n, l) refl) appended-slots free_number entries)
 
-    pub order-there : (n : ℕ) → is_some (get nat_cmp order n) ≡ true → IsSome (get nat_cmp (leases_of slots order) n)
-    order-there n some = subst IsSome (lease-get slots order h n) (h.listed n ∙ some)
+    -- a number that names a free slot
+    pub vacant-free : (n slot : ℕ) → n % MOST_SLOTS ≡ slot → slab.get slots slot ≡ None → get nat_cmp order n ≡ None
+    vacant-free n slot named vacant = none_is (get nat_cmp order n) (sym (h.listed n) ∙ ap (λ k. is_some (lease_of n (slab.get slots k))) named ∙ ap (λ o. is_some (lease_of n o)) vacant)
+
+    -- what a look-up tells
+    pub lease-there : (n : ℕ) → is_some (lease_at slots n) ≡ true → IsSome (get nat_cmp (leases_of slots order) n)
+    lease-there n some = subst IsSome (lease-get slots order h n) some
+
+    pub order-there : (n : ℕ) → is_some (lease_at slots n) ≡ true → IsSome (get nat_cmp order n)
+    order-there n some = sym (h.listed n) ∙ some
+
+    pub none-there : (n : ℕ) → is_some (lease_at slots n) ≡ false → is_some (get nat_cmp order n) ≡ false
+    none-there n none = sym (h.listed n) ∙ none
 
     -- a number that has a lease
     module _ (n : ℕ) (there : IsSome (get nat_cmp (leases_of slots order) n)) where
@@ -157,19 +176,5 @@ module _ {L : Type 0} where
       pub none-value : None ≡ get nat_cmp (leases_of slots order) n
       none-value = sym none_held ∙ lease-get slots order h n
 
-      module _ (order' : BTreeMap ℕ ⊤) (ordered : IsOrdered nat_cmp order') (entries : order'.entries ≡ remove_entry (is_at (nat_cmp n)) order.entries)
-          (gets : (m : ℕ) → get nat_cmp order' m ≡ cond (is_at (nat_cmp n) m) None (get nat_cmp order m)) where
-        stays : (m : ℕ) → lease_at slots m ≡ cond (is_at (nat_cmp n) m) None (lease_at slots m)
-        stays m = same_put (lease_at slots) n m None none_held
-
-        pub none-slots : AreSlots slots order'
-        none-slots = changed-slots slots slots order order' h n None None stays h.named refl ordered gets
-
-        pub none-taken : Removes nat_cmp (leases_of slots order) (leases_of slots order') n
-        none-taken = seen-removes slots slots order order' h n None None stays refl none-slots entries
-
-  -- the next of the leases
-  pub next-gives : (f : ℕ → Option L) (n : ℕ) (ns : List ℕ) (r : Option (Bor L)) → option_copied r ≡ f n → IsSome (f n) →
-      MatchOption r ((filter_map f (n ∷ ns) ≡ []) × (filter_map f ns ≡ [])) (λ x. filter_map f (n ∷ ns) ≡ x.now ∷ filter_map f ns)
-  next-gives f n ns None is some = absurd (let no : false ≡ true = ap is_some is ∙ some in cc)
-  next-gives f n ns (Some x) is some = ap (λ o. cons_option o (filter_map f ns)) (sym is)
+      pub none-taken : Removes nat_cmp (leases_of slots order) (leases_of slots order) n
+      none-taken = seen-removes slots slots order order h n None None (λ m. same_put (lease_at slots) n m None none_held) refl h (sym (none-removed n order.entries (none_is (get nat_cmp order n) none)))

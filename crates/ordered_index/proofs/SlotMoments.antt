@@ -1,29 +1,31 @@
 -- Leases in slots with the least expiries of their blocks, after a call.
-use Rattle.std.specs.Prelude.{⊤, is_some, not}
-use Rattle.std.proofs.Common.{◌≡◌, ◌≢◌, ℕ, zero, suc, ◌+◌, ◌*◌, ◌/◌, ◌%◌, ◌≤◌, ◌<◌, nat_lt, Bool, true, false, cond, List, [], ◌∷◌, count_by, length, replicate, Option, Some, None, IsSome, IfSome, IfNone, slice_index_or, slice_set, refl, sym, ap, ◌∙◌, subst, arith}
-use Rattle.std.specs.Map.{lookup, remove_entry, values_of}
+use Rattle.std.specs.Prelude.{⊤}
+use Rattle.std.proofs.Common.{◌≡◌, ◌≢◌, ℕ, zero, suc, ◌+◌, ◌%◌, ◌≤◌, ◌<◌, Bool, true, false, cond, List, [], ◌∷◌, count_by, length, replicate, Option, Some, None, IsSome, IfSome, IfNone, slice_index_or, refl, sym, ap, ◌∙◌, subst, arith}
+use Rattle.std.specs.Map.{remove_entry, values_of}
 use Rattle.std.specs.Ordering.{nat_cmp}
-use Rattle.std.specs.BTreeMap.{BTreeMap, IsOrdered, get, is_at, insert_entry, values}
-use Rattle.std.proofs.lemmas.Bool.{lt-ltb, ltb-true, ltb-false}
+use Rattle.std.specs.BTreeMap.{BTreeMap, IsOrdered, btree_map_len, get, is_at, insert_entry}
 use Rattle.slab.specs.Slab as slab
 use Rattle.expiry_wheel.specs.declared.TheConstants.{NEVER}
 use Rattle.expiry_wheel.specs.Blocks.{AreLeasts}
 use Rattle.expiry_wheel.proofs.BlockMoments.{leasts_never}
 use Rattle.ordered_index.specs.declared.slots.TheConstants.{MOST_SLOTS, BLOCKS}
-use Rattle.ordered_index.specs.Ended.{has_ended, IsOneEnded}
-use Rattle.ordered_index.specs.MapSteps.{Inserts, Overwrites, Removes}
-use Rattle.ordered_index.specs.Slots.{AreSlots, AreDueSlots, entries_of, held_below, holds, lease_at, lease_of, leases_of, moment_at, moment_of}
+use Rattle.ordered_index.specs.Ended.{has_ended}
+use Rattle.ordered_index.specs.Slots.{AreDueSlots, entries_of, held_below, holds, lease_at, lease_of, leases_of, moment_at, moment_of}
 use Rattle.ordered_index.proofs.Entries.{some_of}
-use Rattle.ordered_index.proofs.EntryLaws.{tally}
-use Rattle.ordered_index.proofs.SlotLaws.{lease-get, none_is, own, own_lease, slot-entry}
-use Rattle.ordered_index.proofs.SlotCounts.{held-none, held-more, held-same, held-updated, count-come, count-changed, count-gone, none-removed}
-use Rattle.ordered_index.proofs.SlotCalls.{appended-free, appended-inserts, appended-slots, blank-slots, none-slots, overwritten, overwritten-slots, roomy-slots, taken, taken-slots}
+use Rattle.ordered_index.proofs.EntryLaws.{count-cons, tally}
+use Rattle.ordered_index.proofs.SlotLaws.{lease-get, own, own_lease, seen-len, slot-entry}
+use Rattle.ordered_index.proofs.SlotCounts.{held-few, held-none, held-more, held-same, held-updated, count-come, count-changed, count-gone}
+use Rattle.ordered_index.proofs.SlotCalls.{appended-free, appended-inserts, appended-slots, blank-slots, overwritten, overwritten-slots, roomy-slots, taken, taken-slots}
 
 named_low : (n : ℕ) → n % 32768 < 32768
 named_low n = omega arith
 
 pub slot-low : (n : ℕ) → n % MOST_SLOTS < MOST_SLOTS
 slot-low = named_low
+
+count-all : {L : Type 0} (es : List (ℕ × L)) → count_by (λ (_ : L). true) (values_of es) ≡ length es
+count-all [] = refl
+count-all {L} (e ∷ es) = let more = count-cons (λ (_ : L). true) e.1 (values_of es) in let rest = count-all es in omega (arith, more, rest)
 
 module _ {L : Type 0} (expiry : L → ℕ) where
   -- what is told of a slot's block, where what stood there had this moment
@@ -138,15 +140,14 @@ module _ {L : Type 0} (expiry : L → ℕ) where
             due = due_told slots new (n % MOST_SLOTS) None updates was was_is leasts leasts' told h.due;
           }
 
-      -- a number that has none
-      pub none-due : (n : ℕ) (none : is_some (get nat_cmp order n) ≡ false) (order' : BTreeMap ℕ ⊤) → IsOrdered nat_cmp order' → order'.entries ≡ remove_entry (is_at (nat_cmp n)) order.entries →
-          ((m : ℕ) → get nat_cmp order' m ≡ cond (is_at (nat_cmp n) m) None (get nat_cmp order m)) → AreDueSlots expiry slots order' leasts
-      none-due n none order' ordered entries gets = record {
-        are = none-slots slots order h.are n none order' ordered entries gets;
-        counted = λ test. h.counted test
-            ∙ sym (ap (λ (es : List (ℕ × ⊤)). count_by test (values_of (entries_of (lease_at slots) es))) (entries ∙ none-removed n order.entries (none_is (get nat_cmp order n) none)));
-        due = h.due;
-      }
+      -- no more leases than slots
+      pub few-leases : btree_map_len order ≤ MOST_SLOTS
+      few-leases =
+          let all = h.counted (λ _. true) in
+          let few = held-few (λ _. true) slots MOST_SLOTS in
+          let each = count-all (leases_of slots order).entries in
+          let same = seen-len slots order h.are in
+          omega (arith, all, few, each, same)
 
       -- what some slots tell of leases that have ended
       module _ (m : ℕ) where

@@ -9,7 +9,19 @@ use Rattle.expiry_wheel.specs.declared.TheConstants.{NEVER}
 use Rattle.expiry_wheel.specs.Blocks.{AreLeasts}
 use mathlib.Core.Logic.{inl}
 
+-- these entries as an ordered map
+abbrev pub order_of : List (ℕ × ⊤) → BTreeMap ℕ ⊤
+order_of numbers = btree_map numbers (inl tt)
+
+-- their numbers are in order
+abbrev pub AreOrdered : List (ℕ × ⊤) → Type 0
+AreOrdered numbers = IsOrdered nat_cmp (order_of numbers)
+
 module _ {L : Type 0} where
+  -- the number of what a slab tells of a slot
+  abbrev pub number_of : ℕ × (ℕ × L) → ℕ
+  number_of entry = entry.1.0
+
   -- the lease of a slot, if that has this number
   abbrev pub lease_of : ℕ → Option (ℕ × L) → Option L
   lease_of n None = None

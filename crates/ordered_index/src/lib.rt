@@ -8,6 +8,7 @@ mod hints;
 mod keys;
 mod maps;
 mod numbered;
+mod numbers;
 mod places;
 mod ports;
 mod sieves;

@@ -1,23 +1,22 @@
 //! Leases in slots, by numbers that name their slots, and the least expiry of each block of slots.
-ghost use Rattle.std.specs.Prelude.{◌≡◌, ◌≤◌, ◌<◌, ◌+◌, ◌%◌, ◌^◌, Some, None, IfOk, IfSome, OnErr, IsSome, count_by};
+ghost use Rattle.std.specs.Prelude.{◌≡◌, ◌≤◌, ◌<◌, ◌+◌, ◌%◌, ◌^◌, Some, None, IfOk, IfSome, OnErr, IsSome, ℕ, ⊤, map, count_by};
 ghost use Rattle.std.specs.Option.{option_copied};
 ghost use Rattle.std.specs.Ordering.{nat_cmp};
-ghost use Rattle.std.specs.BTreeMap.{IsOrdered, btree_map_len, get, values};
+ghost use Rattle.std.specs.BTreeMap.{BTreeMap, IsOrdered, btree_map_len, get, keys, values};
 ghost use Rattle.std.specs.Map.Iter.{TakesFirst, deref};
 ghost use Rattle.std.specs.Iterator.{item_count};
-ghost use Rattle.slab.specs.Slab.{ContainsKey, Updates};
+ghost use Rattle.slab.specs.Slab.{ContainsKey, Updates, entries};
 ghost use Rattle.ordered_index.specs.Ended.{has_ended, IsOneEnded};
 ghost use Rattle.ordered_index.specs.MapSteps.{IsBlankMap, Inserts, Overwrites, Removes};
-ghost use Rattle.ordered_index.specs.Slots.{lease_at};
+ghost use Rattle.ordered_index.specs.Slots.{AreSlots, lease_at, number_of};
 
 use crate::due::{count_ended, first_ended, moment_at, tell_least};
 use crate::expires::Expires;
+use crate::numbers::Numbers;
 use expiry_wheel::{Leasts, NEVER};
 use pcp_base::Memory;
 use slab::Slab;
 use std::alloc::{AllocError, Global};
-use std::collections::BTreeMap;
-use std::collections::btree_map::Keys;
 use std::marker::Model;
 use std::ops::Index;
 
@@ -36,10 +35,12 @@ const LEVELS: u32 = 12;
 pub struct Slots<L: Expires> {
     /// The leases, each beside its number.
     slots: Slab<(u64, L)>,
-    /// The numbers, in order.
-    order: BTreeMap<u64, ()>,
+    /// The numbers, in order. Contracts alone see them.
+    order: Numbers,
     /// The least expiry of each block of slots.
     leasts: Leasts,
+    /// Where memory for a list of the numbers is taken.
+    alloc: Global,
 }
 
 impl<L: Expires> Model for Slots<L> {
@@ -68,6 +69,29 @@ fn find<L>(slots: &Slab<(u64, L)>, number: u64) -> Option<&L>
     if *held == number { Some(lease) } else { None }
 }
 
+/// The numbers of all slots that have a lease, in the order of the slots. The one error is want of
+/// memory.
+fn gather<L>(alloc: Global, slots: &Slab<(u64, L)>) -> Result<Vec<u64>, AllocError>
+    ensures { IfOk result (λ numbers. numbers.items ≡ map number_of (entries slots.now)) }
+{
+    let mut numbers = Vec::with_capacity(alloc, slots.len())?;
+    for (_slot, entry) in slots.iter() {
+        let (number, _lease) = entry;
+        numbers.push(*number)?;
+    }
+    Ok(numbers)
+}
+
+/// The numbers of all leases, in order. The one error is want of memory.
+fn numbers_in<L>(alloc: Global, slots: &Slab<(u64, L)>) -> Result<Vec<u64>, AllocError>
+    ensures { IfOk result (λ numbers. (order : BTreeMap ℕ ⊤) → AreSlots slots.now order
+        → numbers.items ≡ keys order) }
+{
+    let mut numbers = gather(alloc, slots)?;
+    numbers.sort_unstable();
+    Ok(numbers)
+}
+
 /// Writes another value in a slot that has one.
 fn write<T: Drop>(slots: &mut Slab<T>, slot: usize, value: T)
     requires { ContainsKey slots.old slot }
@@ -84,10 +108,12 @@ impl<L: Expires + Drop> Slots<L> {
         ensures { IfOk result (λ slots. IsBlankMap nat_cmp slots) }
     {
         let leasts = Leasts::new(alloc, LEVELS)?;
+        let order = Numbers::new(alloc)?;
         Ok(Slots {
             slots: Slab::new(alloc),
-            order: BTreeMap::new(alloc),
+            order,
             leasts,
+            alloc,
         })
     }
 
@@ -125,14 +151,17 @@ impl<L: Expires + Drop> Slots<L> {
         self.slots.get(slot)
     }
 
-    /// The leases, in the order of their numbers.
-    pub fn values(&self) -> Values<'_, L>
-        ensures rest { result ≡ values self.now }
+    /// The leases, in the order of their numbers, which are gathered and sorted for the call. The
+    /// one error is want of memory.
+    pub fn values(&self) -> Result<Values<'_, L>, AllocError>
+        ensures rest { IfOk result (λ rest. rest ≡ values self.now) }
     {
-        Values {
+        let numbers = numbers_in(self.alloc, &self.slots)?;
+        Ok(Values {
             slots: &self.slots,
-            order: self.order.keys(),
-        }
+            numbers,
+            at: 0,
+        })
     }
 
     /// Puts a lease in under a number from `next` on and below `next` and 32,768 more, which names
@@ -154,7 +183,7 @@ impl<L: Expires + Drop> Slots<L> {
         }
         let number = next + slot;
         self.slots.reserve(1)?;
-        self.order.insert(number, ())?;
+        self.order.insert(number);
         self.slots.insert_reserved((number, lease));
         tell_least(&self.slots, &mut self.leasts, slot as usize, NEVER);
         Ok(number)
@@ -176,11 +205,12 @@ impl<L: Expires + Drop> Slots<L> {
         ensures value { result ≡ get nat_cmp self.old number.now }
         ensures removed { Removes nat_cmp self.old self.new number.now }
     {
-        if self.order.remove(number).is_none() {
+        if find(&self.slots, *number).is_none() {
             return None;
         }
         let slot = (*number % MOST_SLOTS) as usize;
         let was = moment_at(&self.slots, slot);
+        self.order.remove(*number);
         let (_, lease) = self.slots.remove(slot);
         tell_least(&self.slots, &mut self.leasts, slot, was);
         Some(lease)
@@ -220,12 +250,14 @@ impl<L: Expires> Index<&u64> for Slots<L> {
 pub struct Values<'a, L> {
     /// Where they stand.
     slots: &'a Slab<(u64, L)>,
-    /// The numbers that are left.
-    order: Keys<'a, u64, ()>,
+    /// Their numbers.
+    numbers: Vec<u64>,
+    /// How many of them have been told.
+    at: usize,
 }
 
 impl<'a, L> Model for Values<'a, L> {
-    ghost use Rattle.std.specs.Prelude.{List, IsSome};
+    ghost use Rattle.std.specs.Prelude.{List, IsSome, drop};
     ghost use Rattle.std.specs.Coded.{coded_list};
     ghost use Rattle.std.specs.List.{AllByRecursion, filter_map};
     ghost use Rattle.ordered_index.specs.Slots.{lease_at};
@@ -234,9 +266,10 @@ impl<'a, L> Model for Values<'a, L> {
 
     ghost coded = { coded_list L.code };
 
-    ghost view = { λ v. filter_map (lease_at v.slots.now) v.order };
+    ghost view = { λ v. filter_map (lease_at v.slots.now) (drop v.at v.numbers.items) };
 
-    ghost invariant = { λ v. AllByRecursion (λ n. IsSome (lease_at v.slots.now n)) v.order };
+    ghost invariant = { λ v.
+        AllByRecursion (λ n. IsSome (lease_at v.slots.now n)) v.numbers.items };
 }
 
 impl<'a, L> Iterator for Values<'a, L> {
@@ -247,9 +280,11 @@ impl<'a, L> Iterator for Values<'a, L> {
     ghost remaining = { item_count (λ left. left) };
 
     fn next(&mut self) -> Option<&'a L> {
-        let Some(number) = self.order.next() else {
+        let Some(number) = self.numbers.get(self.at) else {
             return None;
         };
-        find(self.slots, *number)
+        let found = find(self.slots, *number);
+        self.at += 1;
+        found
     }
 }

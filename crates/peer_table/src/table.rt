@@ -75,7 +75,7 @@ fn append_live(
         ≡ out.old.items ++ filter (is_live_peer m) (values leases.now)) }
     ensures old { take (length out.old.items) out.new.items ≡ out.old.items }
 {
-    out.extend(leases.values().copied().filter(|lease| lease.is_live(m)))
+    out.extend(leases.values()?.copied().filter(|lease| lease.is_live(m)))
 }
 
 /// Hands on a record at `m` for each lease that is live then, in the order of their numbers.
@@ -89,7 +89,7 @@ fn append_records<K: RecordSink>(
     ensures { OnOk result (K.taken out.new
         ≡ K.taken out.old ++ map (peer_record m) (filter (is_live_peer m) (values leases.now))) }
 {
-    for lease in leases.values() {
+    for lease in leases.values()? {
         if lease.is_live(m) {
             out.take(&Record {
                 moment: m,

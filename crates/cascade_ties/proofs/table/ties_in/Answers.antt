@@ -16,4 +16,4 @@ loop-tied-preserved c =
 pub returns : goal.returns
 returns c =
     sym (append-nil c.loop-tied.list.items) ∙ ap (λ (ts : List Tied). c.loop-tied.list.items ++ map (λ (t : Tied). t.tie) ts) (sym c.in-None.ensures.steps.0)
-    ∙ c.loop-tied.invariant ∙ ap (map (λ (t : Tied). t.tie)) (c.into_iter-tied-iterator.ensures.into_iter_gives ∙ c.values-tied-items.ensures.rest)
+    ∙ c.loop-tied.invariant ∙ ap (map (λ (t : Tied). t.tie)) (c.into_iter-tied-iterator.ensures.into_iter_gives ∙ c.in_ok-tied-items.ensures.rest)

@@ -14,7 +14,7 @@ returns-clause-ok c =
     let ls = values c.args.leases.now in
     let all = items_from_extend c.extend.result c.extend.ensures.ran
     (YieldsList-from_filter_map _ (live_whole m kept)
-    (YieldsList-at c.filter_map.ensures.source (YieldsList-from_rest ls c.values.ensures.rest))
+    (YieldsList-at c.filter_map.ensures.source (YieldsList-from_rest ls c.in_ok-values.ensures.rest))
     c.filter_map.ensures.closure (λ x r q k. search (rules, tests))) in
     let found : OnOk c.extend.result (c.extend.new.self.items ≡ c.args.out.now.items ++ filter_map (live_whole m kept) ls) = search rules in
     subst (λ (live : List MapLease). OnOk c.extend.result (c.extend.new.self.items ≡ c.args.out.now.items ++ live)) (copied_whole kept m ls) found

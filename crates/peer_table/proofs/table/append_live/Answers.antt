@@ -9,6 +9,6 @@ pub returns-clause-ok : goal.returns-clause-ok
 returns-clause-ok c =
     let all = items_from_extend c.extend.result c.extend.ensures.ran
     (YieldsList-from_filter _ (is_live_peer c.args.m)
-    (YieldsList-at c.filter.ensures.source (YieldsList-from_copied (YieldsList-at c.copied.ensures.source (YieldsList-from_rest (values c.args.leases.now) c.values.ensures.rest))))
+    (YieldsList-at c.filter.ensures.source (YieldsList-from_copied (YieldsList-at c.copied.ensures.source (YieldsList-from_rest (values c.args.leases.now) c.in_ok-values.ensures.rest))))
     c.filter.ensures.closure (λ x r q k. search (rules, tests))) in
     search rules

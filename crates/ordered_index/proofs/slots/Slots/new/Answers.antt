@@ -6,8 +6,8 @@ use Rattle.ordered_index.proofs.slots.Slots.new.Goals as goal
 
 pub invariant_of-result : goal.invariant_of-result
 invariant_of-result g c =
-    blank-due g.L.Expires.expiry c.new-2.result c.new-3.result c.in_ok-leasts.leasts c.new-2.ensures.empty c.new-3.ensures.empty c.new-3.ensures.ordered
+    blank-due g.L.Expires.expiry c.new-3.result c.in_ok-order.order c.in_ok-leasts.leasts c.new-3.ensures.empty c.in_ok-order.ensures.entries c.in_ok-order.ensures.ordered
     (2 ^ LEVELS) refl c.in_ok-leasts.ensures
 
 pub returns : goal.returns
-returns g c = blank-seen c.new-2.result c.new-3.result c.new-2.ensures.empty c.new-3.ensures.empty c.new-3.ensures.ordered
+returns g c = blank-seen c.new-3.result c.in_ok-order.order c.new-3.ensures.empty c.in_ok-order.ensures.entries c.in_ok-order.ensures.ordered

@@ -7,10 +7,11 @@ use Rattle.ordered_index.proofs.slots.Slots.values.Goals as goal
 
 pub invariant_of-result : goal.invariant_of-result
 invariant_of-result g c =
-    subst (λ (ns : List ℕ). AllByRecursion (λ n. IsSome (lease_at c.self.inside.slots n)) ns) (sym c.keys.ensures.rest) (held-keys c.self.inside.slots c.self.inside.order c.self.invariant.are)
+    let all = c.in_ok-numbers.ensures c.self.inside.order c.self.invariant.are in
+    subst (λ (ns : List ℕ). AllByRecursion (λ n. IsSome (lease_at c.self.inside.slots n)) ns) (sym all) (held-keys c.self.inside.slots c.self.inside.order c.self.invariant.are)
 
 pub returns : goal.returns
 returns g c = record {
-  rest = ap (filter_map (lease_at c.self.inside.slots)) c.keys.ensures.rest ∙ seen-values c.self.inside.slots c.self.inside.order c.self.invariant.are
-      ∙ ap (λ (m : BTreeMap ℕ g.row.L.Denot). values m) c.self.view_is;
+  rest = ap (filter_map (lease_at c.self.inside.slots)) (c.in_ok-numbers.ensures c.self.inside.order c.self.invariant.are)
+      ∙ seen-values c.self.inside.slots c.self.inside.order c.self.invariant.are ∙ ap (λ (m : BTreeMap ℕ g.row.L.Denot). values m) c.self.view_is;
 }
