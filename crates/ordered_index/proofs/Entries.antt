@@ -17,7 +17,7 @@ use Rattle.pcp_base.specs.Tables.{EachTwo, put}
 use Rattle.pcp_base.proofs.Members.{IsIn, Contains-from_IsIn, All-from_IsIn, IsIn-map}
 use Rattle.pcp_base.proofs.OrderTests.{by_tests}
 
-is_at-nat : (a b : ℕ) → is_at (nat_cmp a) b ≡ (a == b)
+pub is_at-nat : (a b : ℕ) → is_at (nat_cmp a) b ≡ (a == b)
 is_at-nat a b = by_tests (nat_lt a b) (a == b) (λ less. grind (arith, common_steps))
 
 pub number_same : (a b : ℕ) → is_at (nat_cmp a) b ≡ true → a ≡ b
@@ -36,7 +36,7 @@ false_by false h = refl
 pub number_other : (a b : ℕ) → (a ≡ b → ⊥) → is_at (nat_cmp a) b ≡ false
 number_other a b h = false_by (is_at (nat_cmp a) b) (λ e. h (number_same a b e))
 
-greater : (n k : ℕ) → k < n → nat_cmp n k ≡ Greater
+pub greater : (n k : ℕ) → k < n → nat_cmp n k ≡ Greater
 greater n k h =
     let less : nat_lt n k ≡ false = false_by (nat_lt n k) (λ e. let is : n < k = ltb-true n k e in omega (arith, is, h)) in
     let same : (n == k) ≡ false = false_by (n == k) (λ e. let is = eqb-true n k e in omega (arith, is, h)) in

@@ -1,4 +1,7 @@
 pub mod EntryLaws
+pub mod MapChanges
+pub mod MarkLemmas
+pub mod PortLemmas
 pub mod Mirrorings
 pub mod Entries
 pub mod OrderLaws

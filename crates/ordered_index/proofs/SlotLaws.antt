@@ -50,6 +50,17 @@ module _ {L : Type 0} where
   pub own_lease : (n : ℕ) (e : ℕ × L) → e.0 ≡ n → lease_of n (Some e) ≡ Some e.1
   own_lease n e same = ap (λ t. cond t (Some e.1) None) (eq-eqb e.0 n same)
 
+  entry_step : (n : ℕ) (l : L) (e : ℕ × L) (b : Bool) → (e.0 == n) ≡ b → cond b (Some e.1) None ≡ Some l → e ≡ (n, l)
+  entry_step n l e true h is =
+      let number : e.0 ≡ n = eqb-true e.0 n h in
+      let lease : e.1 ≡ l = cc in
+      ap (λ z. (z, e.1)) number ∙ ap (λ z. (n, z)) lease
+  entry_step n l e false h is = absurd (let no : None ≡ Some l = is in cc)
+
+  pub own_entry : (n : ℕ) (l : L) (o : Option (ℕ × L)) → lease_of n o ≡ Some l → o ≡ Some (n, l)
+  own_entry n l None is = absurd (let no : None ≡ Some l = is in cc)
+  own_entry n l (Some e) is = ap Some (entry_step n l e (e.0 == n) refl is)
+
   named_by : (o : Option (ℕ × L)) (n slot : ℕ) → IfSome o (λ e. e.0 ≡ n) → n % MOST_SLOTS ≡ slot → IfSome o (λ e. e.0 % MOST_SLOTS ≡ slot)
   named_by None n slot is key = tt
   named_by (Some e) n slot is key = ap (λ m. m % MOST_SLOTS) is ∙ key
@@ -263,6 +274,10 @@ module _ {L : Type 0} (slots : slab.Slab (ℕ × L)) (order : BTreeMap ℕ ⊤) 
   pub slot-told : (slot : ℕ) (r : Option (Bor (ℕ × L))) → option_copied r ≡ slab.get slots slot → IfSome r (λ e. get nat_cmp seen e.now.0 ≡ Some e.now.1)
   slot-told slot None is = tt
   slot-told slot (Some e) is = slot-entry slot e.now (sym is)
+
+  -- in the slot of a number that has a lease stands that
+  pub slot-own : (slot n : ℕ) (l : L) (r : Option (Bor (ℕ × L))) → option_copied r ≡ slab.get slots slot → get nat_cmp seen n ≡ Some l → slot ≡ n % MOST_SLOTS → option_copied r ≡ Some (n, l)
+  slot-own slot n l r is there here = is ∙ (ap (slab.get slots) here ∙ own_entry n l (slab.get slots (n % MOST_SLOTS)) (lease-get n ∙ there))
 
 -- ---- a change
 module _ {L : Type 0} (slots slots' : slab.Slab (ℕ × L)) (order order' : BTreeMap ℕ ⊤) (h : AreSlots slots order) where

@@ -7,3 +7,6 @@ pub mod Kept
 pub mod Orders
 pub mod Sieves
 pub mod Hints
+pub mod Marks
+pub mod PortSlots
+pub mod Owned

@@ -19,6 +19,19 @@ fn restore<K: Ord + Copy, V: Copy>(map: &mut BTreeMap<K, V>, key: K, old: Option
     }
 }
 
+/// Inserts a value under a key.
+pub(crate) fn insert_into<K: Ord + Copy, V: Copy>(
+    map: &mut BTreeMap<K, V>,
+    key: K,
+    value: V,
+) -> Result<(), AllocError>
+    ensures ok { OnOk result (Inserts K.cmp map.old map.new key value) }
+    ensures err { OnErr result (map.new.entries ≡ map.old.entries) }
+{
+    map.insert(key, value)?;
+    Ok(())
+}
+
 /// Inserts into both maps, or into neither.
 pub(crate) fn insert_both<A: Ord + Copy, X: Copy, B: Ord + Copy, Y: Copy>(
     first: &mut BTreeMap<A, X>,

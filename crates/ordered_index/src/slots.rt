@@ -145,8 +145,10 @@ impl<L: Expires + Drop> Slots<L> {
     /// What stands in a slot: a number and its lease.
     #[inline]
     pub fn in_slot(&self, slot: usize) -> Option<&(u64, L)>
-        ensures { IfSome result (λ entry.
+        ensures held { IfSome result (λ entry.
             get nat_cmp self.now entry.now.0 ≡ Some entry.now.1) }
+        ensures own { (n : ℕ) (lease : L) → get nat_cmp self.now n ≡ Some lease
+            → slot ≡ n % MOST_SLOTS → option_copied result ≡ Some (n, lease) }
     {
         self.slots.get(slot)
     }
