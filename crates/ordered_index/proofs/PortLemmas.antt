@@ -287,10 +287,13 @@ module _ (slots marks : List ℕ) (map : BTreeMap (ℕ × ℕ) ℕ) (h : ArePort
       pub some_last : IsLastSlot map port (Some (slice_index slots last))
       some_last = record {
         number = Some number.0;
-        last = (port_of last, record {
-              found = number.1;
-              up_to = ap (λ p. is_gt (port_cmp (port_of last) p)) port_is ∙ (ap is_gt (ports_as_places last place last_fits within) ∙ not_above last place is.up_to);
-              greatest = below_last;
-            });
+        last = (
+          port_of last,
+          record {
+            found = number.1;
+            up_to = ap (λ p. is_gt (port_cmp (port_of last) p)) port_is ∙ (ap is_gt (ports_as_places last place last_fits within) ∙ not_above last place is.up_to);
+            greatest = below_last;
+          },
+        );
         named = last_told ∙ ap slot_of number.1;
       }

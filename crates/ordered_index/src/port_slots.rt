@@ -168,7 +168,8 @@ impl PortSlots {
     /// Puts the number that stands under one port under another, which may be the same.
     pub fn shift(&mut self, from: External, to: External, number: u64)
         requires { HasEntry port_cmp self.old (port_at from.0 from.1) number }
-        ensures { Moves port_cmp self.old self.new (port_at from.0 from.1) (port_at to.0 to.1) number }
+        ensures { Moves port_cmp self.old self.new
+            (port_at from.0 from.1) (port_at to.0 to.1) number }
     {
         if is_same(from, to) {
             return;
