@@ -3,11 +3,10 @@
 ghost use Rattle.std.specs.Prelude.{◌≡◌, ◌≤◌, ◌<◌, ◌+◌, ◌*◌, ◌↔◌, ℕ, IsTrue, Some, IfSome, IfNone};
 ghost use Rattle.std.specs.FinMap as fin;
 ghost use Rattle.pcp_base.specs.declared.leases.Protocol.{Protocol};
-ghost use Rattle.port_runs.specs.Ports.{HasParity};
 ghost use Rattle.port_spans.specs.Along as the;
 ghost use Rattle.port_spans.specs.Runs.{run_at};
 ghost use Rattle.expiry_wheel.specs.Due.{IsFirstDue};
-ghost use Rattle.external_pool.specs.PortUses.{is_free_to, is_in_range, is_open};
+ghost use Rattle.external_pool.specs.PortUses.{is_free_to, is_open};
 ghost use Rattle.external_pool.specs.Choosing.{GoesBack, IsLongest};
 ghost use Rattle.leased_ports.specs.Kept.{AreInStep, HaveBegun, IsOn, IsSet, end_by, use_by};
 ghost use Rattle.leased_ports.specs.Falling.{NoneDue};
@@ -19,7 +18,7 @@ use crate::falls::see_to;
 use crate::recent::recent_end;
 use crate::timed_ends::TimedEnds;
 use expiry_wheel::Wheel;
-use external_pool::{Picked, Vacancies};
+use external_pool::{Picked, Vacancies, is_in_range, meets};
 use pcp_base::{Endpoint, Protocol};
 use port_spans::spot;
 use std::sync::ledger::Ledger;
@@ -32,23 +31,6 @@ pub const SEARCH_STEPS: u64 = 113;
 /// How many steps it takes at most to see to a run before what is picked: 43 that find it, 167 that
 /// see to it, and 69 for what the pool has vacant then.
 pub const DUE_STEPS: u64 = 279;
-
-/// Whether a port has the remainder by 2 that is asked, if one is.
-fn meets(port: u16, parity: Option<u8>) -> bool
-    ensures { IsTrue result ↔ HasParity parity port }
-{
-    match parity {
-        Some(remainder) => port % 2 == u16::from(remainder),
-        None => true,
-    }
-}
-
-/// Whether a port is in a range.
-fn is_in_range(low: u16, high: u16, port: u64) -> bool
-    ensures { result ≡ is_in_range low high port }
-{
-    u64::from(low) <= port && port <= u64::from(high)
-}
 
 /// Whether nobody holds a port of the endpoint's protocol at `m`, and it rests for nobody but this
 /// internal port of the endpoint's address.
