@@ -14,3 +14,4 @@ pub mod Meetings
 pub mod OneMore
 pub mod Nearest
 pub mod LevelLemmas
+pub mod PortFinds

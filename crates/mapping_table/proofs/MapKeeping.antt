@@ -10,7 +10,7 @@ use Rattle.pcp_base.proofs.Same.{same_endpoint-Decides}
 use Rattle.ordered_index.specs.declared.numbered.Numbered.{Numbered}
 use Rattle.ordered_index.specs.Orders.{Place, place_of, place_cmp, port_cmp}
 use Rattle.ordered_index.specs.Steps.{Appends, Replaces, Forgets, Stays}
-use Rattle.ordered_index.proofs.Keeping.{AreLaws, Tells, port-free, number-has, put-appended, put-replaced, taken-out, none-found, none-gone, put-either, same-values, same-kept}
+use Rattle.ordered_index.proofs.Keeping.{AreLaws, Tells, number-has, put-appended, put-replaced, taken-out, none-found, none-gone, put-either, same-values, same-kept}
 use Rattle.ordered_index.proofs.OrderLaws.{port_total, port_exact, place_total, place_exact, place_of-one}
 use Rattle.mapping_table.specs.Kept.{place_of_lease, port_of_lease, map_keying, AreKeptMaps}
 use Rattle.mapping_table.specs.MapLists.{AreSoundMaps, with_map, PutsMap, RemovesMap}
@@ -29,10 +29,6 @@ map_tells e = record {
 
 module _ (it : Numbered MapLease Place (ℕ × ℕ)) (h : AreKeptMaps it) where
   module _ (l : MapLease) (sound : AreSoundMaps (with_map l (values it.leases))) where
-    pub port_is_free : get place_cmp it.keys (place_of_lease l) ≡ None → get port_cmp it.ports (port_of_lease l) ≡ None
-    port_is_free free =
-        port-free map_keying map_laws it h.kept (is_map_of (first_endpoint l)) (place_of_lease l) (map_tells (first_endpoint l)) free l (ports_apart (with_map l (values it.leases)) sound)
-
     module _ {X E : Type 0} (new : Numbered MapLease Place (ℕ × ℕ)) (r : Result X E) where
       pub map_appended : (k : Place) (p : ℕ × ℕ) → k ≡ place_of_lease l → p ≡ port_of_lease l → get place_cmp it.keys (place_of_lease l) ≡ None →
           OnOk r ((n : ℕ) × Appends place_cmp port_cmp it new l k p n) → OnErr r (Stays it new) → AreKeptMaps new × PutsMap (values it.leases) l r (values new.leases)

@@ -1,6 +1,6 @@
 -- How a table keeps its leases (our own; for proofs alone).
 use Rattle.std.specs.Prelude.{◌≡◌, ℕ, ◌+◌, ◌<◌, ◌≤◌, ◌==◌, ◌&&◌, nat_lt, Bool, true, false, List, [], ◌∷◌, length, Contains, count_by, slice_index, Option, Some, None, IsSome, IfSome, IfNone, if◌then◌else◌}
-use Rattle.std.specs.Ordering.{is_gt}
+use Rattle.std.specs.Ordering.{is_gt, nat_cmp}
 use Rattle.std.specs.declared.cmp.Ordering.{Ordering}
 use Rattle.std.specs.BTreeMap.{BTreeMap, get, is_at, values}
 use Rattle.pcp_base.specs.declared.leases.Filter.{Filter}
@@ -12,6 +12,7 @@ use Rattle.pcp_base.specs.Tables.{first_endpoint, is_map_of}
 use Rattle.ordered_index.specs.declared.numbered.Numbered.{Numbered}
 use Rattle.ordered_index.specs.Kept.{Keying, IsKept}
 use Rattle.ordered_index.specs.Orders.{Place, port_at, place_of, port_cmp, place_cmp}
+use Rattle.ordered_index.specs.PortSlots.{slot_of}
 use Rattle.ordered_index.specs.Sieves.{bucket_of, no_places}
 use Rattle.mapping_table.specs.MapLists.{AreSoundMaps, is_live_map, overlaps}
 
@@ -174,6 +175,11 @@ pub record IsNearest {K : Type 0} (cmp : K → K → Ordering) (key : MapLease �
   pub greatest : IfSome result (λ l. (x : MapLease) → Contains ls x → is_gt (cmp (key x) k) ≡ false
       → is_gt (cmp (key x) (key l)) ≡ false)
   pub none : IfNone result ((x : MapLease) → Contains ls x → is_gt (cmp (key x) k) ≡ true)
+
+-- what was looked up is the lease in a slot, if that is the slot of one
+abbrev pub IsInSlot : Numbered MapLease Place (ℕ × ℕ) → ℕ → Option MapLease → Type 0
+IsInSlot it slot found = (n : ℕ) (l : MapLease) → get nat_cmp it.leases n ≡ Some l
+    → Some slot ≡ slot_of (Some n) → found ≡ Some l
 
 -- the key of what was looked up, where this lease overlaps it
 abbrev pub overlapped_key : MapLease → Option MapLease → Option Endpoint

@@ -8,7 +8,7 @@ ghost use Rattle.mapping_table.specs.MapLists.{runs_meet, meet_inside, meet_outs
 ghost use Rattle.ordered_index.specs.Orders.{port_at};
 ghost use Rattle.mapping_table.specs.Kept.{bare, with_filters, place_of_lease, port_of_lease, sets_of, IsLastBefore, IsLastPlace, IsLastPort};
 
-use ordered_index::{Expires, Place, Port, place_of, port_at};
+use ordered_index::{Expires, External, Place, place_of};
 use pcp_base::{Address, Endpoint, Filters, MapLease, Moment, Nonce, Protocol};
 use std::marker::Model;
 
@@ -128,10 +128,10 @@ impl BareLease {
     }
 
     /// The first external port.
-    pub(crate) fn port(&self) -> Port
-        ensures { result ≡ port_of_lease self.now }
+    pub(crate) fn port(&self) -> External
+        ensures { port_at result.0 result.1 ≡ port_of_lease self.now }
     {
-        port_at(self.protocol, self.external)
+        (self.protocol, self.external)
     }
 
     /// The first endpoint, which is the key.
@@ -176,18 +176,18 @@ impl BareLease {
     }
 
     /// The last external port.
-    pub(crate) fn last_port(&self) -> Port
-        ensures { IsLastPort self.now result }
+    pub(crate) fn last_port(&self) -> External
+        ensures { IsLastPort self.now (port_at result.0 result.1) }
     {
-        port_at(self.protocol, last_of(self.external, self.count))
+        (self.protocol, last_of(self.external, self.count))
     }
 
     /// The port before the first external one.
-    pub(crate) fn port_before(&self) -> Port
+    pub(crate) fn port_before(&self) -> External
         requires { 0 < self.now.external }
-        ensures { result ≡ port_at self.now.protocol (self.now.external - 1) }
+        ensures { port_at result.0 result.1 ≡ port_at self.now.protocol (self.now.external - 1) }
     {
-        port_at(self.protocol, self.external - 1)
+        (self.protocol, self.external - 1)
     }
 
     /// One for a set of ports, and none for a single port.

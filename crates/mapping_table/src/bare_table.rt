@@ -17,11 +17,9 @@ use crate::bare::BareLease;
 use crate::begins::first_live;
 use crate::changes::{append, replace};
 use crate::filters::{live_whole, whole};
-use crate::looks::{lease_at, look};
+use crate::looks::{lease_at, lease_in, look};
 use crate::overlaps::{is_renewed, overlapped_key, overlapping_set};
-use ordered_index::{
-    Expires, Hints, Numbered, Place, Port, Sieve, Slots, last_up_to, place_of, port_at,
-};
+use ordered_index::{Expires, Hints, Owned, Place, Sieve, Slots, place_of};
 use pcp_base::{Change, Endpoint, Filters, MapLease, Memory, Moment, Protocol, Record};
 use record_sink::RecordSink;
 use std::alloc::{AllocError, Global};
@@ -35,7 +33,7 @@ use step_count::{Steps, levels};
 #[derive(Drop)]
 pub(crate) struct BareTable {
     /// The leases, by their first endpoints and by their first external ports.
-    kept: Numbered<BareLease, Place, Port>,
+    kept: Owned<BareLease, Place>,
     /// How many of them are sets of ports. A lease of a single port is found by that port alone.
     sets: u32,
     /// How many of their first endpoints fall on each bucket. Most look-ups that miss end here.
@@ -101,11 +99,11 @@ fn append_records<K: RecordSink>(
 }
 
 /// The number and the place of the lease in a slot.
-fn entry_in(kept: &Numbered<BareLease, Place, Port>, slot: usize) -> Option<(u64, Place)>
+fn entry_in(kept: &Owned<BareLease, Place>, slot: usize) -> Option<(u64, Place)>
     ensures { IfSome result (λ entry. (l : MapLease)
         × (get nat_cmp kept.now.leases entry.0 ≡ Some l) × (place_of_lease l ≡ entry.1)) }
 {
-    let Some(entry) = kept.leases.in_slot(slot) else {
+    let Some(entry) = kept.in_slot(slot) else {
         return None;
     };
     let (number, lease) = entry;
@@ -117,7 +115,7 @@ fn entry_in(kept: &Numbered<BareLease, Place, Port>, slot: usize) -> Option<(u64
 fn number_at(
     sieve: &Sieve,
     hints: &Hints,
-    kept: &Numbered<BareLease, Place, Port>,
+    kept: &Owned<BareLease, Place>,
     place: &Place,
 ) -> Option<u64>
     requires kept { AreKeptMaps kept.now }
@@ -137,13 +135,13 @@ fn number_at(
             return None;
         }
     }
-    kept.keys.get(place).copied()
+    kept.keys().get(place).copied()
 }
 
 /// When the lease expires that is hinted at for the endpoint, where it owns the external port.
 fn hinted_expiry(
     hints: &Hints,
-    kept: &Numbered<BareLease, Place, Port>,
+    kept: &Owned<BareLease, Place>,
     endpoint: &Endpoint,
     protocol: Protocol,
     port: u16,
@@ -152,7 +150,7 @@ fn hinted_expiry(
     ensures { IfSome result (λ expiry. Some expiry
         ≡ option_map (λ l. l.expiry) (map_owning protocol port (values kept.now.leases))) }
 {
-    let Some(entry) = kept.leases.in_slot(hints.slot(&place_of(endpoint))) else {
+    let Some(entry) = kept.in_slot(hints.slot(&place_of(endpoint))) else {
         return None;
     };
     let (_number, lease) = entry;
@@ -175,7 +173,7 @@ fn is_live_at(found: Option<&BareLease>, m: Moment) -> bool
 
 /// Puts a lease in the place of the one with its key, or at the end.
 fn put_kept<L: Ledger>(
-    kept: &mut Numbered<BareLease, Place, Port>,
+    kept: &mut Owned<BareLease, Place>,
     sieve: &mut Sieve,
     hints: &mut Hints,
     sets: &mut u32,
@@ -194,7 +192,8 @@ fn put_kept<L: Ledger>(
     match number_at(sieve, hints, kept, &place) {
         Some(number) => {
             hints.note(&place, number);
-            replace(kept, sets, number, lease, steps)
+            replace(kept, sets, number, lease, steps);
+            Ok(())
         }
         None => append(kept, sieve, hints, sets, lease, steps),
     }
@@ -205,7 +204,7 @@ impl BareTable {
     pub(crate) fn new(alloc: Global) -> Result<BareTable, Memory>
         ensures { IfOk result (λ table. table ≡ []) }
     {
-        let kept = Numbered::new(alloc)?;
+        let kept = Owned::new(alloc)?;
         let sieve = Sieve::new(alloc)?;
         let hints = Hints::new(alloc)?;
         Ok(BareTable {
@@ -229,7 +228,7 @@ impl BareTable {
     pub(crate) fn len(&self) -> usize
         ensures { result ≡ length self.now }
     {
-        self.kept.leases.len()
+        self.kept.len()
     }
 
     /// The lease that covers the endpoint.
@@ -276,7 +275,7 @@ impl BareTable {
     {
         let kept = &self.kept;
         look(kept, steps);
-        let Some(number) = last_up_to(&kept.keys, place_of(endpoint)) else {
+        let Some(number) = kept.last_number(place_of(endpoint)) else {
             return None;
         };
         let Some(lease) = lease_at(kept, number, steps) else {
@@ -301,8 +300,8 @@ impl BareTable {
     {
         let kept = &self.kept;
         look(kept, steps);
-        if let Some(number) = kept.ports.get(&port_at(protocol, port)).copied() {
-            return lease_at(kept, number, steps);
+        if let Some(slot) = kept.slot_at((protocol, port)) {
+            return lease_in(kept, slot, steps);
         }
         if self.sets == 0 {
             return None;
@@ -322,10 +321,10 @@ impl BareTable {
     {
         let kept = &self.kept;
         look(kept, steps);
-        let Some(number) = last_up_to(&kept.ports, port_at(protocol, port)) else {
+        let Some(slot) = kept.last_slot((protocol, port)) else {
             return None;
         };
-        let Some(lease) = lease_at(kept, number, steps) else {
+        let Some(lease) = lease_in(kept, slot, steps) else {
             return None;
         };
         if lease.owns(protocol, port) {
@@ -403,7 +402,7 @@ impl BareTable {
     pub(crate) fn live(&self, m: Moment) -> u32
         ensures { result ≡ count_by (is_live_map m) self.now }
     {
-        (self.kept.leases.len() - self.kept.ended(m)) as u32
+        (self.kept.len() - self.kept.ended(m)) as u32
     }
 
     /// The least internal port above the endpoint's and below the end, of its address and protocol,
@@ -460,8 +459,8 @@ impl BareTable {
         )
     }
 
-    /// Takes out the lease with this first endpoint, and an entry of each of three maps and of the tree of
-    /// expiries.
+    /// Takes out the lease with this first endpoint, and an entry of each of two maps, a port and an
+    /// expiry.
     pub(crate) fn remove<L: Ledger>(
         &mut self,
         key: &Endpoint,
@@ -478,7 +477,7 @@ impl BareTable {
         let Some(lease) = lease_at(&self.kept, number, steps).copied() else {
             return None;
         };
-        steps.take(4 * levels(self.kept.leases.len()));
+        steps.take(4 * levels(self.kept.len()));
         self.kept.forget(number, place, lease.port());
         self.sets -= lease.sets();
         self.sieve.take(&place);
@@ -520,7 +519,7 @@ impl BareTable {
     {
         out.reserve(self.live(m) as usize)?;
         let before = out.len();
-        let Err(refused) = append_live(&self.kept.leases, filters, m, out) else {
+        let Err(refused) = append_live(self.kept.leases(), filters, m, out) else {
             return Ok(());
         };
         out.truncate(before);
@@ -540,6 +539,6 @@ impl BareTable {
         ensures { OnOk result (K.taken out.new ≡ K.taken out.old ++ map (map_record m)
             (filter (is_live_map m) (map (whole (filters_at filters.now)) self.now))) }
     {
-        append_records(&self.kept.leases, filters, m, out)
+        append_records(self.kept.leases(), filters, m, out)
     }
 }

@@ -10,7 +10,7 @@ ghost use Rattle.mapping_table.specs.Kept.{AreKeptMaps, BeginsFirst};
 
 use crate::bare::BareLease;
 use crate::looks::{lease_at, look};
-use ordered_index::{Numbered, Place, Port, is_beside, place_of, port_in};
+use ordered_index::{Owned, Place, is_beside, place_of, port_in};
 use pcp_base::{Endpoint, Moment};
 use std::collections::BTreeMap;
 use std::sync::ledger::Ledger;
@@ -30,7 +30,7 @@ fn entry_from(keys: &BTreeMap<Place, u64>, place: Place) -> Option<(Place, u64)>
 /// The lease of the endpoint's address and protocol that begins first from this port on and before
 /// the end, live or not.
 fn first_lease<'a, L: Ledger>(
-    kept: &'a Numbered<BareLease, Place, Port>,
+    kept: &'a Owned<BareLease, Place>,
     endpoint: &Endpoint,
     from: u16,
     end: u32,
@@ -46,7 +46,7 @@ fn first_lease<'a, L: Ledger>(
         port: from,
         ..*endpoint
     });
-    let Some(entry) = entry_from(&kept.keys, start) else {
+    let Some(entry) = entry_from(kept.keys(), start) else {
         return None;
     };
     let (place, number) = entry;
@@ -58,7 +58,7 @@ fn first_lease<'a, L: Ledger>(
 
 /// The same of the leases that are live at `m`. Each one that it passes has another first port.
 pub(crate) fn first_live<'a, L: Ledger>(
-    kept: &'a Numbered<BareLease, Place, Port>,
+    kept: &'a Owned<BareLease, Place>,
     endpoint: &Endpoint,
     from: u32,
     end: u32,

@@ -8,15 +8,15 @@ ghost use Rattle.mapping_table.specs.MapLists.{AreSoundMaps, with_map, PutsMap};
 ghost use Rattle.mapping_table.specs.Kept.{place_of_lease, AreCountedMaps, SievesMaps};
 
 use crate::bare::BareLease;
-use ordered_index::{Hints, Numbered, Place, Port, Sieve};
+use ordered_index::{Hints, Owned, Place, Sieve};
 use pcp_base::Memory;
 use std::sync::ledger::Ledger;
 use step_count::{Steps, levels};
 
-/// Appends a lease whose key has no number. It puts an entry into each of three maps and into the
-/// tree of expiries; where a map fails, it takes out what came before.
+/// Appends a lease whose key has no number. It puts an entry into two maps, a port into an array, and
+/// an expiry into its block; where a map fails, it takes out what came before.
 pub(crate) fn append<L: Ledger>(
-    kept: &mut Numbered<BareLease, Place, Port>,
+    kept: &mut Owned<BareLease, Place>,
     sieve: &mut Sieve,
     hints: &mut Hints,
     sets: &mut u32,
@@ -32,7 +32,7 @@ pub(crate) fn append<L: Ledger>(
     ensures put { PutsMap (values kept.old.leases) lease result (values kept.new.leases) }
     ensures steps { steps.new ≤ steps.old + 7 * levels (length (values kept.old.leases) + 1) }
 {
-    steps.take(7 * levels(kept.leases.len() + 1));
+    steps.take(7 * levels(kept.len() + 1));
     let place = lease.place();
     let number = kept.append(lease, place, lease.port())?;
     *sets += lease.sets();
@@ -42,27 +42,25 @@ pub(crate) fn append<L: Ledger>(
 }
 
 /// Puts a lease in the place of the one with its key, which has this number. It looks at that one,
-/// puts a port in, takes one out, and writes the lease and its expiry.
+/// puts a port in, takes one out, and writes the lease and its expiry. It takes no memory.
 pub(crate) fn replace<L: Ledger>(
-    kept: &mut Numbered<BareLease, Place, Port>,
+    kept: &mut Owned<BareLease, Place>,
     sets: &mut u32,
     number: u64,
     lease: BareLease,
     steps: &mut Steps<L>,
-) -> Result<(), Memory>
+)
     requires counted { AreCountedMaps kept.old sets.old }
     requires key { get place_cmp kept.old.keys (place_of_lease lease) ≡ Some number }
     requires sound { AreSoundMaps (with_map lease (values kept.old.leases)) }
     ensures counted { AreCountedMaps kept.new sets.new }
     ensures sieved { (sieve : List ℕ) → SievesMaps sieve (values kept.old.leases)
         → SievesMaps sieve (values kept.new.leases) }
-    ensures put { PutsMap (values kept.old.leases) lease result (values kept.new.leases) }
+    ensures put { values kept.new.leases ≡ with_map lease (values kept.old.leases) }
     ensures steps { steps.new ≤ steps.old + 6 * levels (length (values kept.old.leases) + 1) }
 {
-    steps.take(6 * levels(kept.leases.len() + 1));
-    let old = kept.leases[&number];
-    let ports = (old.port(), lease.port());
-    kept.replace(number, lease, ports)?;
+    steps.take(6 * levels(kept.len() + 1));
+    let old = kept.leases()[&number];
+    kept.replace(number, lease, old.port(), lease.port());
     *sets = *sets + lease.sets() - old.sets();
-    Ok(())
 }

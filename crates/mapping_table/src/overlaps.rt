@@ -4,13 +4,13 @@ ghost use Rattle.std.specs.Prelude.{◌≡◌, ◌≤◌, ◌+◌, ◌*◌, leng
 ghost use Rattle.std.specs.Option.{option_copied};
 ghost use Rattle.std.specs.BTreeMap.{values};
 ghost use Rattle.step_count.specs.Levels.{levels};
-ghost use Rattle.ordered_index.specs.Orders.{place_cmp, port_cmp};
+ghost use Rattle.ordered_index.specs.Orders.{place_cmp, port_at, port_cmp};
 ghost use Rattle.mapping_table.specs.MapLists.{meet_inside, meet_outside, IsOverlapped};
 ghost use Rattle.mapping_table.specs.Kept.{AreKeptMaps, place_of_lease, port_of_lease, overlapped_key, is_renewed, IsNearest, TellsMet};
 
 use crate::bare::BareLease;
-use crate::looks::{lease_at, look};
-use ordered_index::{Numbered, Place, Port, last_up_to};
+use crate::looks::{lease_at, lease_in, look};
+use ordered_index::{External, Owned, Place};
 use pcp_base::Endpoint;
 use std::sync::ledger::Ledger;
 use step_count::Steps;
@@ -41,7 +41,7 @@ pub(crate) fn is_renewed(lease: &BareLease, found: Option<&BareLease>) -> bool
 
 /// The lease whose first endpoint has the last place up to this one.
 fn nearest_place<'a, L: Ledger>(
-    kept: &'a Numbered<BareLease, Place, Port>,
+    kept: &'a Owned<BareLease, Place>,
     place: Place,
     steps: &mut Steps<L>,
 ) -> Option<&'a BareLease>
@@ -51,7 +51,7 @@ fn nearest_place<'a, L: Ledger>(
     ensures steps { steps.new ≤ steps.old + 2 * levels (length (values kept.now.leases)) }
 {
     look(kept, steps);
-    let Some(number) = last_up_to(&kept.keys, place) else {
+    let Some(number) = kept.last_number(place) else {
         return None;
     };
     lease_at(kept, number, steps)
@@ -59,26 +59,26 @@ fn nearest_place<'a, L: Ledger>(
 
 /// The lease whose first external port is the last one up to this one.
 fn nearest_port<'a, L: Ledger>(
-    kept: &'a Numbered<BareLease, Place, Port>,
-    port: Port,
+    kept: &'a Owned<BareLease, Place>,
+    port: External,
     steps: &mut Steps<L>,
 ) -> Option<&'a BareLease>
     requires { AreKeptMaps kept.now }
-    ensures nearest { IsNearest port_cmp port_of_lease port (values kept.now.leases)
-        (option_copied result) }
+    ensures nearest { IsNearest port_cmp port_of_lease (port_at port.0 port.1)
+        (values kept.now.leases) (option_copied result) }
     ensures steps { steps.new ≤ steps.old + 2 * levels (length (values kept.now.leases)) }
 {
     look(kept, steps);
-    let Some(number) = last_up_to(&kept.ports, port) else {
+    let Some(slot) = kept.last_slot(port) else {
         return None;
     };
-    lease_at(kept, number, steps)
+    lease_in(kept, slot, steps)
 }
 
 /// The lease that begins last among those that begin up to the last endpoint. Where that one isn't
 /// overlapped inside, no other is, as those that begin before it end before it too.
 fn last_inside<'a, L: Ledger>(
-    kept: &'a Numbered<BareLease, Place, Port>,
+    kept: &'a Owned<BareLease, Place>,
     lease: &BareLease,
     steps: &mut Steps<L>,
 ) -> Option<&'a BareLease>
@@ -92,7 +92,7 @@ fn last_inside<'a, L: Ledger>(
 /// The same outside, by external ports. There the lease with the same key may have other ports, so
 /// that the one before it is asked for.
 fn last_outside<'a, L: Ledger>(
-    kept: &'a Numbered<BareLease, Place, Port>,
+    kept: &'a Owned<BareLease, Place>,
     lease: &BareLease,
     steps: &mut Steps<L>,
 ) -> Option<&'a BareLease>
@@ -111,7 +111,7 @@ fn last_outside<'a, L: Ledger>(
 
 /// The first endpoint of a lease that this one overlaps, however many ports it has.
 pub(crate) fn overlapping_set<L: Ledger>(
-    kept: &Numbered<BareLease, Place, Port>,
+    kept: &Owned<BareLease, Place>,
     lease: &BareLease,
     steps: &mut Steps<L>,
 ) -> Option<Endpoint>

@@ -8,4 +8,4 @@ pub returns-then-owns : goal.returns-then-owns
 returns-then-owns c =
     let entry = c.in-Some.entry.now in
     ap Some c.expires_at.ensures
-    ∙ ap (option_map (λ (l : MapLease). l.expiry)) (owning_is c.args.kept.now c.requires.kept c.args.protocol c.args.port entry.0 entry.1 c.in-Some.ensures (sym c.owns.ensures ∙ c.if-owns.true))
+    ∙ ap (option_map (λ (l : MapLease). l.expiry)) (owning_is c.args.kept.now c.requires.kept c.args.protocol c.args.port entry.0 entry.1 c.in-Some.ensures.held (sym c.owns.ensures ∙ c.if-owns.true))

@@ -1,6 +1,7 @@
 use Rattle.std.proofs.Common.{ℕ, List, Some, None, sym, ◌∙◌, subst}
 use Rattle.std.specs.BTreeMap.{values}
 use Rattle.pcp_base.specs.declared.leases.MapLease.{MapLease}
+use Rattle.ordered_index.specs.Orders.{port_at}
 use Rattle.mapping_table.specs.MapLists.{RemovesMap}
 use Rattle.mapping_table.specs.Kept.{SievesMaps}
 use Rattle.mapping_table.proofs.Lookups.{number_stands}
@@ -24,7 +25,7 @@ overflow_sub-self g c =
 
 pub invariant_of-self : goal.invariant_of-self
 invariant_of-self g c =
-    let removed = map_removed c.self.inside.kept c.self.invariant.counted.kept c.args.key.now c.place_of-place.result c.place_of-place.ensures c.forget.new.self c.port.result c.in-Some.number c.in-Some-copied.lease
+    let removed = map_removed c.self.inside.kept c.self.invariant.counted.kept c.args.key.now c.place_of-place.result c.place_of-place.ensures c.forget.new.self (port_at c.port.result.0 c.port.result.1) c.in-Some.number c.in-Some-copied.lease
     c.port.ensures (sym c.in-Some.ensures) (sym (c.in-Some-copied.ensures ∙ c.lease_at.ensures.lease)) c.forget.ensures in
     let at_number = sym (c.in-Some-copied.ensures ∙ c.lease_at.ensures.lease) in
     let kept = c.self.inside.kept in let x = c.in-Some-copied.lease in
@@ -37,6 +38,6 @@ invariant_of-self g c =
 
 pub returns-clause-removed : goal.returns-clause-removed
 returns-clause-removed g c =
-    let removed = (map_removed c.self.inside.kept c.self.invariant.counted.kept c.args.key.now c.place_of-place.result c.place_of-place.ensures c.forget.new.self c.port.result c.in-Some.number c.in-Some-copied.lease
+    let removed = (map_removed c.self.inside.kept c.self.invariant.counted.kept c.args.key.now c.place_of-place.result c.place_of-place.ensures c.forget.new.self (port_at c.port.result.0 c.port.result.1) c.in-Some.number c.in-Some-copied.lease
     c.port.ensures (sym c.in-Some.ensures) (sym (c.in-Some-copied.ensures ∙ c.lease_at.ensures.lease)) c.forget.ensures).1 in
     subst (λ (v : List MapLease). RemovesMap v c.args.key.now (Some c.in-Some-copied.lease) (values c.forget.new.self.leases)) c.self.view_is removed
