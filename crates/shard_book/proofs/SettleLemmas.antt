@@ -7,12 +7,17 @@ use Rattle.pcp_base.specs.declared.records.Change.TheVariants.{Start, Lose}
 use Rattle.pcp_base.specs.Apply.{apply}
 use Rattle.pcp_base.specs.States.{State}
 use Rattle.pcp_base.specs.Tables.{Table, empty_table, same_address}
+use Rattle.lease_disk.proofs.PairLemmas.{pair_started}
 use Rattle.lease_journal.specs.declared.errors.Found.{Found}
 use Rattle.lease_journal.specs.declared.errors.Found.TheVariants.{Recovered, Blank, Damaged}
-use Rattle.journal_sides.specs.Journals.{fresh_state}
+use Rattle.journal_sides.specs.declared.errors.JournalFault.{JournalFault}
+use Rattle.journal_sides.specs.declared.errors.JournalFault.TheVariants.{Disk}
+use Rattle.journal_sides.specs.Journals.{StandsForWithOrWithout, fresh_state}
+use Rattle.shard_book.specs.declared.standings.Standing.TheVariants.{Clean}
 use Rattle.shard_book.specs.Addresses.{renumber_at, state_anew}
+use Rattle.shard_book.specs.Books.{BookView, IsBook}
 use Rattle.shard_book.specs.Openings.{IsStartUnless}
-use Rattle.shard_book.specs.Settlings.{BeginsAnew, IsEmptySince}
+use Rattle.shard_book.specs.Settlings.{BeginsAnew, HasSettled, IsEmptySince, Settles}
 use Rattle.shard_book.proofs.StateLemmas.{started_on}
 
 pub start_unless : (m : ℕ) (s : State) (found : Found) → (found ≡ Recovered → ⊥) → IsStartUnless m s found → s ≡ fresh_state m
@@ -48,3 +53,27 @@ bare m s is =
 -- an emptied journal that is told the address
 pub renamed : (m : ℕ) (a : Address) (s : State) → IsEmptySince m s → apply s (renumber_at m a) ≡ state_anew m a
 renamed m a s is = ap (λ (t : State). apply t (renumber_at m a)) (bare m s is) ∙ renamed_bare m a s.address
+
+-- ---- a book of which no call was refused
+
+not_disk : (f : Option JournalFault) → f ≡ None → f ≡ Some Disk → ⊥
+not_disk f none disk = cc
+
+pub clean_settles : {D : Type 0} (tells : Type 0) (seen : D → List ℕ) (moment : D → ℕ) (left_since : D → ℕ → List ℕ → Type 0) (may_leave : D → List ℕ → Type 0) (now : ℕ) (b : BookView D) →
+    IsBook tells seen may_leave b → b.fault ≡ None → Settles tells moment left_since may_leave now b b (record { journal = Clean; address = None })
+clean_settles tells seen moment left_since may_leave now b is none = record {
+  means = record { settled = none; same = refl; unnamed = refl };
+  clean = λ _. refl;
+  expected = λ _. tt;
+  last = omega (arith, is.later);
+  terms = refl;
+  renumbered = refl;
+  fault = none;
+  sure = is.sure (not_disk b.fault none);
+  moments = λ told. pair_started moment left_since may_leave b.journal.pair (StandsForWithOrWithout b.state b.unsure) (is.images told);
+}
+
+pub clean_has_settled : {D : Type 0} (tells : Type 0) (seen : D → List ℕ) (moment : D → ℕ) (left_since : D → ℕ → List ℕ → Type 0) (may_leave : D → List ℕ → Type 0) (now : ℕ) (b : BookView D) →
+    IsBook tells seen may_leave b → b.fault ≡ None → HasSettled tells moment left_since may_leave now b b
+clean_has_settled tells seen moment left_since may_leave now b is none =
+    (record { journal = Clean; address = None }, clean_settles tells seen moment left_since may_leave now b is none)

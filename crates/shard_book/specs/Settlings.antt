@@ -97,6 +97,13 @@ pub record Settles {D : Type 0} (tells : Type 0) (moment : D → ℕ)
   pub moments : tells → PairLeavesOnly moment left_since may_leave old.journal.pair
       new.journal.pair (StandsForWithOrWithout old.state old.unsure)
 
+-- the book is settled at `now`, whatever was found
+abbrev pub HasSettled : {D : Type 0} → (tells : Type 0) → (moment : D → ℕ)
+    → (left_since : D → ℕ → List ℕ → Type 0) → (may_leave : D → List ℕ → Type 0) → (now : ℕ)
+    → (old new : BookView D) → Type 0
+HasSettled tells moment left_since may_leave now old new =
+    (settled : Settled) × Settles tells moment left_since may_leave now old new settled
+
 -- the settling was refused, and what was in doubt is so still
 pub record KeepsDoubt {D : Type 0} (tells : Type 0) (moment : D → ℕ)
     (left_since : D → ℕ → List ℕ → Type 0) (may_leave : D → List ℕ → Type 0)

@@ -72,7 +72,7 @@ impl<D: LeaseDisk, S: LeaseStore + Drop> LeaseBook<D, S> {
     ghost use Rattle.journal_sides.specs.declared.layout.TheConstants.{MOST_RECORDS};
     ghost use Rattle.shard_book.specs.Books.{IsBook};
     ghost use Rattle.shard_book.specs.Keepings.{Doubts, IsRefused, Journals, Keeps, Loses, Serves, batch_answers, batch_records, lose_records};
-    ghost use Rattle.shard_book.specs.Settlings.{KeepsDoubt, Settles};
+    ghost use Rattle.shard_book.specs.Settlings.{HasSettled, KeepsDoubt, Settles};
 
     /// Answers at most [`MOST_RECORDS`](lease_journal::MOST_RECORDS) well formed requests, at the
     /// greater of `now` and the moment of the last batch; the base told is the greater of `base` and
@@ -98,7 +98,7 @@ impl<D: LeaseDisk, S: LeaseStore + Drop> LeaseBook<D, S> {
         ensures cause { PairHasCause D.faults self.old.journal.pair self.new.journal.pair
             (result ≡ Err Disk) }
     {
-        self.settle(alloc, now)?;
+        self.settle_if_refused(alloc, now)?;
         self.serve(alloc, asks, now, base)
     }
 
@@ -115,7 +115,7 @@ impl<D: LeaseDisk, S: LeaseStore + Drop> LeaseBook<D, S> {
         ensures cause { PairHasCause D.faults self.old.journal.pair self.new.journal.pair
             (result ≡ Err Disk) }
     {
-        self.settle(alloc, now)?;
+        self.settle_if_refused(alloc, now)?;
         self.forget(alloc, now)
     }
 
@@ -138,6 +138,22 @@ impl<D: LeaseDisk, S: LeaseStore + Drop> LeaseBook<D, S> {
             });
         };
         self.resume(alloc, now, fault)
+    }
+
+    /// Settles the book where a call was refused, as `settle` does, and doesn't say what it found.
+    pub fn settle_if_refused(&mut self, alloc: Global, now: Moment) -> Result<(), BookFault>
+        ensures settled { OnOk result
+            (HasSettled D.tells D.moment D.left_since D.may_leave now self.old self.new) }
+        ensures refused { IfErr result
+            (λ _. KeepsDoubt D.tells D.moment D.left_since D.may_leave self.old self.new) }
+        ensures book { IsBook D.tells D.seen D.may_leave self.new }
+        ensures cause { PairHasCause D.faults self.old.journal.pair self.new.journal.pair
+            (result ≡ Err Disk) }
+    {
+        let Some(fault) = self.fault else {
+            return Ok(());
+        };
+        self.resume_untold(alloc, now, fault)
     }
 
     /// Answers requests where no call was refused since the book was settled.

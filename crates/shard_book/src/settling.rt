@@ -13,7 +13,7 @@ ghost use Rattle.journal_sides.specs.Journals.{StandsForWithOrWithout, fresh_sta
 ghost use Rattle.shard_book.specs.Addresses.{renumber_at, state_anew};
 ghost use Rattle.shard_book.specs.Books.{IsBook, IsWritable};
 ghost use Rattle.shard_book.specs.Openings.{IsStartUnless};
-ghost use Rattle.shard_book.specs.Settlings.{BeginsAnew, IsEmptySince, IsExpected, IsFound, IsJudgedAs, IsOneOf, IsRebuilt, KeepsDoubt, Settles, StandingMeans};
+ghost use Rattle.shard_book.specs.Settlings.{BeginsAnew, HasSettled, IsEmptySince, IsExpected, IsFound, IsJudgedAs, IsOneOf, IsRebuilt, KeepsDoubt, Settles, StandingMeans};
 
 use crate::books::{BookFault, LeaseBook};
 use crate::committing::{keep, use_second};
@@ -347,5 +347,27 @@ impl<D: LeaseDisk, S: LeaseStore + Drop> LeaseBook<D, S> {
         self.base = self.core.base();
         self.fault = None;
         Ok(outcome.settled)
+    }
+
+    /// Settles a book after this fault, and doesn't say what it found.
+    #[cold]
+    #[inline(never)] // what it found is large, and would be cleared at each request
+    pub(crate) fn resume_untold(
+        &mut self,
+        alloc: Global,
+        now: Moment,
+        fault: JournalFault,
+    ) -> Result<(), BookFault>
+        requires { self.old.fault ≡ Some fault }
+        ensures settled { OnOk result
+            (HasSettled D.tells D.moment D.left_since D.may_leave now self.old self.new) }
+        ensures refused { IfErr result
+            (λ _. KeepsDoubt D.tells D.moment D.left_since D.may_leave self.old self.new) }
+        ensures book { IsBook D.tells D.seen D.may_leave self.new }
+        ensures cause { PairHasCause D.faults self.old.journal.pair self.new.journal.pair
+            (result ≡ Err Disk) }
+    {
+        self.resume(alloc, now, fault)?;
+        Ok(())
     }
 }

@@ -2,16 +2,19 @@ use Rattle.std.proofs.Common.{inr}
 use Rattle.shard_book.proofs.CallLemmas.{if_ok_with, map_if_err}
 use Rattle.shard_book.proofs.books.LeaseBook.batch.Goals as goal
 
+pub serve-requires-clause-settled : goal.serve-requires-clause-settled
+serve-requires-clause-settled g c = c.in_ok-settle_if_refused.ensures.settled.1.fault
+
 pub returns-clause-served : goal.returns-clause-served
 returns-clause-served g c =
     if_ok_with c.serve.result _ _ _ _ c.serve.ensures.answers c.serve.ensures.keeps c.serve.ensures.journal (λ answers told keeps journal. record {
-      mid = c.settle.new.self;
-      settled = c.in_ok-settle.field-0;
-      settles = c.in_ok-settle.ensures.settled;
+      mid = c.settle_if_refused.new.self;
+      settled = c.in_ok-settle_if_refused.ensures.settled.0;
+      settles = c.in_ok-settle_if_refused.ensures.settled.1;
       answered = told;
       keeps = keeps;
       journal = journal;
     })
 
 pub returns-clause-refused : goal.returns-clause-refused
-returns-clause-refused g c = map_if_err c.serve.result _ _ c.serve.ensures.refused (λ fault doubts. inr (c.settle.new.self, c.in_ok-settle.field-0, c.in_ok-settle.ensures.settled, doubts))
+returns-clause-refused g c = map_if_err c.serve.result _ _ c.serve.ensures.refused (λ fault doubts. inr (c.settle_if_refused.new.self, c.in_ok-settle_if_refused.ensures.settled.0, c.in_ok-settle_if_refused.ensures.settled.1, doubts))
