@@ -2,7 +2,7 @@
 use Rattle.std.specs.Prelude.{max, slice_set, IsSome}
 use Rattle.std.specs.List.{slice_get}
 use Rattle.std.specs.Option.{option_map, option_map_or}
-use Rattle.std.proofs.Common.{◌≡◌, ◌∙◌, ℕ, List, [], map, Option, Some, None, refl, ap, sym, subst, inl, inr}
+use Rattle.std.proofs.Common.{◌≡◌, ◌∙◌, ℕ, List, [], map, get_or, Option, Some, None, refl, ap, sym, subst, inl, inr}
 use Rattle.pcp_base.specs.declared.addresses.Address.{Address}
 use Rattle.pcp_base.specs.declared.configs.Config.{Config}
 use Rattle.pcp_base.specs.declared.configs.External.{External}
@@ -76,10 +76,10 @@ routed-is place (Some q) r h =
     subst (λ (x : Routed). (Some q ≡ Some (record { ask = x.ask; items = x.items })) × (x.place ≡ place)) same (refl, refl)
 
 module _ {D : Type 0} (tells : Type 0) (moment : D → ℕ) (left_since : D → ℕ → List ℕ → Type 0) (may_leave : D → List ℕ → Type 0) where
-  pub answers-packet : (now : ℕ) (from : Datagram) (request : Request) (old new : HouseView D) (answered : Answered) (address : Address) → request_of old.config from ≡ Some request →
-      (a : AnswersAsk tells moment left_since may_leave now (route_of old.config from) request.ask old new answered) → address ≡ a.book.terms.external.address →
+  pub answers-packet : (now : ℕ) (from : Datagram) (request : Request) (old new : HouseView D) (answers : List Answered) (answered : Answered) (address : Address) → request_of old.config from ≡ Some request →
+      (a : AnswersAsk tells moment left_since may_leave now (route_of old.config from) request.ask old new answers) → answered ≡ get_or answers 0 answered → address ≡ a.book.terms.external.address →
       AnswersPacket tells moment left_since may_leave now from old new (reply_text_of from.octets address request.items answered.answer (epoch_of answered.moment answered.base))
-  answers-packet now from request old new answered address asks a to =
+  answers-packet now from request old new answers answered address asks a first to =
       let mid : HouseView D = a.mid in
       let book : BookView D = a.book in
       let house : PlainHouse = plain_house mid in
@@ -94,7 +94,7 @@ module _ {D : Type 0} (tells : Type 0) (moment : D → ℕ) (left_since : D → 
       let own : Address = book.terms.external.address in
       let told : e.reply ≡ reply_text_of from.octets address request.items answered.answer (epoch_of answered.moment answered.base) =
       ap (λ (t : Terms). reply_text_of from.octets own request.items (decide t book.state m request.ask).answer (epoch_of m (greatest_base house))) a.on_terms
-      ∙ sym (ap (λ (x : Answered). reply_text_of from.octets own request.items x.answer (epoch_of x.moment x.base)) a.told)
+      ∙ sym (ap (λ (x : Answered). reply_text_of from.octets own request.items x.answer (epoch_of x.moment x.base)) (first ∙ ap (λ (l : List Answered). get_or l 0 answered) a.told))
       ∙ sym (ap (λ (x : Address). reply_text_of from.octets x request.items answered.answer (epoch_of answered.moment answered.base)) to) in
       let kept : a.kept_book.state ≡ with_kept book.state e.kept =
       a.keeps.state ∙ kept-once book.state (decide book.terms book.state m request.ask).kept

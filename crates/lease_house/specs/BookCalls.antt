@@ -1,5 +1,5 @@
 -- A call on one of the books of a house (our own; for private contracts).
-use Rattle.std.specs.Prelude.{◌≡◌, ℕ, max, List, slice_set, Some, None}
+use Rattle.std.specs.Prelude.{◌≡◌, ℕ, max, List, [], ◌∷◌, slice_set, Some, None}
 use Rattle.std.specs.List.{slice_get}
 use Rattle.pcp_base.specs.declared.asks.Ask.{Ask}
 use Rattle.lease_core.specs.Decide.{decide}
@@ -42,13 +42,13 @@ ask_answer now base ask book =
 -- It is answered, after its book was settled. The base told is the greatest of all books'.
 pub record AnswersAsk {D : Type 0} (tells : Type 0) (moment : D → ℕ)
     (left_since : D → ℕ → List ℕ → Type 0) (may_leave : D → List ℕ → Type 0) (now place : ℕ)
-    (ask : Ask) (old new : HouseView D) (answered : Answered) : Type 0 where
+    (ask : Ask) (old new : HouseView D) (answers : List Answered) : Type 0 where
   pub mid : HouseView D
   pub settles : SettlesAt tells moment left_since may_leave now place old mid
   pub book : BookView D
   pub kept_book : BookView D
   pub on_terms : terms_of book.terms.external mid.config ≡ book.terms
-  pub told : answered ≡ ask_answer now (greatest_base (plain_house mid)) ask book
+  pub told : answers ≡ ask_answer now (greatest_base (plain_house mid)) ask book ∷ []
   pub keeps : Keeps tells moment left_since may_leave (max now book.last) (ask_records now ask book)
       book kept_book
   pub changes : ChangesBook place book kept_book mid new

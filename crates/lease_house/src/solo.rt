@@ -10,7 +10,7 @@ use crate::updates::updates_of;
 use lease_core::Core;
 use lease_disk::{DiskPair, LeaseDisk};
 use pcp_base::{Address, Ask, Config, Datagram, Endpoint, Memory, Moment, Octets, Owner, Protocol};
-use shard_book::{Answered, Book, Settled};
+use shard_book::{Answered, Book};
 use std::alloc::Global;
 use std::marker::Model;
 
@@ -169,7 +169,7 @@ impl<D: LeaseDisk + Drop> SoloHouse<D> {
             (λ place. result ≡ Err (Disk place)) }
     {
         let address = address_at(self.config(), request.place);
-        let answered = self.answer(alloc, request.place, &request.ask, now)?;
+        let answers = self.answer(alloc, request.place, &request.ask, now)?;
         let octets = datagram.octets.items();
         let reply = reply_of(
             alloc,
@@ -177,7 +177,7 @@ impl<D: LeaseDisk + Drop> SoloHouse<D> {
             &address,
             &request.ask,
             &request.items,
-            &answered,
+            &answers[0],
         )?;
         Ok(reply)
     }
@@ -281,8 +281,8 @@ impl<D: LeaseDisk + Drop> SoloHouse<D> {
         self.books[shard as usize].core()
     }
 
-    /// Settles the book of the external address at this place.
-    fn settle(&mut self, alloc: Global, place: u32, now: Moment) -> Result<Settled, HouseFault>
+    /// Settles the book of the external address at this place where its last call was refused.
+    fn settle(&mut self, alloc: Global, place: u32, now: Moment) -> Result<(), HouseFault>
         requires { place < length self.old.config.externals }
         ensures settled { OnOk result
             (SettlesAt D.tells D.moment D.left_since D.may_leave now place self.old self.new) }
@@ -302,12 +302,12 @@ impl<D: LeaseDisk + Drop> SoloHouse<D> {
         place: u32,
         ask: &Ask,
         now: Moment,
-    ) -> Result<Answered, HouseFault>
+    ) -> Result<Vec<Answered>, HouseFault>
         requires place { place < length self.old.config.externals }
         requires formed { IsWellFormedAsk ask.now }
-        ensures answered { IfOk result
-            (AnswersAsk D.tells D.moment D.left_since D.may_leave now place ask.now
-            self.old self.new) }
+        ensures answered { IfOk result (λ answers.
+            AnswersAsk D.tells D.moment D.left_since D.may_leave now place ask.now
+            self.old self.new answers.items) }
         ensures refused { IfErr result
             (IsLineRefused D.tells D.moment D.left_since D.may_leave now place
             (ask_records now ask.now) self.old self.new) }

@@ -8,15 +8,15 @@ returns g c =
     let d = g.D.LeaseDisk in
     record {
       before = c.index_mut.result.now;
-      after = c.settle.new.self;
+      after = c.settle_if_refused.new.self;
       was = slice_get_read c.args.books.now.items _ c.args.place c.index_mut.result.now refl c.requires c.index_mut.ensures.value;
       is = refl;
       how = (
         record {
-          book = c.settle.ensures.book;
-          terms = settled-terms d.tells d.moment d.left_since d.may_leave c.args.now c.settle.result c.index_mut.result.now c.settle.new.self c.settle.ensures.settled c.settle.ensures.refused;
-          cause = c.settle.ensures.cause;
+          book = c.settle_if_refused.ensures.book;
+          terms = settled-terms d.tells d.moment d.left_since d.may_leave c.args.now c.settle_if_refused.result c.index_mut.result.now c.settle_if_refused.new.self c.settle_if_refused.ensures.settled c.settle_if_refused.ensures.refused;
+          cause = c.settle_if_refused.ensures.cause;
         },
-        (c.settle.ensures.settled, c.settle.ensures.refused),
+        (c.settle_if_refused.ensures.settled, c.settle_if_refused.ensures.refused),
       );
     }
