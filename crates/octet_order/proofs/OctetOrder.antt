@@ -1,10 +1,11 @@
 -- Octets are in the order of the number that they spell.
-use Rattle.std.proofs.Common.{◌≡◌, ℕ, suc, ◌+◌, ◌*◌, ◌<◌, List, [], ◌∷◌, length, refl, ap, ◌∙◌, arith}
+use Rattle.std.proofs.Common.{◌≡◌, ℕ, suc, ◌+◌, ◌*◌, ◌<◌, ◌==◌, bytes_eq, List, [], ◌∷◌, length, refl, ap, sym, ◌∙◌, arith}
 use Rattle.std.specs.List.{AllByRecursion, slice_index}
-use Rattle.std.specs.Ordering.{nat_cmp, ordering_then, MatchOrdering}
+use Rattle.std.specs.Ordering.{nat_cmp, ordering_then, is_eq, MatchOrdering}
 use Rattle.std.specs.declared.cmp.Ordering.{Ordering}
 use Rattle.std.specs.declared.cmp.Ordering.TheVariants.{Less, Equal, Greater}
-use Rattle.std.specs.Cmp.Lexicographic.{slice_cmp}
+use Rattle.std.specs.Cmp.{unsigned_ties}
+use Rattle.std.specs.Cmp.Lexicographic.{slice_cmp, texts_ties}
 use Rattle.std.specs.Int.{w128, from_be_bytes}
 use Rattle.std.proofs.lemmas.Cmp.{ranked}
 
@@ -89,3 +90,12 @@ whole (a ∷ b ∷ c ∷ d ∷ e ∷ f ∷ g ∷ h ∷ i ∷ j ∷ k ∷ l ∷ m
 pub octets_from : (bs : List ℕ) → ((i : ℕ) → slice_index bs i < 256) → AreOctets bs
 octets_from [] h = tt
 octets_from (b ∷ bs) h = (h 0, octets_from bs (λ i. h (suc i)))
+
+pub numbers-order : (xs ys : List ℕ) → length xs ≡ 16 → length ys ≡ 16 → AreOctets xs → AreOctets ys → slice_cmp nat_cmp xs ys ≡ nat_cmp (from_be_bytes w128 xs) (from_be_bytes w128 ys)
+numbers-order xs ys n m h k =
+    spelled-order xs ys 0 0 (n ∙ sym m) h k
+    ∙ ap (λ (i : ℕ). nat_cmp i (spelled 0 ys)) (sym (whole xs n)) ∙ ap (nat_cmp (from_be_bytes w128 xs)) (sym (whole ys m))
+
+pub numbers-same : (xs ys : List ℕ) → length xs ≡ 16 → length ys ≡ 16 → AreOctets xs → AreOctets ys → bytes_eq xs ys ≡ (from_be_bytes w128 xs == from_be_bytes w128 ys)
+numbers-same xs ys n m h k =
+    texts_ties xs ys ∙ ap is_eq (numbers-order xs ys n m h k) ∙ sym (unsigned_ties (from_be_bytes w128 xs) (from_be_bytes w128 ys))
