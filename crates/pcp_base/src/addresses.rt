@@ -1,6 +1,8 @@
 //! Addresses, nonces and prefixes, and their texts.
-ghost use Rattle.std.specs.Prelude.{◌≡◌, ℕ, ◌==◌, false, nat_eq, List, ◌++◌, codes, All, IfSome, IfNone, IfOk, OnOk, OnErr, string_bytes};
+ghost use Rattle.std.specs.Prelude.{◌≡◌, ℕ, ◌==◌, false, nat_eq, bytes_eq, List, ◌++◌, codes, All, IfSome, IfNone, IfOk, OnOk, OnErr, string_bytes};
 ghost use Rattle.std.specs.List.{starts_with};
+ghost use Rattle.std.specs.Cmp.{on_per, partial_equiv_from_equiv};
+ghost use Rattle.std.specs.Cmp.Lexicographic.{nat_list_eq_equiv};
 ghost use Rattle.pcp_base.specs.Pairing.{holds, leading, v4_octets};
 ghost use Rattle.pcp_base.specs.AddressTexts.{v4_front, IsDottedText, IsLongText, IsAddressText, IsPrefixText, address_text};
 ghost use Rattle.pcp_base.specs.declared.addresses.Address.{Address};
@@ -9,13 +11,26 @@ ghost use Rattle.pcp_base.specs.declared.addresses.Prefix.{Prefix};
 use crate::errors::Memory;
 use crate::numbers::read_number;
 use hex::FromHex;
+use octet_order::same_octets;
 use std::alloc::{AllocError, Global};
 use std::net::Ipv4Addr;
 use thiserror::Error;
 
 /// An IPv6 address, or an IPv4 address as `::ffff:a.b.c.d` (RFC 6887, section 5).
-#[derive(Clone, Copy, Debug, PartialEq, Eq, PartialOrd, Ord, Hash)]
+#[derive(Clone, Copy, Debug, Eq, PartialOrd, Ord, Hash)]
 pub struct Address(pub [u8; 16]);
+
+// As a derive compares, but all octets at once.
+impl PartialEq for Address {
+    ghost eq = { λ a b. bytes_eq a.0 b.0 };
+
+    ghost laws = { on_per (λ (a : Address). a.0) (partial_equiv_from_equiv nat_list_eq_equiv) };
+
+    #[inline]
+    fn eq(&self, other: &Address) -> bool {
+        same_octets(&self.0, &other.0)
+    }
+}
 
 /// A mapping nonce (RFC 6887, section 11.1).
 #[derive(Clone, Copy, Debug, PartialEq, Eq, Hash)]
