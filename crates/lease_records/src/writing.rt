@@ -1,5 +1,5 @@
 //! Writing the octets of a record.
-ghost use Rattle.std.specs.Prelude.{◌≡◌, ◌≤◌, ◌∷◌, ◌++◌, length, OnOk, OnErr};
+ghost use Rattle.std.specs.Prelude.{◌≡◌, ◌≤◌, ◌∷◌, ◌++◌, length, take, OnOk, OnErr};
 ghost use Rattle.std.specs.List.{flat_map, AllByRecursion};
 ghost use Rattle.pcp_base.specs.declared.leases.TheConstants.{MOST_FILTERS};
 ghost use Rattle.pcp_base.specs.Records.{IsWellFormedRecord};
@@ -14,7 +14,7 @@ use std::alloc::{AllocError, Global};
 const LONGEST_TEXT: usize = 61 + 19 * MOST_FILTERS;
 
 /// Appends the text of a well formed record. After `Memory` nothing was appended.
-pub fn write_record(alloc: Global, out: &mut Vec<u8>, kept: &Record) -> Result<(), Memory>
+pub fn write_record(_alloc: Global, out: &mut Vec<u8>, kept: &Record) -> Result<(), Memory>
     requires { IsWellFormedRecord kept.now }
     ensures ok { OnOk result (out.new.items ≡ out.old.items ++ record_text kept.now) }
     ensures err { OnErr result (out.new.items ≡ out.old.items) }
@@ -22,15 +22,20 @@ pub fn write_record(alloc: Global, out: &mut Vec<u8>, kept: &Record) -> Result<(
     ensures text { OnOk result (IsRecordText (record_text kept.now) kept.now) }
 {
     // Room for any record at once: the pieces of a text are short and many.
-    let mut text = Vec::with_capacity(alloc, LONGEST_TEXT)?;
-    put_record(&mut text, kept)?;
-    out.extend_from_slice(&text)?;
-    Ok(())
+    out.reserve(LONGEST_TEXT)?;
+    let start = out.len();
+    let Err(refused) = put_record(out, kept) else {
+        return Ok(());
+    };
+    out.truncate(start);
+    Err(refused.into())
 }
 
+// As all that put: where memory is wanting, a part of the text may stand behind what was there.
 fn put_record(out: &mut Vec<u8>, kept: &Record) -> Result<(), AllocError>
     ensures ok { OnOk result (out.new.items ≡ out.old.items ++ record_text kept.now) }
     ensures value { OnOk result (IsValue kept.now) }
+    ensures old { take (length out.old.items) out.new.items ≡ out.old.items }
 {
     out.push(kind_number(&kept.change))?;
     out.extend_from_slice(&kept.moment.get().to_be_bytes())?;
@@ -57,6 +62,7 @@ fn kind_number(change: &Change) -> u8
 fn put_fields(out: &mut Vec<u8>, change: &Change) -> Result<(), AllocError>
     ensures ok { OnOk result (out.new.items ≡ out.old.items ++ fields_text change.now) }
     ensures value { OnOk result (IsChangeValue change.now) }
+    ensures old { take (length out.old.items) out.new.items ≡ out.old.items }
 {
     match change {
         Change::Start | Change::Lose | Change::Mark => Ok(()),
@@ -76,6 +82,7 @@ fn put_fields(out: &mut Vec<u8>, change: &Change) -> Result<(), AllocError>
 fn put_endpoint(out: &mut Vec<u8>, endpoint: &Endpoint) -> Result<(), AllocError>
     ensures ok { OnOk result (out.new.items ≡ out.old.items ++ endpoint_text endpoint.now) }
     ensures value { OnOk result (IsEndpoint endpoint.now) }
+    ensures old { take (length out.old.items) out.new.items ≡ out.old.items }
 {
     out.extend_from_slice(&endpoint.address.0)?;
     out.push(endpoint.protocol.number())?;
@@ -91,6 +98,7 @@ fn put_rest(
     ensures ok { OnOk result (out.new.items
         ≡ out.old.items ++ rest_text endpoint.now external end) }
     ensures value { OnOk result (IsEndpoint endpoint.now) }
+    ensures old { take (length out.old.items) out.new.items ≡ out.old.items }
 {
     out.push(endpoint.protocol.number())?;
     out.extend_from_slice(&external.to_be_bytes())?;
@@ -102,6 +110,7 @@ fn put_rest(
 fn put_term(out: &mut Vec<u8>, term: &Term) -> Result<(), AllocError>
     ensures ok { OnOk result (out.new.items ≡ out.old.items ++ term_text term.now) }
     ensures value { OnOk result (IsTerm term.now) }
+    ensures old { take (length out.old.items) out.new.items ≡ out.old.items }
 {
     out.extend_from_slice(&term.nonce.0)?;
     out.extend_from_slice(&term.granted.get().to_be_bytes())?;
@@ -111,6 +120,7 @@ fn put_term(out: &mut Vec<u8>, term: &Term) -> Result<(), AllocError>
 fn put_map(out: &mut Vec<u8>, lease: &MapLease) -> Result<(), AllocError>
     ensures ok { OnOk result (out.new.items ≡ out.old.items ++ map_text lease.now) }
     ensures value { OnOk result (IsMap lease.now) }
+    ensures old { take (length out.old.items) out.new.items ≡ out.old.items }
 {
     let endpoint = Endpoint {
         address: lease.address,
@@ -132,6 +142,7 @@ fn put_map(out: &mut Vec<u8>, lease: &MapLease) -> Result<(), AllocError>
 fn put_peer(out: &mut Vec<u8>, lease: &PeerLease) -> Result<(), AllocError>
     ensures ok { OnOk result (out.new.items ≡ out.old.items ++ peer_text lease.now) }
     ensures value { OnOk result (IsPeer lease.now) }
+    ensures old { take (length out.old.items) out.new.items ≡ out.old.items }
 {
     put_endpoint(out, &lease.endpoint)?;
     out.extend_from_slice(&lease.external.to_be_bytes())?;
@@ -149,6 +160,7 @@ fn put_filters(out: &mut Vec<u8>, filters: &[Filter]) -> Result<(), AllocError>
     requires { length filters.now ≤ MOST_FILTERS }
     ensures ok { OnOk result (out.new.items ≡ out.old.items ++ filters_text filters.now) }
     ensures value { OnOk result (AllByRecursion IsFilter filters.now) }
+    ensures old { take (length out.old.items) out.new.items ≡ out.old.items }
 {
     out.push(filters.len() as u8)?;
     for filter in filters {
@@ -160,6 +172,7 @@ fn put_filters(out: &mut Vec<u8>, filters: &[Filter]) -> Result<(), AllocError>
 fn put_filter(out: &mut Vec<u8>, filter: &Filter) -> Result<(), AllocError>
     ensures ok { OnOk result (out.new.items ≡ out.old.items ++ filter_text filter.now) }
     ensures value { OnOk result (IsFilter filter.now) }
+    ensures old { take (length out.old.items) out.new.items ≡ out.old.items }
 {
     out.push(filter.prefix)?;
     out.extend_from_slice(&filter.port.to_be_bytes())?;
