@@ -8,6 +8,10 @@ use crate::layout::*;
 use pcp_base::{Memory, Refusal};
 use std::alloc::Global;
 
+/// Error replies of at most so many octets have an array that is soon cleared. Those to a MAP or PEER
+/// request with few options are.
+const SHORT_OCTETS: usize = 128;
+
 /// Writes the head of a reply (RFC 6887, section 7.2): version 2, the R bit and the low 7 bits of `opcode`,
 /// the result code, the lifetime and the epoch in seconds, and the octets 12 to 23.
 pub fn write_head(
@@ -79,7 +83,27 @@ pub fn write_refusal(
         ≡ out.old.items ++ refusal_text request.now refusal epoch) }
     ensures err { OnErr result (out.new.items ≡ out.old.items) }
 {
-    let mut reply = [0; MESSAGE_OCTETS];
+    if reply_len(request) <= SHORT_OCTETS {
+        append_refusal::<SHORT_OCTETS>(out, request, refusal, epoch)
+    } else {
+        append_refusal::<MESSAGE_OCTETS>(out, request, refusal, epoch)
+    }
+}
+
+/// Appends an error reply, which is put together in an array of `N` octets.
+fn append_refusal<const N: usize>(
+    out: &mut Vec<u8>,
+    request: &[u8],
+    refusal: Refusal,
+    epoch: u32,
+) -> Result<(), Memory>
+    requires room { reply_length request.now ≤ N }
+    requires most { N ≤ MESSAGE_OCTETS }
+    ensures ok { OnOk result (out.new.items
+        ≡ out.old.items ++ refusal_text request.now refusal epoch) }
+    ensures err { OnErr result (out.new.items ≡ out.old.items) }
+{
+    let mut reply = [0; N];
     let length = reply_len(request);
     refuse(request, refusal, epoch, &mut reply[..length]);
     out.extend_from_slice(&reply[..length])?;
