@@ -43,7 +43,7 @@ use Rattle.load_summary.specs.declared.counts.LoadKind.{LoadKind}
 use Rattle.load_summary.specs.declared.counts.LoadKind.TheVariants.{Granted, Renewed, Deleted, Absent, Refused}
 use Rattle.lease_house.specs.declared.routes.Routed.{Routed}
 use Rattle.lease_house.specs.Routings.{routed_by, routed_to}
-use Rattle.house_lines.specs.LoadFindings.{kind_found, kind_told, live_in, was_there}
+use Rattle.house_lines.specs.LoadFindings.{is_met, kind_met, kind_told, live_in, was_there}
 use Rattle.house_lines.specs.LoadEffects.{entry_kind_by, kind_asked, request_kind}
 use Rattle.house_lines.proofs.ResultLemmas.{TellsResult, tells-result}
 use Rattle.house_lines.proofs.CountLemmas.{count_at, dropped-count, granted-count, renewed-count}
@@ -92,7 +92,7 @@ module _ (terms : Terms) (s : State) (m : ℕ) (ask : MapAsk) (text : Answer →
   abbrev IsRight : Decided → Type 0
   IsRight d =
       unwrap_or (kind_by s.table m (text d.answer) d.kept) Refused
-      ≡ kind_found (was_there deletes live-before (live-after d)) deletes (text d.answer)
+      ≡ cond (is_met (text d.answer)) (kind_met deletes live-before (live-after d)) Refused
 
   abbrev tells-success : Answer → Bool
   tells-success answer = slice_index (text answer) 3 == 0

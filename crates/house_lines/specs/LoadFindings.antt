@@ -17,17 +17,20 @@ live_in house place now = leases_in house place (max now (last_in house place))
 abbrev pub was_there : Bool → (before after : ℕ) → Bool
 was_there deletes before after = if deletes then nat_lt after before else after == before
 
--- how it counts, where octet 3 of the reply tells a success
-abbrev pub kind_found : (there deletes : Bool) → List ℕ → LoadKind
-kind_found there deletes reply = if slice_index reply 3 == 0
-    then (if deletes then (if there then Deleted else Absent)
-    else (if there then Renewed else Granted))
-    else Refused
+-- whether octet 3 of a reply tells a success
+abbrev pub is_met : List ℕ → Bool
+is_met reply = slice_index reply 3 == 0
+
+-- how what was met counts
+abbrev pub kind_met : (deletes : Bool) → (before after : ℕ) → LoadKind
+kind_met deletes before after = if deletes
+    then (if was_there deletes before after then Deleted else Absent)
+    else (if was_there deletes before after then Renewed else Granted)
 
 -- what isn't a MAP request counts as refused
 abbrev pub kind_told : Ask → (before after : ℕ) → List ℕ → LoadKind
 kind_told (Asks.Map ask) before after reply =
-    kind_found (was_there (ask.lifetime == 0) before after) (ask.lifetime == 0) reply
+    if is_met reply then kind_met (ask.lifetime == 0) before after else Refused
 kind_told (Asks.Known refusal) before after reply = Refused
 kind_told Asks.Announce before after reply = Refused
 kind_told (Asks.Peer ask) before after reply = Refused

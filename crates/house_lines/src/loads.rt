@@ -1,11 +1,11 @@
 //! A house on one thread serves the requests of a load.
 ghost use Rattle.std.specs.Prelude.{◌≡◌, max};
-ghost use Rattle.house_lines.specs.LoadFindings.{kind_told, was_there};
+ghost use Rattle.house_lines.specs.LoadFindings.{is_met, kind_met, was_there};
 
 use crate::lines::HouseLines;
 use crate::seen::SeenHouse;
 use lease_disk::LeaseDisk;
-use lease_house::read_datagram;
+use lease_house::{Routed, read_datagram};
 use load_player::{LoadAnswerer, LoadReply};
 use load_summary::LoadKind;
 use pcp_base::{Ask, Datagram, Memory, Moment, Octets};
@@ -24,24 +24,24 @@ fn was_there(deletes: bool, before: u32, after: u32) -> bool
     }
 }
 
-/// How a request counts, by how many leases were live before it and after it, and by its reply. So
-/// no lease is looked up a second time.
-fn kind_told(ask: &Ask, before: u32, after: u32, reply: &[u8]) -> LoadKind
-    ensures { result ≡ kind_told ask.now before after reply.now }
+/// How a request that was met counts, by how many leases were live before it and after it. So no
+/// lease is looked up a second time.
+fn kind_met(deletes: bool, before: u32, after: u32) -> LoadKind
+    ensures { result ≡ kind_met deletes before after }
 {
-    let Ask::Map(ask) = ask else {
-        return LoadKind::Refused;
-    };
-    if reply.get(3).is_some_and(|code| *code != 0) {
-        return LoadKind::Refused;
-    }
-    let deletes = ask.lifetime == 0;
     match (deletes, was_there(deletes, before, after)) {
         (true, true) => LoadKind::Deleted,
         (true, false) => LoadKind::Absent,
         (false, true) => LoadKind::Renewed,
         (false, false) => LoadKind::Granted,
     }
+}
+
+/// Whether a reply tells that a request was met.
+fn is_met(reply: &[u8]) -> bool
+    ensures { result ≡ is_met reply.now }
+{
+    reply.get(3).is_none_or(|code| *code == 0)
 }
 
 /// The greater of two moments.
@@ -54,7 +54,7 @@ fn later(m: Moment, other: Moment) -> Moment
 impl<D: LeaseDisk + Drop> HouseLines<D> {
     ghost use Rattle.std.specs.Prelude.{◌<◌, ◌≤◌, length};
     ghost use Rattle.lease_house.specs.SoloHouses.{plain_house};
-    ghost use Rattle.house_lines.specs.LoadFindings.{live_in};
+    ghost use Rattle.house_lines.specs.LoadFindings.{kind_told, live_in};
     ghost use Rattle.house_lines.specs.Rests.{IsAtRest};
 
     /// How many leases of an external address are live when a request comes at this moment.
@@ -65,6 +65,24 @@ impl<D: LeaseDisk + Drop> HouseLines<D> {
     {
         let m = later(now, self.house().last(place));
         self.house().leases(place, m)
+    }
+
+    /// How a request counts that came at `now`, when so many leases were live, and that was told this.
+    /// They are counted again only where it was met.
+    fn kind_of(&self, request: &Routed, now: Moment, before: u32, reply: &[u8]) -> LoadKind
+        requires place { request.now.place < length self.now.config.externals }
+        requires rests { IsAtRest D.tells D.seen D.may_leave self.now }
+        ensures { result ≡ kind_told request.now.ask before
+            (live_in (plain_house self.now) request.now.place now) reply.now }
+    {
+        let Ask::Map(ask) = &request.ask else {
+            return LoadKind::Refused;
+        };
+        if !is_met(reply) {
+            return LoadKind::Refused;
+        }
+        let after = self.live_at(request.place, now);
+        kind_met(ask.lifetime == 0, before, after)
     }
 
     /// How many external addresses there are, at most 16.
@@ -115,9 +133,8 @@ impl<D: LeaseDisk + Drop> LoadAnswerer for HouseLines<D> {
         };
         let before = self.live_at(read.place, now);
         let octets = self.reply_read(alloc, request, &read, now)?;
-        let after = self.live_at(read.place, now);
         Ok(LoadReply {
-            kind: kind_told(&read.ask, before, after, octets.items()),
+            kind: self.kind_of(&read, now, before, octets.items()),
             octets,
         })
     }
