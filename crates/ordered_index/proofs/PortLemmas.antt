@@ -1,25 +1,22 @@
 -- Slots by ports, and the map that they stand for.
-use Rattle.std.proofs.Common.{◌≡◌, ◌≢◌, ℕ, ◌+◌, ◌-◌, ◌*◌, ◌/◌, ◌%◌, ◌<◌, ◌≤◌, ◌==◌, Bool, true, false, not, cond, nat_lt, List, [], length, slice_set, Option, Some, None, IsSome, refl, sym, ap, ◌∙◌, subst, arith, inl, inr, get_or-set_other, get_or-set_same}
+use Rattle.std.proofs.Common.{◌≡◌, ℕ, ◌+◌, ◌-◌, ◌%◌, ◌<◌, ◌≤◌, ◌==◌, Bool, true, false, cond, nat_lt, List, [], length, slice_set, Option, Some, None, IsSome, refl, sym, ap, ◌∙◌, subst, arith, inl, inr, get_or-set_other, get_or-set_same}
 use Rattle.std.specs.Prelude.{slice_index}
-use Rattle.std.specs.Option.{option_map}
 use Rattle.std.specs.List.Sorted.{IsStrictlySortedBy}
-use Rattle.std.specs.Map.{keys_of, remove_entry}
-use Rattle.std.specs.Ordering.{nat_cmp, is_gt, is_lt, is_eq, ordering_then, ordering_reverse}
-use Rattle.std.specs.declared.cmp.Ordering.{Ordering}
+use Rattle.std.specs.Map.{remove_entry}
+use Rattle.std.specs.Ordering.{nat_cmp, is_gt, is_lt, is_eq, ordering_then}
 use Rattle.std.specs.declared.cmp.Ordering.TheVariants.{Less, Equal, Greater}
 use Rattle.std.specs.Cmp.{nat_cmp_total}
-use Rattle.std.specs.BTreeMap.{BTreeMap, IsOrdered, get, is_at, insert_entry}
+use Rattle.std.specs.BTreeMap.{BTreeMap, get, is_at, insert_entry}
 use Rattle.std.proofs.lemmas.Bool.{cases_lt, cases_eq, lt-ltb, ltb-true, ltb-false}
-use Rattle.std.proofs.lemmas.Bool.Decides.{nat_tests}
 use Rattle.std.proofs.lemmas.Cmp.{tied_itself}
 use Rattle.std.proofs.lemmas.List.{length-set}
-use Rattle.std.proofs.lemmas.Map.Keys.{le_from_not_gt, ge_from_not_lt}
+use Rattle.std.proofs.lemmas.Map.Keys.{le_from_not_gt}
 use Rattle.pcp_base.specs.declared.leases.Protocol.{Protocol}
 use Rattle.pcp_base.specs.declared.leases.Protocol.TheVariants.{Tcp, Udp}
 use Rattle.ordered_index.specs.Marks.{is_marked, IsLastPass, IsLastUpTo, Marks}
 use Rattle.ordered_index.specs.MapSteps.{HasEntry, Inserts, IsBlankMap, Moves, Removes}
-use Rattle.ordered_index.specs.Orders.{port_at, port_cmp, port_total, IsLast}
-use Rattle.ordered_index.specs.PortSlots.{ArePortSlots, IsLastSlot, map_of, noted, port_of, slot_if, slot_of}
+use Rattle.ordered_index.specs.Orders.{port_at, port_cmp, port_total}
+use Rattle.ordered_index.specs.PortSlots.{ArePortSlots, IsLastSlot, noted, port_of, slot_if, slot_of}
 use Rattle.ordered_index.specs.declared.marks.TheConstants.{MOST_MARKS}
 use Rattle.ordered_index.specs.declared.slots.TheConstants.{MOST_SLOTS}
 use Rattle.ordered_index.proofs.Entries.{false_by, greater, is_at-nat, number_other, number_same}

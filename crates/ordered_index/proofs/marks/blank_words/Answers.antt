@@ -1,6 +1,3 @@
-use Rattle.std.proofs.Common.{ℕ, ap, ◌∙◌, replicate}
-use Rattle.std.specs.Prelude.{slice_index}
-use Rattle.std.proofs.lemmas.List.{length-replicate}
 use Rattle.ordered_index.proofs.MarkLemmas.{all_blank}
 use Rattle.ordered_index.proofs.marks.blank_words.Goals as goal
 

@@ -1,4 +1,3 @@
-use Rattle.std.proofs.Common.{arith}
 use Rattle.ordered_index.proofs.MarkLemmas.{summed_on}
 use Rattle.ordered_index.proofs.marks.set_mark.Goals as goal
 
