@@ -1,7 +1,7 @@
 -- Fields of a message, octet by octet.
 use Rattle.std.specs.Int.{to_be_bytes, w16, w32}
 use Rattle.std.proofs.Common.{◌≡◌, ℕ, zero, suc, ◌+◌, ◌^◌, ◌<◌, ◌≤◌, List, [], ◌∷◌, ◌++◌, length, take, drop, replicate, min, nat_le, true, false, refl, ap, sym, ◌∙◌, arith, add-zero, zero-add, add-one}
-use Rattle.std.proofs.lemmas.List.{get_or-drop}
+use Rattle.std.proofs.lemmas.List.{append-nil, get_or-drop}
 use Rattle.std.proofs.lemmas.Nat.{be_bytes_2, be_bytes_4}
 use Rattle.pcp_codec.specs.Fields.{octet, octets_at, u16_at, u32_at}
 
@@ -81,6 +81,13 @@ copied message there place start count size rest s t c r =
     let within : count ≤ length there = omega (arith, c) in
     let all : 0 < rest → count ≡ length there = λ some. omega (arith, c, r, some) in
     sym (from ∙ ap (octets_at there 0) whole ∙ cut there count rest within all)
+
+-- octets that are all there
+pub chunk : (message there : List ℕ) (place start n : ℕ) → start ≡ min place (length message) → there ≡ drop start message → n ≤ length there → take n there ≡ octets_at message place n
+chunk message there place start n s t h =
+    let all : n ≡ min (length there) n = omega (arith, h) in
+    let none : 0 + n ≡ n = omega arith in
+    sym (append-nil (take n there)) ∙ copied message there place start n n 0 s t all none
 
 -- one field behind another
 pub octets_at-append : (message : List ℕ) (place a b : ℕ) → octets_at message place (a + b) ≡ octets_at message place a ++ octets_at message (place + a) b

@@ -18,6 +18,18 @@ pub fn octets_of<const N: usize>(message: &[u8], place: usize) -> [u8; N]
     requires { place + N < 2 ^ 64 }
     ensures { result ≡ octets_at message.now place N }
 {
+    let start = place.min(message.len());
+    match message[start..].first_chunk::<N>() {
+        Some(octets) => *octets,
+        None => padded_octets(message, place),
+    }
+}
+
+/// The same where the message may end before.
+fn padded_octets<const N: usize>(message: &[u8], place: usize) -> [u8; N]
+    requires { place + N < 2 ^ 64 }
+    ensures { result ≡ octets_at message.now place N }
+{
     let mut octets = [0u8; N];
     copy_octets(message, place, &mut octets);
     octets
