@@ -1,20 +1,11 @@
 -- The verdict by its parts.
-use Rattle.std.proofs.Common.{◌≡◌, ℕ, ◌≤◌, ◌==◌, Bool, true, false, cond, List, [], ◌++◌, length, drop, Option, Some, None, Ok, Err, unwrap_or, refl, ap, sym, ◌∙◌, subst, arith}
+use Rattle.std.proofs.Common.{◌≡◌, ℕ, ◌≤◌, cond, List, [], ◌++◌, length, drop, Option, Some, None, unwrap_or, refl, ap, sym, ◌∙◌, subst, arith}
 use Rattle.std.proofs.lemmas.List.{length-drop}
 use Rattle.pcp_base.specs.declared.addresses.Address.{Address}
-use Rattle.pcp_base.specs.declared.leases.Endpoint.{Endpoint}
-use Rattle.pcp_base.specs.declared.leases.Filter as Filters
 use Rattle.pcp_base.specs.declared.codes.Code.{Code}
-use Rattle.pcp_base.specs.declared.codes.Code.TheVariants.{MalformedRequest, NotAuthorized}
 use Rattle.pcp_base.specs.declared.asks.Refusal.{Refusal}
-use Rattle.pcp_base.specs.declared.asks.Ask.{Ask}
-use Rattle.pcp_base.specs.declared.asks.Ask.TheVariants as Asks
 use Rattle.pcp_base.specs.declared.configs.Config.{Config}
 use Rattle.pcp_base.specs.Cases.{first_case}
-use Rattle.pcp_base.specs.Pairing.{place_of}
-use Rattle.pcp_codec.specs.declared.requests.Common.{Common}
-use Rattle.pcp_codec.specs.declared.requests.Body.{Body}
-use Rattle.pcp_codec.specs.declared.requests.Body.TheVariants.{Announce, Map, Peer}
 use Rattle.pcp_codec.specs.declared.requests.Frame.{Frame}
 use Rattle.pcp_codec.specs.declared.requests.Framed.TheVariants as Framed
 use Rattle.pcp_codec.specs.Requests.{frame_of}
@@ -24,12 +15,12 @@ use Rattle.pcp_codec.proofs.FramingLemmas.{framed_silent, framed_refused, framed
 use Rattle.pcp_options.specs.declared.options.Item.{Item}
 use Rattle.pcp_options.specs.declared.options.Seen.{Seen}
 use Rattle.pcp_options.specs.declared.verdicts.Verdict.{Verdict}
-use Rattle.pcp_options.specs.declared.verdicts.Verdict.TheVariants.{Silent, Refuse, Asked}
+use Rattle.pcp_options.specs.declared.verdicts.Verdict.TheVariants.{Silent, Refuse}
 use Rattle.pcp_options.specs.Options.{found_in, items_of}
 use Rattle.pcp_options.specs.Steps.{options_steps}
-use Rattle.pcp_options.specs.Asking.{third_of, seen_of, filters_of, subject_of, endpoint_of, map_ask, peer_ask, ask_by, with_filters}
+use Rattle.pcp_options.specs.Asking.{third_of, seen_of, subject_of}
 use Rattle.pcp_base.specs.Refusals.{parsed}
-use Rattle.pcp_options.specs.Verdicts.{IsFrameOf, options_in, third_steps, later_steps, asked_by, asked_for, verdict_by, verdict_of}
+use Rattle.pcp_options.specs.Verdicts.{IsFrameOf, options_in, third_steps, later_steps, asked_for, verdict_by, verdict_of}
 
 -- the data of the opcode is there
 pub frame-room : (frame : Frame) (octets : List ℕ) → IsFrameOf frame octets → frame.options ≤ length octets
@@ -113,52 +104,3 @@ pub steps-pass : (config : Config) (source : Address) (frame : Frame) (items : L
 steps-pass config source frame items seen subject s t u =
     sym (ap (verdict_by config source frame items) t
     ∙ ap (asked_for config frame items) (ap (λ x. subject_of source x.third) (sym s) ∙ subject-by source seen.third ∙ sym u))
-
-map-err : (lifetime : ℕ) (c : Common) (seen : Seen) (fs : List Filters.Filter) (code : Code) (e : Option Endpoint) → map_ask lifetime c seen [] e ≡ Err code → map_ask lifetime c seen fs e ≡ Err code
-map-err lifetime c seen fs code None h = h
-map-err lifetime c seen fs code (Some e) h = absurd cc
-
-ask-err : (address : Address) (lifetime : ℕ) (body : Body) (seen : Seen) (fs : List Filters.Filter) (code : Code) → ask_by address lifetime body seen [] ≡ Err code → ask_by address lifetime body seen fs ≡ Err code
-ask-err address lifetime Announce seen fs code h = h
-ask-err address lifetime (Map c) seen fs code h = map-err lifetime c seen fs code (endpoint_of address c) h
-ask-err address lifetime (Peer c port remote) seen fs code h = h
-
-map-ok : (lifetime : ℕ) (c : Common) (seen : Seen) (fs : List Filters.Filter) (ask : Ask) (e : Option Endpoint) → map_ask lifetime c seen [] e ≡ Ok ask → map_ask lifetime c seen fs e ≡ Ok (with_filters ask fs)
-map-ok lifetime c seen fs ask None h = absurd cc
-map-ok lifetime c seen fs ask (Some e) h =
-    let same : Asks.Map (record { endpoint = e; nonce = c.nonce; lifetime = lifetime; port = c.external; address = c.address; prefer = seen.prefers; set = seen.set; filters = [] }) ≡ ask = cc in
-    ap (λ a. Ok (with_filters a fs)) same
-
-peer-by : (ask : Ask) (fs : List Filters.Filter) (p : Ask) (b : Bool) → with_filters p fs ≡ p → cond b (Err MalformedRequest) (Ok p) ≡ Ok ask → cond b (Err MalformedRequest) (Ok p) ≡ Ok (with_filters ask fs)
-peer-by ask fs p true same h = absurd cc
-peer-by ask fs p false same h = let e : p ≡ ask = cc in ap Ok (sym same ∙ ap (λ a. with_filters a fs) e)
-
-peer-ok : (lifetime : ℕ) (c : Common) (port : ℕ) (remote : Address) (fs : List Filters.Filter) (ask : Ask) (e : Option Endpoint) → peer_ask lifetime c port remote e ≡ Ok ask → peer_ask lifetime c port remote e ≡ Ok (with_filters ask fs)
-peer-ok lifetime c port remote fs ask None h = absurd cc
-peer-ok lifetime c port remote fs ask (Some e) h =
-    peer-by ask fs (Asks.Peer (record { endpoint = e; nonce = c.nonce; lifetime = lifetime; port = c.external; address = c.address; remote = remote; remote_port = port })) (port == 0) refl h
-
-ask-ok : (address : Address) (lifetime : ℕ) (body : Body) (seen : Seen) (fs : List Filters.Filter) (ask : Ask) → ask_by address lifetime body seen [] ≡ Ok ask → ask_by address lifetime body seen fs ≡ Ok (with_filters ask fs)
-ask-ok address lifetime Announce seen fs ask h = let e : Asks.Announce ≡ ask = cc in ap (λ a. Ok (with_filters a fs)) e
-ask-ok address lifetime (Map c) seen fs ask h = map-ok lifetime c seen fs ask (endpoint_of address c) h
-ask-ok address lifetime (Peer c port remote) seen fs ask h = peer-ok lifetime c port remote fs ask (endpoint_of address c) h
-
--- what can't be asked for
-pub asking-refused : (config : Config) (frame : Frame) (items : List Item) (seen : Seen) (subject : Address) (code : Code) → seen ≡ seen_of items → ask_by subject frame.lifetime frame.body seen [] ≡ Err code → Refuse (parsed code) ≡ asked_for config frame items subject
-asking-refused config frame items seen subject code s h =
-    sym (ap (λ a. asked_by items a (place_of config.subscribers subject))
-    (ask-err subject frame.lifetime frame.body (seen_of items) (filters_of items) code (ap (λ x. ask_by subject frame.lifetime frame.body x []) (sym s) ∙ h)))
-
-asking-ok : (config : Config) (frame : Frame) (items : List Item) (seen : Seen) (subject : Address) (ask : Ask) (place : Option ℕ) → seen ≡ seen_of items → ask_by subject frame.lifetime frame.body seen [] ≡ Ok ask → place_of config.subscribers subject ≡ place → asked_by items (Ok (with_filters ask (filters_of items))) place ≡ asked_for config frame items subject
-asking-ok config frame items seen subject ask place s h p =
-    sym (ap (λ a. asked_by items a (place_of config.subscribers subject))
-    (ask-ok subject frame.lifetime frame.body (seen_of items) (filters_of items) ask (ap (λ x. ask_by subject frame.lifetime frame.body x []) (sym s) ∙ h))
-    ∙ ap (asked_by items (Ok (with_filters ask (filters_of items)))) p)
-
--- no subscriber row holds the address
-pub asking-unpaired : (config : Config) (frame : Frame) (items : List Item) (seen : Seen) (subject : Address) (ask : Ask) → seen ≡ seen_of items → ask_by subject frame.lifetime frame.body seen [] ≡ Ok ask → place_of config.subscribers subject ≡ None → Refuse (parsed NotAuthorized) ≡ asked_for config frame items subject
-asking-unpaired config frame items seen subject ask s h p = asking-ok config frame items seen subject ask None s h p
-
--- it is asked
-pub asking-asked : (config : Config) (frame : Frame) (items : List Item) (seen : Seen) (subject : Address) (ask : Ask) (place : ℕ) → seen ≡ seen_of items → ask_by subject frame.lifetime frame.body seen [] ≡ Ok ask → place_of config.subscribers subject ≡ Some place → Asked place (with_filters ask (filters_of items)) items ≡ asked_for config frame items subject
-asking-asked config frame items seen subject ask place s h p = asking-ok config frame items seen subject ask (Some place) s h p

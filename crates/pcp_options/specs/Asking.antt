@@ -97,8 +97,3 @@ ask_by address lifetime (Peer c port remote) seen filters =
 -- what is asked for an address, or the code of what can't be asked for
 abbrev pub ask_of : Address → Frame → List Item → Result Ask Code
 ask_of address frame items = ask_by address frame.lifetime frame.body (seen_of items) (filters_of items)
-
--- the ask with these filters, where it is for MAP
-abbrev pub with_filters : Ask → List Filters.Filter → Ask
-with_filters (Asks.Map ask) filters = Asks.Map (record ask { filters = filters })
-with_filters ask filters = ask

@@ -2,19 +2,19 @@
 ghost use Rattle.std.specs.Prelude.{◌≡◌, ◌≤◌, Option, Some, None, [], Result, Ok, Err, length, option_map, if◌then◌else◌, IfOk, OnErr};
 ghost use Rattle.std.specs.List.{list_any};
 ghost use Rattle.pcp_base.specs.Cases.{first_case};
-ghost use Rattle.pcp_base.specs.Pairing.{holds};
+ghost use Rattle.pcp_base.specs.Pairing.{holds, place_of};
 ghost use Rattle.pcp_base.specs.Refusals.{unparsed};
-ghost use Rattle.pcp_options.specs.Asking.{ask_by, endpoint_of, seen_of, with_filters};
+ghost use Rattle.pcp_options.specs.Asking.{endpoint_of, filters_of, map_ask, peer_ask, seen_of};
 ghost use Rattle.pcp_options.specs.Options.{found_in, items_of};
 ghost use Rattle.pcp_base.specs.Refusals.{parsed};
 ghost use Rattle.pcp_options.specs.declared.slots.TheConstants.{MOST_OPTION_OCTETS};
-ghost use Rattle.pcp_options.specs.Verdicts.{IsAsked, asked_for, later_steps, third_steps, verdict_by, verdict_of};
+ghost use Rattle.pcp_options.specs.Verdicts.{IsAsked, asked_by, asked_for, later_steps, third_steps, verdict_by, verdict_of};
 
 use crate::options::{Item, Items, Seen, check_options, collect_filters, options_text};
 use crate::slots::ItemSlots;
 use pcp_base::{
-    Address, Ask, Code, Config, Endpoint, Filter, FilterList, MapAsk, Memory, PeerAsk, Protocol,
-    Refusal, pair,
+    Address, Ask, Code, Config, Endpoint, FilterList, MapAsk, Memory, PeerAsk, Protocol, Refusal,
+    pair,
 };
 use pcp_codec::{Body, Common, Frame, Framed, read_request};
 use std::alloc::Global;
@@ -146,17 +146,82 @@ fn judge_asking(
         ≡ asked_for config.now frame.now items.now subject) }
     ensures memory { OnErr result (IsAsked (asked_for config.now frame.now items.now subject)) }
 {
-    let ask = match ask_without_filters(alloc, subject, frame, seen) {
-        Ok(ask) => ask,
-        Err(code) => return Ok(Verdict::Refuse(refusal(code, true))),
+    match &frame.body {
+        Body::Announce => judge_ask(alloc, config, Ask::Announce, items, &subject),
+        Body::Map(common) => {
+            judge_map(alloc, config, frame.lifetime, common, seen, items, subject)
+        }
+        Body::Peer {
+            common,
+            remote_port,
+            remote,
+        } => match peer_asked(frame.lifetime, common, *remote_port, *remote, subject) {
+            Ok(ask) => judge_ask(alloc, config, ask, items, &subject),
+            Err(code) => Ok(Verdict::Refuse(refusal(code, true))),
+        },
+    }
+}
+
+/// The verdict on a MAP request for this address.
+fn judge_map(
+    alloc: Global,
+    config: &Config,
+    lifetime: u32,
+    common: &Common,
+    seen: &Seen,
+    items: &[Item],
+    subject: Address,
+) -> Result<Verdict, Memory>
+    ensures ok { IfOk result (λ verdict. verdict ≡ asked_by items.now
+        (map_ask lifetime common.now seen.now (filters_of items.now) (endpoint_of subject common.now))
+        (place_of config.now.subscribers subject)) }
+    ensures memory { OnErr result (IsAsked (asked_by items.now
+        (map_ask lifetime common.now seen.now (filters_of items.now) (endpoint_of subject common.now))
+        (place_of config.now.subscribers subject))) }
+{
+    let Some(endpoint) = endpoint_in(subject, common) else {
+        return Ok(Verdict::Refuse(refusal(Code::UnsuppProtocol, true)));
     };
     let Some(shard) = pair(config, &subject) else {
         return Ok(Verdict::Refuse(refusal(Code::NotAuthorized, true)));
     };
     let filters = collect_filters(alloc, items)?;
+    let items = items.to_vec(alloc)?;
     Ok(Verdict::Asked {
         shard,
-        ask: ask_with(ask, filters),
+        ask: Ask::Map(MapAsk {
+            endpoint,
+            nonce: common.nonce,
+            lifetime,
+            port: common.external,
+            address: common.address,
+            prefer: seen.prefers,
+            set: seen.set,
+            filters: FilterList::of(filters),
+        }),
+        items: Items::of(items),
+    })
+}
+
+/// The verdict on what can be asked for an address, where it has no filters.
+fn judge_ask(
+    alloc: Global,
+    config: &Config,
+    ask: Ask,
+    items: &[Item],
+    subject: &Address,
+) -> Result<Verdict, Memory>
+    ensures ok { IfOk result (λ verdict. verdict
+        ≡ asked_by items.now (Ok ask) (place_of config.now.subscribers subject.now)) }
+    ensures memory { OnErr result (IsAsked (asked_by items.now (Ok ask)
+        (place_of config.now.subscribers subject.now))) }
+{
+    let Some(shard) = pair(config, subject) else {
+        return Ok(Verdict::Refuse(refusal(Code::NotAuthorized, true)));
+    };
+    Ok(Verdict::Asked {
+        shard,
+        ask,
         items: Items::of(items.to_vec(alloc)?),
     })
 }
@@ -212,65 +277,30 @@ fn endpoint_in(address: Address, common: &Common) -> Option<Endpoint>
     })
 }
 
-/// What a request asks for, still without its filters, or the code of what can't be asked for.
-fn ask_without_filters(
-    alloc: Global,
+/// What a PEER request asks for, or the code of what can't be asked for.
+fn peer_asked(
+    lifetime: u32,
+    common: &Common,
+    remote_port: u16,
+    remote: Address,
     address: Address,
-    frame: &Frame,
-    seen: &Seen,
 ) -> Result<Ask, Code>
-    ensures { result ≡ ask_by address frame.now.lifetime frame.now.body seen.now [] }
+    ensures { result
+        ≡ peer_ask lifetime common.now remote_port remote (endpoint_of address common.now) }
 {
-    match &frame.body {
-        Body::Announce => Ok(Ask::Announce),
-        Body::Map(common) => {
-            let Some(endpoint) = endpoint_in(address, common) else {
-                return Err(Code::UnsuppProtocol);
-            };
-            Ok(Ask::Map(MapAsk {
-                endpoint,
-                nonce: common.nonce,
-                lifetime: frame.lifetime,
-                port: common.external,
-                address: common.address,
-                prefer: seen.prefers,
-                set: seen.set,
-                filters: FilterList::of(Vec::new(alloc)),
-            }))
-        }
-        Body::Peer {
-            common,
-            remote_port,
-            remote,
-        } => {
-            let Some(endpoint) = endpoint_in(address, common) else {
-                return Err(Code::UnsuppProtocol);
-            };
-            if *remote_port == 0 {
-                return Err(Code::MalformedRequest);
-            }
-            Ok(Ask::Peer(PeerAsk {
-                endpoint,
-                nonce: common.nonce,
-                lifetime: frame.lifetime,
-                port: common.external,
-                address: common.address,
-                remote: *remote,
-                remote_port: *remote_port,
-            }))
-        }
+    let Some(endpoint) = endpoint_in(address, common) else {
+        return Err(Code::UnsuppProtocol);
+    };
+    if remote_port == 0 {
+        return Err(Code::MalformedRequest);
     }
-}
-
-/// The ask with these filters, where it is for MAP.
-fn ask_with(ask: Ask, filters: Vec<Filter>) -> Ask
-    ensures { result ≡ with_filters ask filters.items }
-{
-    match ask {
-        Ask::Map(map) => Ask::Map(MapAsk {
-            filters: FilterList::of(filters),
-            ..map
-        }),
-        other => other,
-    }
+    Ok(Ask::Peer(PeerAsk {
+        endpoint,
+        nonce: common.nonce,
+        lifetime,
+        port: common.external,
+        address: common.address,
+        remote,
+        remote_port,
+    }))
 }
