@@ -1,7 +1,8 @@
 //! The replies to requests (RFC 6887, sections 7.2, 8.2, 11.1, 12.1, 13 and 14.1).
-ghost use Rattle.std.specs.Prelude.{◌≡◌, ◌≤◌, ◌++◌, length, ◌∷◌, OnOk, OnErr, option_map, map, replicate, flat_map};
+ghost use Rattle.std.specs.Prelude.{◌≡◌, ◌+◌, ◌≤◌, ◌++◌, length, [], ◌∷◌, OnOk, OnErr, option_map, map, replicate, flat_map};
 ghost use Rattle.std.specs.Int.{to_be_bytes, w16};
 ghost use Rattle.pcp_codec.specs.Replies.{head};
+ghost use Rattle.pcp_codec.specs.Requests.{data_length};
 ghost use Rattle.pcp_options.specs.declared.options.Item.TheVariants as Items;
 ghost use Rattle.pcp_options.specs.Options.{option_of, option_text, options_text};
 ghost use Rattle.pcp_options.specs.Replies.{assigned, assigned_common, body_text, common_text, opcode_of_body, remote_text, reply_text, success_text, told_items, told_option, told_text};
@@ -10,13 +11,16 @@ use crate::layout::*;
 use crate::options::{Item, Items};
 use pcp_base::{Address, Answer, Ask, Memory, PortSet};
 use pcp_codec::{
-    ANNOUNCE_OPCODE, Body, Common, HEAD_OCTETS, MAP_OPCODE, PEER_OCTETS, PEER_OPCODE, read_body,
-    write_head, write_refusal,
+    ANNOUNCE_OPCODE, Body, Common, HEAD_OCTETS, MAP_OCTETS, MAP_OPCODE, PEER_OCTETS, PEER_OPCODE,
+    read_body, write_head, write_refusal,
 };
 use std::alloc::{AllocError, Global};
 
 /// How many octets a message without options has at most: the header, and the data of PEER.
 const PLAIN_OCTETS: usize = HEAD_OCTETS + PEER_OCTETS;
+
+/// How many octets a success of MAP without options has.
+const MAP_SUCCESS_OCTETS: usize = HEAD_OCTETS + MAP_OCTETS;
 
 /// How many octets a processed option has at most: its head, and the data of FILTER.
 const LONGEST_OPTION: usize = OPTION_HEAD_OCTETS + FILTER_OCTETS;
@@ -110,6 +114,9 @@ pub fn write_success(
         ≡ out.old.items ++ success_text lifetime epoch body.now (told_items set items.now)) }
     ensures err { OnErr result (out.new.items ≡ out.old.items) }
 {
+    if items.is_empty() {
+        return write_plain(out, lifetime, epoch, body);
+    }
     // Room for the whole reply at once: its pieces are short and many.
     let mut text = Vec::with_capacity(alloc, room_for(items))?;
     push_head(&mut text, opcode_of_body(body), lifetime, epoch)?;
@@ -139,6 +146,111 @@ pub fn write_success_with(
     push_all(&mut text, items)?;
     out.extend_from_slice(&text)?;
     Ok(())
+}
+
+/// The same for a success without options, which most are: it needs no list of its own.
+fn write_plain(out: &mut Vec<u8>, lifetime: u32, epoch: u32, body: &Body) -> Result<(), Memory>
+    ensures ok { OnOk result (out.new.items
+        ≡ out.old.items ++ success_text lifetime epoch body.now []) }
+    ensures err { OnErr result (out.new.items ≡ out.old.items) }
+{
+    match body {
+        Body::Announce => append_plain::<HEAD_OCTETS>(out, lifetime, epoch, body),
+        Body::Map(_) => append_plain::<MAP_SUCCESS_OCTETS>(out, lifetime, epoch, body),
+        Body::Peer { .. } => append_plain::<PLAIN_OCTETS>(out, lifetime, epoch, body),
+    }
+}
+
+/// Appends a success of `N` octets, which is put together in an array.
+fn append_plain<const N: usize>(
+    out: &mut Vec<u8>,
+    lifetime: u32,
+    epoch: u32,
+    body: &Body,
+) -> Result<(), Memory>
+    requires { N ≡ HEAD_OCTETS + data_length (opcode_of_body body.now) }
+    ensures ok { OnOk result (out.new.items
+        ≡ out.old.items ++ success_text lifetime epoch body.now []) }
+    ensures err { OnErr result (out.new.items ≡ out.old.items) }
+{
+    let mut text = [0; N];
+    fill_plain(&mut text, lifetime, epoch, body);
+    out.extend_from_slice(&text)?;
+    Ok(())
+}
+
+/// Writes a success without options over a piece of its length.
+fn fill_plain(text: &mut [u8], lifetime: u32, epoch: u32, body: &Body)
+    requires { length text.old ≡ HEAD_OCTETS + data_length (opcode_of_body body.now) }
+    ensures { text.new ≡ success_text lifetime epoch body.now [] }
+{
+    let mut head = [0; HEAD_OCTETS];
+    write_head(
+        &mut head,
+        opcode_of_body(body),
+        0,
+        lifetime,
+        epoch,
+        &[0; 12],
+    );
+    let (front, data) = text.split_at_mut(HEAD_OCTETS);
+    front.copy_from_slice(&head);
+    fill_body(data, body);
+}
+
+/// Writes the data of an opcode over a piece of its length.
+fn fill_body(piece: &mut [u8], body: &Body)
+    requires { length piece.old ≡ data_length (opcode_of_body body.now) }
+    ensures { piece.new ≡ body_text body.now }
+{
+    match body {
+        Body::Announce => {}
+        Body::Map(common) => fill_common(piece, common),
+        Body::Peer {
+            common,
+            remote_port,
+            remote,
+        } => {
+            let (front, behind) = piece.split_at_mut(MAP_OCTETS);
+            fill_common(front, common);
+            fill_remote(behind, *remote_port, remote);
+        }
+    }
+}
+
+fn fill_common(piece: &mut [u8], common: &Common)
+    requires { length piece.old ≡ MAP_OCTETS }
+    ensures { piece.new ≡ common_text common.now }
+{
+    let (nonce, rest) = piece.split_at_mut(12);
+    let (fields, address) = rest.split_at_mut(8);
+    nonce.copy_from_slice(&common.nonce.0);
+    fill_fields(fields, common);
+    address.copy_from_slice(&common.address.0);
+}
+
+/// Writes the protocol and the ports over a piece of 8 octets.
+fn fill_fields(fields: &mut [u8], common: &Common)
+    requires { length fields.old ≡ 8 }
+    ensures { fields.new ≡ common.now.protocol ∷ 0 ∷ 0 ∷ 0
+        ∷ to_be_bytes w16 common.now.internal ++ to_be_bytes w16 common.now.external }
+{
+    let (protocol, ports) = fields.split_at_mut(4);
+    let (internal, external) = ports.split_at_mut(2);
+    protocol.copy_from_slice(&[common.protocol, 0, 0, 0]);
+    internal.copy_from_slice(&common.internal.to_be_bytes());
+    external.copy_from_slice(&common.external.to_be_bytes());
+}
+
+fn fill_remote(piece: &mut [u8], port: u16, remote: &Address)
+    requires { length piece.old ≡ 20 }
+    ensures { piece.new ≡ remote_text port remote.now }
+{
+    let (number, rest) = piece.split_at_mut(2);
+    let (reserved, address) = rest.split_at_mut(2);
+    number.copy_from_slice(&port.to_be_bytes());
+    reserved.fill(0);
+    address.copy_from_slice(&remote.0);
 }
 
 /// How many octets a message with these options has at most.
