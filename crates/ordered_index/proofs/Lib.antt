@@ -16,4 +16,5 @@ pub mod Keeping
 pub mod Endings
 pub mod FirstAndRest
 pub mod PlaceCounts
+pub mod FilledBuckets
 pub mod PutCounts

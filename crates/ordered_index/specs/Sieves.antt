@@ -1,6 +1,7 @@
 -- How many places fall on each of some buckets (our own; for proofs alone).
-use Rattle.std.specs.Prelude.{ℕ, ◌+◌, ◌-◌, ◌*◌, ◌/◌, ◌%◌, ◌^◌, min, nat_lt, if◌then◌else◌, List, replicate, slice_index, slice_set}
+use Rattle.std.specs.Prelude.{◌≡◌, ℕ, ◌+◌, ◌-◌, ◌*◌, ◌/◌, ◌%◌, ◌^◌, ◌<◌, ◌==◌, min, nat_lt, not, if◌then◌else◌, List, length, replicate, slice_index, slice_set}
 use Rattle.std.specs.Int.{w128, from_be_bytes}
+use Rattle.ordered_index.specs.Marks.{is_marked}
 use Rattle.ordered_index.specs.Orders.{Place}
 use Rattle.ordered_index.specs.declared.places.TheConstants.{MIXER}
 use Rattle.ordered_index.specs.declared.sieves.TheConstants.{BUCKETS}
@@ -29,3 +30,8 @@ with_place bucket counts = slice_set counts bucket (one_more (slice_index counts
 
 abbrev pub without_place : ℕ → List ℕ → List ℕ
 without_place bucket counts = slice_set counts bucket (one_less (slice_index counts bucket))
+
+-- the marks are those of the buckets that places fall on
+pub record AreFilled (counts marks : List ℕ) : Type 0 where
+  pub all : length counts ≡ BUCKETS
+  pub tells : (b : ℕ) → b < BUCKETS → is_marked marks b ≡ not (slice_index counts b == 0)

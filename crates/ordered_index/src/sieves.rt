@@ -3,6 +3,7 @@
 ghost use Rattle.std.specs.Prelude.{◌≡◌, IfOk, replicate, slice_index};
 ghost use Rattle.ordered_index.specs.Sieves.{bucket_of, no_places, with_place, without_place};
 
+use crate::marks::MarkSet;
 use crate::places::Place;
 use std::alloc::{AllocError, Global};
 use std::marker::Model;
@@ -14,17 +15,19 @@ pub(crate) const BUCKETS: usize = 131_072;
 #[derive(Drop)]
 pub struct Sieve {
     counts: Vec<u8>,
+    /// The buckets that places fall on. Most look-ups end here, so these bits stay near.
+    filled: MarkSet,
 }
 
 impl Model for Sieve {
-    ghost use Rattle.std.specs.Prelude.{◌≡◌, ℕ, List, length};
-    ghost use Rattle.ordered_index.specs.declared.sieves.TheConstants.{BUCKETS};
+    ghost use Rattle.std.specs.Prelude.{ℕ, List};
+    ghost use Rattle.ordered_index.specs.Sieves.{AreFilled};
 
     ghost Value = { List ℕ };
 
     ghost view = { λ s. s.counts.items };
 
-    ghost invariant = { λ s. length s.counts.items ≡ BUCKETS };
+    ghost invariant = { λ s. AreFilled s.counts.items s.filled };
 }
 
 fn zeros(alloc: Global, count: usize) -> Result<Vec<u8>, AllocError>
@@ -38,9 +41,9 @@ impl Sieve {
     pub fn new(alloc: Global) -> Result<Sieve, AllocError>
         ensures { IfOk result (λ sieve. sieve ≡ no_places) }
     {
-        Ok(Sieve {
-            counts: zeros(alloc, BUCKETS)?,
-        })
+        let counts = zeros(alloc, BUCKETS)?;
+        let filled = MarkSet::new(alloc)?;
+        Ok(Sieve { counts, filled })
     }
 
     /// Forgets all places. It takes no memory.
@@ -48,6 +51,7 @@ impl Sieve {
         ensures { self.new ≡ no_places }
     {
         self.counts.fill(0);
+        self.filled.clear();
     }
 
     /// How many places fall on this one's bucket, up to 254; 255 tells nothing.
@@ -55,7 +59,11 @@ impl Sieve {
     pub fn count(&self, place: &Place) -> u8
         ensures { result ≡ slice_index self.now (bucket_of place.now) }
     {
-        self.counts[place.bucket()]
+        let bucket = place.bucket();
+        if !self.filled.contains(bucket) {
+            return 0;
+        }
+        self.counts[bucket]
     }
 
     /// One place more.
@@ -65,6 +73,7 @@ impl Sieve {
         let bucket = place.bucket();
         let count = self.counts[bucket];
         self.counts[bucket] = count.saturating_add(1);
+        self.filled.set(bucket, true);
     }
 
     /// One place less.
@@ -75,6 +84,7 @@ impl Sieve {
         let count = self.counts[bucket];
         if count < 255 {
             self.counts[bucket] = count.saturating_sub(1);
+            self.filled.set(bucket, count > 1);
         }
     }
 }

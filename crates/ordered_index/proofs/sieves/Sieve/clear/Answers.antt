@@ -6,5 +6,5 @@ use Rattle.ordered_index.proofs.sieves.Sieve.clear.Goals as goal
 pub returns : goal.returns
 unfolding no_places
 returns c =
-    let all : vec_len c.self.inside.counts ≡ BUCKETS = omega (arith, c.self.invariant) in
+    let all : vec_len c.self.inside.counts ≡ BUCKETS = omega (arith, c.self.invariant.all) in
     c.fill.ensures.items (λ y e. e) ∙ ap (λ n. replicate {A = ℕ} n 0) all
