@@ -90,7 +90,8 @@ fn fall<L: Ledger>(
 }
 
 /// Sees to the first two runs at most that fall due by `m`, where none falls due by `settled` any
-/// more. By the moment that it gives none does then: `m`, where that was all.
+/// more. By the moment that it gives none does then: `m`, where that was all. It looks at nothing
+/// where all was seen to at `m` before, as it is for most requests.
 pub fn see_to_some<L: Ledger>(
     pool: &mut Vacancies,
     wheel: &mut Wheel,
@@ -115,6 +116,9 @@ pub fn see_to_some<L: Ledger>(
     ensures few { steps.new
         ≤ steps.old + 1 + (23 + RUN_STEPS) * due_below m wheel.old PLACES }
 {
+    if settled == m {
+        return m;
+    }
     let mut left = MOST_RUNS;
     while left > 0 {
         if !fall(pool, wheel, ends, m, steps) {

@@ -1,4 +1,5 @@
-use Rattle.std.proofs.Common.{arith}
+use Rattle.std.proofs.Common.{ℕ, subst, arith}
+use Rattle.leased_ports.specs.Falling.{NoneDue}
 use Rattle.leased_ports.proofs.falls.see_to_some.Goals as goal
 
 pub loop-left-init : goal.loop-left-init
@@ -31,3 +32,6 @@ returns-then-not-fall-clause-few g c =
 
 pub returns-clause-few : goal.returns-clause-few
 returns-clause-few g c = let done = c.loop-left.invariant.done in let paid = c.loop-left.invariant.paid in omega (arith, done, paid, c.loop-left-test.false)
+
+pub returns-then-settled-m-clause-late : goal.returns-then-settled-m-clause-late
+returns-then-settled-m-clause-late g c = subst (λ (n : ℕ). NoneDue n c.args.wheel.now) c.if-settled-m.true c.requires.late
