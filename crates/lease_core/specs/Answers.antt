@@ -1,6 +1,6 @@
 -- What decisions on MAP and PEER requests have in common (RFC 6887, section 15; lifetimes of
 -- refusals are our own).
-use Rattle.std.specs.Prelude.{ℕ, ◌+◌, ◌-◌, ◌^◌, ◌==◌, ◌||◌, min, max, nat_le, Bool, true, bytes_eq, replicate, Some, None}
+use Rattle.std.specs.Prelude.{ℕ, ◌+◌, ◌-◌, ◌^◌, ◌==◌, ◌||◌, min, max, nat_le, Bool, true, bytes_eq, replicate, Option, Some, None}
 use Rattle.pcp_base.specs.declared.addresses.Address.{Address}
 use Rattle.pcp_base.specs.declared.codes.Code.{Code}
 use Rattle.pcp_base.specs.declared.codes.Code.TheVariants.{NotAuthorized, NoResources, UserExQuota, CannotProvideExternal}
@@ -9,6 +9,7 @@ use Rattle.pcp_base.specs.declared.leases.MapLease.{MapLease}
 use Rattle.pcp_base.specs.declared.asks.Answer.{Answer}
 use Rattle.pcp_base.specs.declared.asks.Answer.TheVariants.{Refused, Gone}
 use Rattle.pcp_base.specs.declared.records.Change.{Change}
+use Rattle.pcp_base.specs.declared.records.Record.{Record}
 use Rattle.pcp_base.specs.Refusals.{parsed}
 use Rattle.pcp_base.specs.Tables.{Table, same_address}
 use Rattle.pcp_base.specs.Pairing.{v4_octets}
@@ -23,6 +24,10 @@ use Rattle.lease_core.specs.declared.decided.Decided.{Decided}
 -- greatest
 abbrev pub granted_lifetime : Terms → ℕ → ℕ
 granted_lifetime terms asked = min (max asked terms.lifetime_min) terms.lifetime_max
+
+-- an answer, and the record that is left, if any
+abbrev pub decision : Answer → Option Record → Decided
+decision answer kept = record { answer = answer; kept = kept }
 
 -- an answer without a record
 abbrev pub answered : Answer → Decided

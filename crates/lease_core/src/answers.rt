@@ -1,9 +1,8 @@
 //! What decisions on MAP and PEER requests have in common.
 ghost use Rattle.std.specs.Prelude.{◌≡◌, ◌+◌, ◌<◌, ◌^◌};
 ghost use Rattle.lease_store.specs.LeaseTerms.{AreTerms};
-ghost use Rattle.lease_core.specs.Answers.{answered, code_of, gone, granted_lifetime, is_address_met, is_no_address, is_port_met, answered_with, port_within, refused, refused_until};
+ghost use Rattle.lease_core.specs.Answers.{code_of, decision, gone, granted_lifetime, is_address_met, is_no_address, is_port_met, port_within, refused, refused_until};
 
-use crate::decided::Decided;
 use external_pool::PickRefused;
 use lease_store::Terms;
 use pcp_base::{Address, Answer, Change, Code, Endpoint, MapLease, Moment, Record, Refusal};
@@ -22,51 +21,35 @@ pub(crate) fn expiry_of(terms: &Terms, m: Moment, asked: u32) -> u64
     m.get() + u64::from(granted_lifetime(terms, asked))
 }
 
-/// An answer without a record.
-pub(crate) fn answered(answer: Answer) -> Decided
-    ensures { result ≡ answered answer }
-{
-    Decided { answer, kept: None }
-}
-
-/// An answer with a record of this moment.
-pub(crate) fn answered_with(m: Moment, answer: Answer, change: Change) -> Decided
-    ensures { result ≡ answered_with m answer change }
-{
-    Decided {
-        answer,
-        kept: Some(Record { moment: m, change }),
-    }
-}
-
 /// A refusal of a request that could be read.
-pub(crate) fn refused(code: Code) -> Decided
-    ensures { result ≡ refused code }
+pub(crate) fn refused(code: Code) -> Answer
+    ensures { result ≡ (refused code).answer }
 {
-    answered(Answer::Refused(Refusal {
+    Answer::Refused(Refusal {
         code,
         parsed: true,
         lifetime: code.lifetime(),
-    }))
+    })
 }
 
 /// The refusal of a request whose nonce isn't that of the lease: it tells what the lease still has.
-pub(crate) fn refused_until(m: Moment, expiry: u64) -> Decided
-    ensures { result ≡ refused_until m expiry }
+pub(crate) fn refused_until(m: Moment, expiry: u64) -> Answer
+    ensures { result ≡ (refused_until m expiry).answer }
 {
     let left = expiry.saturating_sub(m.get()).min(u64::from(u32::MAX));
-    answered(Answer::Refused(Refusal {
+    Answer::Refused(Refusal {
         code: Code::NotAuthorized,
         parsed: true,
         lifetime: left as u32,
-    }))
+    })
 }
 
-/// The lease is deleted.
-pub(crate) fn gone(m: Moment, change: Change) -> Decided
-    ensures { result ≡ gone m change }
+/// The lease is deleted. It leaves the record in `kept`.
+pub(crate) fn gone(m: Moment, change: Change, kept: &mut Option<Record>) -> Answer
+    ensures { decision result kept.new ≡ gone m change }
 {
-    answered_with(m, Answer::Gone, change)
+    *kept = Some(Record { moment: m, change });
+    Answer::Gone
 }
 
 /// The external port that a lease gives an endpoint that it covers.
@@ -99,7 +82,7 @@ pub(crate) fn is_port_met(suggested: u16, port: u16) -> bool
 fn is_no_address(address: &Address) -> bool
     ensures { result ≡ is_no_address address.now }
 {
-    address.0 == [0; 16] || *address == Address::v4(0, 0, 0, 0)
+    *address == Address([0; 16]) || *address == Address::v4(0, 0, 0, 0)
 }
 
 /// Whether the external address is the suggested one, where one is suggested.

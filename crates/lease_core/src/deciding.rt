@@ -1,17 +1,47 @@
 //! What is decided on requests of all kinds.
-ghost use Rattle.std.specs.Prelude.{◌≡◌, ◌<◌, ◌≤◌, ◌+◌, ◌*◌, if◌then◌else◌};
+ghost use Rattle.std.specs.Prelude.{◌≡◌, ◌<◌, ◌≤◌, ◌+◌, ◌*◌, None, if◌then◌else◌};
 ghost use Rattle.pcp_base.specs.Asks.{IsWellFormedAsk};
 ghost use Rattle.pcp_base.specs.Reached.{IsReached};
+ghost use Rattle.lease_core.specs.Answers.{decision};
 ghost use Rattle.lease_core.specs.Decide.{decide, is_picked, looks_asked, picking};
 
-use crate::answers::answered;
 use crate::decided::Decided;
 use crate::mapping::decide_map;
 use crate::peering::decide_peer;
 use lease_store::LeaseStore;
-use pcp_base::{Answer, Ask, Moment};
+use pcp_base::{Answer, Ask, Moment, Record};
 use std::sync::ledger::{Blank, Ledger};
 use step_count::Steps;
+
+/// What is decided on a request at the moment reached. It leaves the record in `kept`.
+fn decide_reached<S: LeaseStore, L: Ledger>(
+    store: &mut S,
+    ask: &Ask,
+    m: Moment,
+    kept: &mut Option<Record>,
+    steps: &mut Steps<L>,
+) -> Answer
+    requires sound { IsReached (S.state store.old) }
+    requires reached { S.reached store.old ≡ m }
+    requires ask { IsWellFormedAsk ask.now }
+    requires none { kept.old ≡ None }
+    ensures decided { decision result kept.new
+        ≡ decide (S.terms store.old) (S.state store.old) m ask.now }
+    ensures state { S.state store.new ≡ S.state store.old }
+    ensures reached { S.reached store.new ≡ m }
+    ensures terms { S.terms store.new ≡ S.terms store.old }
+    ensures steps { let s = S.state store.old in steps.new
+        ≤ steps.old + looks_asked ask.now * S.look_steps s
+        + (if is_picked s m ask.now
+        then picking (S.look_steps s) (S.pick_steps store.old m) ask.now else 0) }
+{
+    match ask {
+        Ask::Known(refusal) => Answer::Refused(*refusal),
+        Ask::Announce => Answer::Announced,
+        Ask::Map(map) => decide_map(store, m, map, kept, steps),
+        Ask::Peer(peer) => decide_peer(store, m, peer, kept, steps),
+    }
+}
 
 /// What is decided on a request at a moment that isn't below the one reached, which it becomes. The
 /// state stays: a record that is told is for the caller to apply. No memory is taken. It is what
@@ -38,12 +68,9 @@ pub fn decide<S: LeaseStore, L: Ledger>(
         then picking (S.look_steps s) (S.pick_steps store.old m) ask.now else 0) }
 {
     store.reach(m, steps);
-    match ask {
-        Ask::Known(refusal) => answered(Answer::Refused(*refusal)),
-        Ask::Announce => answered(Answer::Announced),
-        Ask::Map(map) => decide_map(store, m, map, steps),
-        Ask::Peer(peer) => decide_peer(store, m, peer, steps),
-    }
+    let mut kept = None;
+    let answer = decide_reached(store, ask, m, &mut kept, steps);
+    Decided { answer, kept }
 }
 
 /// Decides for a caller that counts no steps.

@@ -9,20 +9,21 @@ ghost use Rattle.filter_rules.specs.Filters.{fold_filters as folded};
 ghost use Rattle.lease_store.specs.LeaseTerms.{AreTerms};
 ghost use Rattle.lease_store.specs.Lookups.{named_port};
 ghost use Rattle.pcp_base.specs.declared.codes.Code.TheVariants.{ExcessiveRemotePeers};
-ghost use Rattle.lease_core.specs.Answers.{is_address_met, is_port_met, port_within, refused};
+ghost use Rattle.lease_core.specs.Answers.{decision, is_address_met, is_port_met, port_within, refused};
 ghost use Rattle.lease_core.specs.DecideMap.{covered, decide_map, has_excess, is_wanted, mapped, new_lease, parity_of, port_told, renewed, room_inside, set_told, size_asked, uncovered};
 ghost use Rattle.lease_core.specs.Chosen.{chosen, chosen_by, granted_by, pick_ask};
 ghost use Rattle.lease_core.specs.Decide.{inside_asked, is_picked, picking, ports_asked};
 
 use crate::answers::{
-    answered, answered_with, code_of, expiry_of, gone, granted_lifetime, is_address_met,
-    is_port_met, port_within, refused, refused_until,
+    code_of, expiry_of, gone, granted_lifetime, is_address_met, is_port_met, port_within, refused,
+    refused_until,
 };
-use crate::decided::Decided;
 use external_pool::{PickAsk, Picked};
 use filter_rules::fold_filters;
 use lease_store::{LeaseStore, Terms};
-use pcp_base::{Answer, Change, Code, Filters, MOST_PORTS, MapAsk, MapLease, Moment, PortSet};
+use pcp_base::{
+    Answer, Change, Code, Filters, MOST_PORTS, MapAsk, MapLease, Moment, PortSet, Record,
+};
 use std::sync::ledger::Ledger;
 use step_count::Steps;
 
@@ -58,10 +59,16 @@ fn set_told(asked: Option<PortSet>, lease: &MapLease) -> Option<PortSet>
     })
 }
 
-/// The lease is granted or renewed.
-fn mapped(terms: &Terms, m: Moment, ask: &MapAsk, lease: MapLease) -> Decided
+/// The lease is granted or renewed. It leaves the record in `kept`.
+fn mapped(
+    terms: &Terms,
+    m: Moment,
+    ask: &MapAsk,
+    lease: MapLease,
+    kept: &mut Option<Record>,
+) -> Answer
     requires { port_within ask.now.endpoint lease < 2 ^ 16 }
-    ensures { result ≡ mapped terms.now m ask.now lease }
+    ensures { decision result kept.new ≡ mapped terms.now m ask.now lease }
 {
     let answer = Answer::Mapped {
         lifetime: granted_lifetime(terms, ask.lifetime),
@@ -69,7 +76,11 @@ fn mapped(terms: &Terms, m: Moment, ask: &MapAsk, lease: MapLease) -> Decided
         address: terms.external.address,
         set: set_told(ask.set, &lease),
     };
-    answered_with(m, answer, Change::Map(lease))
+    *kept = Some(Record {
+        moment: m,
+        change: Change::Map(lease),
+    });
+    answer
 }
 
 /// Whether the port that would be told and the external address are the suggested ones.
@@ -82,10 +93,18 @@ fn is_met(terms: &Terms, ask: &MapAsk, lease: &MapLease) -> bool
         && is_address_met(&ask.address, &terms.external.address)
 }
 
-/// The lease is renewed, unless it would have too many filters.
-fn renew(terms: &Terms, m: Moment, ask: &MapAsk, lease: &MapLease) -> Decided
-    requires { port_within ask.now.endpoint lease.now < 2 ^ 16 }
-    ensures { result ≡ (if has_excess lease.now.filters ask.now then refused ExcessiveRemotePeers
+/// The lease is renewed, unless it would have too many filters. It leaves the record in `kept`.
+fn renew(
+    terms: &Terms,
+    m: Moment,
+    ask: &MapAsk,
+    lease: &MapLease,
+    kept: &mut Option<Record>,
+) -> Answer
+    requires within { port_within ask.now.endpoint lease.now < 2 ^ 16 }
+    requires none { kept.old ≡ None }
+    ensures { decision result kept.new
+        ≡ (if has_excess lease.now.filters ask.now then refused ExcessiveRemotePeers
         else mapped terms.now m ask.now (renewed terms.now m ask.now lease.now)) }
 {
     let Ok(filters) = fold_filters(&lease.filters, ask.filters.items()) else {
@@ -96,24 +115,31 @@ fn renew(terms: &Terms, m: Moment, ask: &MapAsk, lease: &MapLease) -> Decided
         filters,
         ..*lease
     };
-    mapped(terms, m, ask, renewed)
+    mapped(terms, m, ask, renewed, kept)
 }
 
-/// What is decided where this live lease covers the endpoint.
-fn decide_covered(terms: &Terms, m: Moment, ask: &MapAsk, lease: &MapLease) -> Decided
-    requires { port_within ask.now.endpoint lease.now < 2 ^ 16 }
-    ensures { result ≡ covered terms.now m ask.now lease.now }
+/// What is decided where this live lease covers the endpoint. It leaves the record in `kept`.
+fn decide_covered(
+    terms: &Terms,
+    m: Moment,
+    ask: &MapAsk,
+    lease: &MapLease,
+    kept: &mut Option<Record>,
+) -> Answer
+    requires within { port_within ask.now.endpoint lease.now < 2 ^ 16 }
+    requires none { kept.old ≡ None }
+    ensures { decision result kept.new ≡ covered terms.now m ask.now lease.now }
 {
     if lease.nonce != ask.nonce {
         return refused_until(m, lease.expiry);
     }
     if ask.lifetime == 0 {
-        return gone(m, Change::DropMap(lease.first_endpoint()));
+        return gone(m, Change::DropMap(lease.first_endpoint()), kept);
     }
     if ask.prefer && !is_met(terms, ask, lease) {
         return refused(Code::CannotProvideExternal);
     }
-    renew(terms, m, ask, lease)
+    renew(terms, m, ask, lease, kept)
 }
 
 /// How many ports are asked for.
@@ -259,10 +285,18 @@ fn choose<S: LeaseStore, L: Ledger>(
     }
 }
 
-/// A lease of these ports, unless it would have too many filters.
-fn grant_new(terms: &Terms, m: Moment, ask: &MapAsk, run: Picked) -> Decided
-    requires { run.count < 2 ^ 16 }
-    ensures { result ≡ (if has_excess [] ask.now then refused ExcessiveRemotePeers
+/// A lease of these ports, unless it would have too many filters. It leaves the record in `kept`.
+fn grant_new(
+    terms: &Terms,
+    m: Moment,
+    ask: &MapAsk,
+    run: Picked,
+    kept: &mut Option<Record>,
+) -> Answer
+    requires few { run.count < 2 ^ 16 }
+    requires none { kept.old ≡ None }
+    ensures { decision result kept.new
+        ≡ (if has_excess [] ask.now then refused ExcessiveRemotePeers
         else mapped terms.now m ask.now (new_lease terms.now m ask.now run)) }
 {
     let Ok(filters) = fold_filters(&Filters::none(), ask.filters.items()) else {
@@ -279,41 +313,48 @@ fn grant_new(terms: &Terms, m: Moment, ask: &MapAsk, run: Picked) -> Decided
         expiry: expiry_of(terms, m, ask.lifetime),
         filters,
     };
-    mapped(terms, m, ask, lease)
+    mapped(terms, m, ask, lease, kept)
 }
 
-/// A lease of these ports, unless there is no room for it or it would have too many filters.
+/// A lease of these ports, unless there is no room for it or it would have too many filters. It
+/// leaves the record in `kept`.
 fn grant_with_room<S: LeaseStore, L: Ledger>(
     store: &S,
     m: Moment,
     ask: &MapAsk,
     run: Picked,
+    kept: &mut Option<Record>,
     steps: &mut Steps<L>,
-) -> Decided
+) -> Answer
     requires sound { IsReached (S.state store.now) }
     requires reached { S.reached store.now ≡ m }
     requires few { run.count < 2 ^ 16 }
-    ensures decided { result
+    requires none { kept.old ≡ None }
+    ensures decided { decision result kept.new
         ≡ granted_by (S.terms store.now) (S.state store.now) m ask.now (Ok run) }
     ensures steps { steps.new ≤ steps.old + S.look_steps (S.state store.now) }
 {
     if !store.has_room(steps) {
         return refused(Code::NoResources);
     }
-    grant_new(&store.terms(), m, ask, run)
+    grant_new(&store.terms(), m, ask, run, kept)
 }
 
-/// What is decided on a MAP request that no live lease covers, and that is no deletion.
+/// What is decided on a MAP request that no live lease covers, and that is no deletion. It leaves
+/// the record in `kept`.
 fn grant<S: LeaseStore, L: Ledger>(
     store: &mut S,
     m: Moment,
     ask: &MapAsk,
+    kept: &mut Option<Record>,
     steps: &mut Steps<L>,
-) -> Decided
+) -> Answer
     requires sound { IsReached (S.state store.old) }
     requires reached { S.reached store.old ≡ m }
     requires ask { IsMapAsk ask.now }
-    ensures decided { result ≡ granted_by (S.terms store.old) (S.state store.old) m ask.now
+    requires none { kept.old ≡ None }
+    ensures decided { decision result kept.new
+        ≡ granted_by (S.terms store.old) (S.state store.old) m ask.now
         (chosen (S.terms store.old) (S.state store.old) m ask.now) }
     ensures state { S.state store.new ≡ S.state store.old }
     ensures reached { S.reached store.new ≡ m }
@@ -323,22 +364,25 @@ fn grant<S: LeaseStore, L: Ledger>(
         then picking (S.look_steps s) (S.pick_steps store.old m) (Map ask.now) else 0) }
 {
     match choose(store, m, ask, steps) {
-        Ok(run) => grant_with_room(store, m, ask, run, steps),
+        Ok(run) => grant_with_room(store, m, ask, run, kept, steps),
         Err(code) => refused(code),
     }
 }
 
-/// What is decided on a MAP request that no live lease covers.
+/// What is decided on a MAP request that no live lease covers. It leaves the record in `kept`.
 fn decide_uncovered<S: LeaseStore, L: Ledger>(
     store: &mut S,
     m: Moment,
     ask: &MapAsk,
+    kept: &mut Option<Record>,
     steps: &mut Steps<L>,
-) -> Decided
+) -> Answer
     requires sound { IsReached (S.state store.old) }
     requires reached { S.reached store.old ≡ m }
     requires ask { IsMapAsk ask.now }
-    ensures decided { result ≡ uncovered (S.terms store.old) (S.state store.old) m ask.now
+    requires none { kept.old ≡ None }
+    ensures decided { decision result kept.new
+        ≡ uncovered (S.terms store.old) (S.state store.old) m ask.now
         (named_port (S.state store.old).table m ask.now.endpoint) }
     ensures state { S.state store.new ≡ S.state store.old }
     ensures reached { S.reached store.new ≡ m }
@@ -348,22 +392,25 @@ fn decide_uncovered<S: LeaseStore, L: Ledger>(
         then picking (S.look_steps s) (S.pick_steps store.old m) (Map ask.now) else 0) }
 {
     if ask.lifetime == 0 {
-        return answered(Answer::Gone);
+        return Answer::Gone;
     }
-    grant(store, m, ask, steps)
+    grant(store, m, ask, kept, steps)
 }
 
-/// What is decided on a MAP request at the moment reached.
+/// What is decided on a MAP request at the moment reached. It leaves the record in `kept`.
 pub(crate) fn decide_map<S: LeaseStore, L: Ledger>(
     store: &mut S,
     m: Moment,
     ask: &MapAsk,
+    kept: &mut Option<Record>,
     steps: &mut Steps<L>,
-) -> Decided
+) -> Answer
     requires sound { IsReached (S.state store.old) }
     requires reached { S.reached store.old ≡ m }
     requires ask { IsMapAsk ask.now }
-    ensures decided { result ≡ decide_map (S.terms store.old) (S.state store.old) m ask.now }
+    requires none { kept.old ≡ None }
+    ensures decided { decision result kept.new
+        ≡ decide_map (S.terms store.old) (S.state store.old) m ask.now }
     ensures state { S.state store.new ≡ S.state store.old }
     ensures reached { S.reached store.new ≡ m }
     ensures terms { S.terms store.new ≡ S.terms store.old }
@@ -372,7 +419,7 @@ pub(crate) fn decide_map<S: LeaseStore, L: Ledger>(
         then picking (S.look_steps s) (S.pick_steps store.old m) (Map ask.now) else 0) }
 {
     match store.covering(&ask.endpoint, steps) {
-        Some(lease) => decide_covered(&store.terms(), m, ask, &lease),
-        None => decide_uncovered(store, m, ask, steps),
+        Some(lease) => decide_covered(&store.terms(), m, ask, &lease, kept),
+        None => decide_uncovered(store, m, ask, kept, steps),
     }
 }

@@ -1,37 +1,54 @@
 //! What is decided on PEER requests (RFC 6887, sections 12.3 and 15).
-ghost use Rattle.std.specs.Prelude.{◌≡◌, ◌+◌, ◌*◌, ◌≤◌, true, is_none, Ok, if◌then◌else◌};
+ghost use Rattle.std.specs.Prelude.{◌≡◌, ◌+◌, ◌*◌, ◌≤◌, true, is_none, None, Ok, if◌then◌else◌};
 ghost use Rattle.pcp_base.specs.declared.asks.Ask.TheVariants.{Peer};
 ghost use Rattle.pcp_base.specs.Reached.{IsReached};
+ghost use Rattle.lease_core.specs.Answers.{decision};
 ghost use Rattle.lease_core.specs.Decide.{is_picked};
 ghost use Rattle.lease_core.specs.DecidePeer.{decide_peer, given_port, known, new_peer, peered, unknown};
 ghost use Rattle.lease_core.specs.ChosenPeer.{picked_port, port_chosen, port_granted_by};
 
 use crate::answers::{
-    answered, answered_with, code_of, expiry_of, gone, granted_lifetime, port_within, refused,
-    refused_until,
+    code_of, expiry_of, gone, granted_lifetime, port_within, refused, refused_until,
 };
-use crate::decided::Decided;
 use external_pool::PickAsk;
 use lease_store::{LeaseStore, Terms};
-use pcp_base::{Answer, Change, Code, Endpoint, MOST_PEERS, Moment, PeerAsk, PeerLease};
+use pcp_base::{Answer, Change, Code, Endpoint, MOST_PEERS, Moment, PeerAsk, PeerLease, Record};
 use std::sync::ledger::Ledger;
 use step_count::Steps;
 
-/// The lease is granted or renewed.
-fn peered(terms: &Terms, m: Moment, ask: &PeerAsk, lease: PeerLease) -> Decided
-    ensures { result ≡ peered terms.now m ask.now lease }
+/// The lease is granted or renewed. It leaves the record in `kept`.
+fn peered(
+    terms: &Terms,
+    m: Moment,
+    ask: &PeerAsk,
+    lease: PeerLease,
+    kept: &mut Option<Record>,
+) -> Answer
+    ensures { decision result kept.new ≡ peered terms.now m ask.now lease }
 {
     let answer = Answer::Peered {
         lifetime: granted_lifetime(terms, ask.lifetime),
         external: lease.external,
         address: terms.external.address,
     };
-    answered_with(m, answer, Change::Peer(lease))
+    *kept = Some(Record {
+        moment: m,
+        change: Change::Peer(lease),
+    });
+    answer
 }
 
-/// What is decided where there is this live lease of the endpoint and remote.
-fn decide_known(terms: &Terms, m: Moment, ask: &PeerAsk, lease: &PeerLease) -> Decided
-    ensures { result ≡ known terms.now m ask.now lease.now }
+/// What is decided where there is this live lease of the endpoint and remote. It leaves the record
+/// in `kept`.
+fn decide_known(
+    terms: &Terms,
+    m: Moment,
+    ask: &PeerAsk,
+    lease: &PeerLease,
+    kept: &mut Option<Record>,
+) -> Answer
+    requires { kept.old ≡ None }
+    ensures { decision result kept.new ≡ known terms.now m ask.now lease.now }
 {
     if lease.nonce != ask.nonce {
         return refused_until(m, lease.expiry);
@@ -40,18 +57,26 @@ fn decide_known(terms: &Terms, m: Moment, ask: &PeerAsk, lease: &PeerLease) -> D
         return gone(
             m,
             Change::DropPeer(ask.endpoint, ask.remote, ask.remote_port),
+            kept,
         );
     }
     let renewed = PeerLease {
         expiry: expiry_of(terms, m, ask.lifetime),
         ..*lease
     };
-    peered(terms, m, ask, renewed)
+    peered(terms, m, ask, renewed, kept)
 }
 
-/// A lease of this port.
-fn grant_port(terms: &Terms, m: Moment, ask: &PeerAsk, port: u16) -> Decided
-    ensures { result ≡ peered terms.now m ask.now (new_peer terms.now m ask.now port) }
+/// A lease of this port. It leaves the record in `kept`.
+fn grant_port(
+    terms: &Terms,
+    m: Moment,
+    ask: &PeerAsk,
+    port: u16,
+    kept: &mut Option<Record>,
+) -> Answer
+    ensures { decision result kept.new
+        ≡ peered terms.now m ask.now (new_peer terms.now m ask.now port) }
 {
     let lease = PeerLease {
         endpoint: ask.endpoint,
@@ -62,7 +87,7 @@ fn grant_port(terms: &Terms, m: Moment, ask: &PeerAsk, port: u16) -> Decided
         granted: m,
         expiry: expiry_of(terms, m, ask.lifetime),
     };
-    peered(terms, m, ask, lease)
+    peered(terms, m, ask, lease, kept)
 }
 
 /// The external port that a live lease gives the endpoint.
@@ -137,36 +162,41 @@ fn choose_port<S: LeaseStore, L: Ledger>(
     }
 }
 
-/// A lease of this port, unless there is no room for it.
+/// A lease of this port, unless there is no room for it. It leaves the record in `kept`.
 fn grant_with_room<S: LeaseStore, L: Ledger>(
     store: &S,
     m: Moment,
     ask: &PeerAsk,
     port: u16,
+    kept: &mut Option<Record>,
     steps: &mut Steps<L>,
-) -> Decided
+) -> Answer
     requires sound { IsReached (S.state store.now) }
     requires reached { S.reached store.now ≡ m }
-    ensures decided { result
+    requires none { kept.old ≡ None }
+    ensures decided { decision result kept.new
         ≡ port_granted_by (S.terms store.now) (S.state store.now) m ask.now (Ok port) }
     ensures steps { steps.new ≤ steps.old + S.look_steps (S.state store.now) }
 {
     if !store.has_room(steps) {
         return refused(Code::NoResources);
     }
-    grant_port(&store.terms(), m, ask, port)
+    grant_port(&store.terms(), m, ask, port, kept)
 }
 
-/// A lease of a chosen port, unless there is no room for it.
+/// A lease of a chosen port, unless there is no room for it. It leaves the record in `kept`.
 fn grant<S: LeaseStore, L: Ledger>(
     store: &mut S,
     m: Moment,
     ask: &PeerAsk,
+    kept: &mut Option<Record>,
     steps: &mut Steps<L>,
-) -> Decided
+) -> Answer
     requires sound { IsReached (S.state store.old) }
     requires reached { S.reached store.old ≡ m }
-    ensures decided { result ≡ port_granted_by (S.terms store.old) (S.state store.old) m ask.now
+    requires none { kept.old ≡ None }
+    ensures decided { decision result kept.new
+        ≡ port_granted_by (S.terms store.old) (S.state store.old) m ask.now
         (port_chosen (S.terms store.old) (S.state store.old) m ask.now) }
     ensures state { S.state store.new ≡ S.state store.old }
     ensures reached { S.reached store.new ≡ m }
@@ -176,21 +206,25 @@ fn grant<S: LeaseStore, L: Ledger>(
         then S.pick_steps store.old m ask.now.endpoint.address true + 1 else 0) }
 {
     match choose_port(store, m, ask, steps) {
-        Ok(port) => grant_with_room(store, m, ask, port, steps),
+        Ok(port) => grant_with_room(store, m, ask, port, kept, steps),
         Err(code) => refused(code),
     }
 }
 
-/// What is decided where there is no live lease of the endpoint and remote.
+/// What is decided where there is no live lease of the endpoint and remote. It leaves the record in
+/// `kept`.
 fn decide_unknown<S: LeaseStore, L: Ledger>(
     store: &mut S,
     m: Moment,
     ask: &PeerAsk,
+    kept: &mut Option<Record>,
     steps: &mut Steps<L>,
-) -> Decided
+) -> Answer
     requires sound { IsReached (S.state store.old) }
     requires reached { S.reached store.old ≡ m }
-    ensures decided { result ≡ unknown (S.terms store.old) (S.state store.old) m ask.now
+    requires none { kept.old ≡ None }
+    ensures decided { decision result kept.new
+        ≡ unknown (S.terms store.old) (S.state store.old) m ask.now
         (given_port (S.state store.old).table m ask.now.endpoint) }
     ensures state { S.state store.new ≡ S.state store.old }
     ensures reached { S.reached store.new ≡ m }
@@ -200,25 +234,28 @@ fn decide_unknown<S: LeaseStore, L: Ledger>(
         then S.pick_steps store.old m ask.now.endpoint.address true + 1 else 0) }
 {
     if ask.lifetime == 0 {
-        return answered(Answer::Gone);
+        return Answer::Gone;
     }
     if store.peer_count(&ask.endpoint, steps) as usize >= MOST_PEERS {
         return refused(Code::UserExQuota);
     }
-    grant(store, m, ask, steps)
+    grant(store, m, ask, kept, steps)
 }
 
-/// What is decided on a PEER request at the moment reached.
+/// What is decided on a PEER request at the moment reached. It leaves the record in `kept`.
 #[inline(never)]
 pub(crate) fn decide_peer<S: LeaseStore, L: Ledger>(
     store: &mut S,
     m: Moment,
     ask: &PeerAsk,
+    kept: &mut Option<Record>,
     steps: &mut Steps<L>,
-) -> Decided
+) -> Answer
     requires sound { IsReached (S.state store.old) }
     requires reached { S.reached store.old ≡ m }
-    ensures decided { result ≡ decide_peer (S.terms store.old) (S.state store.old) m ask.now }
+    requires none { kept.old ≡ None }
+    ensures decided { decision result kept.new
+        ≡ decide_peer (S.terms store.old) (S.state store.old) m ask.now }
     ensures state { S.state store.new ≡ S.state store.old }
     ensures reached { S.reached store.new ≡ m }
     ensures terms { S.terms store.new ≡ S.terms store.old }
@@ -227,7 +264,7 @@ pub(crate) fn decide_peer<S: LeaseStore, L: Ledger>(
         then S.pick_steps store.old m ask.now.endpoint.address true + 1 else 0) }
 {
     match store.peering(&ask.endpoint, &ask.remote, ask.remote_port, steps) {
-        Some(lease) => decide_known(&store.terms(), m, ask, &lease),
-        None => decide_unknown(store, m, ask, steps),
+        Some(lease) => decide_known(&store.terms(), m, ask, &lease, kept),
+        None => decide_unknown(store, m, ask, kept, steps),
     }
 }

@@ -1,33 +1,20 @@
-use Rattle.std.proofs.Common.{◌+◌, ◌*◌, ◌≤◌, subst, sym}
-use Rattle.std.specs.Prelude.{if◌then◌else◌}
-use Rattle.pcp_base.specs.declared.asks.Ask.{Ask}
-use Rattle.pcp_base.specs.declared.asks.Ask.TheVariants.{Map, Peer}
-use Rattle.lease_core.specs.Decide.{is_picked, looks_asked, picking}
+use Rattle.std.proofs.Common.{◌∙◌, ap}
+use Rattle.pcp_base.specs.States.{State}
+use Rattle.lease_store.specs.declared.terms.Terms.{Terms}
+use Rattle.lease_core.specs.Decide.{decide}
 use Rattle.lease_core.proofs.StepLemmas.{reach-decides}
 use Rattle.lease_core.proofs.deciding.decide.Goals as goal
 
-pub returns-in-Map-clause-steps : goal.returns-in-Map-clause-steps
-returns-in-Map-clause-steps g c =
-    let s = g.S.LeaseStore.state c.args.store.now in
-    subst (λ (ask : Ask). c.decide_map.new.steps ≤ c.args.steps.now + g.S.LeaseStore.reach_steps
-    + looks_asked ask * g.S.LeaseStore.look_steps s
-    + (if is_picked s c.args.m ask
-    then picking (g.S.LeaseStore.look_steps s) (g.S.LeaseStore.pick_steps c.args.store.now c.args.m) ask else 0))
-    (sym c.in-Map.is)
-    (reach-decides g.S.LeaseStore.look_steps (g.S.LeaseStore.pick_steps c.reach.new.self c.args.m)
-    (g.S.LeaseStore.pick_steps c.args.store.now c.args.m) s (g.S.LeaseStore.state c.reach.new.self) c.args.m
-    (Map c.in-Map.map) c.args.steps.now g.S.LeaseStore.reach_steps c.reach.new.steps c.decide_map.new.steps
-    c.reach.ensures.state c.reach.ensures.picks c.reach.ensures.steps c.decide_map.ensures.steps)
+pub returns-clause-decided : goal.returns-clause-decided
+returns-clause-decided g c =
+    c.decide_reached-answer.ensures.decided
+    ∙ ap (λ (t : Terms). decide t (g.S.LeaseStore.state c.reach.new.self) c.args.m c.args.ask.now) c.reach.ensures.terms
+    ∙ ap (λ (s : State). decide (g.S.LeaseStore.terms c.args.store.now) s c.args.m c.args.ask.now) c.reach.ensures.state
 
-pub returns-in-Peer-clause-steps : goal.returns-in-Peer-clause-steps
-returns-in-Peer-clause-steps g c =
-    let s = g.S.LeaseStore.state c.args.store.now in
-    subst (λ (ask : Ask). c.decide_peer.new.steps ≤ c.args.steps.now + g.S.LeaseStore.reach_steps
-    + looks_asked ask * g.S.LeaseStore.look_steps s
-    + (if is_picked s c.args.m ask
-    then picking (g.S.LeaseStore.look_steps s) (g.S.LeaseStore.pick_steps c.args.store.now c.args.m) ask else 0))
-    (sym c.in-Peer.is)
-    (reach-decides g.S.LeaseStore.look_steps (g.S.LeaseStore.pick_steps c.reach.new.self c.args.m)
-    (g.S.LeaseStore.pick_steps c.args.store.now c.args.m) s (g.S.LeaseStore.state c.reach.new.self) c.args.m
-    (Peer c.in-Peer.peer) c.args.steps.now g.S.LeaseStore.reach_steps c.reach.new.steps c.decide_peer.new.steps
-    c.reach.ensures.state c.reach.ensures.picks c.reach.ensures.steps c.decide_peer.ensures.steps)
+pub returns-clause-steps : goal.returns-clause-steps
+returns-clause-steps g c =
+    reach-decides g.S.LeaseStore.look_steps (g.S.LeaseStore.pick_steps c.reach.new.self c.args.m)
+    (g.S.LeaseStore.pick_steps c.args.store.now c.args.m) (g.S.LeaseStore.state c.args.store.now)
+    (g.S.LeaseStore.state c.reach.new.self) c.args.m c.args.ask.now c.args.steps.now g.S.LeaseStore.reach_steps
+    c.reach.new.steps c.decide_reached-answer.new.steps c.reach.ensures.state c.reach.ensures.picks c.reach.ensures.steps
+    c.decide_reached-answer.ensures.steps

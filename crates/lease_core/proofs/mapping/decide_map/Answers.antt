@@ -5,8 +5,8 @@ use Rattle.lease_core.proofs.MapSteps.{decided_by}
 use Rattle.lease_core.proofs.RoomLemmas.{own_port-fits}
 use Rattle.lease_core.proofs.mapping.decide_map.Goals as goal
 
-pub decide_covered-requires : goal.decide_covered-requires
-decide_covered-requires g c =
+pub decide_covered-requires-clause-within : goal.decide_covered-requires-clause-within
+decide_covered-requires-clause-within g c =
     own_port-fits (g.S.LeaseStore.state c.args.store.now) (g.S.LeaseStore.reached c.args.store.now) c.args.ask.now.endpoint
     c.in-Some.lease c.requires.sound (sym c.covering.ensures.lease ∙ c.in-Some.is)
 
