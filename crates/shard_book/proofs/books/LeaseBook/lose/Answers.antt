@@ -2,8 +2,8 @@ use Rattle.std.proofs.Common.{inr}
 use Rattle.shard_book.proofs.CallLemmas.{if_ok_with, map_if_err}
 use Rattle.shard_book.proofs.books.LeaseBook.lose.Goals as goal
 
-pub forget-requires-clause-settled : goal.forget-requires-clause-settled
-forget-requires-clause-settled g c = c.in_ok-settle_if_refused.ensures.settled.1.fault
+pub forget-requires : goal.forget-requires
+forget-requires g c = record { settled = c.in_ok-settle_if_refused.ensures.settled.1.fault }
 
 pub returns-clause-lost : goal.returns-clause-lost
 returns-clause-lost g c =
