@@ -46,3 +46,12 @@ journals_by tells records old new anew is idle plain plain_first grown compacted
     length : (b : Bool) → anew ≡ b → tells → old.standing.generation < 2 ^ 64 - 1 → new.standing.length ≤ frame_octets records + max LONGEST_SIDE (2 * new.first_length)
     length true e told next = omega (arith, short told e)
     length false e told next = omega (arith, grown told e, plain_first e, short_enough old (sym is ∙ e) next)
+
+-- one that isn't too long, and to which nothing is written
+pub journals_stay : {D : Type 0} (tells : Type 0) (records : List Record) (j : JournalView D) → is_overlong j ≡ false → Journals tells records j j
+journals_stay tells records j less = record {
+  idle = λ none e. refl;
+  generation = ap (λ (b : Bool). if b then j.standing.generation + 1 else j.standing.generation) (sym less);
+  first_length = λ e. refl;
+  short = λ told next. omega (arith, short_enough j less next);
+}

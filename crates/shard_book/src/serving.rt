@@ -1,5 +1,5 @@
 //! Writing what a batch or a loss keeps.
-ghost use Rattle.std.specs.Prelude.{◌≡◌, ◌≤◌, ◌<◌, ◌^◌, ◌∷◌, [], length, IfOk, IfErr, OnOk, Err};
+ghost use Rattle.std.specs.Prelude.{◌≡◌, ◌↔◌, ◌≤◌, ◌<◌, ◌^◌, ◌∷◌, [], false, length, IsTrue, IfOk, IfErr, OnOk, Err};
 ghost use Rattle.std.specs.List.{AllByRecursion};
 ghost use Rattle.pcp_base.specs.declared.records.Change.TheVariants.{Lose};
 ghost use Rattle.pcp_base.specs.Apply.{apply, apply_all};
@@ -23,6 +23,13 @@ use lease_journal::{Journal, JournalFault};
 use lease_store::LeaseStore;
 use pcp_base::{Ask, Change, Moment, Record, new_leases_need_room, states_are_sound};
 use std::alloc::Global;
+
+/// Whether there is nothing to write: no record is, and the journal isn't compacted.
+fn is_idle(anew: bool, records: &[Record]) -> bool
+    ensures { IsTrue result ↔ ((anew ≡ false) × (records.now ≡ [])) }
+{
+    !anew && records.is_empty()
+}
 
 /// Decides on the requests at `m`, and writes what is kept of them. The answers tell this base.
 pub(crate) fn write_batch<D: LeaseDisk, S: LeaseStore>(
@@ -72,6 +79,9 @@ pub(crate) fn write_batch<D: LeaseDisk, S: LeaseStore>(
 {
     let anew = renew_if_overlong(alloc, core, journal, texts)?;
     let batch = decide_batch(alloc, core, asks, m, base)?;
+    if is_idle(anew, &batch.records) {
+        return Ok(batch.answers);
+    }
     texts.add(alloc, &batch.records)?;
     commit(alloc, journal, texts, anew, &batch.records)?;
     Ok(batch.answers)
