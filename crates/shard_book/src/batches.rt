@@ -7,7 +7,7 @@ ghost use Rattle.pcp_base.specs.Fits.{AllFit, Fits};
 ghost use Rattle.pcp_base.specs.Reached.{IsReached};
 ghost use Rattle.lease_core.specs.Decide.{decide};
 ghost use Rattle.shard_book.specs.Insides.{MayDecideAt};
-ghost use Rattle.shard_book.specs.Batches.{answers_at, decide_all, kept_before, records_kept, with_kept};
+ghost use Rattle.shard_book.specs.Batches.{answer_at, answers_at, decide_all, kept_before, records_kept, with_kept};
 
 use lease_core::{Decided, LeaseCore, decisions_fit, decisions_keep_owners};
 use lease_store::LeaseStore;
@@ -72,30 +72,71 @@ fn push_kept(records: &mut Vec<Record>, kept: &Option<Record>) -> Result<(), Mem
     }
 }
 
-/// Decides on a request, and applies what is kept of it.
+/// Applies what is kept of a request, and appends both what is answered and the record.
+fn keep<S: LeaseStore>(
+    alloc: Global,
+    core: &mut LeaseCore<S>,
+    decided: &Decided,
+    m: Moment,
+    base: Moment,
+    batch: &mut Batch,
+) -> Result<(), Memory>
+    requires reached { IsReached (S.state core.old) }
+    requires fits { IfSome decided.now.kept (λ r. Fits (S.state core.old) r × (r.moment ≡ m)) }
+    requires past { S.reached core.old ≤ m }
+    ensures answers { OnOk result (batch.new.answers.items
+        ≡ batch.old.answers.items ++ answer_at m base decided.now ∷ []) }
+    ensures records { OnOk result (batch.new.records.items
+        ≡ batch.old.records.items ++ kept_before decided.now.kept []) }
+    ensures state { OnOk result (S.state core.new ≡ with_kept (S.state core.old) decided.now.kept) }
+    ensures past { OnOk result (S.reached core.new ≤ m) }
+    ensures terms { S.terms core.new ≡ S.terms core.old }
+{
+    apply_kept(alloc, core, &decided.kept, m)?;
+    push_kept(&mut batch.records, &decided.kept)?;
+    batch.answers.push(Answered {
+        moment: m,
+        base,
+        answer: decided.answer,
+        kept: decided.kept,
+    })?;
+    Ok(())
+}
+
+/// Decides on a request, applies what is kept of it, and appends both what is answered and the
+/// record.
 fn decide_one<S: LeaseStore>(
     alloc: Global,
     core: &mut LeaseCore<S>,
     ask: &Ask,
     m: Moment,
-) -> Result<Decided, Memory>
+    base: Moment,
+    batch: &mut Batch,
+) -> Result<(), Memory>
     requires ready { MayDecideAt (S.terms core.old) (S.state core.old) (S.reached core.old) m }
     requires ask { IsWellFormedAsk ask.now }
-    ensures decided { IfOk result
-        (λ decided. decided ≡ decide (S.terms core.old) (S.state core.old) m ask.now) }
-    ensures state { IfOk result
-        (λ decided. S.state core.new ≡ with_kept (S.state core.old) decided.kept) }
+    ensures answers { OnOk result (batch.new.answers.items ≡ batch.old.answers.items
+        ++ answer_at m base (decide (S.terms core.old) (S.state core.old) m ask.now) ∷ []) }
+    ensures records { OnOk result (batch.new.records.items ≡ batch.old.records.items
+        ++ kept_before (decide (S.terms core.old) (S.state core.old) m ask.now).kept []) }
+    ensures state { OnOk result (S.state core.new ≡ with_kept (S.state core.old)
+        (decide (S.terms core.old) (S.state core.old) m ask.now).kept) }
+    ensures fits { IfSome (decide (S.terms core.old) (S.state core.old) m ask.now).kept
+        (Fits (S.state core.old)) }
     ensures ready { OnOk result
         (MayDecideAt (S.terms core.new) (S.state core.new) (S.reached core.new) m) }
-    ensures fits { IfOk result (λ decided. IfSome decided.kept (Fits (S.state core.old))) }
     ensures address { OnOk result ((S.state core.new).address ≡ (S.state core.old).address) }
     ensures terms { S.terms core.new ≡ S.terms core.old }
 {
     decisions_fit();
     decisions_keep_owners();
-    let decided = core.decide(alloc, ask, m)?;
-    apply_kept(alloc, core, &decided.kept, m)?;
-    Ok(decided)
+    match &core.decide(alloc, ask, m) {
+        Ok(decided) => {
+            keep(alloc, core, decided, m, base, batch)?;
+            Ok(())
+        }
+        Err(memory) => Err(*memory),
+    }
 }
 
 /// Decides on the requests at `m` one after the other. The answers tell this base.
@@ -121,17 +162,12 @@ pub(crate) fn decide_batch<S: LeaseStore>(
     ensures address { OnOk result ((S.state core.new).address ≡ (S.state core.old).address) }
     ensures terms { S.terms core.new ≡ S.terms core.old }
 {
-    let mut answers = Vec::with_capacity(alloc, asks.len())?;
-    let mut records = Vec::new(alloc);
+    let mut batch = Batch {
+        answers: Vec::with_capacity(alloc, asks.len())?,
+        records: Vec::new(alloc),
+    };
     for ask in asks {
-        let decided = decide_one(alloc, core, ask, m)?;
-        push_kept(&mut records, &decided.kept)?;
-        answers.push(Answered {
-            moment: m,
-            base,
-            answer: decided.answer,
-            kept: decided.kept,
-        })?;
+        decide_one(alloc, core, ask, m, base, &mut batch)?;
     }
-    Ok(Batch { answers, records })
+    Ok(batch)
 }

@@ -11,13 +11,13 @@ abbrev pub invariant-loop-ask : goal.invariant-loop-ask
 invariant-loop-ask g l = record {
   ready : MayDecideAt (g.S.LeaseStore.terms l.core) (g.S.LeaseStore.state l.core) (g.S.LeaseStore.reached l.core) l.m;
   terms : g.S.LeaseStore.terms l.core ≡ g.S.LeaseStore.terms l.initial.core;
-  state : g.S.LeaseStore.state l.core ≡ apply_all (g.S.LeaseStore.state l.initial.core) l.records.items;
-  fit : AllFit (g.S.LeaseStore.state l.initial.core) l.records.items;
-  few : length l.records.items ≤ l.ask-index;
+  state : g.S.LeaseStore.state l.core ≡ apply_all (g.S.LeaseStore.state l.initial.core) l.batch.records.items;
+  fit : AllFit (g.S.LeaseStore.state l.initial.core) l.batch.records.items;
+  few : length l.batch.records.items ≤ l.ask-index;
   address : (g.S.LeaseStore.state l.core).address ≡ (g.S.LeaseStore.state l.initial.core).address;
   formed : AllByRecursion IsWellFormedAsk (drop l.ask-index l.asks);
-  answered : l.answers.items ++ answers_at l.m l.base (decide_all (g.S.LeaseStore.terms l.core) (g.S.LeaseStore.state l.core) l.m (drop l.ask-index l.asks))
+  answered : l.batch.answers.items ++ answers_at l.m l.base (decide_all (g.S.LeaseStore.terms l.core) (g.S.LeaseStore.state l.core) l.m (drop l.ask-index l.asks))
       ≡ answers_at l.m l.base (decide_all (g.S.LeaseStore.terms l.initial.core) (g.S.LeaseStore.state l.initial.core) l.m l.asks);
-  recorded : l.records.items ++ records_kept (decide_all (g.S.LeaseStore.terms l.core) (g.S.LeaseStore.state l.core) l.m (drop l.ask-index l.asks))
+  recorded : l.batch.records.items ++ records_kept (decide_all (g.S.LeaseStore.terms l.core) (g.S.LeaseStore.state l.core) l.m (drop l.ask-index l.asks))
       ≡ records_kept (decide_all (g.S.LeaseStore.terms l.initial.core) (g.S.LeaseStore.state l.initial.core) l.m l.asks);
 }
