@@ -1,13 +1,9 @@
 -- Counts of the ports that addresses hold, after a change of uses.
-use Rattle.std.proofs.Common.{◌≡◌, ℕ, zero, suc, ◌+◌, ◌-◌, ◌*◌, ◌<◌, ◌≤◌, ◌&&◌, Bool, true, false, cond, List, [], ◌∷◌, ◌++◌, length, take, drop, replicate, refl, sym, ap, ◌∙◌, arith, length-take-le, length-drop, get_or-take, get_or-drop, take-append-drop, unwrap_or, count_by}
+use Rattle.std.proofs.Common.{◌≡◌, ℕ, zero, suc, ◌+◌, ◌-◌, ◌*◌, ◌<◌, ◌≤◌, ◌&&◌, Bool, true, false, cond, List, [], ◌∷◌, ◌++◌, length, take, drop, replicate, refl, sym, ap, ◌∙◌, arith, length-take-le, length-drop, get_or-take, get_or-drop, take-append-drop, count_by}
 use Rattle.std.proofs.lemmas.List.{drop-drop, length-replicate}
-use Rattle.std.proofs.lemmas.List.Sums.{sum_by-append, sum_by-cons}
+use Rattle.std.proofs.lemmas.List.Sums.{sum_by-append, sum_by-cons, count_by-le-length}
 use Rattle.std.proofs.lemmas.List.Folds.{sum_by-replicate}
 use Rattle.std.proofs.lemmas.Slice.Eq.{bytes_eq-Decides}
-use Rattle.std.specs.Ordering.{nat_cmp}
-use Rattle.std.specs.Cmp.Lexicographic.{slice_cmp}
-use Rattle.std.specs.BTreeMap.{BTreeMap, is_at}
-use Rattle.std.specs.Map.{lookup}
 use Rattle.pcp_base.specs.declared.addresses.Address.{Address}
 use Rattle.pcp_base.specs.declared.leases.Protocol.{Protocol}
 use Rattle.pcp_base.specs.declared.leases.Protocol.TheVariants.{Tcp, Udp}
@@ -17,7 +13,8 @@ use Rattle.external_pool.specs.declared.uses.Use.{Use}
 use Rattle.external_pool.specs.declared.uses.Use.TheVariants.{Free, Held, Resting}
 use Rattle.external_pool.specs.PortUses.{PortUses, all_free, use_at, use_along, uses_along, is_held, is_held_by, is_resting, with_run, is_free_use, AreUsed}
 use Rattle.external_pool.specs.Holdings.{Holdings, pool_of, IsWhole, uses_of, use_of, ports_held, fresh_pool, with_use, NoneHeld, AllHeldBy, AllFree, AllRest}
-use Rattle.external_pool.specs.Kept.{count_held, IsCounted}
+use Rattle.external_pool.specs.HeldCounts.{HeldCounts, held_by}
+use Rattle.external_pool.specs.Kept.{IsCounted}
 use Rattle.external_pool.proofs.Painted.{length-with_run, use_at-with_run, length-uses_along, use_at-uses_along, held_along}
 
 -- uses that a test tells alike
@@ -91,10 +88,6 @@ not_by who Free h = refl
 not_by who (Held holder) h = cc
 not_by who (Resting last port) h = refl
 
--- what is counted where nothing is held
-pub count_held-none : (counts : BTreeMap (List ℕ) ℕ) (who : Address) → counts.entries ≡ [] → count_held counts who ≡ 0
-count_held-none counts who e = ap (λ (es : List (List ℕ × ℕ)). unwrap_or (lookup (is_at (slice_cmp nat_cmp who.0)) es) 0) e
-
 -- a pool has a use for each port number
 pub fresh-whole : (low high quota : ℕ) → IsWhole (fresh_pool low high quota)
 fresh-whole low high quota = record { tcp = length-all_free 65536; udp = length-all_free 65536 }
@@ -115,7 +108,7 @@ use_of-with_use pool Tcp start n value whole within Udp port = refl
 use_of-with_use pool Udp start n value whole within Tcp port = refl
 use_of-with_use pool Udp start n value whole within Udp port = use_at-with_run start n value pool.udp.each (omega (arith, within, whole.udp)) port
 
-module _ (pool : Holdings) (counts : BTreeMap (List ℕ) ℕ) (is : IsCounted pool counts) where
+module _ (pool : Holdings) (counts : HeldCounts) (is : IsCounted pool counts) where
   module _ (protocol : Protocol) (start n : ℕ) (within : start + n ≤ 65536) where
     short : start + n ≤ length (uses_of pool protocol).each
     short = omega (arith, within, all_of pool protocol is.whole)
@@ -137,23 +130,27 @@ module _ (pool : Holdings) (counts : BTreeMap (List ℕ) ℕ) (is : IsCounted po
   owned_marked Udp start n value within who = omega (arith, count_painted start n pool.udp.each (short Udp start n within) who value)
 
   -- ports that nobody held are held by an address
-  pub counted_held : (who : Address) (protocol : Protocol) (start n : ℕ) → start + n ≤ 65536 → NoneHeld pool protocol start n → (new : BTreeMap (List ℕ) ℕ)
-      → ((other : Address) → count_held new other ≡ count_held counts other + cond (same_address who other) n 0) → IsCounted (with_use protocol start n (Held who) pool) new
+  pub counted_held : (who : Address) (protocol : Protocol) (start n : ℕ) → start + n ≤ 65536 → NoneHeld pool protocol start n → (new : HeldCounts)
+      → ((other : Address) → held_by new other ≡ held_by counts other + cond (same_address who other) n 0) → IsCounted (with_use protocol start n (Held who) pool) new
   counted_held who protocol start n within none new more = record {
     whole = with_use-whole pool protocol start n (Held who) is.whole within;
     counted = λ other. omega (arith, more other, is.counted other, owned_marked protocol start n (Held who) within other, none_in protocol start n within none other);
   }
 
   -- ports of an address are held no longer
-  pub counted_released : (who : Address) (protocol : Protocol) (start n : ℕ) → start + n ≤ 65536 → AllHeldBy pool who protocol start n → (new : BTreeMap (List ℕ) ℕ)
-      → ((other : Address) → count_held new other ≡ count_held counts other - cond (same_address who other) n 0) → IsCounted (with_use protocol start n Free pool) new
+  pub counted_released : (who : Address) (protocol : Protocol) (start n : ℕ) → start + n ≤ 65536 → AllHeldBy pool who protocol start n → (new : HeldCounts)
+      → ((other : Address) → held_by new other ≡ held_by counts other - cond (same_address who other) n 0) → IsCounted (with_use protocol start n Free pool) new
   counted_released who protocol start n within all new fewer = record {
     whole = with_use-whole pool protocol start n Free is.whole within;
     counted = λ other. omega (arith, fewer other, is.counted other, owned_marked protocol start n Free within other, all_in protocol start n within who all other);
   }
 
+  -- nobody holds more ports than there are
+  pub few_held : (who : Address) → held_by counts who ≤ 131072
+  few_held who = omega (arith, is.counted who, is.whole.tcp, is.whole.udp, count_by-le-length (is_held_by who) pool.tcp.each, count_by-le-length (is_held_by who) pool.udp.each)
+
   -- so many are counted as are held
-  pub enough : (who : Address) (protocol : Protocol) (start n : ℕ) → start + n ≤ 65536 → AllHeldBy pool who protocol start n → n ≤ count_held counts who
+  pub enough : (who : Address) (protocol : Protocol) (start n : ℕ) → start + n ≤ 65536 → AllHeldBy pool who protocol start n → n ≤ held_by counts who
   enough who protocol start n within all =
       let mine : cond (same_address who who) n 0 ≡ n = ap (λ (b : Bool). cond b n 0) (same_address-refl who) in
       omega (arith, is.counted who, owned_marked protocol start n Free within who, all_in protocol start n within who all who, mine)
@@ -168,8 +165,8 @@ module _ (pool : Holdings) (counts : BTreeMap (List ℕ) ℕ) (is : IsCounted po
   }
 
   -- ports of an address are at rest
-  pub counted_retired : (who : Address) (protocol : Protocol) (start n : ℕ) (value : Use) → start + n ≤ 65536 → AllHeldBy pool who protocol start n → is_held value ≡ false → (new : BTreeMap (List ℕ) ℕ)
-      → ((other : Address) → count_held new other ≡ count_held counts other - cond (same_address who other) n 0) → IsCounted (with_use protocol start n value pool) new
+  pub counted_retired : (who : Address) (protocol : Protocol) (start n : ℕ) (value : Use) → start + n ≤ 65536 → AllHeldBy pool who protocol start n → is_held value ≡ false → (new : HeldCounts)
+      → ((other : Address) → held_by new other ≡ held_by counts other - cond (same_address who other) n 0) → IsCounted (with_use protocol start n value pool) new
   counted_retired who protocol start n value within all unheld new fewer = record {
     whole = with_use-whole pool protocol start n value is.whole within;
     counted = λ other.

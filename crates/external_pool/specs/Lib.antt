@@ -3,6 +3,8 @@ pub mod Choosing
 pub mod Asking
 pub mod Holdings
 pub mod Calls
+pub mod HostSlots
+pub mod HeldCounts
 pub mod Kept
 pub mod Plain
 pub mod PoolOf

@@ -8,16 +8,14 @@ ghost use Rattle.external_pool.specs.Calls.{IsAsk, MayHold, MayRelease, HoldsPor
 ghost use Rattle.external_pool.specs.declared.uses.Use.TheVariants.{Free, Resting};
 
 use crate::asks::{PickAsk, PickRefused, Picked, judge};
-use crate::counts::{count_of, lower, raise};
-use crate::hosts::Host;
+use crate::host_counts::HostCounts;
 use crate::side::Side;
 use crate::uses::{Use, resting};
 use pcp_base::{Address, Endpoint, Memory, Protocol};
 use std::alloc::Global;
-use std::collections::BTreeMap;
 use std::marker::Model;
 use std::sync::ledger::Ledger;
-use step_count::{Steps, levels};
+use step_count::Steps;
 
 /// The external ports of one address: who holds which, and for whom others rest.
 ///
@@ -27,7 +25,7 @@ pub struct Pool {
     quota: u32,
     tcp: Side,
     udp: Side,
-    counts: BTreeMap<Host, u32>,
+    counts: HostCounts,
 }
 
 impl Model for Pool {
@@ -66,7 +64,7 @@ impl Pool {
             quota,
             tcp: Side::new(alloc, low, high)?,
             udp: Side::new(alloc, low, high)?,
-            counts: BTreeMap::new(alloc),
+            counts: HostCounts::new(alloc)?,
         })
     }
 
@@ -86,8 +84,8 @@ impl Pool {
     /// quota leaves, and of these runs the one with the least start. The refusal is the first of
     /// [`PickRefused`] that applies. The ask is for at least one port, with room for one.
     ///
-    /// A step is a node of a tree that is looked at, or a level of the ordered map of addresses, of
-    /// which it has 64 at most, or a port that is suggested.
+    /// A step is a node of a tree that is looked at, or a port that is suggested, or a look for how
+    /// many ports the address holds, which takes 64 at most.
     pub fn pick<L: Ledger>(
         &self,
         who: &Address,
@@ -99,8 +97,8 @@ impl Pool {
         ensures pick { IsPickAnswer self.now who.now protocol ask.now result }
         ensures steps { steps.new ≤ steps.old + 133 + ask.now.room }
     {
-        steps.take(levels(self.counts.len()));
-        let owned = count_of(&self.counts, who);
+        steps.take(self.counts.looks());
+        let owned = self.counts.count(who);
         if owned >= self.quota {
             return Err(PickRefused::Quota(owned));
         }
@@ -125,7 +123,7 @@ impl Pool {
         requires { MayHold self.old protocol start n }
         ensures { HoldsPorts self.old who.now protocol start n result self.new }
     {
-        raise(&mut self.counts, who, n)?;
+        self.counts.raise(who, n)?;
         mark(
             &mut self.tcp,
             &mut self.udp,
@@ -142,7 +140,7 @@ impl Pool {
         requires { MayRelease self.old who.now protocol start n }
         ensures { self.new ≡ with_use protocol start n Free self.old }
     {
-        lower(&mut self.counts, who, n);
+        self.counts.lower(who, n);
         mark(&mut self.tcp, &mut self.udp, protocol, start, n, Use::Free);
     }
 

@@ -8,16 +8,14 @@ ghost use Rattle.external_pool.specs.Calls.{MayHold, MayRelease, HoldsPorts, Res
 ghost use Rattle.external_pool.specs.declared.uses.Use.TheVariants.{Free, Resting};
 
 use crate::asks::Picked;
-use crate::counts::{count_of, lower, raise};
-use crate::hosts::Host;
+use crate::host_counts::HostCounts;
 use crate::lean_side::LeanSide;
 use crate::uses::Use;
 use pcp_base::{Address, Endpoint, Memory, Protocol};
 use std::alloc::Global;
-use std::collections::BTreeMap;
 use std::marker::Model;
 use std::sync::ledger::Ledger;
-use step_count::{Steps, levels};
+use step_count::Steps;
 
 /// The external ports of one address for a caller that knows by itself who holds which, and for
 /// whom others rest: which are vacant, and how many ports each address holds.
@@ -29,7 +27,7 @@ pub struct Vacancies {
     quota: u32,
     tcp: LeanSide,
     udp: LeanSide,
-    counts: BTreeMap<Host, u32>,
+    counts: HostCounts,
 }
 
 impl Model for Vacancies {
@@ -81,7 +79,7 @@ impl Vacancies {
             quota,
             tcp: LeanSide::new(alloc, low, high)?,
             udp: LeanSide::new(alloc, low, high)?,
-            counts: BTreeMap::new(alloc),
+            counts: HostCounts::new(alloc)?,
         })
     }
 
@@ -98,7 +96,8 @@ impl Vacancies {
     /// How many ports more the address may own: what its quota leaves, which is one at least. Where
     /// it leaves none, the error tells how many ports the address owns.
     ///
-    /// A step is a level of the ordered map of addresses, of which it has 64 at most.
+    /// A step is a look for how many ports the address holds, 64 at most: at one slot, where most
+    /// addresses have one of their own, and else at each level of an ordered map.
     pub fn room_for<L: Ledger>(&self, who: &Address, steps: &mut Steps<L>) -> Result<u32, u32>
         ensures below { IfOk result (λ left. (ports_held self.now who.now < self.now.quota)
             × (left ≡ self.now.quota - ports_held self.now who.now)) }
@@ -106,8 +105,8 @@ impl Vacancies {
             × (self.now.quota ≤ owned)) }
         ensures steps { steps.new ≤ steps.old + 64 }
     {
-        steps.take(levels(self.counts.len()));
-        let owned = count_of(&self.counts, who);
+        steps.take(self.counts.looks());
+        let owned = self.counts.count(who);
         if owned >= self.quota {
             return Err(owned);
         }
@@ -145,7 +144,7 @@ impl Vacancies {
         requires { MayHold self.old protocol start n }
         ensures { HoldsPorts self.old who.now protocol start n result self.new }
     {
-        raise(&mut self.counts, who, n)?;
+        self.counts.raise(who, n)?;
         mark(
             &mut self.tcp,
             &mut self.udp,
@@ -162,7 +161,7 @@ impl Vacancies {
         requires { MayRelease self.old who.now protocol start n }
         ensures { self.new ≡ with_use protocol start n Free self.old }
     {
-        lower(&mut self.counts, who, n);
+        self.counts.lower(who, n);
         mark(&mut self.tcp, &mut self.udp, protocol, start, n, Use::Free);
     }
 
@@ -175,7 +174,7 @@ impl Vacancies {
         ensures { self.new ≡ with_use last.now.protocol external n
             (Resting last.now.address last.now.port) self.old }
     {
-        lower(&mut self.counts, &last.address, n);
+        self.counts.lower(&last.address, n);
         note(
             &mut self.tcp,
             &mut self.udp,

@@ -1,6 +1,6 @@
 use Rattle.std.proofs.Common.{◌≡◌, length, ap, ◌∙◌, count_by, arith}
 use Rattle.external_pool.specs.PortUses.{PortUses, is_held_by}
-use Rattle.external_pool.proofs.Counted.{length-all_free, count-all_free, count_held-none}
+use Rattle.external_pool.proofs.Counted.{length-all_free, count-all_free}
 use Rattle.external_pool.proofs.pool.Pool.clear.Goals as goal
 
 pub invariant_of-self : goal.invariant_of-self
@@ -12,5 +12,5 @@ invariant_of-self c = record {
   counted = λ who.
       let tcp : count_by (is_held_by who) c.clear-2.new.self.each ≡ 0 = ap (λ (u : PortUses). count_by (is_held_by who) u.each) c.clear-2.ensures ∙ count-all_free who 65536 in
       let udp : count_by (is_held_by who) c.clear-3.new.self.each ≡ 0 = ap (λ (u : PortUses). count_by (is_held_by who) u.each) c.clear-3.ensures ∙ count-all_free who 65536 in
-      omega (arith, tcp, udp, count_held-none c.clear.new.self who c.clear.ensures.empty);
+      omega (arith, tcp, udp, c.clear.ensures who);
 }

@@ -1,6 +1,6 @@
 use Rattle.std.proofs.Common.{◌≡◌, length, ap, ◌∙◌, count_by, arith}
 use Rattle.external_pool.specs.PortUses.{PortUses, is_held_by}
-use Rattle.external_pool.proofs.Counted.{length-all_free, count-all_free, count_held-none}
+use Rattle.external_pool.proofs.Counted.{length-all_free, count-all_free}
 use Rattle.external_pool.proofs.pool.Pool.new.Goals as goal
 
 pub invariant_of-result : goal.invariant_of-result
@@ -12,5 +12,5 @@ invariant_of-result c = record {
   counted = λ who.
       let tcp : count_by (is_held_by who) c.in_ok-new.field-0.each ≡ 0 = ap (λ (u : PortUses). count_by (is_held_by who) u.each) c.in_ok-new.ensures ∙ count-all_free who 65536 in
       let udp : count_by (is_held_by who) c.in_ok-new-2.field-0.each ≡ 0 = ap (λ (u : PortUses). count_by (is_held_by who) u.each) c.in_ok-new-2.ensures ∙ count-all_free who 65536 in
-      omega (arith, tcp, udp, count_held-none c.new-3.result who c.new-3.ensures.empty);
+      omega (arith, tcp, udp, c.in_ok-new-3.ensures who);
 }

@@ -24,5 +24,5 @@ invariant_of-self c =
     let a = c.self.inside in
     let last = c.args.last.now in
     let all = rw (← c.self.view_is) at c.requires.held.held in
-    subst (λ (p : Holdings). IsCounted p c.lower.new.counts) (sym (c.note.ensures a.quota))
-    (counted_retired (pool_of a.quota a.tcp a.udp) a.counts c.self.invariant last.address last.protocol c.args.external c.args.n (Resting last.address last.port) c.requires.held.ports.end all refl c.lower.new.counts c.lower.ensures)
+    subst (λ (p : Holdings). IsCounted p c.lower.new.self) (sym (c.note.ensures a.quota))
+    (counted_retired (pool_of a.quota a.tcp a.udp) a.counts c.self.invariant last.address last.protocol c.args.external c.args.n (Resting last.address last.port) c.requires.held.ports.end all refl c.lower.new.self c.lower.ensures)
