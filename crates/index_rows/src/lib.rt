@@ -3,6 +3,8 @@
 #![tactic(auto)]
 
 #[cfg(test)]
+mod host_counts;
+#[cfg(test)]
 mod leasts;
 #[cfg(test)]
 mod pools;
