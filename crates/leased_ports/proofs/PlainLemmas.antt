@@ -5,7 +5,7 @@ use Rattle.std.specs.Option.{option_map}
 use Rattle.std.specs.List.{range_with_len}
 use Rattle.std.specs.Ordering.{nat_cmp}
 use Rattle.std.specs.FinMap.{FinMap, get}
-use Rattle.std.proofs.lemmas.Bool.{and_parts, and_from, lt-ltb, le-leb, leb-true, ltb-true, ltb-false}
+use Rattle.std.proofs.lemmas.Bool.{and_parts, and_from, lt-ltb, le-leb, lt-leb, leb-true, ltb-true, ltb-false}
 use Rattle.std.proofs.lemmas.List.{get_or-map, get_or_past}
 use Rattle.std.proofs.lemmas.List.Sums.{sum_by-cons}
 use Rattle.std.proofs.lemmas.List.FromFn.{get_or-range_with_len, length-range_with_len, length-map-range_with_len}
@@ -15,6 +15,7 @@ use Rattle.pcp_base.specs.declared.leases.Protocol.TheVariants.{Tcp, Udp}
 use Rattle.pcp_base.specs.declared.leases.Endpoint.{Endpoint}
 use Rattle.pcp_base.specs.declared.leases.End.{End}
 use Rattle.pcp_base.specs.Tables.{same_address, same_protocol}
+use Rattle.pcp_base.specs.Owners.{owned}
 use Rattle.pcp_base.specs.States.{State}
 use Rattle.pcp_base.specs.Reached.{IsReached}
 use Rattle.pcp_base.proofs.Same.{same_protocol-Decides}
@@ -32,6 +33,7 @@ use Rattle.external_pool.specs.Holdings.{Holdings, uses_of, use_of, ports_held}
 use Rattle.external_pool.specs.Choosing.{IsVacantRun, IsLongest, IsPick}
 use Rattle.external_pool.specs.Asking.{IsPickAnswer, answer_to, is_as_asked}
 use Rattle.external_pool.specs.Calls.{IsAsk}
+use Rattle.external_pool.proofs.OwnedPorts.{ports_held-owned}
 use Rattle.lease_store.specs.declared.terms.Terms.{Terms}
 use Rattle.lease_store.specs.Picks.{pick_answer}
 use Rattle.port_spans.specs.declared.runs.Run.{Run}
@@ -390,6 +392,24 @@ module _ (low high quota m : ℕ) (runs : List (Run End)) (pool : Holdings) (wai
 
 abbrev pool_now : Leased → Holdings
 pool_now v = pool_by v.low v.high v.quota v.reached v.runs
+
+-- an address holds what it owns
+held-owned : (v : Leased) (who : Address) (s : State) → IsReached s → IsPortsOf v s → held_now v who ≡ owned s.table v.reached who
+held-owned v who s reached ports =
+    ports_held-owned (pool_now v) s v.reached who
+    (used_pool v.low v.high v.quota v.settled v.reached v.runs (pool_now v) (λ p port. use_same v.low v.high v.quota v.reached v.runs p port) s reached (record { passed = ports.passed; same = ports.same }))
+
+pub below-quota : (v : Leased) (who : Address) → held_now v who < v.quota → (terms : Terms) (s : State) → IsReached s → IsPortsOf v s → IsOnTerms v terms
+    → false ≡ nat_le terms.quota (owned s.table v.reached who)
+below-quota v who below terms s reached ports on =
+    let owns = held-owned v who s reached ports in
+    sym (lt-leb terms.quota (owned s.table v.reached who) (omega (arith, owns, below, on.quota)))
+
+pub at-quota : (v : Leased) (who : Address) → v.quota ≤ held_now v who → (terms : Terms) (s : State) → IsReached s → IsPortsOf v s → IsOnTerms v terms
+    → true ≡ nat_le terms.quota (owned s.table v.reached who)
+at-quota v who full terms s reached ports on =
+    let owns = held-owned v who s reached ports in
+    sym (le-leb terms.quota (owned s.table v.reached who) (omega (arith, owns, full, on.quota)))
 
 module _ (v : Leased) (e : Endpoint) (ask : PickAsk) (internal : ask.internal ≡ e.port) where
   answered : (answer : Result Picked PickRefused) → IsPickAnswer (pool_now v) e.address e.protocol ask answer → (terms : Terms) (s : State) → IsReached s → IsPortsOf v s → IsOnTerms v terms → IsAsk ask

@@ -1,11 +1,12 @@
 //! The ports of an external address at a moment.
 
-ghost use Rattle.std.specs.Prelude.{◌≡◌, ◌≢◌, ◌⊎◌, ◌≤◌, ◌<◌, ◌+◌, ◌-◌, ◌*◌, ◌&&◌, ◌++◌, ℕ, [], map, min, Some, None, IfOk, IfErr, IfSome, IfNone, OnOk, OnErr, if◌then◌else◌};
+ghost use Rattle.std.specs.Prelude.{◌≡◌, ◌≢◌, ◌⊎◌, ◌≤◌, ◌<◌, ◌+◌, ◌-◌, ◌*◌, ◌&&◌, ◌++◌, ℕ, [], map, min, nat_le, Some, None, IfOk, IfErr, IfSome, IfNone, OnOk, OnErr, if◌then◌else◌};
 ghost use Rattle.std.specs.Bool.{OnTrue, OnFalse};
 ghost use Rattle.std.specs.FinMap as fin;
 ghost use Rattle.std.specs.List.{AllByRecursion};
 ghost use Rattle.pcp_base.specs.declared.leases.Protocol.{Protocol};
 ghost use Rattle.pcp_base.specs.Ends.{is_end_of};
+ghost use Rattle.pcp_base.specs.Owners.{owned};
 ghost use Rattle.pcp_base.specs.Records.{IsWellFormedRecord};
 ghost use Rattle.pcp_base.specs.Snapshots.{end_record};
 ghost use Rattle.pcp_base.specs.Tables.{same_protocol};
@@ -643,6 +644,31 @@ impl LeasedPorts {
         match self.room_left(&endpoint.address, ask.room, steps) {
             Ok(room) => self.pick_with(endpoint, ask, room, steps),
             Err(owned) => Err(PickRefused::Quota(owned)),
+        }
+    }
+
+    /// Whether an address holds as many ports as the quota allows. Where it is below that by the counts
+    /// nothing else is looked at, else all that is due is seen to first, as by
+    /// [`settle`](LeasedPorts::settle). It takes no memory.
+    pub fn is_at_quota<L: Ledger>(&mut self, who: &Address, steps: &mut Steps<L>) -> bool
+        ensures moved { self.new ≡ record self.old { settled = self.new.settled } }
+        ensures from { self.old.settled ≤ self.new.settled }
+        ensures quota { (terms : Terms) (s : State) →
+            IsReached s → IsPortsOf self.old s → IsOnTerms self.old terms →
+            result ≡ nat_le terms.quota (owned s.table self.old.reached who.now) }
+        ensures plain { held_since self.old who.now < self.old.quota →
+            steps.new ≤ steps.old + 64 }
+        ensures kept { held_since self.old who.now < self.old.quota → self.new ≡ self.old }
+        ensures steps { steps.new
+            ≤ steps.old + 129 + (23 + RUN_STEPS) * ports_due self.old }
+    {
+        if self.has_room(who, 1, steps) {
+            return false;
+        }
+        self.settle(steps);
+        match self.room_left(who, 1, steps) {
+            Ok(_left) => false,
+            Err(_owned) => true,
         }
     }
 
