@@ -3,6 +3,7 @@ use Rattle.std.proofs.Common.{◌≡◌, ℕ, ◌+◌, ◌*◌, ◌<◌, ◌≤�
 use Rattle.std.specs.Bool.{OnTrue}
 use Rattle.std.proofs.lemmas.Bool.{ltb-true, lt-ltb}
 use Rattle.pcp_base.specs.declared.addresses.Address.{Address}
+use Rattle.leased_ports.specs.declared.falls.TheConstants.{RUN_STEPS}
 use Rattle.leased_ports.specs.declared.picks.TheConstants.{DUE_STEPS}
 use Rattle.leased_ports.specs.declared.ports.TheConstants.{PICK_STEPS}
 use Rattle.leased_ports.specs.declared.plain.TheConstants.{PLAIN_STEPS}
@@ -46,3 +47,12 @@ pick-within v m who plain before after room now few steps =
     step true true less few steps = let told = few (less refl) in omega (arith, told)
     step true false less few steps = omega (arith, steps)
     step false b less few steps = omega (arith, steps)
+
+-- and a look at its quota no more than a plain pick
+pub quota-within : (v : Leased) (m : ℕ) (who : Address) (before after : ℕ) → v.reached ≡ m
+    → (held_since v who < v.quota → after ≤ before + 64)
+    → after ≤ before + 129 + (23 + RUN_STEPS) * ports_due v
+    → after ≤ before + pick_steps v m who true
+quota-within v m who before after now few steps =
+    let told = pick-within v m who true before after 0 now (λ below. let told = few below in omega (arith, told)) (omega (arith, steps)) in
+    omega (arith, told)

@@ -33,9 +33,10 @@ use step_count::Steps;
 /// touches, and for each lease that has ended and is in the way of one that is put: the ports of a MAP
 /// lease are one run, parted where PEER leases own some of them. What has ended is seen to a few leases
 /// and runs at a time, and what is left waits for later calls. But a pick of a set, with a parity, or
-/// for an address that by the counts is at its quota sees to all runs that are due. `admit_first` takes
-/// out all leases that have ended. `admit` and `admit_first` look at each port of a new lease besides.
-/// Room inside takes a look for each port. Calls that copy lists or count leases take more.
+/// for an address that by the counts is at its quota sees to all runs that are due, and so does a look
+/// at the quota of such an address. `admit_first` takes out all leases that have ended. `admit` and
+/// `admit_first` look at each port of a new lease besides. Room inside takes a look for each port. Calls
+/// that copy lists or count leases take more.
 #[derive(Drop)]
 pub struct IndexedStore {
     state: IndexedState,
@@ -291,6 +292,10 @@ impl LeaseStore for IndexedStore {
 
     fn has_room<L: Ledger>(&self, steps: &mut Steps<L>) -> bool {
         self.state.has_room(self.reached, steps)
+    }
+
+    fn is_at_quota<L: Ledger>(&mut self, who: &Address, steps: &mut Steps<L>) -> bool {
+        self.state.ports.is_at_quota(who, steps)
     }
 
     fn pick<L: Ledger>(

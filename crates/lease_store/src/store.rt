@@ -1,9 +1,10 @@
 //! The state that records made, as decisions ask for it.
-ghost use Rattle.std.specs.Prelude.{◌≡◌, ◌++◌, ℕ, ◌≤◌, ◌+◌, ◌*◌, nat_lt, Bool, Ok, true, false, is_some, OnOk, IfOk};
+ghost use Rattle.std.specs.Prelude.{◌≡◌, ◌++◌, ℕ, ◌≤◌, ◌+◌, ◌*◌, nat_le, nat_lt, Bool, Ok, true, false, is_some, OnOk, IfOk};
 ghost use Rattle.pcp_base.specs.declared.addresses.Address.{Address};
 ghost use Rattle.pcp_base.specs.declared.leases.TheConstants.{MOST_LEASES};
 ghost use Rattle.pcp_base.specs.declared.records.Record.{Record};
 ghost use Rattle.pcp_base.specs.Tables.{live};
+ghost use Rattle.pcp_base.specs.Owners.{owned};
 ghost use Rattle.pcp_base.specs.States.{State, empty_state};
 ghost use Rattle.pcp_base.specs.Apply.{apply, apply_first};
 ghost use Rattle.pcp_base.specs.Fits.{Fits, FitsFirst};
@@ -187,6 +188,18 @@ pub trait LeaseStore {
         ensures room { result
             ≡ nat_lt (lease_count (state self.now).table (reached self.now)) MOST_LEASES }
         ensures steps { steps.new ≤ steps.old + look_steps (state self.now) };
+
+    /// Whether the address owns, at the moment reached, as many ports as its quota allows. It may see
+    /// to what fell due; the state stays. It takes no more steps than a pick of one port of any parity.
+    fn is_at_quota<L: Ledger>(&mut self, who: &Address, steps: &mut Steps<L>) -> bool
+        requires sound { IsReached (state self.old) }
+        ensures quota { result ≡ nat_le (terms self.old).quota
+            (owned (state self.old).table (reached self.old) who.now) }
+        ensures state { state self.new ≡ state self.old }
+        ensures reached { reached self.new ≡ reached self.old }
+        ensures terms { terms self.new ≡ terms self.old }
+        ensures steps { steps.new ≤ steps.old
+            + pick_steps self.old (reached self.old) who.now true };
 
     /// The ports that would be given at the moment reached, the first one to this endpoint, by the
     /// rules of [`Pool::pick`](external_pool::Pool::pick). The ask is for at least one port, with

@@ -1,9 +1,10 @@
 //! Which ports are picked, by the leases and ends of the state at the moment that is reached.
-ghost use Rattle.std.specs.Prelude.{◌≡◌, ◌+◌, ◌-◌, ◌≤◌};
+ghost use Rattle.std.specs.Prelude.{◌≡◌, ◌+◌, ◌-◌, ◌≤◌, nat_le};
 ghost use Rattle.std.specs.List.{list_all, range_with_len};
 ghost use Rattle.std.specs.Option.{option_map};
 ghost use Rattle.pcp_base.specs.declared.configs.TheConstants.{MOST_QUOTA};
 ghost use Rattle.pcp_base.specs.Ends.{rests};
+ghost use Rattle.pcp_base.specs.Owners.{owned};
 ghost use Rattle.pcp_base.specs.Reached.{IsReached};
 ghost use Rattle.external_pool.specs.Asking as asking;
 ghost use Rattle.lease_store.specs.Lookups.{with_port};
@@ -14,7 +15,7 @@ use crate::owned::is_owned;
 use crate::rests::{rests, rests_for_another};
 use crate::store::PlainStore;
 use external_pool::{PickAsk, PickRefused, Picked};
-use pcp_base::{Endpoint, Protocol};
+use pcp_base::{Address, Endpoint, Protocol};
 
 /// Whether the number has the remainder by 2 that is asked, if one is.
 fn has_parity(parity: Option<u8>, n: u16) -> bool
@@ -211,6 +212,15 @@ impl PlainStore {
             });
         }
         self.longest_run(endpoint.protocol, parity, room)
+    }
+
+    /// Whether the address owns as many ports as its quota allows.
+    pub(crate) fn owns_quota(&self, who: &Address) -> bool
+        requires { IsReached self.now.state }
+        ensures { result ≡ nat_le self.now.terms.quota
+            (owned self.now.state.table self.now.reached who.now) }
+    {
+        self.terms.quota <= owned(&self.replay, self.reached, who)
     }
 
     /// What is answered to an ask for ports.

@@ -154,6 +154,10 @@ impl LeaseStore for PlainStore {
         lookups::has_room(&self.replay, self.reached)
     }
 
+    fn is_at_quota<L: Ledger>(&mut self, who: &Address, _steps: &mut Steps<L>) -> bool {
+        self.owns_quota(who)
+    }
+
     fn pick<L: Ledger>(
         &mut self,
         endpoint: &Endpoint,
