@@ -1,6 +1,6 @@
 -- What decisions on MAP and PEER requests have in common (RFC 6887, section 15; lifetimes of
 -- refusals are our own).
-use Rattle.std.specs.Prelude.{ℕ, ◌+◌, ◌-◌, ◌^◌, ◌==◌, ◌||◌, min, max, nat_le, Bool, true, bytes_eq, replicate, Option, Some, None}
+use Rattle.std.specs.Prelude.{ℕ, ◌+◌, ◌-◌, ◌^◌, ◌==◌, ◌&&◌, ◌||◌, min, max, nat_le, Bool, true, bytes_eq, replicate, Option, Some, None, is_none, if◌then◌else◌}
 use Rattle.pcp_base.specs.declared.addresses.Address.{Address}
 use Rattle.pcp_base.specs.declared.codes.Code.{Code}
 use Rattle.pcp_base.specs.declared.codes.Code.TheVariants.{NotAuthorized, NoResources, UserExQuota, CannotProvideExternal}
@@ -12,6 +12,7 @@ use Rattle.pcp_base.specs.declared.records.Change.{Change}
 use Rattle.pcp_base.specs.declared.records.Record.{Record}
 use Rattle.pcp_base.specs.Refusals.{parsed}
 use Rattle.pcp_base.specs.Tables.{Table, same_address}
+use Rattle.pcp_base.specs.Owners.{owned}
 use Rattle.pcp_base.specs.Pairing.{v4_octets}
 use Rattle.pcp_base.specs.declared.leases.TheConstants.{MOST_LEASES}
 use Rattle.external_pool.specs.declared.asks.PickRefused.{PickRefused}
@@ -67,6 +68,12 @@ port_within e lease = lease.external + (e.port - lease.internal)
 -- whether there are as many live leases as there may be
 abbrev pub is_full : Table → ℕ → Bool
 is_full t m = nat_le MOST_LEASES (lease_count t m)
+
+-- why no lease is granted where there is no room for one: given is the port that a live lease gives
+-- the endpoint, whose address this is
+abbrev pub without_room : Terms → Table → ℕ → Address → Option ℕ → Code
+without_room terms t m who given =
+    if is_none given && nat_le terms.quota (owned t m who) then UserExQuota else NoResources
 
 -- whether an external port is the suggested one, where one is suggested
 abbrev pub is_port_met : ℕ → ℕ → Bool

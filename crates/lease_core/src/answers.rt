@@ -1,11 +1,14 @@
 //! What decisions on MAP and PEER requests have in common.
-ghost use Rattle.std.specs.Prelude.{◌≡◌, ◌+◌, ◌<◌, ◌^◌};
+ghost use Rattle.std.specs.Prelude.{◌≡◌, ◌≤◌, ◌+◌, ◌<◌, ◌^◌, true, is_none, if◌then◌else◌};
+ghost use Rattle.pcp_base.specs.Reached.{IsReached};
 ghost use Rattle.lease_store.specs.LeaseTerms.{AreTerms};
-ghost use Rattle.lease_core.specs.Answers.{code_of, decision, gone, granted_lifetime, is_address_met, is_no_address, is_port_met, port_within, refused, refused_until};
+ghost use Rattle.lease_core.specs.Answers.{code_of, decision, gone, granted_lifetime, is_address_met, is_no_address, is_port_met, port_within, refused, refused_until, without_room};
 
 use external_pool::PickRefused;
-use lease_store::Terms;
+use lease_store::{LeaseStore, Terms};
 use pcp_base::{Address, Answer, Change, Code, Endpoint, MapLease, Moment, Record, Refusal};
+use std::sync::ledger::Ledger;
+use step_count::Steps;
 
 /// The seconds that are granted.
 pub(crate) fn granted_lifetime(terms: &Terms, asked: u32) -> u32
@@ -69,6 +72,34 @@ pub(crate) fn code_of(refused: PickRefused) -> Code
         PickRefused::CannotProvide => Code::CannotProvideExternal,
         PickRefused::NoPort => Code::NoResources,
     }
+}
+
+/// Why no lease is granted where there is no room for one: the quota, where a live lease gives the
+/// endpoint no port and its address owns what it may. No port is picked for that.
+pub(crate) fn without_room<S: LeaseStore, L: Ledger>(
+    store: &mut S,
+    m: Moment,
+    who: &Address,
+    given: Option<u16>,
+    steps: &mut Steps<L>,
+) -> Code
+    requires sound { IsReached (S.state store.old) }
+    requires reached { S.reached store.old ≡ m }
+    ensures code { result
+        ≡ without_room (S.terms store.old) (S.state store.old).table m who.now given }
+    ensures state { S.state store.new ≡ S.state store.old }
+    ensures reached { S.reached store.new ≡ m }
+    ensures terms { S.terms store.new ≡ S.terms store.old }
+    ensures steps { steps.new ≤ steps.old
+        + (if is_none given then S.pick_steps store.old m who.now true else 0) }
+{
+    if given.is_some() {
+        return Code::NoResources;
+    }
+    if store.is_at_quota(who, steps) {
+        return Code::UserExQuota;
+    }
+    Code::NoResources
 }
 
 /// Whether an external port is the suggested one, where one is suggested.

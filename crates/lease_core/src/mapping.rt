@@ -1,5 +1,5 @@
 //! What is decided on MAP requests (RFC 6887, sections 11.3, 13 and 15; sets of ports: RFC 7753).
-ghost use Rattle.std.specs.Prelude.{◌≡◌, ◌+◌, ◌-◌, ◌*◌, ◌<◌, ◌≤◌, ◌^◌, ◌&&◌, ◌==◌, not, is_none, ℕ, [], None, Some, Ok, if◌then◌else◌};
+ghost use Rattle.std.specs.Prelude.{◌≡◌, ◌+◌, ◌-◌, ◌*◌, ◌<◌, ◌≤◌, ◌^◌, ◌&&◌, ◌==◌, not, is_none, ℕ, false, [], None, Some, Ok, if◌then◌else◌};
 ghost use Rattle.pcp_base.specs.declared.asks.Ask.TheVariants.{Map};
 ghost use Rattle.pcp_base.specs.States.{State};
 ghost use Rattle.pcp_base.specs.Asks.{IsMapAsk};
@@ -16,7 +16,7 @@ ghost use Rattle.lease_core.specs.Decide.{inside_asked, is_picked, picking, port
 
 use crate::answers::{
     code_of, expiry_of, gone, granted_lifetime, is_address_met, is_port_met, port_within, refused,
-    refused_until,
+    refused_until, without_room,
 };
 use external_pool::{PickAsk, Picked};
 use filter_rules::fold_filters;
@@ -340,9 +340,9 @@ fn grant_with_room<S: LeaseStore, L: Ledger>(
     grant_new(&store.terms(), m, ask, run, kept)
 }
 
-/// What is decided on a MAP request that no live lease covers, and that is no deletion. It leaves
+/// What is decided where PREFER_FAILURE is asked, which is answered before a want of room. It leaves
 /// the record in `kept`.
-fn grant<S: LeaseStore, L: Ledger>(
+fn grant_preferred<S: LeaseStore, L: Ledger>(
     store: &mut S,
     m: Moment,
     ask: &MapAsk,
@@ -367,6 +367,69 @@ fn grant<S: LeaseStore, L: Ledger>(
         Ok(run) => grant_with_room(store, m, ask, run, kept, steps),
         Err(code) => refused(code),
     }
+}
+
+/// What is decided where PREFER_FAILURE isn't asked: no port is picked where there is no room for a
+/// lease. It leaves the record in `kept`.
+fn grant_any<S: LeaseStore, L: Ledger>(
+    store: &mut S,
+    m: Moment,
+    ask: &MapAsk,
+    kept: &mut Option<Record>,
+    steps: &mut Steps<L>,
+) -> Answer
+    requires sound { IsReached (S.state store.old) }
+    requires reached { S.reached store.old ≡ m }
+    requires ask { IsMapAsk ask.now }
+    requires any { ask.now.prefer ≡ false }
+    requires none { kept.old ≡ None }
+    ensures decided { decision result kept.new
+        ≡ granted_by (S.terms store.old) (S.state store.old) m ask.now
+        (chosen (S.terms store.old) (S.state store.old) m ask.now) }
+    ensures state { S.state store.new ≡ S.state store.old }
+    ensures reached { S.reached store.new ≡ m }
+    ensures terms { S.terms store.new ≡ S.terms store.old }
+    ensures steps { let s = S.state store.old in steps.new ≤ steps.old + 2 * S.look_steps s
+        + (if is_none (named_port s.table m ask.now.endpoint)
+        then picking (S.look_steps s) (S.pick_steps store.old m) (Map ask.now) else 0) }
+{
+    if !store.has_room(steps) {
+        let named = store.named_port(&ask.endpoint, steps);
+        return refused(without_room(store, m, &ask.endpoint.address, named, steps));
+    }
+    match choose(store, m, ask, steps) {
+        Ok(run) => grant_new(&store.terms(), m, ask, run, kept),
+        Err(code) => refused(code),
+    }
+}
+
+/// What is decided on a MAP request that no live lease covers, and that is no deletion. It leaves
+/// the record in `kept`.
+fn grant<S: LeaseStore, L: Ledger>(
+    store: &mut S,
+    m: Moment,
+    ask: &MapAsk,
+    kept: &mut Option<Record>,
+    steps: &mut Steps<L>,
+) -> Answer
+    requires sound { IsReached (S.state store.old) }
+    requires reached { S.reached store.old ≡ m }
+    requires ask { IsMapAsk ask.now }
+    requires none { kept.old ≡ None }
+    ensures decided { decision result kept.new
+        ≡ granted_by (S.terms store.old) (S.state store.old) m ask.now
+        (chosen (S.terms store.old) (S.state store.old) m ask.now) }
+    ensures state { S.state store.new ≡ S.state store.old }
+    ensures reached { S.reached store.new ≡ m }
+    ensures terms { S.terms store.new ≡ S.terms store.old }
+    ensures steps { let s = S.state store.old in steps.new ≤ steps.old + 2 * S.look_steps s
+        + (if is_none (named_port s.table m ask.now.endpoint)
+        then picking (S.look_steps s) (S.pick_steps store.old m) (Map ask.now) else 0) }
+{
+    if ask.prefer {
+        return grant_preferred(store, m, ask, kept, steps);
+    }
+    grant_any(store, m, ask, kept, steps)
 }
 
 /// What is decided on a MAP request that no live lease covers. It leaves the record in `kept`.

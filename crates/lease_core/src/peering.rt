@@ -1,5 +1,5 @@
 //! What is decided on PEER requests (RFC 6887, sections 12.3 and 15).
-ghost use Rattle.std.specs.Prelude.{◌≡◌, ◌+◌, ◌*◌, ◌≤◌, true, is_none, None, Ok, if◌then◌else◌};
+ghost use Rattle.std.specs.Prelude.{◌≡◌, ◌+◌, ◌*◌, ◌≤◌, true, is_none, None, if◌then◌else◌};
 ghost use Rattle.pcp_base.specs.declared.asks.Ask.TheVariants.{Peer};
 ghost use Rattle.pcp_base.specs.Reached.{IsReached};
 ghost use Rattle.lease_core.specs.Answers.{decision};
@@ -8,7 +8,7 @@ ghost use Rattle.lease_core.specs.DecidePeer.{decide_peer, given_port, known, ne
 ghost use Rattle.lease_core.specs.ChosenPeer.{picked_port, port_chosen, port_granted_by};
 
 use crate::answers::{
-    code_of, expiry_of, gone, granted_lifetime, port_within, refused, refused_until,
+    code_of, expiry_of, gone, granted_lifetime, port_within, refused, refused_until, without_room,
 };
 use external_pool::PickAsk;
 use lease_store::{LeaseStore, Terms};
@@ -162,29 +162,8 @@ fn choose_port<S: LeaseStore, L: Ledger>(
     }
 }
 
-/// A lease of this port, unless there is no room for it. It leaves the record in `kept`.
-fn grant_with_room<S: LeaseStore, L: Ledger>(
-    store: &S,
-    m: Moment,
-    ask: &PeerAsk,
-    port: u16,
-    kept: &mut Option<Record>,
-    steps: &mut Steps<L>,
-) -> Answer
-    requires sound { IsReached (S.state store.now) }
-    requires reached { S.reached store.now ≡ m }
-    requires none { kept.old ≡ None }
-    ensures decided { decision result kept.new
-        ≡ port_granted_by (S.terms store.now) (S.state store.now) m ask.now (Ok port) }
-    ensures steps { steps.new ≤ steps.old + S.look_steps (S.state store.now) }
-{
-    if !store.has_room(steps) {
-        return refused(Code::NoResources);
-    }
-    grant_port(&store.terms(), m, ask, port, kept)
-}
-
-/// A lease of a chosen port, unless there is no room for it. It leaves the record in `kept`.
+/// A lease of a chosen port, unless there is no room for it: then no port is picked. It leaves the
+/// record in `kept`.
 fn grant<S: LeaseStore, L: Ledger>(
     store: &mut S,
     m: Moment,
@@ -205,8 +184,12 @@ fn grant<S: LeaseStore, L: Ledger>(
         + (if is_none (given_port s.table m ask.now.endpoint)
         then S.pick_steps store.old m ask.now.endpoint.address true + 1 else 0) }
 {
+    if !store.has_room(steps) {
+        let given = given_port(store, m, &ask.endpoint, steps);
+        return refused(without_room(store, m, &ask.endpoint.address, given, steps));
+    }
     match choose_port(store, m, ask, steps) {
-        Ok(port) => grant_with_room(store, m, ask, port, kept, steps),
+        Ok(port) => grant_port(&store.terms(), m, ask, port, kept),
         Err(code) => refused(code),
     }
 }

@@ -1,6 +1,6 @@
 use Rattle.std.proofs.Common.{◌∙◌, sym}
 use Rattle.lease_core.proofs.MapSteps.{chosen-few}
-use Rattle.lease_core.proofs.mapping.grant.Goals as goal
+use Rattle.lease_core.proofs.mapping.grant_preferred.Goals as goal
 
 pub grant_with_room-requires-clause-few : goal.grant_with_room-requires-clause-few
 grant_with_room-requires-clause-few g c =
