@@ -1,5 +1,4 @@
 pub mod CallLemmas
-pub mod CountLemmas
 pub mod FaultLemmas
 pub mod LawLemmas
 pub mod ResultLemmas

@@ -33,16 +33,11 @@ module _ {D : Type 0} (tells : Type 0) (seen : D → List ℕ) (may_leave : D �
   book-is : (place : ℕ) (b : BookView D) → slice_get house.books place ≡ Some b → IsBook tells seen may_leave b
   book-is place b there = All-at (IsBook tells seen may_leave) house.books place b rests.is.books there
 
-  pub shards-sound : (place : ℕ) (shard : PlainShard) → slice_get (plain_house house).shards place ≡ Some shard → IsSoundShard house.config shard
+  pub shards-sound : (place : ℕ) (shard : PlainShard) → slice_get (plain_house house).shards place ≡ Some shard → IsSoundShard shard
   shards-sound place shard there =
       let b = get-unmap plain_shard house.books place shard there in
       let is = book-is place b.0 b.1 in
-      subst (λ (s : PlainShard). IsSoundShard house.config s) b.2 (record {
-        formed = is.reached.sound.table.maps;
-        later = is.later;
-        some = rests.is.config.lifetime_min;
-        ordered = rests.is.config.lifetimes;
-      })
+      subst IsSoundShard b.2 (record { formed = is.reached.sound.table.maps; later = is.later })
 
   -- ---- how many leases and owned ports an external address has
 

@@ -1,6 +1,6 @@
 //! A house on one thread serves the requests of a load.
 ghost use Rattle.std.specs.Prelude.{◌≡◌, max};
-ghost use Rattle.house_lines.specs.LoadFindings.{is_met, kind_met, was_there};
+ghost use Rattle.house_lines.specs.LoadFindings.{is_met, kind_met, kind_told};
 
 use crate::lines::HouseLines;
 use crate::seen::SeenHouse;
@@ -12,24 +12,11 @@ use pcp_base::{Ask, Datagram, Memory, Moment, Octets};
 use script_player::AnswerFault;
 use std::alloc::Global;
 
-/// Whether a request that was met was for a lease that was there: a deletion of one leaves fewer
-/// leases, and a renewal as many.
-fn was_there(deletes: bool, before: u32, after: u32) -> bool
-    ensures { result ≡ was_there deletes before after }
+/// How a request that was met counts, by whether a lease covered its endpoint before it.
+fn kind_met(deletes: bool, there: bool) -> LoadKind
+    ensures { result ≡ kind_met deletes there }
 {
-    if deletes {
-        after < before
-    } else {
-        after == before
-    }
-}
-
-/// How a request that was met counts, by how many leases were live before it and after it. So no
-/// lease is looked up a second time.
-fn kind_met(deletes: bool, before: u32, after: u32) -> LoadKind
-    ensures { result ≡ kind_met deletes before after }
-{
-    match (deletes, was_there(deletes, before, after)) {
+    match (deletes, there) {
         (true, true) => LoadKind::Deleted,
         (true, false) => LoadKind::Absent,
         (false, true) => LoadKind::Renewed,
@@ -44,6 +31,19 @@ fn is_met(reply: &[u8]) -> bool
     reply.get(3).is_none_or(|code| *code == 0)
 }
 
+/// How a request counts that was told this, by whether there was a lease for it.
+fn kind_of(request: &Routed, there: bool, reply: &[u8]) -> LoadKind
+    ensures { result ≡ kind_told request.now.ask there reply.now }
+{
+    let Ask::Map(ask) = &request.ask else {
+        return LoadKind::Refused;
+    };
+    if !is_met(reply) {
+        return LoadKind::Refused;
+    }
+    kind_met(ask.lifetime == 0, there)
+}
+
 /// The greater of two moments.
 fn later(m: Moment, other: Moment) -> Moment
     ensures { result ≡ max m other }
@@ -54,35 +54,22 @@ fn later(m: Moment, other: Moment) -> Moment
 impl<D: LeaseDisk + Drop> HouseLines<D> {
     ghost use Rattle.std.specs.Prelude.{◌<◌, ◌≤◌, length};
     ghost use Rattle.lease_house.specs.SoloHouses.{plain_house};
-    ghost use Rattle.house_lines.specs.LoadFindings.{kind_told, live_in};
+    ghost use Rattle.house_lines.specs.LoadFindings.{is_there};
     ghost use Rattle.house_lines.specs.Rests.{IsAtRest};
 
-    /// How many leases of an external address are live when a request comes at this moment.
-    fn live_at(&self, place: u32, now: Moment) -> u32
-        requires place { place < length self.now.config.externals }
-        requires rests { IsAtRest D.tells D.seen D.may_leave self.now }
-        ensures { result ≡ live_in (plain_house self.now) place now }
-    {
-        let m = later(now, self.house().last(place));
-        self.house().leases(place, m)
-    }
-
-    /// How a request counts that came at `now`, when so many leases were live, and that was told this.
-    /// They are counted again only where it was met.
-    fn kind_of(&self, request: &Routed, now: Moment, before: u32, reply: &[u8]) -> LoadKind
+    /// Whether a lease covers the endpoint of a MAP request that comes at `now`. What is done to it
+    /// tells how the request counts, so that nothing is looked up after it.
+    fn is_there(&self, request: &Routed, now: Moment) -> bool
         requires place { request.now.place < length self.now.config.externals }
         requires rests { IsAtRest D.tells D.seen D.may_leave self.now }
-        ensures { result ≡ kind_told request.now.ask before
-            (live_in (plain_house self.now) request.now.place now) reply.now }
+        ensures { result
+            ≡ is_there (plain_house self.now) request.now.place request.now.ask now }
     {
         let Ask::Map(ask) = &request.ask else {
-            return LoadKind::Refused;
+            return false;
         };
-        if !is_met(reply) {
-            return LoadKind::Refused;
-        }
-        let after = self.live_at(request.place, now);
-        kind_met(ask.lifetime == 0, before, after)
+        let m = later(now, self.house().last(request.place));
+        self.house().covered(request.place, &ask.endpoint, m)
     }
 
     /// How many external addresses there are, at most 16.
@@ -131,10 +118,10 @@ impl<D: LeaseDisk + Drop> LoadAnswerer for HouseLines<D> {
                 octets: Octets::of(Vec::new(alloc)),
             });
         };
-        let before = self.live_at(read.place, now);
+        let there = self.is_there(&read, now);
         let octets = self.reply_read(alloc, request, &read, now)?;
         Ok(LoadReply {
-            kind: self.kind_of(&read, now, before, octets.items()),
+            kind: kind_of(&read, there, octets.items()),
             octets,
         })
     }

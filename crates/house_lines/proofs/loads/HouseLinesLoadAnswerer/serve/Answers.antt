@@ -1,10 +1,10 @@
-use Rattle.std.proofs.Common.{rules, ◌≡◌, ◌∙◌, ℕ, List, [], Option, Some, None, ap}
+use Rattle.std.proofs.Common.{rules, ◌≡◌, ◌∙◌, ℕ, Bool, List, [], Option, Some, None, ap}
 use Rattle.std.specs.Prelude.{unwrap_or}
-use Rattle.lease_histories.specs.PlainHouses.{PlainHouse, packet_after, packet_reply}
+use Rattle.lease_histories.specs.PlainHouses.{packet_reply}
 use Rattle.lease_house.specs.Routings.{routed_by}
 use Rattle.lease_house.specs.SoloHouses.{plain_house}
 use Rattle.house_lines.specs.HouseWays.{stays-with}
-use Rattle.house_lines.specs.LoadFindings.{kind_told, live_in}
+use Rattle.house_lines.specs.LoadFindings.{is_there, kind_told}
 use Rattle.house_lines.proofs.CallLemmas.{served-house, served-told, silence}
 use Rattle.house_lines.proofs.KindLemmas.{kinds-agree, silent-kind}
 use Rattle.house_lines.proofs.LoadLemmas.{shards-sound}
@@ -56,12 +56,9 @@ returns-clause-kind g c =
     let now = c.args.now in
     let read = c.in-Some.read in
     let routed : routed_by house.config from ≡ Some read = search rules in
-    let at_first = live_in (plain_house house) read.place now in
-    let before : c.live_at-before.result ≡ at_first = search rules in
-    let after : live_in (plain_house c.reply_read.new.self) read.place now ≡ live_in (packet_after (plain_house house) now from) read.place now =
-    ap (λ (h : PlainHouse). live_in h read.place now) c.in_ok-octets.ensures.house in
-    let counted : c.kind_of.result ≡ kind_told read.ask at_first (live_in (packet_after (plain_house house) now from) read.place now) c.in_ok-octets.octets =
-    c.kind_of.ensures ∙ ap (λ (n : ℕ). kind_told read.ask n (live_in (plain_house c.reply_read.new.self) read.place now) c.items.result.now) before
-    ∙ ap (λ (n : ℕ). kind_told read.ask at_first n c.items.result.now) after
-    ∙ ap (λ (reply : List ℕ). kind_told read.ask at_first (live_in (packet_after (plain_house house) now from) read.place now) reply) c.items.ensures in
+    let found = is_there (plain_house house) read.place read.ask now in
+    let there : c.is_there-there.result ≡ found = search rules in
+    let counted : c.kind_of.result ≡ kind_told read.ask found c.in_ok-octets.octets =
+    c.kind_of.ensures ∙ ap (λ (b : Bool). kind_told read.ask b c.items.result.now) there
+    ∙ ap (λ (reply : List ℕ). kind_told read.ask found reply) c.items.ensures in
     counted ∙ kinds-agree (plain_house house) now from read c.in_ok-octets.octets (shards-sound d.tells d.seen d.may_leave house c.requires) routed c.in_ok-octets.ensures.told
