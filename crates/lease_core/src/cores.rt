@@ -1,5 +1,5 @@
 //! The leases of an external address, and what is decided on them.
-ghost use Rattle.std.specs.Prelude.{◌≡◌, ◌++◌, ◌≤◌, Ok, true, false, is_some, OnOk, IfOk};
+ghost use Rattle.std.specs.Prelude.{◌≡◌, ◌++◌, ◌≤◌, None, Ok, true, false, is_some, OnOk, IfOk};
 ghost use Rattle.pcp_base.specs.Asks.{IsWellFormedAsk};
 ghost use Rattle.pcp_base.specs.Tables.{live};
 ghost use Rattle.pcp_base.specs.States.{empty_state};
@@ -11,6 +11,7 @@ ghost use Rattle.lease_store.specs.declared.terms.Terms.{Terms};
 ghost use Rattle.lease_store.specs.HeldRecords.{held_records};
 ghost use Rattle.lease_store.specs.Lookups.{covering, lease_count};
 ghost use Rattle.lease_store.specs.OwnerOrder.{owners_in_order};
+ghost use Rattle.lease_core.specs.Answers.{decision};
 ghost use Rattle.lease_core.specs.Decide.{decide as decided};
 
 use crate::applying::apply_uncounted;
@@ -18,7 +19,7 @@ use crate::decided::Decided;
 use crate::deciding::decide_uncounted;
 use lease_store::LeaseStore;
 use pcp_base::{
-    Address, Ask, End, Endpoint, MapLease, Memory, Moment, Owner, PeerLease, Protocol, Record,
+    Address, Answer, Ask, End, Endpoint, MapLease, Memory, Moment, Owner, PeerLease, Protocol, Record,
     Replay,
 };
 use record_sink::RecordSink;
@@ -58,7 +59,24 @@ impl<S: LeaseStore> LeaseCore<S> {
         ensures reached { S.reached self.new ≡ m }
         ensures terms { S.terms self.new ≡ S.terms self.old }
     {
-        Ok(decide_uncounted::<S, Brand>(&mut self.store, ask, m, Blank::new(1)))
+        let mut kept = None;
+        let answer = self.decide_kept(ask, m, &mut kept);
+        Ok(Decided { answer, kept })
+    }
+
+    /// What is decided on a request, as by `decide`. It leaves the record in `kept`.
+    pub fn decide_kept(&mut self, ask: &Ask, m: Moment, kept: &mut Option<Record>) -> Answer
+        requires sound { IsReached (S.state self.old) }
+        requires later { S.reached self.old ≤ m }
+        requires ask { IsWellFormedAsk ask.now }
+        requires none { kept.old ≡ None }
+        ensures decided { decision result kept.new
+            ≡ decided (S.terms self.old) (S.state self.old) m ask.now }
+        ensures state { S.state self.new ≡ S.state self.old }
+        ensures reached { S.reached self.new ≡ m }
+        ensures terms { S.terms self.new ≡ S.terms self.old }
+    {
+        decide_uncounted::<S, Brand>(&mut self.store, ask, m, kept, Blank::new(1))
     }
 
     /// Applies a record that fits, and whose moment isn't below the one reached.

@@ -43,12 +43,37 @@ fn decide_reached<S: LeaseStore, L: Ledger>(
     }
 }
 
+/// What is decided on a request, as by [`decide`]. It leaves the record in `kept`.
+fn decide_kept<S: LeaseStore, L: Ledger>(
+    store: &mut S,
+    ask: &Ask,
+    m: Moment,
+    kept: &mut Option<Record>,
+    steps: &mut Steps<L>,
+) -> Answer
+    requires sound { IsReached (S.state store.old) }
+    requires later { S.reached store.old ≤ m }
+    requires ask { IsWellFormedAsk ask.now }
+    requires none { kept.old ≡ None }
+    ensures decided { decision result kept.new
+        ≡ decide (S.terms store.old) (S.state store.old) m ask.now }
+    ensures state { S.state store.new ≡ S.state store.old }
+    ensures reached { S.reached store.new ≡ m }
+    ensures terms { S.terms store.new ≡ S.terms store.old }
+    ensures steps { let s = S.state store.old in steps.new ≤ steps.old + S.reach_steps
+        + looks_asked ask.now * S.look_steps s
+        + (if is_picked s m ask.now
+        then picking (S.look_steps s) (S.pick_steps store.old m) ask.now else 0) }
+{
+    store.reach(m, steps);
+    decide_reached(store, ask, m, kept, steps)
+}
+
 /// What is decided on a request at a moment that isn't below the one reached, which it becomes. The
 /// state stays: a record that is told is for the caller to apply. No memory is taken. It is what
 /// `reach` takes, three look-ups for a MAP request and five for a PEER request, and, only where a new
 /// lease is asked for whose endpoint has no port, a pick for its address with a look-up for each port
 /// of a set.
-#[inline(never)]
 pub fn decide<S: LeaseStore, L: Ledger>(
     store: &mut S,
     ask: &Ask,
@@ -67,30 +92,33 @@ pub fn decide<S: LeaseStore, L: Ledger>(
         + (if is_picked s m ask.now
         then picking (S.look_steps s) (S.pick_steps store.old m) ask.now else 0) }
 {
-    store.reach(m, steps);
     let mut kept = None;
-    let answer = decide_reached(store, ask, m, &mut kept, steps);
+    let answer = decide_kept(store, ask, m, &mut kept, steps);
     Decided { answer, kept }
 }
 
-/// Decides for a caller that counts no steps.
+/// Decides for a caller that counts no steps. It leaves the record in `kept`.
+#[inline(never)]
 pub(crate) fn decide_uncounted<S: LeaseStore, L: Ledger>(
     store: &mut S,
     ask: &Ask,
     m: Moment,
+    kept: &mut Option<Record>,
     blank: Blank,
-) -> Decided
+) -> Answer
     requires name { blank.name ≡ L.name }
     requires parts { blank.parts ≡ L.parts }
     requires part { 0 < L.parts }
     requires sound { IsReached (S.state store.old) }
     requires later { S.reached store.old ≤ m }
     requires ask { IsWellFormedAsk ask.now }
-    ensures decided { result ≡ decide (S.terms store.old) (S.state store.old) m ask.now }
+    requires none { kept.old ≡ None }
+    ensures decided { decision result kept.new
+        ≡ decide (S.terms store.old) (S.state store.old) m ask.now }
     ensures state { S.state store.new ≡ S.state store.old }
     ensures reached { S.reached store.new ≡ m }
     ensures terms { S.terms store.new ≡ S.terms store.old }
 {
     let mut steps = Steps::<L>::begin(blank);
-    decide(store, ask, m, &mut steps)
+    decide_kept(store, ask, m, kept, &mut steps)
 }

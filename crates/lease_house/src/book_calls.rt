@@ -1,5 +1,5 @@
 //! A call on one of the books of a house.
-ghost use Rattle.std.specs.Prelude.{◌≡◌, ◌<◌, ◌∷◌, [], length, map, max, Err, IfOk, IfErr, OnOk};
+ghost use Rattle.std.specs.Prelude.{◌≡◌, ◌<◌, length, map, max, Err, IfOk, IfErr, OnOk};
 ghost use Rattle.pcp_base.specs.Asks.{IsWellFormedAsk};
 ghost use Rattle.journal_sides.specs.declared.errors.JournalFault.TheVariants.{Disk};
 ghost use Rattle.lease_store.specs.Lookups.{lease_count};
@@ -15,9 +15,8 @@ use crate::opening::fault_at;
 use lease_disk::LeaseDisk;
 use lease_journal::JournalFault;
 use pcp_base::{Ask, Moment};
-use shard_book::{Answered, Book};
+use shard_book::{Book, DatedAnswer};
 use std::alloc::Global;
-use std::slice;
 
 /// What a call of the book at this place told, as the house tells it.
 pub(crate) fn told_at<T>(place: u32, told: Result<T, JournalFault>) -> Result<T, HouseFault>
@@ -52,21 +51,21 @@ pub(crate) fn ask_at<D: LeaseDisk + Drop>(
     place: u32,
     ask: &Ask,
     now: Moment,
-) -> Result<Vec<Answered>, JournalFault>
+) -> Result<DatedAnswer, JournalFault>
     requires place { place < length books.old.items }
     requires settled { IsSettledIn place books.old.items }
     requires formed { IsWellFormedAsk ask.now }
     ensures { ChangesAt place books.old.items books.new.items (λ b c.
         StaysBook D.tells D.seen D.may_leave D.faults (result ≡ Err Disk) b c
-        × (IfOk result (λ answers. (answers.items
-        ≡ ask_answer now (greatest (map (λ b. b.state.base) books.old.items)) ask.now b ∷ [])
+        × (IfOk result (λ answer. (answer
+        ≡ ask_answer now (greatest (map (λ b. b.state.base) books.old.items)) ask.now b)
         × Keeps D.tells D.moment D.left_since D.may_leave (max now b.last)
         (ask_records now ask.now b) b c)
         × IfErr result (Doubts D.tells D.moment D.left_since D.may_leave
         (ask_records now ask.now b) b c))) }
 {
     let base = greatest_base(books);
-    books[place as usize].batch(alloc, slice::from_ref(ask), now, base)
+    books[place as usize].ask(alloc, ask, now, base)
 }
 
 /// Loses the leases of the book at this place, which is settled.

@@ -8,7 +8,7 @@ ghost use Rattle.lease_histories.specs.Entries.{reply_text_of};
 use natpmp_front::{is_front, write_front};
 use pcp_base::{Address, Ask, Config, Memory, Octets, epoch};
 use pcp_options::{Items, write_reply};
-use shard_book::Answered;
+use shard_book::DatedAnswer;
 use std::alloc::Global;
 
 /// The external address at this place.
@@ -26,16 +26,16 @@ pub fn reply_of(
     address: &Address,
     ask: &Ask,
     items: &Items,
-    answered: &Answered,
+    answer: &DatedAnswer,
 ) -> Result<Octets, Memory>
     requires { 2 ≤ length request.now }
     ensures { IfOk result (λ reply. reply ≡ reply_text_of request.now address.now items.now
-        answered.now.answer (epoch_of answered.now.moment answered.now.base)) }
+        answer.now.answer (epoch_of answer.now.moment answer.now.base)) }
 {
     let mut text = Vec::new(alloc);
-    let told = epoch(answered.moment, answered.base);
+    let told = epoch(answer.moment, answer.base);
     if is_front(request) {
-        write_front(alloc, &mut text, request, address, &answered.answer, told)?;
+        write_front(alloc, &mut text, request, address, &answer.answer, told)?;
         return Ok(Octets::of(text));
     }
     write_reply(
@@ -44,7 +44,7 @@ pub fn reply_of(
         request,
         ask,
         items,
-        &answered.answer,
+        &answer.answer,
         told,
     )?;
     Ok(Octets::of(text))

@@ -10,7 +10,7 @@ use crate::updates::updates_of;
 use lease_core::Core;
 use lease_disk::{DiskPair, LeaseDisk};
 use pcp_base::{Address, Ask, Config, Datagram, Endpoint, Memory, Moment, Octets, Owner, Protocol};
-use shard_book::{Answered, Book};
+use shard_book::{Book, DatedAnswer};
 use std::alloc::Global;
 use std::marker::Model;
 
@@ -169,7 +169,7 @@ impl<D: LeaseDisk + Drop> SoloHouse<D> {
             (λ place. result ≡ Err (Disk place)) }
     {
         let address = address_at(self.config(), request.place);
-        let answers = self.answer(alloc, request.place, &request.ask, now)?;
+        let answer = self.answer(alloc, request.place, &request.ask, now)?;
         let octets = datagram.octets.items();
         let reply = reply_of(
             alloc,
@@ -177,7 +177,7 @@ impl<D: LeaseDisk + Drop> SoloHouse<D> {
             &address,
             &request.ask,
             &request.items,
-            &answers[0],
+            &answer,
         )?;
         Ok(reply)
     }
@@ -302,12 +302,12 @@ impl<D: LeaseDisk + Drop> SoloHouse<D> {
         place: u32,
         ask: &Ask,
         now: Moment,
-    ) -> Result<Vec<Answered>, HouseFault>
+    ) -> Result<DatedAnswer, HouseFault>
         requires place { place < length self.old.config.externals }
         requires formed { IsWellFormedAsk ask.now }
-        ensures answered { IfOk result (λ answers.
+        ensures answered { IfOk result (λ answer.
             AnswersAsk D.tells D.moment D.left_since D.may_leave now place ask.now
-            self.old self.new answers.items) }
+            self.old self.new answer) }
         ensures refused { IfErr result
             (IsLineRefused D.tells D.moment D.left_since D.may_leave now place
             (ask_records now ask.now) self.old self.new) }

@@ -8,6 +8,7 @@ use Rattle.lease_store.specs.declared.terms.Terms.{Terms}
 use Rattle.lease_core.specs.declared.decided.Decided.{Decided}
 use Rattle.lease_core.specs.Decide.{decide}
 use Rattle.shard_book.specs.declared.batches.Answered.{Answered}
+use Rattle.shard_book.specs.declared.batches.DatedAnswer.{DatedAnswer}
 
 -- the state with what is kept of an ask
 abbrev pub with_kept : State → Option Record → State
@@ -36,3 +37,7 @@ answer_at m base d = record { moment = m; base = base; answer = d.answer; kept =
 
 abbrev pub answers_at : ℕ → ℕ → List Decided → List Answered
 answers_at m base ds = map (answer_at m base) ds
+
+-- what is answered, without what is kept
+abbrev pub dated_of : Answered → DatedAnswer
+dated_of a = record { moment = a.moment; base = a.base; answer = a.answer }

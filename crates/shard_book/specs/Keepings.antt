@@ -4,6 +4,7 @@ use Rattle.pcp_base.specs.declared.asks.Ask.{Ask}
 use Rattle.pcp_base.specs.declared.records.Change.TheVariants.{Lose}
 use Rattle.pcp_base.specs.declared.records.Record.{Record}
 use Rattle.pcp_base.specs.Apply.{apply_all}
+use Rattle.lease_core.specs.Decide.{decide}
 use Rattle.lease_store.specs.Lookups.{lease_count}
 use Rattle.lease_disk.specs.Pairs.{PairLeavesOnly}
 use Rattle.journal_sides.specs.declared.errors.JournalFault.{JournalFault}
@@ -13,9 +14,10 @@ use Rattle.journal_sides.specs.Journals.{StandsForWithOrWithout}
 use Rattle.journal_sides.specs.Writes.{of_side, other}
 use Rattle.lease_journal.specs.Views.{JournalView}
 use Rattle.shard_book.specs.declared.batches.Answered.{Answered}
+use Rattle.shard_book.specs.declared.batches.DatedAnswer.{DatedAnswer}
 use Rattle.shard_book.specs.declared.lengths.TheConstants.{LONGEST_SIDE}
 use Rattle.shard_book.specs.declared.standings.Settled.{Settled}
-use Rattle.shard_book.specs.Batches.{answers_at, decide_all, records_kept}
+use Rattle.shard_book.specs.Batches.{answer_at, answers_at, decide_all, records_kept, dated_of}
 use Rattle.shard_book.specs.Books.{BookView}
 use Rattle.shard_book.specs.Settlings.{KeepsDoubt, Settles}
 
@@ -121,6 +123,23 @@ pub record Serves {D : Type 0} (tells : Type 0) (moment : D → ℕ)
   pub keeps : Keeps tells moment left_since may_leave (max now mid.last)
       (batch_records now asks mid) mid new
   pub journal : Journals tells (batch_records now asks mid) mid.journal new.journal
+
+-- what an ask at `now` is answered, with this base
+abbrev pub dated_answer : {D : Type 0} → (now base : ℕ) → Ask → BookView D → DatedAnswer
+dated_answer now base ask book = dated_of (answer_at (max now book.last) (max base book.state.base)
+    (decide book.terms book.state (max now book.last) ask))
+
+-- one ask is answered as a batch that has no other, after the book was settled
+pub record ServesOne {D : Type 0} (tells : Type 0) (moment : D → ℕ)
+    (left_since : D → ℕ → List ℕ → Type 0) (may_leave : D → List ℕ → Type 0) (now base : ℕ)
+    (ask : Ask) (old new : BookView D) (answer : DatedAnswer) : Type 0 where
+  pub mid : BookView D
+  pub settled : Settled
+  pub settles : Settles tells moment left_since may_leave now old mid settled
+  pub answered : answer ≡ dated_answer now base ask mid
+  pub keeps : Keeps tells moment left_since may_leave (max now mid.last)
+      (batch_records now (ask ∷ []) mid) mid new
+  pub journal : Journals tells (batch_records now (ask ∷ []) mid) mid.journal new.journal
 
 -- ---- a loss
 

@@ -1,15 +1,16 @@
 //! Deciding on the requests of a batch one after the other.
-ghost use Rattle.std.specs.Prelude.{◌≡◌, ◌≤◌, ◌++◌, ◌∷◌, [], length, IfOk, IfSome, OnOk};
+ghost use Rattle.std.specs.Prelude.{◌≡◌, ◌≤◌, ◌++◌, ◌∷◌, [], None, length, IfOk, IfSome, OnOk};
 ghost use Rattle.std.specs.List.{AllByRecursion};
 ghost use Rattle.pcp_base.specs.Apply.{apply_all};
 ghost use Rattle.pcp_base.specs.Asks.{IsWellFormedAsk};
 ghost use Rattle.pcp_base.specs.Fits.{AllFit, Fits};
 ghost use Rattle.pcp_base.specs.Reached.{IsReached};
+ghost use Rattle.lease_core.specs.Answers.{decision};
 ghost use Rattle.lease_core.specs.Decide.{decide};
 ghost use Rattle.shard_book.specs.Insides.{MayDecideAt};
-ghost use Rattle.shard_book.specs.Batches.{answer_at, answers_at, decide_all, kept_before, records_kept, with_kept};
+ghost use Rattle.shard_book.specs.Batches.{answer_at, answers_at, decide_all, kept_before, records_kept, dated_of, with_kept};
 
-use lease_core::{Decided, LeaseCore, decisions_fit, decisions_keep_owners};
+use lease_core::{LeaseCore, decisions_fit, decisions_keep_owners};
 use lease_store::LeaseStore;
 use pcp_base::{Answer, Ask, Memory, Moment, Record};
 use std::alloc::Global;
@@ -25,6 +26,29 @@ pub struct Answered {
     pub answer: Answer,
     /// The record that was kept of the request, if any.
     pub kept: Option<Record>,
+}
+
+/// What a request is answered, when, and with which base; not what is kept of it.
+#[derive(Clone, Copy, Debug, PartialEq, Eq)]
+pub struct DatedAnswer {
+    /// When it was decided.
+    pub moment: Moment,
+    /// The base of the epoch that is told.
+    pub base: Moment,
+    pub answer: Answer,
+}
+
+impl Answered {
+    /// The answer, when, and with which base.
+    pub fn dated(&self) -> DatedAnswer
+        ensures { result ≡ dated_of self.now }
+    {
+        DatedAnswer {
+            moment: self.moment,
+            base: self.base,
+            answer: self.answer,
+        }
+    }
 }
 
 /// What is decided on a batch.
@@ -72,35 +96,34 @@ fn push_kept(records: &mut Vec<Record>, kept: &Option<Record>) -> Result<(), Mem
     }
 }
 
-/// Applies what is kept of a request, and appends both what is answered and the record.
-fn keep<S: LeaseStore>(
+/// Decides on a request, and applies what is kept of it, which it leaves in `kept`.
+pub(crate) fn decide_applied<S: LeaseStore>(
     alloc: Global,
     core: &mut LeaseCore<S>,
-    decided: &Decided,
+    ask: &Ask,
     m: Moment,
-    base: Moment,
-    batch: &mut Batch,
-) -> Result<(), Memory>
-    requires reached { IsReached (S.state core.old) }
-    requires fits { IfSome decided.now.kept (λ r. Fits (S.state core.old) r × (r.moment ≡ m)) }
-    requires past { S.reached core.old ≤ m }
-    ensures answers { OnOk result (batch.new.answers.items
-        ≡ batch.old.answers.items ++ answer_at m base decided.now ∷ []) }
-    ensures records { OnOk result (batch.new.records.items
-        ≡ batch.old.records.items ++ kept_before decided.now.kept []) }
-    ensures state { OnOk result (S.state core.new ≡ with_kept (S.state core.old) decided.now.kept) }
-    ensures past { OnOk result (S.reached core.new ≤ m) }
+    kept: &mut Option<Record>,
+) -> Result<Answer, Memory>
+    requires ready { MayDecideAt (S.terms core.old) (S.state core.old) (S.reached core.old) m }
+    requires ask { IsWellFormedAsk ask.now }
+    requires none { kept.old ≡ None }
+    ensures decided { IfOk result (λ answer. decision answer kept.new
+        ≡ decide (S.terms core.old) (S.state core.old) m ask.now) }
+    ensures kept { kept.new ≡ (decide (S.terms core.old) (S.state core.old) m ask.now).kept }
+    ensures state { OnOk result (S.state core.new ≡ with_kept (S.state core.old)
+        (decide (S.terms core.old) (S.state core.old) m ask.now).kept) }
+    ensures fits { IfSome (decide (S.terms core.old) (S.state core.old) m ask.now).kept
+        (Fits (S.state core.old)) }
+    ensures ready { OnOk result
+        (MayDecideAt (S.terms core.new) (S.state core.new) (S.reached core.new) m) }
+    ensures address { OnOk result ((S.state core.new).address ≡ (S.state core.old).address) }
     ensures terms { S.terms core.new ≡ S.terms core.old }
 {
-    apply_kept(alloc, core, &decided.kept, m)?;
-    push_kept(&mut batch.records, &decided.kept)?;
-    batch.answers.push(Answered {
-        moment: m,
-        base,
-        answer: decided.answer,
-        kept: decided.kept,
-    })?;
-    Ok(())
+    decisions_fit();
+    decisions_keep_owners();
+    let answer = core.decide_kept(ask, m, kept);
+    apply_kept(alloc, core, kept, m)?;
+    Ok(answer)
 }
 
 /// Decides on a request, applies what is kept of it, and appends both what is answered and the
@@ -128,15 +151,16 @@ fn decide_one<S: LeaseStore>(
     ensures address { OnOk result ((S.state core.new).address ≡ (S.state core.old).address) }
     ensures terms { S.terms core.new ≡ S.terms core.old }
 {
-    decisions_fit();
-    decisions_keep_owners();
-    match &core.decide(alloc, ask, m) {
-        Ok(decided) => {
-            keep(alloc, core, decided, m, base, batch)?;
-            Ok(())
-        }
-        Err(memory) => Err(*memory),
-    }
+    let mut kept = None;
+    let answer = decide_applied(alloc, core, ask, m, &mut kept)?;
+    push_kept(&mut batch.records, &kept)?;
+    batch.answers.push(Answered {
+        moment: m,
+        base,
+        answer,
+        kept,
+    })?;
+    Ok(())
 }
 
 /// Decides on the requests at `m` one after the other. The answers tell this base.

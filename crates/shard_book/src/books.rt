@@ -1,8 +1,8 @@
 //! The calls of a book.
 
-use crate::batches::Answered;
+use crate::batches::{Answered, DatedAnswer};
 use crate::opening::later;
-use crate::serving::{write_batch, write_lose};
+use crate::serving::{write_batch, write_lose, write_one};
 use crate::standings::{Settled, Standing};
 use crate::texts::KeptTexts;
 use lease_core::LeaseCore;
@@ -62,7 +62,7 @@ impl<D: LeaseDisk, S: LeaseStore> Model for LeaseBook<D, S> {
 }
 
 impl<D: LeaseDisk, S: LeaseStore + Drop> LeaseBook<D, S> {
-    ghost use Rattle.std.specs.Prelude.{◌≡◌, ◌≤◌, max, length, None, Err, IfOk, IfErr, OnOk};
+    ghost use Rattle.std.specs.Prelude.{◌≡◌, ◌≤◌, ◌∷◌, [], max, length, None, Err, IfOk, IfErr, OnOk};
     ghost use Rattle.std.specs.List.{AllByRecursion};
     ghost use Rattle.pcp_base.specs.Asks.{IsWellFormedAsk};
     ghost use Rattle.pcp_base.specs.Reached.{IsReached};
@@ -71,7 +71,7 @@ impl<D: LeaseDisk, S: LeaseStore + Drop> LeaseBook<D, S> {
     ghost use Rattle.journal_sides.specs.declared.errors.JournalFault.TheVariants.{Disk};
     ghost use Rattle.journal_sides.specs.declared.layout.TheConstants.{MOST_RECORDS};
     ghost use Rattle.shard_book.specs.Books.{IsBook};
-    ghost use Rattle.shard_book.specs.Keepings.{Doubts, IsRefused, Journals, Keeps, Loses, Serves, batch_answers, batch_records, lose_records};
+    ghost use Rattle.shard_book.specs.Keepings.{Doubts, IsRefused, Journals, Keeps, Loses, Serves, ServesOne, batch_answers, batch_records, lose_records, dated_answer};
     ghost use Rattle.shard_book.specs.Settlings.{HasSettled, KeepsDoubt, Settles};
 
     /// Answers at most [`MOST_RECORDS`](lease_journal::MOST_RECORDS) well formed requests, at the
@@ -100,6 +100,29 @@ impl<D: LeaseDisk, S: LeaseStore + Drop> LeaseBook<D, S> {
     {
         self.settle_if_refused(alloc, now)?;
         self.serve(alloc, asks, now, base)
+    }
+
+    /// Answers one well formed request, as `batch` does that has no other.
+    pub fn ask(
+        &mut self,
+        alloc: Global,
+        ask: &Ask,
+        now: Moment,
+        base: Moment,
+    ) -> Result<DatedAnswer, BookFault>
+        requires { IsWellFormedAsk ask.now }
+        ensures served { IfOk result
+            (λ answer. ServesOne D.tells D.moment D.left_since D.may_leave now base ask.now
+            self.old self.new answer) }
+        ensures refused { IfErr result
+            (IsRefused D.tells D.moment D.left_since D.may_leave now
+            (batch_records now (ask.now ∷ [])) self.old self.new) }
+        ensures book { IsBook D.tells D.seen D.may_leave self.new }
+        ensures cause { PairHasCause D.faults self.old.journal.pair self.new.journal.pair
+            (result ≡ Err Disk) }
+    {
+        self.settle_if_refused(alloc, now)?;
+        self.serve_one(alloc, ask, now, base)
     }
 
     /// Loses all leases at the greater of `now` and the moment of the last batch, and says how many
@@ -197,6 +220,57 @@ impl<D: LeaseDisk, S: LeaseStore + Drop> LeaseBook<D, S> {
                 self.last = m;
                 self.base = self.core.base();
                 Ok(answers)
+            }
+            Err(fault) => {
+                self.fault = Some(fault);
+                Err(fault)
+            }
+        }
+    }
+
+    /// Answers a request where no call was refused since the book was settled.
+    fn serve_one(
+        &mut self,
+        alloc: Global,
+        ask: &Ask,
+        now: Moment,
+        base: Moment,
+    ) -> Result<DatedAnswer, BookFault>
+        requires settled { self.old.fault ≡ None }
+        requires ask { IsWellFormedAsk ask.now }
+        ensures answer { IfOk result
+            (λ answer. answer ≡ dated_answer now base ask.now self.old) }
+        ensures keeps { OnOk result
+            (Keeps D.tells D.moment D.left_since D.may_leave (max now self.old.last)
+            (batch_records now (ask.now ∷ []) self.old) self.old self.new) }
+        ensures journal { OnOk result (Journals D.tells (batch_records now (ask.now ∷ []) self.old)
+            self.old.journal self.new.journal) }
+        ensures refused { IfErr result
+            (Doubts D.tells D.moment D.left_since D.may_leave
+            (batch_records now (ask.now ∷ []) self.old) self.old self.new) }
+        ensures book { IsBook D.tells D.seen D.may_leave self.new }
+        ensures cause { PairHasCause D.faults self.old.journal.pair self.new.journal.pair
+            (result ≡ Err Disk) }
+    {
+        let m = later(now, self.last);
+        let told = later(base, self.base);
+        let served = write_one(
+            alloc,
+            &mut self.core,
+            &mut self.journal,
+            &mut self.texts,
+            ask,
+            m,
+        );
+        match served {
+            Ok(answer) => {
+                self.last = m;
+                self.base = self.core.base();
+                Ok(DatedAnswer {
+                    moment: m,
+                    base: told,
+                    answer,
+                })
             }
             Err(fault) => {
                 self.fault = Some(fault);

@@ -13,7 +13,7 @@ mod snapshots;
 mod standings;
 mod texts;
 
-pub use batches::Answered;
+pub use batches::{Answered, DatedAnswer};
 pub use books::{BookFault, LeaseBook};
 pub use lease_journal::{Found, Unopened};
 pub use opening::Book;

@@ -93,7 +93,7 @@ fn reply_at(
 {
     let from = &batch[source.at];
     let request = from.octets.items();
-    let octets = reply_of(alloc, request, address, ask, &source.items, answered)?;
+    let octets = reply_of(alloc, request, address, ask, &source.items, &answered.dated())?;
     Ok(Datagram {
         peer: from.peer,
         port: from.port,

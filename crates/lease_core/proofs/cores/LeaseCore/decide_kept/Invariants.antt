@@ -1,4 +1,4 @@
-use Rattle.lease_core.proofs.cores.LeaseCore.decide.Given as goal
+use Rattle.lease_core.proofs.cores.LeaseCore.decide_kept.Given as goal
 
 -- the ledger of the steps that nobody counts
 abbrev pub ghosts-decide_uncounted : goal.ghosts-decide_uncounted
