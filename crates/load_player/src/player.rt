@@ -25,6 +25,7 @@ use script_player::AnswerFault;
 use server_commands::LoadPlan;
 use sha2::{Digest, Sha256};
 use std::alloc::Global;
+use std::mem;
 
 /// How many requests come in a second.
 const IN_A_SECOND: u32 = 100;
@@ -64,10 +65,12 @@ fn moment_of(start: Moment, i: u32) -> Moment
     }
 }
 
-/// Serves the next request, which comes at this moment.
+/// Serves the next request, which comes at this moment. Its octets stand where those of the one before
+/// it stood.
 fn serve_next<A: LoadAnswerer>(
     alloc: Global,
     progress: &mut Progress,
+    octets: &mut Vec<u8>,
     answerer: &mut A,
     now: Moment,
 ) -> Result<(), AnswerFault>
@@ -85,8 +88,9 @@ fn serve_next<A: LoadAnswerer>(
     ensures later { (shard disk : ℕ) →
         A.faults answerer.old shard disk ≤ A.faults answerer.new shard disk }
 {
-    let request = progress.load.next(alloc)?;
+    let request = progress.load.next_in(mem::replace(octets, Vec::new(alloc)))?;
     let told = answerer.serve(alloc, &request, now)?;
+    *octets = request.octets.into_vec();
     progress.digest.update(told.octets.items());
     progress.counts = progress.counts.with(told.kind);
     Ok(())
@@ -115,8 +119,15 @@ fn serve_all<A: LoadAnswerer>(
         counts: LoadCounts::none(),
         digest: Sha256::new(),
     };
+    let mut octets = Vec::new(alloc);
     for i in 0..plan.count {
-        serve_next(alloc, &mut progress, answerer, moment_of(plan.start, i))?;
+        serve_next(
+            alloc,
+            &mut progress,
+            &mut octets,
+            answerer,
+            moment_of(plan.start, i),
+        )?;
     }
     Ok(progress)
 }

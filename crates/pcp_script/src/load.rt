@@ -61,8 +61,21 @@ impl Load {
             → OnOk result (self.new ≡ load_at number (i + 1)) }
         ensures unchanged { OnErr result (self.new ≡ self.old) }
     {
+        self.next_in(Vec::new(alloc))
+    }
+
+    /// The next request, whose octets stand in place of those of a vector, for a caller that needs no
+    /// request but the last. It is the same again after want of memory.
+    pub fn next_in(&mut self, mut octets: Vec<u8>) -> Result<Datagram, Memory>
+        ensures request { (number : ℕ) (i : ℕ) → self.old ≡ load_at number i
+            → IfOk result (λ from. from ≡ request_at number i) }
+        ensures moved { (number : ℕ) (i : ℕ) → self.old ≡ load_at number i
+            → OnOk result (self.new ≡ load_at number (i + 1)) }
+        ensures unchanged { OnErr result (self.new ≡ self.old) }
+    {
         // The memory is taken before the words are.
-        let octets = Vec::with_capacity(alloc, REQUEST_OCTETS)?;
+        octets.clear();
+        octets.reserve(REQUEST_OCTETS)?;
         let draw = draw_of(&mut self.words);
         Ok(request_of(octets, draw))
     }

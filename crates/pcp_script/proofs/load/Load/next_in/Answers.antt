@@ -1,6 +1,6 @@
 use Rattle.std.proofs.Common.{◌∙◌, rules}
 use Rattle.pcp_script.proofs.LoadLemmas.{request_of_draw}
-use Rattle.pcp_script.proofs.load.Load.next.Goals as goal
+use Rattle.pcp_script.proofs.load.Load.next_in.Goals as goal
 
 pub returns-clause-request : goal.returns-clause-request
 returns-clause-request c number i at =
