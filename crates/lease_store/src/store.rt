@@ -144,6 +144,13 @@ pub trait LeaseStore {
         ensures lease { result ≡ covering (state self.now).table (reached self.now) endpoint.now }
         ensures steps { steps.new ≤ steps.old + look_steps (state self.now) };
 
+    /// Whether a MAP lease, live at the moment reached, covers the endpoint.
+    fn is_covered<L: Ledger>(&self, endpoint: &Endpoint, steps: &mut Steps<L>) -> bool
+        requires { IsReached (state self.now) }
+        ensures covered { result
+            ≡ is_some (covering (state self.now).table (reached self.now) endpoint.now) }
+        ensures steps { steps.new ≤ steps.old + look_steps (state self.now) };
+
     /// The PEER lease, live at the moment reached, of this endpoint and remote.
     fn peering<L: Ledger>(
         &self,

@@ -128,6 +128,10 @@ impl LeaseStore for PlainStore {
         lookups::covering(&self.replay, self.reached, endpoint)
     }
 
+    fn is_covered<L: Ledger>(&self, endpoint: &Endpoint, _steps: &mut Steps<L>) -> bool {
+        lookups::covering(&self.replay, self.reached, endpoint).is_some()
+    }
+
     fn peering<L: Ledger>(
         &self,
         endpoint: &Endpoint,
