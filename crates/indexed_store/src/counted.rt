@@ -1,6 +1,6 @@
 //! What is looked up in a state at a moment, which isn't before its last. A step is a look at a level of
 //! an ordered map.
-ghost use Rattle.std.specs.Prelude.{◌≡◌, ◌≤◌, ◌+◌, ◌*◌, nat_lt};
+ghost use Rattle.std.specs.Prelude.{◌≡◌, ◌≤◌, ◌+◌, ◌*◌, is_some, nat_lt};
 ghost use Rattle.step_count.specs.Levels.{levels};
 ghost use Rattle.pcp_base.specs.declared.leases.TheConstants.{MOST_LEASES};
 ghost use Rattle.indexed_store.specs.Indexed.{IsKept};
@@ -27,6 +27,22 @@ impl IndexedState {
     {
         levels_grow();
         self.leases.covering_counted(m, endpoint, steps)
+    }
+
+    /// Whether a MAP lease covers the endpoint.
+    pub(crate) fn is_covered<L: Ledger>(
+        &self,
+        m: Moment,
+        endpoint: &Endpoint,
+        steps: &mut Steps<L>,
+    ) -> bool
+        requires kept { IsKept self.now }
+        requires later { self.now.state.last ≤ m }
+        ensures covered { result ≡ is_some (covering self.now.state.table m endpoint.now) }
+        ensures steps { steps.new ≤ steps.old + 3 * levels MOST_LEASES }
+    {
+        levels_grow();
+        self.leases.is_covered_counted(m, endpoint, steps)
     }
 
     /// The PEER lease of this endpoint and remote.

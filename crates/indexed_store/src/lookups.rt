@@ -1,6 +1,6 @@
 //! What is looked up in the leases that are live at a moment, by internal endpoint. A step is a look at a
 //! level of an ordered map.
-ghost use Rattle.std.specs.Prelude.{◌≡◌, ◌≤◌, ◌+◌, ◌*◌, length, find, nat_lt};
+ghost use Rattle.std.specs.Prelude.{◌≡◌, ◌≤◌, ◌+◌, ◌*◌, length, find, is_some, nat_lt};
 ghost use Rattle.step_count.specs.Levels.{levels};
 ghost use Rattle.pcp_base.specs.declared.leases.TheConstants.{MOST_LEASES};
 ghost use Rattle.pcp_base.specs.Tables.{is_map_of, live};
@@ -45,6 +45,20 @@ impl Leases {
             return None;
         };
         if lease.is_live(m) { Some(lease) } else { None }
+    }
+
+    /// Whether a MAP lease covers the endpoint. It looks at no filters.
+    pub(crate) fn is_covered_counted<L: Ledger>(
+        &self,
+        m: Moment,
+        endpoint: &Endpoint,
+        steps: &mut Steps<L>,
+    ) -> bool
+        requires { AreTabled self.now }
+        ensures covered { result ≡ is_some (covering self.now m endpoint.now) }
+        ensures steps { steps.new ≤ steps.old + 3 * levels (length self.now.maps) }
+    {
+        self.maps.covers(endpoint, m, steps)
     }
 
     /// The MAP lease with this key: its first endpoint.

@@ -267,6 +267,10 @@ impl LeaseStore for IndexedStore {
         self.state.covering(self.reached, endpoint, steps)
     }
 
+    fn is_covered<L: Ledger>(&self, endpoint: &Endpoint, steps: &mut Steps<L>) -> bool {
+        self.state.is_covered(self.reached, endpoint, steps)
+    }
+
     fn peering<L: Ledger>(
         &self,
         endpoint: &Endpoint,

@@ -1,0 +1,18 @@
+use Rattle.std.proofs.Common.{ℕ, find, is_some, count_by, ◌∙◌, arith}
+use Rattle.std.specs.Option.{option_map}
+use Rattle.pcp_base.specs.Tables.{covers}
+use Rattle.indexed_store.proofs.LevelLemmas.{maps-levels}
+use Rattle.indexed_store.proofs.StateLooks.{leases_of, looked_in, tabled_of}
+use Rattle.indexed_store.proofs.state.IndexedState.is_covered.Goals as goal
+
+pub returns-clause-covered : goal.returns-clause-covered
+returns-clause-covered g c =
+    let e = c.args.endpoint.now in
+    c.is_covered_counted.ensures.covered
+    ∙ looked_in (λ t. is_some (find (λ l. covers l e) t.maps)) c.args.self.now c.args.m c.self.inside.leases (leases_of c.self.view_is) c.requires.kept c.requires.later
+
+pub returns-clause-steps : goal.returns-clause-steps
+returns-clause-steps g c =
+    let taken = c.is_covered_counted.ensures.steps in
+    let few = maps-levels c.levels_grow.ensures c.self.inside.leases (tabled_of c.self.view_is c.requires.kept) in
+    omega (arith, taken, few)
