@@ -1,5 +1,5 @@
 //! What is decided on MAP requests (RFC 6887, sections 11.3, 13 and 15; sets of ports: RFC 7753).
-ghost use Rattle.std.specs.Prelude.{◌≡◌, ◌+◌, ◌-◌, ◌*◌, ◌<◌, ◌≤◌, ◌^◌, ◌&&◌, ◌==◌, not, is_none, ℕ, false, [], None, Some, Ok, if◌then◌else◌};
+ghost use Rattle.std.specs.Prelude.{◌≡◌, ◌+◌, ◌-◌, ◌*◌, ◌<◌, ◌≤◌, ◌^◌, ◌&&◌, ◌==◌, not, is_none, is_some, ℕ, true, false, [], None, Some, Ok, if◌then◌else◌};
 ghost use Rattle.pcp_base.specs.declared.asks.Ask.TheVariants.{Map};
 ghost use Rattle.pcp_base.specs.States.{State};
 ghost use Rattle.pcp_base.specs.Asks.{IsMapAsk};
@@ -7,7 +7,7 @@ ghost use Rattle.pcp_base.specs.Reached.{IsReached};
 ghost use Rattle.pcp_base.specs.Tables.{IsMapLease, covers};
 ghost use Rattle.filter_rules.specs.Filters.{fold_filters as folded};
 ghost use Rattle.lease_store.specs.LeaseTerms.{AreTerms};
-ghost use Rattle.lease_store.specs.Lookups.{named_port};
+ghost use Rattle.lease_store.specs.Lookups.{covering, named_port};
 ghost use Rattle.pcp_base.specs.declared.codes.Code.TheVariants.{ExcessiveRemotePeers};
 ghost use Rattle.lease_core.specs.Answers.{decision, is_address_met, is_port_met, port_within, refused};
 ghost use Rattle.lease_core.specs.DecideMap.{covered, decide_map, has_excess, is_wanted, mapped, new_lease, parity_of, port_told, renewed, room_inside, set_told, size_asked, uncovered};
@@ -460,6 +460,31 @@ fn decide_uncovered<S: LeaseStore, L: Ledger>(
     grant(store, m, ask, kept, steps)
 }
 
+/// What is decided on a MAP request that a live lease covers. It leaves the record in `kept`.
+#[inline(never)]
+fn decide_held<S: LeaseStore, L: Ledger>(
+    store: &S,
+    m: Moment,
+    ask: &MapAsk,
+    kept: &mut Option<Record>,
+    steps: &mut Steps<L>,
+) -> Answer
+    requires sound { IsReached (S.state store.now) }
+    requires reached { S.reached store.now ≡ m }
+    requires ask { IsMapAsk ask.now }
+    requires none { kept.old ≡ None }
+    requires covered { is_some
+        (covering (S.state store.now).table (S.reached store.now) ask.now.endpoint) ≡ true }
+    ensures decided { decision result kept.new
+        ≡ decide_map (S.terms store.now) (S.state store.now) m ask.now }
+    ensures steps { steps.new ≤ steps.old + S.look_steps (S.state store.now) }
+{
+    match store.covering(&ask.endpoint, steps) {
+        Some(lease) => decide_covered(&store.terms(), m, ask, &lease, kept),
+        None => unreachable!(),
+    }
+}
+
 /// What is decided on a MAP request at the moment reached. It leaves the record in `kept`.
 pub(crate) fn decide_map<S: LeaseStore, L: Ledger>(
     store: &mut S,
@@ -481,8 +506,9 @@ pub(crate) fn decide_map<S: LeaseStore, L: Ledger>(
         + (if is_picked s m (Map ask.now)
         then picking (S.look_steps s) (S.pick_steps store.old m) (Map ask.now) else 0) }
 {
-    match store.covering(&ask.endpoint, steps) {
-        Some(lease) => decide_covered(&store.terms(), m, ask, &lease, kept),
-        None => decide_uncovered(store, m, ask, kept, steps),
+    // A copy of the lease is made only where there is one.
+    if store.is_covered(&ask.endpoint, steps) {
+        return decide_held(store, m, ask, kept, steps);
     }
+    decide_uncovered(store, m, ask, kept, steps)
 }

@@ -5,19 +5,6 @@ use Rattle.lease_core.proofs.MapSteps.{decided_by}
 use Rattle.lease_core.proofs.RoomLemmas.{own_port-fits}
 use Rattle.lease_core.proofs.mapping.decide_map.Goals as goal
 
-pub decide_covered-requires-clause-within : goal.decide_covered-requires-clause-within
-decide_covered-requires-clause-within g c =
-    own_port-fits (g.S.LeaseStore.state c.args.store.now) (g.S.LeaseStore.reached c.args.store.now) c.args.ask.now.endpoint
-    c.in-Some.lease c.requires.sound (sym c.covering.ensures.lease ∙ c.in-Some.is)
-
-pub returns-in-Some-clause-decided : goal.returns-in-Some-clause-decided
-returns-in-Some-clause-decided g c =
-    let terms = g.S.LeaseStore.terms c.args.store.now in let s = g.S.LeaseStore.state c.args.store.now in
-    c.decide_covered.ensures
-    ∙ ap (λ (t : Terms). covered t c.args.m c.args.ask.now c.in-Some.lease) c.terms.ensures.value
-    ∙ decided_by terms s (g.S.LeaseStore.reached c.args.store.now) c.args.m c.args.ask.now (Some c.in-Some.lease)
-    c.requires.reached (sym c.in-Some.is ∙ c.covering.ensures.lease)
-
 pub returns-in-None-clause-decided : goal.returns-in-None-clause-decided
 returns-in-None-clause-decided g c =
     let terms = g.S.LeaseStore.terms c.args.store.now in let s = g.S.LeaseStore.state c.args.store.now in
