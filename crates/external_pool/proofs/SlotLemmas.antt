@@ -11,7 +11,7 @@ use Rattle.std.specs.Str.{bytes_eq}
 use Rattle.pcp_base.specs.declared.addresses.Address.{Address}
 use Rattle.step_count.specs.Levels.{levels}
 use Rattle.external_pool.specs.HostSlots.{slot_of}
-use Rattle.external_pool.specs.HeldCounts.{held_counts, free_slot, free_slots, slot_at, in_slot, with_slot, in_others, held_by, is_in_slot, AreApart}
+use Rattle.external_pool.specs.HeldCounts.{held_counts, free_slot, free_slots, slot_at, in_slot, with_slot, in_others, held_by, is_in_slot, AreApart, AreKept}
 use Rattle.external_pool.specs.declared.hosts.TheConstants.{MIXER, SLOTS}
 use Rattle.external_pool.specs.declared.host_counts.HostSlot.{HostSlot}
 use Rattle.external_pool.proofs.CountLemmas.{equal_bytes, more_at, fewer_at}
@@ -133,6 +133,21 @@ module _ (slots : List HostSlot) (others : List (List ℕ × ℕ)) (host : List 
             | inl none ↦ inl (written other ∙ ap (λ (b : Bool). cond b c (in_slot slots other)) e ∙ none)
             | inr none ↦ inr none
           ]
+        ] refl;
+      }
+
+      -- nobody holds more than the most that held before, or than this
+      pub written_kept : (most : ℕ) → ((who : Address) → held_by (held_counts slots others) who ≤ most) → c ≤ most → AreKept (with_slot slots host c) others most
+      written_kept most bound fits = record {
+        places = written_apart;
+        bound = λ who. elim (bytes_eq host who.0) as (λ b. bytes_eq host who.0 ≡ b → held_by (held_counts (with_slot slots host c) others) who ≤ most) [
+          | true ↦ λ e.
+              let now : in_slot (with_slot slots host c) who.0 ≡ c = written who.0 ∙ ap (λ (b : Bool). cond b c (in_slot slots who.0)) e in
+              let beside : in_others others who.0 ≡ 0 = ap (in_others others) (sym (equal_bytes host who.0 e)) ∙ none_beside in
+              omega (arith, now, beside, fits)
+          | false ↦ λ e.
+              let same : in_slot (with_slot slots host c) who.0 ≡ in_slot slots who.0 = written who.0 ∙ ap (λ (b : Bool). cond b c (in_slot slots who.0)) e in
+              omega (arith, same, bound who)
         ] refl;
       }
 

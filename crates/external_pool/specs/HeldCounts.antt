@@ -1,5 +1,5 @@
 -- How many ports each address holds, as it is kept (our own).
-use Rattle.std.specs.Prelude.{◌≡◌, ℕ, ◌+◌, ◌⊎◌, ◌==◌, Bool, bytes_eq, if◌then◌else◌, List, length, replicate, slice_index_or, slice_set, unwrap_or}
+use Rattle.std.specs.Prelude.{◌≡◌, ℕ, ◌+◌, ◌≤◌, ◌⊎◌, ◌==◌, Bool, bytes_eq, if◌then◌else◌, List, length, replicate, slice_index_or, slice_set, unwrap_or}
 use Rattle.std.specs.Ordering.{nat_cmp}
 use Rattle.std.specs.Cmp.Lexicographic.{slice_cmp}
 use Rattle.std.specs.BTreeMap.{is_at}
@@ -56,3 +56,8 @@ is_in_slot slots others host =
 pub record AreApart (slots : List HostSlot) (others : List (List ℕ × ℕ)) : Type 0 where
   pub all : length slots ≡ SLOTS
   pub apart : (host : List ℕ) → (in_slot slots host ≡ 0) ⊎ (in_others others host ≡ 0)
+
+-- beside that, nobody holds more than the most
+pub record AreKept (slots : List HostSlot) (others : List (List ℕ × ℕ)) (most : ℕ) : Type 0 where
+  pub places : AreApart slots others
+  pub bound : (who : Address) → held_by (held_counts slots others) who ≤ most

@@ -1,6 +1,6 @@
 //! How many ports hosts hold, by an ordered map.
 
-ghost use Rattle.std.specs.Prelude.{◌≡◌, ◌+◌, ◌-◌, ◌≤◌, ◌<◌, ◌^◌, ℕ, List, OnOk, OnErr, if◌then◌else◌};
+ghost use Rattle.std.specs.Prelude.{◌≡◌, ◌+◌, ◌-◌, ◌≤◌, ◌<◌, ◌^◌, ℕ, List, IfOk, OnOk, OnErr, if◌then◌else◌};
 ghost use Rattle.std.specs.Str.{bytes_eq};
 ghost use Rattle.external_pool.specs.HeldCounts.{in_others};
 
@@ -15,9 +15,10 @@ pub fn count_of(counts: &BTreeMap<Host, u32>, host: &Host) -> u32
     counts.get(host).copied().unwrap_or(0)
 }
 
-/// Counts `n` more.
-pub fn raise(counts: &mut BTreeMap<Host, u32>, host: Host, n: u32) -> Result<(), Memory>
+/// Counts `n` more, and tells how many there are now.
+pub fn raise(counts: &mut BTreeMap<Host, u32>, host: Host, n: u32) -> Result<u32, Memory>
     requires { in_others counts.old.entries host + n < 2 ^ 32 }
+    ensures count { IfOk result (λ count. count ≡ in_others counts.old.entries host + n) }
     ensures ok { OnOk result ((other : List ℕ) → in_others counts.new.entries other
         ≡ in_others counts.old.entries other + (if bytes_eq host other then n else 0)) }
     ensures err { OnErr result ((other : List ℕ) →
@@ -25,10 +26,10 @@ pub fn raise(counts: &mut BTreeMap<Host, u32>, host: Host, n: u32) -> Result<(),
 {
     if let Some(count) = counts.get_mut(&host) {
         *count += n;
-        return Ok(());
+        return Ok(*count);
     }
     counts.insert(host, n)?;
-    Ok(())
+    Ok(n)
 }
 
 /// Counts `n` fewer of a host, and tells how many are left; 0 where it isn't counted.

@@ -1,6 +1,6 @@
 //! How many ports each address holds: most are found by one look.
 
-ghost use Rattle.std.specs.Prelude.{◌≡◌, ◌+◌, ◌-◌, ◌≤◌, ◌<◌, ◌^◌, length, IfOk, OnOk, OnErr, if◌then◌else◌};
+ghost use Rattle.std.specs.Prelude.{◌≡◌, ◌+◌, ◌-◌, ◌≤◌, ◌<◌, ◌^◌, nat_lt, length, IfOk, OnOk, OnErr, if◌then◌else◌};
 ghost use Rattle.pcp_base.specs.declared.addresses.Address.{Address};
 ghost use Rattle.pcp_base.specs.Tables.{same_address};
 ghost use Rattle.step_count.specs.Levels.{levels};
@@ -29,16 +29,18 @@ pub struct HostSlot {
 pub struct HostCounts {
     slots: Vec<HostSlot>,
     others: BTreeMap<Host, u32>,
+    // No address has held more since the last `clear`.
+    most: u32,
 }
 
 impl Model for HostCounts {
-    ghost use Rattle.external_pool.specs.HeldCounts.{HeldCounts, held_counts, AreApart};
+    ghost use Rattle.external_pool.specs.HeldCounts.{HeldCounts, held_counts, AreKept};
 
     ghost Value = { HeldCounts };
 
     ghost view = { λ c. held_counts c.slots.items c.others.entries };
 
-    ghost invariant = { λ c. AreApart c.slots.items c.others.entries };
+    ghost invariant = { λ c. AreKept c.slots.items c.others.entries c.most };
 }
 
 fn free_slot() -> HostSlot
@@ -108,6 +110,7 @@ impl HostCounts {
         Ok(HostCounts {
             slots: free_slots(alloc, SLOTS)?,
             others: BTreeMap::new(alloc),
+            most: 0,
         })
     }
 
@@ -117,6 +120,7 @@ impl HostCounts {
     {
         self.slots.fill(free_slot());
         self.others.clear();
+        self.most = 0;
     }
 
     /// How many ports an address holds.
@@ -129,6 +133,14 @@ impl HostCounts {
             return count;
         }
         count_of(&self.others, &host)
+    }
+
+    /// Whether an address holds fewer ports than so many. Where nobody ever held as many, nothing is
+    /// looked up.
+    pub fn is_below(&self, who: &Address, quota: u32) -> bool
+        ensures { result ≡ nat_lt (the.held_by self.now who.now) quota }
+    {
+        self.most < quota || self.count(who) < quota
     }
 
     /// How many looks `count` takes at most: one at a slot, and one at each level of the ordered
@@ -150,11 +162,13 @@ impl HostCounts {
     {
         let host = Host { octets: who.0 };
         if !is_in_slot(&self.slots, &self.others, &host) {
-            raise(&mut self.others, host, n)?;
+            let count = raise(&mut self.others, host, n)?;
+            self.most = self.most.max(count);
             return Ok(());
         }
-        let count = count_in(&self.slots, &host);
-        recount(&mut self.slots, host, count + n);
+        let count = count_in(&self.slots, &host) + n;
+        recount(&mut self.slots, host, count);
+        self.most = self.most.max(count);
         Ok(())
     }
 

@@ -1,6 +1,6 @@
 //! The vacant ports of both protocols, and how many ports each address holds.
 
-ghost use Rattle.std.specs.Prelude.{◌≡◌, ◌+◌, ◌-◌, ◌<◌, ◌≤◌, ℕ, false, IfOk, IfErr};
+ghost use Rattle.std.specs.Prelude.{◌≡◌, ◌+◌, ◌-◌, ◌<◌, ◌≤◌, ℕ, false, nat_lt, IfOk, IfErr};
 ghost use Rattle.external_pool.specs.PortUses.{AreUsed, is_free_use};
 ghost use Rattle.external_pool.specs.Holdings.{uses_of, ports_held, fresh_pool, emptied, with_use, pool_of, AllFree, AllRest};
 ghost use Rattle.external_pool.specs.Choosing.{IsLongest};
@@ -111,6 +111,19 @@ impl Vacancies {
             return Err(owned);
         }
         Ok(self.quota - owned)
+    }
+
+    /// Whether the address owns fewer ports than the quota: whether [`Vacancies::room_for`] leaves
+    /// it any.
+    ///
+    /// A step is a look for how many ports the address holds, as there. None is made where nobody
+    /// ever held as many as the quota, but they are counted all the same.
+    pub fn is_below_quota<L: Ledger>(&self, who: &Address, steps: &mut Steps<L>) -> bool
+        ensures below { result ≡ nat_lt (ports_held self.now who.now) self.now.quota }
+        ensures steps { steps.new ≤ steps.old + 64 }
+    {
+        steps.take(self.counts.looks());
+        self.counts.is_below(who, self.quota)
     }
 
     /// The longest run of vacant ports whose first meets the parity asked, of at most `room`, and
