@@ -465,6 +465,15 @@ impl LeasedPorts {
         most <= left
     }
 
+    /// Whether an address is below the quota by the counts, which may have ports that rest by now.
+    fn is_below_quota<L: Ledger>(&self, who: &Address, steps: &mut Steps<L>) -> bool
+        ensures yes { OnTrue result (held_now self.now who.now < self.now.quota) }
+        ensures no { OnFalse result (self.now.quota ≤ held_since self.now who.now) }
+        ensures steps { steps.new ≤ steps.old + 64 }
+    {
+        self.pool.is_below_quota(who, steps)
+    }
+
     /// How many ports, of at most so many, the quota leaves to an address where all that is due is
     /// seen to. Where it has its quota, how many it has.
     fn room_left<L: Ledger>(
@@ -662,7 +671,7 @@ impl LeasedPorts {
         ensures steps { steps.new
             ≤ steps.old + 129 + (23 + RUN_STEPS) * ports_due self.old }
     {
-        if self.has_room(who, 1, steps) {
+        if self.is_below_quota(who, steps) {
             return false;
         }
         self.settle(steps);

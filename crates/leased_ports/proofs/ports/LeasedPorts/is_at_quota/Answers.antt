@@ -9,9 +9,9 @@ use Rattle.leased_ports.proofs.ports.LeasedPorts.is_at_quota.Goals as goal
 moved : (v w : Leased) → w ≡ as_settled v → w ≡ record v { settled = w.settled }
 moved v w is = is ∙ ap (λ (n : ℕ). record v { settled = n }) (sym (ap (λ (x : Leased). x.settled) is))
 
-pub returns-then-has_room-clause-quota : goal.returns-then-has_room-clause-quota
-returns-then-has_room-clause-quota g c terms s reached ports on =
-    let yes = OnTrue_at c.if-has_room.true c.has_room.ensures.yes in
+pub returns-then-is_below_quota-clause-quota : goal.returns-then-is_below_quota-clause-quota
+returns-then-is_below_quota-clause-quota g c terms s reached ports on =
+    let yes = OnTrue_at c.if-is_below_quota.true c.is_below_quota.ensures.yes in
     below-quota c.args.self.now c.args.who.now (omega (arith, yes)) terms s reached ports on
 
 pub room_left-requires : goal.room_left-requires
@@ -39,16 +39,16 @@ returns-in-Err-clause-quota g c terms s reached ports on =
 
 pub returns-in-Ok-clause-plain : goal.returns-in-Ok-clause-plain
 returns-in-Ok-clause-plain g c below =
-    let full = OnFalse_at c.if-has_room.false c.has_room.ensures.no in absurd (omega (arith, below, full))
+    let full = OnFalse_at c.if-is_below_quota.false c.is_below_quota.ensures.no in absurd (omega (arith, below, full))
 
 pub returns-in-Err-clause-plain : goal.returns-in-Err-clause-plain
 returns-in-Err-clause-plain g c below =
-    let full = OnFalse_at c.if-has_room.false c.has_room.ensures.no in absurd (omega (arith, below, full))
+    let full = OnFalse_at c.if-is_below_quota.false c.is_below_quota.ensures.no in absurd (omega (arith, below, full))
 
 pub returns-in-Ok-clause-kept : goal.returns-in-Ok-clause-kept
 returns-in-Ok-clause-kept g c below =
-    let full = OnFalse_at c.if-has_room.false c.has_room.ensures.no in absurd (omega (arith, below, full))
+    let full = OnFalse_at c.if-is_below_quota.false c.is_below_quota.ensures.no in absurd (omega (arith, below, full))
 
 pub returns-in-Err-clause-kept : goal.returns-in-Err-clause-kept
 returns-in-Err-clause-kept g c below =
-    let full = OnFalse_at c.if-has_room.false c.has_room.ensures.no in absurd (omega (arith, below, full))
+    let full = OnFalse_at c.if-is_below_quota.false c.is_below_quota.ensures.no in absurd (omega (arith, below, full))
