@@ -88,7 +88,8 @@ fn serve_next<A: LoadAnswerer>(
     ensures later { (shard disk : ℕ) →
         A.faults answerer.old shard disk ≤ A.faults answerer.new shard disk }
 {
-    let request = progress.load.next_in(mem::replace(octets, Vec::new(alloc)))?;
+    let spare = mem::replace(octets, Vec::new(alloc));
+    let request = progress.load.next_in(spare)?;
     let told = answerer.serve(alloc, &request, now)?;
     *octets = request.octets.into_vec();
     progress.digest.update(told.octets.items());
