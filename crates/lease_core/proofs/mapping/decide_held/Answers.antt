@@ -10,8 +10,8 @@ decide_covered-requires-clause-within g c =
     own_port-fits (g.S.LeaseStore.state c.args.store.now) (g.S.LeaseStore.reached c.args.store.now) c.args.ask.now.endpoint
     c.in-Some.lease c.requires.sound (sym c.covering.ensures.lease ∙ c.in-Some.is)
 
-pub returns-in-Some-clause-decided : goal.returns-in-Some-clause-decided
-returns-in-Some-clause-decided g c =
+pub returns-clause-decided : goal.returns-clause-decided
+returns-clause-decided g c =
     let terms = g.S.LeaseStore.terms c.args.store.now in let s = g.S.LeaseStore.state c.args.store.now in
     c.decide_covered.ensures
     ∙ ap (λ (t : Terms). covered t c.args.m c.args.ask.now c.in-Some.lease) c.terms.ensures.value
