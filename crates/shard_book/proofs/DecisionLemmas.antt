@@ -1,6 +1,6 @@
 -- Decisions one after the other, and what is kept of them.
 use Rattle.std.proofs.Common.{◌≡◌, ℕ, ◌+◌, ◌≤◌, List, [], ◌∷◌, ◌++◌, length, length-append, Option, Some, None, refl, ◌∙◌, ap, subst, append_assoc, arith}
-use Rattle.std.specs.Prelude.{IfSome}
+use Rattle.std.specs.Prelude.{IfSome, MatchOption}
 use Rattle.pcp_base.specs.declared.asks.Ask.{Ask}
 use Rattle.pcp_base.specs.declared.asks.Ask.TheVariants as Asks
 use Rattle.pcp_base.specs.declared.asks.MapAsk.{MapAsk}
@@ -11,6 +11,7 @@ use Rattle.pcp_base.specs.Fits.{AllFit, Fits}
 use Rattle.pcp_base.specs.States.{State}
 use Rattle.lease_store.specs.declared.terms.Terms.{Terms}
 use Rattle.lease_core.specs.Decide.{decide}
+use Rattle.journal_sides.specs.declared.layout.TheConstants.{MOST_RECORDS}
 use Rattle.lease_core.proofs.Deeds.{MapDeed, drop, renew, grant, map_deed, PeerDeed, drop_peer, renew_peer, grant_peer, peer_deed}
 use Rattle.lease_journal.proofs.StandingLaws.{apply_all-append}
 use Rattle.lease_core.specs.declared.decided.Decided.{Decided}
@@ -42,6 +43,17 @@ by_kept s (Some r) each = each r refl
 
 pub decided_address : (terms : Terms) (s : State) (m : ℕ) (ask : Ask) → (with_kept s (decide terms s m ask).kept).address ≡ s.address
 decided_address terms s m ask = by_kept s (decide terms s m ask).kept (kept_address terms s m ask)
+
+-- ---- one ask
+
+-- the slice of what is kept
+pub kept_slice : (kept told : Option Record) (rs : List Record) → MatchOption kept (rs ≡ []) (λ r. rs ≡ r ∷ []) → kept ≡ told → rs ≡ kept_before told []
+kept_slice None told rs is same = is ∙ ap (λ (k : Option Record). kept_before k []) same
+kept_slice (Some r) told rs is same = is ∙ ap (λ (k : Option Record). kept_before k []) same
+
+pub few_one : (kept : Option Record) → length (kept_before kept []) ≤ MOST_RECORDS
+few_one None = let none : length {A = Record} [] ≡ 0 = refl in omega (arith, none)
+few_one (Some r) = let one : length (r ∷ []) ≡ 1 = refl in omega (arith, one)
 
 -- ---- one turn
 

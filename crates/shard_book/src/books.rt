@@ -18,7 +18,7 @@ use std::marker::Model;
 pub type BookFault = JournalFault;
 
 /// The leases of an external address over a store, and the journal that keeps them. After a fault
-/// the next `batch` or `lose` reads the journal again, as `settle` does.
+/// the next `batch`, `ask` or `lose` reads the journal again, as `settle` does.
 #[derive(Drop)]
 pub struct LeaseBook<D: LeaseDisk, S: LeaseStore> {
     pub(crate) core: LeaseCore<S>,
@@ -102,7 +102,8 @@ impl<D: LeaseDisk, S: LeaseStore + Drop> LeaseBook<D, S> {
         self.serve(alloc, asks, now, base)
     }
 
-    /// Answers one well formed request, as `batch` does that has no other.
+    /// Answers one well formed request as a `batch` of it alone does, with its moments, its base and
+    /// its faults, and no list.
     pub fn ask(
         &mut self,
         alloc: Global,
