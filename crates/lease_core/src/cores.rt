@@ -19,8 +19,8 @@ use crate::decided::Decided;
 use crate::deciding::decide_uncounted;
 use lease_store::LeaseStore;
 use pcp_base::{
-    Address, Answer, Ask, End, Endpoint, MapLease, Memory, Moment, Owner, PeerLease, Protocol, Record,
-    Replay,
+    Address, Answer, Ask, End, Endpoint, MapLease, Memory, Moment, Owner, PeerLease, Protocol,
+    Record, Replay,
 };
 use record_sink::RecordSink;
 use std::alloc::Global;
