@@ -65,6 +65,10 @@ pub apply_kept : (s : State) (rs : List Record) (kept : Option Record) → apply
 apply_kept s rs None = apply_all-append s rs []
 apply_kept s rs (Some r) = apply_all-append s rs (r ∷ [])
 
+pub kept_state : (later s : State) (kept : Option Record) → later ≡ with_kept s kept → later ≡ apply_all s (kept_before kept [])
+kept_state later s None is = is
+kept_state later s (Some r) is = is
+
 pub fit_kept : (s : State) (rs : List Record) (kept : Option Record) → AllFit s rs → IfSome kept (Fits (apply_all s rs)) → AllFit s (rs ++ kept_before kept [])
 fit_kept s rs None fit fits = fit_append s rs [] fit tt
 fit_kept s rs (Some r) fit fits = fit_append s rs (r ∷ []) fit (fits, tt)

@@ -16,7 +16,7 @@ use Rattle.shard_book.specs.Insides.{StandAlone}
 use Rattle.shard_book.specs.Keepings.{Journals, unsure_after}
 use Rattle.shard_book.specs.KeptTexts.{KeptRecords}
 use Rattle.shard_book.proofs.BookLemmas.{stand_more}
-use Rattle.shard_book.proofs.DecisionLemmas.{apply_kept, few_one, fit_kept, kept_slice}
+use Rattle.shard_book.proofs.DecisionLemmas.{few_one, fit_kept, kept_slice, kept_state}
 use Rattle.shard_book.proofs.JournalLemmas.{still_settled, without}
 use Rattle.shard_book.proofs.OverlongLemmas.{journals_by, journals_stay, overlong_next}
 use Rattle.shard_book.proofs.ResultLemmas.{any_err, at_ok}
@@ -51,20 +51,20 @@ pub returns-clause-state : goal.returns-clause-state
 returns-clause-state g c =
     let s = g.S.LeaseStore.state c.args.core.now in
     let kept = (decide (g.S.LeaseStore.terms c.args.core.now) s c.args.m c.args.ask.now).kept in
-    c.in_ok-answer.ensures.state ∙ sym (apply_kept s [] kept)
+    kept_state _ s kept c.in_ok-answer.ensures.state
 
 pub returns-then-is_idle-clause-state : goal.returns-then-is_idle-clause-state
 returns-then-is_idle-clause-state g c =
     let s = g.S.LeaseStore.state c.args.core.now in
     let kept = (decide (g.S.LeaseStore.terms c.args.core.now) s c.args.m c.args.ask.now).kept in
-    c.in_ok-answer.ensures.state ∙ sym (apply_kept s [] kept)
+    kept_state _ s kept c.in_ok-answer.ensures.state
 
 pub returns-then-is_idle-clause-texts : goal.returns-then-is_idle-clause-texts
 returns-then-is_idle-clause-texts g c =
     let s = g.S.LeaseStore.state c.args.core.now in
     let kept = (decide (g.S.LeaseStore.terms c.args.core.now) s c.args.m c.args.ask.now).kept in
     let told : c.as_slice-records.result.now ≡ kept_before kept [] = kept_slice _ kept _ c.as_slice-records.ensures c.decide_applied.ensures.kept in
-    let same : g.S.LeaseStore.state c.decide_applied.new.core ≡ s = c.in_ok-answer.ensures.state ∙ sym (apply_kept s [] kept) ∙ ap (λ (l : List Record). apply_all s l) (sym told ∙ (c.is_idle.ensures.0 c.if-is_idle.true).1) in
+    let same : g.S.LeaseStore.state c.decide_applied.new.core ≡ s = kept_state _ s kept c.in_ok-answer.ensures.state ∙ ap (λ (l : List Record). apply_all s l) (sym told ∙ (c.is_idle.ensures.0 c.if-is_idle.true).1) in
     subst (StandAlone c.renew_if_overlong.new.texts.sure) (sym same) (record { fit = c.renew_if_overlong.ensures.fit; state = c.renew_if_overlong.ensures.state })
 
 pub returns-then-is_idle-clause-writable : goal.returns-then-is_idle-clause-writable
@@ -73,7 +73,7 @@ returns-then-is_idle-clause-writable g c =
     let s = g.S.LeaseStore.state c.args.core.now in
     let kept = (decide (g.S.LeaseStore.terms c.args.core.now) s c.args.m c.args.ask.now).kept in
     let told : c.as_slice-records.result.now ≡ kept_before kept [] = kept_slice _ kept _ c.as_slice-records.ensures c.decide_applied.ensures.kept in
-    let same : g.S.LeaseStore.state c.decide_applied.new.core ≡ s = c.in_ok-answer.ensures.state ∙ sym (apply_kept s [] kept) ∙ ap (λ (l : List Record). apply_all s l) (sym told ∙ (c.is_idle.ensures.0 c.if-is_idle.true).1) in
+    let same : g.S.LeaseStore.state c.decide_applied.new.core ≡ s = kept_state _ s kept c.in_ok-answer.ensures.state ∙ ap (λ (l : List Record). apply_all s l) (sym told ∙ (c.is_idle.ensures.0 c.if-is_idle.true).1) in
     subst (IsWritable d.tells d.seen d.may_leave c.args.journal.now) (sym same) c.requires.writable
 
 pub returns-then-is_idle-clause-moments : goal.returns-then-is_idle-clause-moments
@@ -126,7 +126,7 @@ returns-clause-texts g c =
     let rs = kept_before kept [] in
     let first = c.renew_if_overlong.new.texts.sure in
     let told : c.as_slice-records.result.now ≡ rs = kept_slice _ kept _ c.as_slice-records.ensures c.decide_applied.ensures.kept in
-    let applied : g.S.LeaseStore.state c.decide_applied.new.core ≡ apply_all s rs = c.in_ok-answer.ensures.state ∙ sym (apply_kept s [] kept) in
+    let applied : g.S.LeaseStore.state c.decide_applied.new.core ≡ apply_all s rs = kept_state _ s kept c.in_ok-answer.ensures.state in
     let stand : StandAlone first s = record { fit = c.renew_if_overlong.ensures.fit; state = c.renew_if_overlong.ensures.state } in
     let sure : c.add.new.self.sure ≡ first = ap (λ (k : KeptRecords). k.sure) c.in_ok-add.ensures.ok in
     let whole : c.commit.new.texts.sure ≡ first ++ rs = ap (λ (k : KeptRecords). k.sure) c.in_ok-commit.ensures.kept ∙ ap (λ (l : List Record). l ++ c.as_slice-records.result.now) sure ∙ ap (λ (l : List Record). first ++ l) told in
@@ -139,7 +139,7 @@ returns-clause-writable g c =
     let kept = (decide (g.S.LeaseStore.terms c.args.core.now) s c.args.m c.args.ask.now).kept in
     let told : c.as_slice-records.result.now ≡ kept_before kept [] = kept_slice _ kept _ c.as_slice-records.ensures c.decide_applied.ensures.kept in
     let first : state_of c.add.new.self.sure ≡ s = ap (λ (k : KeptRecords). state_of k.sure) c.in_ok-add.ensures.ok ∙ c.renew_if_overlong.ensures.state in
-    let applied : g.S.LeaseStore.state c.decide_applied.new.core ≡ apply_all s (kept_before kept []) = c.in_ok-answer.ensures.state ∙ sym (apply_kept s [] kept) in
+    let applied : g.S.LeaseStore.state c.decide_applied.new.core ≡ apply_all s (kept_before kept []) = kept_state _ s kept c.in_ok-answer.ensures.state in
     subst (IsWritable d.tells d.seen d.may_leave c.commit.new.journal) (ap (λ (u : State). apply_all u c.as_slice-records.result.now) first ∙ ap (λ (l : List Record). apply_all s l) told ∙ sym applied) c.in_ok-commit.ensures.writable
 
 pub returns-clause-moments : goal.returns-clause-moments
