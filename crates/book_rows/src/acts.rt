@@ -3,19 +3,21 @@ ghost use Rattle.std.specs.Prelude.{◌≡◌, Ok, None, IfOk};
 ghost use Rattle.book_rows.specs.declared.acts.Went.TheVariants.{AsSaid};
 
 use crate::opening::moment;
-use crate::requests::{Request, Told, asks_of, told_of};
+use crate::requests::{Request, Told, asks_of, one_ask_of, told_of};
 use lease_disk::LeaseDisk;
 use lease_store::LeaseStore;
 use pcp_base::{MapLease, Moment, epoch};
-use shard_book::{Answered, BookFault, LeaseBook};
+use shard_book::{Answered, BookFault, DatedAnswer, LeaseBook};
 use std::alloc::Global;
 use std::test::Fail;
 
 /// What is done, and what comes of it.
 #[derive(Clone, Copy)]
 pub(crate) enum Step {
-    /// A request alone, what is answered, and the epoch that is told.
+    /// A batch of a request alone, what is answered, and the epoch that is told.
     Asked(Request, Told, u32),
+    /// The same, by the call that has no batch.
+    Alone(Request, Told, u32),
     /// So many batches of 16 renewals of 10.0.0.5's port 5000.
     Renewed(u16),
     /// All leases are lost, of which so many were live.
@@ -45,11 +47,13 @@ fn went_if(holds: bool) -> Went {
     if holds { Went::AsSaid } else { Went::Otherwise }
 }
 
+fn is_answer(answer: &DatedAnswer, told: Told, seconds: u32) -> bool {
+    told_of(&answer.answer) == told && epoch(answer.moment, answer.base) == seconds
+}
+
 fn is_told(answers: &[Answered], told: Told, seconds: u32) -> bool {
     match answers {
-        [answered] => {
-            told_of(&answered.answer) == told && epoch(answered.moment, answered.base) == seconds
-        }
+        [answered] => is_answer(&answered.dated(), told, seconds),
         _ => false,
     }
 }
@@ -67,6 +71,23 @@ fn ask<D: LeaseDisk, S: LeaseStore + Drop>(
     let asks = asks_of(alloc, request, 1)?;
     match book.batch(alloc, &asks, m, moment(0)?) {
         Ok(answers) => Ok(went_if(is_told(&answers, told, seconds))),
+        Err(fault) => Ok(Went::Refused(fault)),
+    }
+}
+
+fn ask_alone<D: LeaseDisk, S: LeaseStore + Drop>(
+    alloc: Global,
+    book: &mut LeaseBook<D, S>,
+    m: Moment,
+    request: &Request,
+    told: Told,
+    seconds: u32,
+) -> Result<Went, Fail>
+    ensures { result ≡ Ok AsSaid → book.new.fault ≡ None }
+{
+    let ask = one_ask_of(alloc, request)?;
+    match book.ask(alloc, &ask, m, moment(0)?) {
+        Ok(answer) => Ok(went_if(is_answer(&answer, told, seconds))),
         Err(fault) => Ok(Went::Refused(fault)),
     }
 }
@@ -116,6 +137,9 @@ pub(crate) fn act<D: LeaseDisk, S: LeaseStore + Drop>(
     let m = moment(now)?;
     match step {
         Step::Asked(request, told, seconds) => ask(alloc, book, m, request, *told, *seconds),
+        Step::Alone(request, told, seconds) => {
+            ask_alone(alloc, book, m, request, *told, *seconds)
+        }
         Step::Renewed(count) => renew(alloc, book, m, *count),
         Step::Lost(count) => lose(alloc, book, m, *count),
     }

@@ -122,6 +122,17 @@ fn is_well_formed(ask: &Ask) -> bool
     }
 }
 
+/// What the request asks, alone.
+pub(crate) fn one_ask_of(alloc: Global, request: &Request) -> Result<Ask, Fail>
+    ensures { IfOk result IsWellFormedAsk }
+{
+    let ask = ask_of(alloc, request)?;
+    if !is_well_formed(&ask) {
+        return Err("no book may be asked this".into());
+    }
+    Ok(ask)
+}
+
 fn are_well_formed(asks: &[Ask]) -> bool
     ensures { OnTrue result (AllByRecursion IsWellFormedAsk asks.now) }
 {

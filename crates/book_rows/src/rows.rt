@@ -6,7 +6,7 @@ use crate::octets::{AGAIN, COMPACTED, FIRST, LAST, LEASED, MOVED, STARTED};
 use crate::requests::{Request, Told};
 use crate::sides::{NOTHING, Side, holds, pair_of};
 use Request::{Announce, Map};
-use Step::Asked;
+use Step::{Alone, Asked};
 use Told::{Announced, Leased};
 use lease_disk::{DiskPair, LeaseDisk};
 use pcp_base::Failed;
@@ -79,6 +79,15 @@ pub(crate) static LEASE: [(u64, Step); 1] = [(
     Asked(Map(5, 5000, 3600, 0, 0), Leased(3600, 1024), 10),
 )];
 
+// A request that leaves a record, and one that leaves none, each without a batch.
+static ALONE: [(u64, Step); 2] = [
+    (
+        1010,
+        Alone(Map(5, 5000, 3600, 0, 0), Leased(3600, 1024), 10),
+    ),
+    (1500, Alone(Announce, Announced, 500)),
+];
+
 // A port rests for its last endpoint until 120 seconds after its lease.
 static RESTING: [(u64, Step); 3] = [
     (1010, Asked(Map(5, 5000, 120, 0, 0), Leased(120, 1024), 10)),
@@ -138,6 +147,7 @@ fn steps_on_blank_sides(rt: HostRuntime) -> Result<(), Fail> {
     let rows = [
         blank(&[], Seen(1000, 1000, 0, 0, 0), Some((&STARTED, &[]))),
         blank(&LEASE, Seen(1000, 1010, 1, 4610, 0), Some((&LEASED, &[]))),
+        blank(&ALONE, Seen(1000, 1010, 1, 4610, 0), Some((&LEASED, &[]))),
         blank(&RESTING, Seen(1000, 1249, 2, 4849, 0), None),
         blank(&RESTED, Seen(1000, 1250, 1, 4850, 0), None),
     ];
