@@ -1,5 +1,5 @@
 //! The book of an external address: its lease table, and the journal that keeps it over a stop. It
-//! answers batches of requests once their records are in the journal.
+//! answers requests, alone or in batches, once their records are in the journal.
 #![tactic(auto)]
 
 mod batches;
