@@ -14,7 +14,7 @@ use Rattle.lease_disk.specs.Pairs.{PairHasCause}
 use Rattle.lease_journal.proofs.ShutLaws.{cause_on}
 use Rattle.journal_sides.specs.declared.errors.JournalFault.{JournalFault}
 use Rattle.journal_sides.specs.declared.errors.JournalFault.TheVariants as Journals
-use Rattle.shard_book.specs.declared.batches.Answered.{Answered}
+use Rattle.shard_book.specs.declared.batches.DatedAnswer.{DatedAnswer}
 use Rattle.shard_book.specs.Books.{BookView, IsBook}
 use Rattle.lease_house.specs.declared.faults.HouseFault.TheVariants.{Disk}
 use Rattle.lease_house.specs.BookCalls.{AnswersAsk, ChangesAt, IsSettledIn, StaysBook}
@@ -68,10 +68,10 @@ address-of {D} tells seen may_leave h place b address is there told =
 
 -- the external address to which a request goes is that of the book that answered it
 pub answered-address : {D : Type 0} (tells : Type 0) (seen : D → List ℕ) (moment : D → ℕ) (left_since : D → ℕ → List ℕ → Type 0) (may_leave : D → List ℕ → Type 0)
-    (now place : ℕ) (ask : Ask) (old new : HouseView D) (answers : List Answered) (address : Address) →
-    (a : AnswersAsk tells moment left_since may_leave now place ask old new answers) → IsHouse tells seen may_leave new →
+    (now place : ℕ) (ask : Ask) (old new : HouseView D) (answer : DatedAnswer) (address : Address) →
+    (a : AnswersAsk tells moment left_since may_leave now place ask old new answer) → IsHouse tells seen may_leave new →
     option_map (λ (x : External). x.address) (slice_get old.config.externals place) ≡ Some address → address ≡ a.book.terms.external.address
-answered-address {D} tells seen moment left_since may_leave now place ask old new answers address a is told =
+answered-address {D} tells seen moment left_since may_leave now place ask old new answer address a is told =
     let configured : new.config ≡ old.config = ap (λ (h : HouseView D). h.config) a.changes.new_is ∙ ap (λ (h : HouseView D). h.config) a.settles.changes.new_is in
     let there : slice_get new.books place ≡ Some a.kept_book =
     ap (λ (h : HouseView D). slice_get h.books place) a.changes.new_is ∙ put-at a.mid.books place a.book a.kept_book a.changes.there in

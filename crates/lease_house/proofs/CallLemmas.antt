@@ -2,7 +2,7 @@
 use Rattle.std.specs.Prelude.{max, IsSome, Result, Ok, Err, IfOk, IfErr, OnOk}
 use Rattle.std.specs.List.{slice_get}
 use Rattle.std.specs.Option.{option_map}
-use Rattle.std.proofs.Common.{◌≡◌, ◌∙◌, ℕ, List, [], ◌∷◌, map, get_or, Option, Some, None, Vec, Global, refl, ap, subst, inl, inr, arith}
+use Rattle.std.proofs.Common.{◌≡◌, ◌∙◌, ℕ, List, map, Option, Some, None, refl, ap, subst, inl, inr, arith}
 use Rattle.pcp_base.specs.declared.addresses.Address.{Address}
 use Rattle.pcp_base.specs.declared.asks.Ask.{Ask}
 use Rattle.pcp_base.specs.declared.configs.Config.{Config}
@@ -15,10 +15,10 @@ use Rattle.lease_store.specs.Lookups.{lease_count}
 use Rattle.lease_disk.specs.declared.disks.DiskPair.{DiskPair}
 use Rattle.journal_sides.specs.declared.errors.JournalFault.{JournalFault}
 use Rattle.journal_sides.specs.declared.errors.JournalFault.TheVariants.{Disk}
-use Rattle.shard_book.specs.declared.batches.Answered.{Answered}
-use Rattle.shard_book.specs.Batches.{answer_at}
+use Rattle.shard_book.specs.declared.batches.DatedAnswer.{DatedAnswer}
+use Rattle.shard_book.specs.Batches.{answer_at, dated_of}
 use Rattle.shard_book.specs.Books.{BookView}
-use Rattle.shard_book.specs.Keepings.{Doubts, IsRefused, Keeps, Loses, Serves, batch_answers, batch_records, lose_records}
+use Rattle.shard_book.specs.Keepings.{Doubts, IsRefused, Keeps, Loses, ServesOne, dated_answer, lose_records}
 use Rattle.shard_book.specs.Settlings.{HasSettled, KeepsDoubt}
 use Rattle.lease_histories.specs.Entries.{reply_text_of, request_of}
 use Rattle.lease_histories.specs.HouseHistories.{greatest}
@@ -33,11 +33,11 @@ use Rattle.lease_house.proofs.ListLemmas.{greatest-has}
 use Rattle.lease_house.proofs.PlainLemmas.{answers-packet, loses-plainly, plain-greatest, routed-is}
 
 module _ {D : Type 0} (tells : Type 0) (moment : D → ℕ) (left_since : D → ℕ → List ℕ → Type 0) (may_leave : D → List ℕ → Type 0) where
-  pub serves-settled : (now base : ℕ) (asks : List Ask) (b c : BookView D) (answers : List Answered) → b.fault ≡ None →
-      Serves tells moment left_since may_leave now base asks b c answers →
-      (answers ≡ batch_answers now base asks b) × Keeps tells moment left_since may_leave (max now b.last) (batch_records now asks b) b c
-  serves-settled now base asks b c answers clean is =
-      subst (λ (m : BookView D). (answers ≡ batch_answers now base asks m) × Keeps tells moment left_since may_leave (max now m.last) (batch_records now asks m) m c)
+  serves-settled : (now base : ℕ) (ask : Ask) (b c : BookView D) (answer : DatedAnswer) → b.fault ≡ None →
+      ServesOne tells moment left_since may_leave now base ask b c answer →
+      (answer ≡ dated_answer now base ask b) × Keeps tells moment left_since may_leave (max now b.last) (ask_records now ask b) b c
+  serves-settled now base ask b c answer clean is =
+      subst (λ (m : BookView D). (answer ≡ dated_answer now base ask m) × Keeps tells moment left_since may_leave (max now m.last) (ask_records now ask m) m c)
       (is.settles.clean clean) (is.answered, is.keeps)
 
   pub loses-settled : (now : ℕ) (b c : BookView D) (count : ℕ) → b.fault ≡ None → Loses tells moment left_since may_leave now b c count →
@@ -70,33 +70,28 @@ module _ {D : Type 0} (tells : Type 0) (moment : D → ℕ) (left_since : D → 
   loses-well now (Ok count) b c clean is refused = (loses-settled now b c count clean is, tt)
   loses-well now (Err fault) b c clean is refused = (tt, refused-settled now (lose_records now) b c fault clean refused)
 
-  -- a batch of one, with the greatest base of all books
-  one-answer : (now : ℕ) (ask : Ask) (books : List (BookView D)) (place : ℕ) (b : BookView D) → slice_get books place ≡ Some b →
-      batch_answers now (greatest (map (λ (x : BookView D). x.state.base) books)) (ask ∷ []) b ≡ ask_answer now (greatest (map (λ (x : BookView D). x.state.base) books)) ask b ∷ []
-  one-answer now ask books place b there =
+  -- no base is greater than that of all books
+  greatest-answer : (now : ℕ) (ask : Ask) (books : List (BookView D)) (place : ℕ) (b : BookView D) → slice_get books place ≡ Some b →
+      dated_answer now (greatest (map (λ (x : BookView D). x.state.base) books)) ask b ≡ ask_answer now (greatest (map (λ (x : BookView D). x.state.base) books)) ask b
+  greatest-answer now ask books place b there =
       let base : ℕ = greatest (map (λ (x : BookView D). x.state.base) books) in
       let least = greatest-has (λ (x : BookView D). x.state.base) books place b there in
       let told : max base b.state.base ≡ base = omega (arith, least) in
-      ap (λ n. answer_at (max now b.last) n (decide b.terms b.state (max now b.last) ask) ∷ []) told
+      ap (λ n. dated_of (answer_at (max now b.last) n (decide b.terms b.state (max now b.last) ask))) told
 
-  pub asks-well : (now base : ℕ) (asks : List Ask) (ask : Ask) (books : List (BookView D)) (place : ℕ) (told : Result (Vec Answered Global) JournalFault) (b c : BookView D) →
-      b.fault ≡ None → slice_get books place ≡ Some b → base ≡ greatest (map (λ (x : BookView D). x.state.base) books) → asks ≡ ask ∷ [] →
-      IfOk told (λ answers. Serves tells moment left_since may_leave now base asks b c answers.items) →
-      IfErr told (IsRefused tells moment left_since may_leave now (batch_records now asks) b c) →
-      IfOk told (λ answers. (answers.items ≡ ask_answer now (greatest (map (λ (x : BookView D). x.state.base) books)) ask b ∷ [])
+  pub asks-well : (now base : ℕ) (ask : Ask) (books : List (BookView D)) (place : ℕ) (told : Result DatedAnswer JournalFault) (b c : BookView D) →
+      b.fault ≡ None → slice_get books place ≡ Some b → base ≡ greatest (map (λ (x : BookView D). x.state.base) books) →
+      IfOk told (ServesOne tells moment left_since may_leave now base ask b c) →
+      IfErr told (IsRefused tells moment left_since may_leave now (ask_records now ask) b c) →
+      IfOk told (λ answer. (answer ≡ ask_answer now (greatest (map (λ (x : BookView D). x.state.base) books)) ask b)
       × Keeps tells moment left_since may_leave (max now b.last) (ask_records now ask b) b c)
       × IfErr told (Doubts tells moment left_since may_leave (ask_records now ask b) b c)
-  asks-well now base asks ask books place (Ok answers) b c clean there least one served refused =
-      let these : Serves tells moment left_since may_leave now (greatest (map (λ (x : BookView D). x.state.base) books)) (ask ∷ []) b c answers.items =
-      subst (λ (n : ℕ). Serves tells moment left_since may_leave now n (ask ∷ []) b c answers.items) least
-      (subst (λ (l : List Ask). Serves tells moment left_since may_leave now base l b c answers.items) one served) in
-      let well = serves-settled now (greatest (map (λ (x : BookView D). x.state.base) books)) (ask ∷ []) b c answers.items clean these in
-      ((well.0 ∙ one-answer now ask books place b there, well.1), tt)
-  asks-well now base asks ask books place (Err fault) b c clean there least one served refused = (
-    tt,
-    refused-settled now (batch_records now (ask ∷ [])) b c fault clean
-        (subst (λ (l : List Ask). IsRefused tells moment left_since may_leave now (batch_records now l) b c fault) one refused),
-  )
+  asks-well now base ask books place (Ok answer) b c clean there least served refused =
+      let well = serves-settled now (greatest (map (λ (x : BookView D). x.state.base) books)) ask b c answer clean
+      (subst (λ (n : ℕ). ServesOne tells moment left_since may_leave now n ask b c answer) least served) in
+      ((well.0 ∙ greatest-answer now ask books place b there, well.1), tt)
+  asks-well now base ask books place (Err fault) b c clean there least served refused =
+      (tt, refused-settled now (ask_records now ask) b c fault clean refused)
 
 -- ---- what the house tells of it
 
@@ -111,19 +106,19 @@ module _ {D : Type 0} (tells : Type 0) (seen : D → List ℕ) (moment : D → �
       after-call tells seen may_leave faults place told old config books new spare
       (λ b c. OnOk told (HasSettled tells moment left_since may_leave now b c) × IfErr told (λ _. KeepsDoubt tells moment left_since may_leave b c)) same is at
 
-  pub ask-after : (now place : ℕ) (ask : Ask) (told : Result (Vec Answered Global) JournalFault) (old : HouseView D) (config : Config) (books new : List (BookView D)) (spare : List (DiskPair D)) →
+  pub ask-after : (now place : ℕ) (ask : Ask) (told : Result DatedAnswer JournalFault) (old : HouseView D) (config : Config) (books new : List (BookView D)) (spare : List (DiskPair D)) →
       house-of config books spare ≡ old → IsHouse tells seen may_leave (house-of config books spare) →
       ChangesAt place books new (λ b c. StaysBook tells seen may_leave faults (told ≡ Err Disk) b c
-      × (IfOk told (λ answers. (answers.items ≡ ask_answer now (greatest (map (λ (x : BookView D). x.state.base) books)) ask b ∷ [])
+      × (IfOk told (λ answer. (answer ≡ ask_answer now (greatest (map (λ (x : BookView D). x.state.base) books)) ask b)
       × Keeps tells moment left_since may_leave (max now b.last) (ask_records now ask b) b c)
       × IfErr told (Doubts tells moment left_since may_leave (ask_records now ask b) b c))) →
       After tells seen may_leave faults place told old (house-of config new spare)
-      (λ b c. IfOk told (λ answers. (answers.items ≡ ask_answer now (greatest (map (λ (x : BookView D). x.state.base) books)) ask b ∷ [])
+      (λ b c. IfOk told (λ answer. (answer ≡ ask_answer now (greatest (map (λ (x : BookView D). x.state.base) books)) ask b)
       × Keeps tells moment left_since may_leave (max now b.last) (ask_records now ask b) b c)
       × IfErr told (Doubts tells moment left_since may_leave (ask_records now ask b) b c))
   ask-after now place ask told old config books new spare same is at =
       after-call tells seen may_leave faults place told old config books new spare
-      (λ b c. IfOk told (λ answers. (answers.items ≡ ask_answer now (greatest (map (λ (x : BookView D). x.state.base) books)) ask b ∷ [])
+      (λ b c. IfOk told (λ answer. (answer ≡ ask_answer now (greatest (map (λ (x : BookView D). x.state.base) books)) ask b)
       × Keeps tells moment left_since may_leave (max now b.last) (ask_records now ask b) b c)
       × IfErr told (Doubts tells moment left_since may_leave (ask_records now ask b) b c)) same is at
 
@@ -158,23 +153,23 @@ module _ {D : Type 0} (tells : Type 0) (seen : D → List ℕ) (moment : D → �
   refused-at now place records old mid new b c fault settles changes doubts =
       (fault, refl, inr (mid, settles, record { book = b; unsure_book = c; doubts = doubts; changes = changes }))
 
-  pub answers-house : (now place : ℕ) (ask : Ask) (told : Result (Vec Answered Global) JournalFault) (old mid new : HouseView D) (books : List (BookView D)) → books ≡ mid.books → SettlesAt tells moment left_since may_leave now place old mid →
+  pub answers-house : (now place : ℕ) (ask : Ask) (told : Result DatedAnswer JournalFault) (old mid new : HouseView D) (books : List (BookView D)) → books ≡ mid.books → SettlesAt tells moment left_since may_leave now place old mid →
       IsHouse tells seen may_leave mid →
       After tells seen may_leave faults place told mid new (λ b c.
-      IfOk told (λ answers. (answers.items ≡ ask_answer now (greatest (map (λ (x : BookView D). x.state.base) books)) ask b ∷ [])
+      IfOk told (λ answer. (answer ≡ ask_answer now (greatest (map (λ (x : BookView D). x.state.base) books)) ask b)
       × Keeps tells moment left_since may_leave (max now b.last) (ask_records now ask b) b c)
       × IfErr told (Doubts tells moment left_since may_leave (ask_records now ask b) b c)) →
-      IfOk (told_at place told) (λ answers. AnswersAsk tells moment left_since may_leave now place ask old new answers.items)
+      IfOk (told_at place told) (AnswersAsk tells moment left_since may_leave now place ask old new)
       × IfErr (told_at place told) (IsLineRefused tells moment left_since may_leave now place (ask_records now ask) old new)
-  answers-house now place ask (Ok answers) old mid new books same settles is a = (
+  answers-house now place ask (Ok answer) old mid new books same settles is a = (
     record {
       mid = mid;
       settles = settles;
       book = a.before;
       kept_book = a.after;
       on_terms = on-terms tells seen may_leave mid place a.before is a.changes.there;
-      told = a.how.0.0 ∙ ap (λ (l : List (BookView D)). ask_answer now (greatest (map (λ (x : BookView D). x.state.base) l)) ask a.before ∷ []) same
-          ∙ ap (λ n. ask_answer now n ask a.before ∷ []) (plain-greatest mid.books);
+      told = a.how.0.0 ∙ ap (λ (l : List (BookView D)). ask_answer now (greatest (map (λ (x : BookView D). x.state.base) l)) ask a.before) same
+          ∙ ap (λ n. ask_answer now n ask a.before) (plain-greatest mid.books);
       keeps = a.how.0.1;
       changes = a.changes;
     },
@@ -184,19 +179,19 @@ module _ {D : Type 0} (tells : Type 0) (seen : D → List ℕ) (moment : D → �
       (tt, refused-at now place (ask_records now ask) old mid new a.before a.after fault settles a.changes a.how.1)
 
   -- what was read of a datagram, and where it goes
-  pub read-answers : (now : ℕ) (from : Datagram) (r : Routed) (old new : HouseView D) (answers : List Answered) (answered : Answered) (address : Address) → routed_by old.config from ≡ Some r →
+  pub read-answers : (now : ℕ) (from : Datagram) (r : Routed) (old new : HouseView D) (answer : DatedAnswer) (address : Address) → routed_by old.config from ≡ Some r →
       option_map (λ (x : External). x.address) (slice_get old.config.externals r.place) ≡ Some address →
-      AnswersAsk tells moment left_since may_leave now r.place r.ask old new answers → answered ≡ get_or answers 0 answered → IsHouse tells seen may_leave new →
-      AnswersPacket tells moment left_since may_leave now from old new (reply_text_of from.octets address r.items answered.answer (epoch_of answered.moment answered.base))
-  read-answers now from r old new answers answered address read told asks first is =
+      AnswersAsk tells moment left_since may_leave now r.place r.ask old new answer → IsHouse tells seen may_leave new →
+      AnswersPacket tells moment left_since may_leave now from old new (reply_text_of from.octets address r.items answer.answer (epoch_of answer.moment answer.base))
+  read-answers now from r old new answer address read told asks is =
       let place : ℕ = route_of old.config from in
       let asked = routed-is place (request_of old.config from) r read in
-      let here : AnswersAsk tells moment left_since may_leave now place r.ask old new answers =
-      subst (λ (p : ℕ). AnswersAsk tells moment left_since may_leave now p r.ask old new answers) asked.1 asks in
+      let here : AnswersAsk tells moment left_since may_leave now place r.ask old new answer =
+      subst (λ (p : ℕ). AnswersAsk tells moment left_since may_leave now p r.ask old new answer) asked.1 asks in
       let there : option_map (λ (x : External). x.address) (slice_get old.config.externals place) ≡ Some address =
       subst (λ (p : ℕ). option_map (λ (x : External). x.address) (slice_get old.config.externals p) ≡ Some address) asked.1 told in
-      answers-packet tells moment left_since may_leave now from (record { ask = r.ask; items = r.items }) old new answers answered address asked.0 here first
-      (answered-address tells seen moment left_since may_leave now place r.ask old new answers address here is there)
+      answers-packet tells moment left_since may_leave now from (record { ask = r.ask; items = r.items }) old new answer address asked.0 here
+      (answered-address tells seen moment left_since may_leave now place r.ask old new answer address here is there)
 
   pub loses-house : (now place : ℕ) (told : Result ℕ JournalFault) (old mid new : HouseView D) → SettlesAt tells moment left_since may_leave now place old mid →
       After tells seen may_leave faults place told mid new (λ b c.

@@ -2,7 +2,7 @@
 use Rattle.std.specs.Prelude.{max, slice_set, IsSome}
 use Rattle.std.specs.List.{slice_get}
 use Rattle.std.specs.Option.{option_map, option_map_or}
-use Rattle.std.proofs.Common.{◌≡◌, ◌∙◌, ℕ, List, [], map, get_or, Option, Some, None, refl, ap, sym, subst, inl, inr}
+use Rattle.std.proofs.Common.{◌≡◌, ◌∙◌, ℕ, List, [], map, Option, Some, None, refl, ap, sym, subst, inl, inr}
 use Rattle.pcp_base.specs.declared.addresses.Address.{Address}
 use Rattle.pcp_base.specs.declared.configs.Config.{Config}
 use Rattle.pcp_base.specs.declared.configs.External.{External}
@@ -15,7 +15,7 @@ use Rattle.pcp_base.specs.States.{State}
 use Rattle.lease_core.specs.Decide.{decide}
 use Rattle.lease_store.specs.declared.terms.Terms.{Terms}
 use Rattle.lease_store.specs.Lookups.{lease_count}
-use Rattle.shard_book.specs.declared.batches.Answered.{Answered}
+use Rattle.shard_book.specs.declared.batches.DatedAnswer.{DatedAnswer}
 use Rattle.shard_book.specs.Batches.{kept_before}
 use Rattle.shard_book.specs.Books.{BookView}
 use Rattle.shard_book.specs.Keepings.{Keeps}
@@ -76,10 +76,10 @@ routed-is place (Some q) r h =
     subst (λ (x : Routed). (Some q ≡ Some (record { ask = x.ask; items = x.items })) × (x.place ≡ place)) same (refl, refl)
 
 module _ {D : Type 0} (tells : Type 0) (moment : D → ℕ) (left_since : D → ℕ → List ℕ → Type 0) (may_leave : D → List ℕ → Type 0) where
-  pub answers-packet : (now : ℕ) (from : Datagram) (request : Request) (old new : HouseView D) (answers : List Answered) (answered : Answered) (address : Address) → request_of old.config from ≡ Some request →
-      (a : AnswersAsk tells moment left_since may_leave now (route_of old.config from) request.ask old new answers) → answered ≡ get_or answers 0 answered → address ≡ a.book.terms.external.address →
-      AnswersPacket tells moment left_since may_leave now from old new (reply_text_of from.octets address request.items answered.answer (epoch_of answered.moment answered.base))
-  answers-packet now from request old new answers answered address asks a first to =
+  pub answers-packet : (now : ℕ) (from : Datagram) (request : Request) (old new : HouseView D) (answer : DatedAnswer) (address : Address) → request_of old.config from ≡ Some request →
+      (a : AnswersAsk tells moment left_since may_leave now (route_of old.config from) request.ask old new answer) → address ≡ a.book.terms.external.address →
+      AnswersPacket tells moment left_since may_leave now from old new (reply_text_of from.octets address request.items answer.answer (epoch_of answer.moment answer.base))
+  answers-packet now from request old new answer address asks a to =
       let mid : HouseView D = a.mid in
       let book : BookView D = a.book in
       let house : PlainHouse = plain_house mid in
@@ -92,10 +92,10 @@ module _ {D : Type 0} (tells : Type 0) (moment : D → ℕ) (left_since : D → 
       let e : Entry = request_entry (served_at house (route_of mid.config from) (plain_shard book)) book.state m (greatest_base house) from request in
       let entry : packet_entry house now from ≡ Some e = entry-is house now from (plain_shard book) request here asked in
       let own : Address = book.terms.external.address in
-      let told : e.reply ≡ reply_text_of from.octets address request.items answered.answer (epoch_of answered.moment answered.base) =
+      let told : e.reply ≡ reply_text_of from.octets address request.items answer.answer (epoch_of answer.moment answer.base) =
       ap (λ (t : Terms). reply_text_of from.octets own request.items (decide t book.state m request.ask).answer (epoch_of m (greatest_base house))) a.on_terms
-      ∙ sym (ap (λ (x : Answered). reply_text_of from.octets own request.items x.answer (epoch_of x.moment x.base)) (first ∙ ap (λ (l : List Answered). get_or l 0 answered) a.told))
-      ∙ sym (ap (λ (x : Address). reply_text_of from.octets x request.items answered.answer (epoch_of answered.moment answered.base)) to) in
+      ∙ sym (ap (λ (x : DatedAnswer). reply_text_of from.octets own request.items x.answer (epoch_of x.moment x.base)) a.told)
+      ∙ sym (ap (λ (x : Address). reply_text_of from.octets x request.items answer.answer (epoch_of answer.moment answer.base)) to) in
       let kept : a.kept_book.state ≡ with_kept book.state e.kept =
       a.keeps.state ∙ kept-once book.state (decide book.terms book.state m request.ask).kept
       ∙ sym (ap (λ (t : Terms). with_kept book.state (decide t book.state m request.ask).kept) a.on_terms) in

@@ -38,14 +38,6 @@ pub fn reply_of(
         write_front(alloc, &mut text, request, address, &answer.answer, told)?;
         return Ok(Octets::of(text));
     }
-    write_reply(
-        alloc,
-        &mut text,
-        request,
-        ask,
-        items,
-        &answer.answer,
-        told,
-    )?;
+    write_reply(alloc, &mut text, request, ask, items, &answer.answer, told)?;
     Ok(Octets::of(text))
 }
