@@ -93,7 +93,14 @@ fn reply_at(
 {
     let from = &batch[source.at];
     let request = from.octets.items();
-    let octets = reply_of(alloc, request, address, ask, &source.items, &answered.dated())?;
+    let octets = reply_of(
+        alloc,
+        request,
+        address,
+        ask,
+        &source.items,
+        &answered.dated(),
+    )?;
     Ok(Datagram {
         peer: from.peer,
         port: from.port,
