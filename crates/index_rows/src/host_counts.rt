@@ -13,33 +13,34 @@ enum Turn {
     Clear,
 }
 
-/// Turns, and how many ports each host holds after them.
-static TURNS: [(Turn, [u32; 4]); 21] = [
+/// Turns, and after them how many ports each host holds, and how many looks a count takes: one, and
+/// the binary digits of how many hosts stand beside the slots.
+static TURNS: [(Turn, [u32; 4], u64); 21] = [
     // The first takes the slot, the second stands beside it, the last has one of its own.
-    (More(0, 2), [2, 0, 0, 0]),
-    (More(1, 3), [2, 3, 0, 0]),
-    (More(3, 1), [2, 3, 0, 1]),
-    (More(0, 5), [7, 3, 0, 1]),
-    (More(1, 1), [7, 4, 0, 1]),
+    (More(0, 2), [2, 0, 0, 0], 1),
+    (More(1, 3), [2, 3, 0, 0], 2),
+    (More(3, 1), [2, 3, 0, 1], 2),
+    (More(0, 5), [7, 3, 0, 1], 2),
+    (More(1, 1), [7, 4, 0, 1], 2),
     // The slot is free, and the second stays beside it.
-    (Fewer(0, 7), [0, 4, 0, 1]),
-    (More(1, 1), [0, 5, 0, 1]),
-    (Fewer(1, 2), [0, 3, 0, 1]),
+    (Fewer(0, 7), [0, 4, 0, 1], 2),
+    (More(1, 1), [0, 5, 0, 1], 2),
+    (Fewer(1, 2), [0, 3, 0, 1], 2),
     // The third takes it, and the first stands beside it.
-    (More(2, 7), [0, 3, 7, 1]),
-    (More(0, 1), [1, 3, 7, 1]),
-    (Fewer(1, 3), [1, 0, 7, 1]),
-    (Fewer(2, 3), [1, 0, 4, 1]),
-    (Fewer(2, 4), [1, 0, 0, 1]),
+    (More(2, 7), [0, 3, 7, 1], 2),
+    (More(0, 1), [1, 3, 7, 1], 3),
+    (Fewer(1, 3), [1, 0, 7, 1], 2),
+    (Fewer(2, 3), [1, 0, 4, 1], 2),
+    (Fewer(2, 4), [1, 0, 0, 1], 2),
     // The second takes it, and the third stands beside it.
-    (More(1, 65_535), [1, 65_535, 0, 1]),
-    (More(2, 1), [1, 65_535, 1, 1]),
-    (More(1, 65_535), [1, 131_070, 1, 1]),
-    (Clear, [0, 0, 0, 0]),
-    (More(2, 9), [0, 0, 9, 0]),
-    (More(0, 8), [8, 0, 9, 0]),
-    (Fewer(2, 9), [8, 0, 0, 0]),
-    (Fewer(3, 0), [8, 0, 0, 0]),
+    (More(1, 65_535), [1, 65_535, 0, 1], 2),
+    (More(2, 1), [1, 65_535, 1, 1], 3),
+    (More(1, 65_535), [1, 131_070, 1, 1], 3),
+    (Clear, [0, 0, 0, 0], 1),
+    (More(2, 9), [0, 0, 9, 0], 1),
+    (More(0, 8), [8, 0, 9, 0], 2),
+    (Fewer(2, 9), [8, 0, 0, 0], 2),
+    (Fewer(3, 0), [8, 0, 0, 0], 2),
 ];
 
 /// The host with a number. The first three share a slot, and the last has one of its own.
@@ -52,10 +53,17 @@ fn host(number: usize) -> Address {
     }
 }
 
+/// Whether a host holds so many: by its count, and by what it is below.
+fn is_held(counts: &HostCounts, who: &Address, wanted: u32) -> bool {
+    counts.count(who) == wanted
+        && !counts.is_below(who, wanted)
+        && counts.is_below(who, wanted.saturating_add(1))
+}
+
 /// Whether each host holds so many.
 fn are_held(counts: &HostCounts, wanted: &[u32; 4]) -> bool {
     for number in 0..4 {
-        if counts.count(&host(number)) != wanted[number] {
+        if !is_held(counts, &host(number), wanted[number]) {
             return false;
         }
     }
@@ -86,12 +94,12 @@ fn take(counts: &mut HostCounts, turn: &Turn) -> Result<(), Memory> {
     Ok(())
 }
 
-/// The first turn after which some host holds another number.
+/// The first turn after which some host holds another number, or a count takes more looks or fewer.
 fn first_other(alloc: Global) -> Result<Option<usize>, Memory> {
     let mut counts = HostCounts::new(alloc)?;
     for (number, row) in TURNS.iter().enumerate() {
         take(&mut counts, &row.0)?;
-        if !are_held(&counts, &row.1) {
+        if !are_held(&counts, &row.1) || counts.looks() != row.2 {
             return Ok(Some(number));
         }
     }
