@@ -17,4 +17,3 @@ returns-clause-decided g c =
     ∙ ap (λ (t : Terms). covered t c.args.m c.args.ask.now c.in-Some.lease) c.terms.ensures.value
     ∙ decided_by terms s (g.S.LeaseStore.reached c.args.store.now) c.args.m c.args.ask.now (Some c.in-Some.lease)
     c.requires.reached (sym c.in-Some.is ∙ c.covering.ensures.lease)
-
