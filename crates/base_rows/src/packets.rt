@@ -2,7 +2,8 @@
 use crate::rows::none_other;
 use pcp_base::{Address, Code, Memory, Nonce, Refusal};
 use pcp_codec::{
-    Body, Common, Frame, Framed, read_common, read_request, write_head, write_refusal,
+    Body, Common, Frame, Framed, LIFETIME_PLACE, is_plain_map, read_common, read_request, u32_of,
+    write_head, write_refusal,
 };
 use std::alloc::Global;
 
@@ -51,6 +52,18 @@ fn requests(rt: HostRuntime) {
     assert!(rt; read_request(&long, &CLIENT) == refused(Code::MalformedRequest));
     assert!(rt; read_request(&REQUEST, &other) == refused(Code::AddressMismatch));
     assert!(rt; read_common(&REQUEST) == COMMON);
+    assert!(rt; u32_of(&REQUEST, LIFETIME_PLACE) == 3600);
+}
+
+#[test]
+fn plain_requests(rt: HostRuntime) {
+    let other = Address::v4(10, 0, 0, 6);
+    assert!(rt; is_plain_map(&REQUEST, &CLIENT));
+    assert!(rt; !is_plain_map(&REQUEST, &other));
+    assert!(rt; !is_plain_map(&REQUEST[..56], &CLIENT));
+    let mut long = [0; 64];
+    long[..60].copy_from_slice(&REQUEST);
+    assert!(rt; !is_plain_map(&long, &CLIENT));
 }
 
 // What the request is when it is cut to this length.

@@ -57,7 +57,7 @@ cut (x ∷ xs) (suc k) z within all =
     let sum : suc k + z ≡ suc (k + z) = omega arith in
     rw sum (ap (λ rest. x ∷ rest) (octets_at-tail x xs 0 (k + z) ∙ cut xs k z (omega (arith, within)) (λ some. omega (arith, all some))))
 
-drop-all : (xs : List ℕ) (n : ℕ) → length xs ≤ n → drop n xs ≡ []
+pub drop-all : (xs : List ℕ) (n : ℕ) → length xs ≤ n → drop n xs ≡ []
 drop-all [] zero h = refl
 drop-all [] (suc n) h = refl
 drop-all (x ∷ xs) zero h = absurd (omega (arith, h))

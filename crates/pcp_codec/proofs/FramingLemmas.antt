@@ -1,16 +1,18 @@
 -- What each answer of the first five steps says of them.
-use Rattle.std.proofs.Common.{◌≡◌, ℕ, ◌+◌, ◌%◌, ◌<◌, ◌≤◌, ◌==◌, ◌||◌, nat_lt, Bool, true, false, cond, not, bytes_eq, List, [], ◌∷◌, ◌++◌, length, Option, Some, None, refl, ap, arith}
+use Rattle.std.proofs.Common.{◌≡◌, ℕ, ◌+◌, ◌%◌, ◌<◌, ◌≤◌, ◌==◌, ◌&&◌, ◌||◌, nat_lt, Bool, true, false, cond, not, bytes_eq, List, [], ◌∷◌, ◌++◌, length, drop, Option, Some, None, refl, ap, ◌∙◌, arith}
 use Rattle.std.proofs.lemmas.Bool.{not-false, eqb-true, ltb-false, le-ltb, eq-eqb}
 use Rattle.std.proofs.lemmas.Bool.Decides.{nat_tests}
 use Rattle.std.proofs.lemmas.Slice.Eq.{bytes_eq-Decides}
 use Rattle.pcp_base.specs.declared.addresses.Address.{Address}
 use Rattle.pcp_base.specs.declared.asks.Refusal.{Refusal}
 use Rattle.pcp_base.specs.Cases.{Case, first_case}
+use Rattle.pcp_codec.specs.declared.requests.Body.TheVariants.{Announce, Map, Peer}
 use Rattle.pcp_codec.specs.declared.requests.Frame.{Frame}
 use Rattle.pcp_codec.specs.declared.requests.Framed.TheVariants.{Silent, Refuse, Whole}
-use Rattle.pcp_codec.specs.Fields.{octet, octets_at}
-use Rattle.pcp_codec.specs.Requests.{opcode_of, data_length, frame_of}
-use Rattle.pcp_codec.specs.Framing.{is_silent, frame_steps, framed_unless, reading_of}
+use Rattle.pcp_codec.specs.Fields.{octet, octets_at, u16_at}
+use Rattle.pcp_codec.specs.Requests.{opcode_of, data_length, common_of, body_of, frame_of}
+use Rattle.pcp_codec.specs.Framing.{is_silent, is_from_another, is_plain_map, frame_steps, framed_unless, reading_of}
+use Rattle.pcp_codec.proofs.FieldLemmas.{drop-all}
 
 silent_of : (b : Bool) (first : Option Refusal) (message : List ℕ) → cond b Silent (framed_unless first (frame_of message)) ≡ Silent → b ≡ true
 silent_of true first message h = refl
@@ -129,3 +131,49 @@ passes message source p =
     let heard = heard_is message (omega arith) (omega arith) in
     let none = all-first_case (frame_steps message source) (version, (size, (known, (fits, (client, tt))))) in
     whole_by (is_silent message) (first_case (frame_steps message source)) message heard none
+
+-- what a plain MAP request is
+plain_parts : (a b c d : Bool) → (a && b && c && not d) ≡ true → (a ≡ true) × (b ≡ true) × (c ≡ true) × (d ≡ false)
+plain_parts true true true false h = (refl, refl, refl, refl)
+plain_parts true true true true h = absurd cc
+plain_parts true true false d h = absurd cc
+plain_parts true false c d h = absurd cc
+plain_parts false b c d h = absurd cc
+
+plain_map : (message : List ℕ) (source : Address) → is_plain_map message source ≡ true → (length message ≡ 60) × (octet message 0 ≡ 2) × (octet message 1 ≡ 1) × (octets_at message 8 16 ≡ source.0)
+plain_map message source h =
+    let parts = plain_parts (length message == 60) (octet message 0 == 2) (octet message 1 == 1) (is_from_another message source) h in (
+      eqb-true (length message) 60 parts.0,
+      eqb-true (octet message 0) 2 parts.1,
+      eqb-true (octet message 1) 1 parts.2,
+      same_octets (octets_at message 8 16) source.0 parts.3,
+    )
+
+pub plain-opcode : (message : List ℕ) (source : Address) → is_plain_map message source ≡ true → opcode_of message ≡ 1
+plain-opcode message source h = let one = (plain_map message source h).2 in omega (arith, one)
+
+pub plain-whole : (message : List ℕ) (source : Address) → is_plain_map message source ≡ true → reading_of message source ≡ Whole (frame_of message)
+plain-whole message source h =
+    let plain = plain_map message source h in
+    let size = plain.0 in
+    let one = plain.2 in
+    let behind : data_length (opcode_of message) ≡ 36 = ap data_length (plain-opcode message source h) in
+    passes message source (record {
+      version = plain.1;
+      opcode = omega (arith, one);
+      room = omega (arith, size, behind);
+      most = omega (arith, size);
+      words = omega (arith, size);
+      client = plain.3;
+    })
+
+pub plain-body : (message : List ℕ) (source : Address) → is_plain_map message source ≡ true → body_of message ≡ Map (common_of message)
+plain-body message source h =
+    ap (λ k. cond (k == 0) Announce (cond (k == 1) (Map (common_of message)) (Peer (common_of message) (u16_at message 60) (record { 0 = octets_at message 64 16 }))))
+    (plain-opcode message source h)
+
+-- no octet stands behind its data
+pub plain-end : (message : List ℕ) (source : Address) → is_plain_map message source ≡ true → drop (24 + data_length (opcode_of message)) message ≡ []
+plain-end message source h =
+    let size = (plain_map message source h).0 in
+    ap (λ k. drop (24 + data_length k) message) (plain-opcode message source h) ∙ drop-all message 60 (omega (arith, size))

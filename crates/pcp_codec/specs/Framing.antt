@@ -5,7 +5,7 @@ use Rattle.pcp_base.specs.declared.codes.Code.TheVariants.{UnsuppVersion, Malfor
 use Rattle.pcp_base.specs.declared.asks.Refusal.{Refusal}
 use Rattle.pcp_base.specs.Cases.{Case, first_case}
 use Rattle.pcp_base.specs.Refusals.{unparsed}
-use Rattle.pcp_codec.specs.declared.layout.TheConstants.{VERSION, R_BIT, PEER_OPCODE, MESSAGE_OCTETS, HEAD_OCTETS, CLIENT_PLACE}
+use Rattle.pcp_codec.specs.declared.layout.TheConstants.{VERSION, R_BIT, MAP_OPCODE, PEER_OPCODE, MESSAGE_OCTETS, HEAD_OCTETS, MAP_OCTETS, CLIENT_PLACE}
 use Rattle.pcp_codec.specs.declared.requests.Frame.{Frame}
 use Rattle.pcp_codec.specs.declared.requests.Framed.{Framed}
 use Rattle.pcp_codec.specs.declared.requests.Framed.TheVariants.{Silent, Refuse, Whole}
@@ -49,3 +49,9 @@ abbrev pub reading_of : List ℕ → Address → Framed
 reading_of message source =
     if is_silent message then Silent
     else framed_unless (first_case (frame_steps message source)) (frame_of message)
+
+-- a MAP request without options that none of the five steps refuses
+abbrev pub is_plain_map : List ℕ → Address → Bool
+is_plain_map message source =
+    length message == HEAD_OCTETS + MAP_OCTETS && octet message 0 == VERSION
+    && octet message 1 == MAP_OPCODE && not (is_from_another message source)

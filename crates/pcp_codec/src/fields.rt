@@ -44,7 +44,7 @@ pub fn u16_of(message: &[u8], place: usize) -> u16
 }
 
 /// The number of four octets from a place on.
-pub(crate) fn u32_of(message: &[u8], place: usize) -> u32
+pub fn u32_of(message: &[u8], place: usize) -> u32
     requires { place + 4 < 2 ^ 64 }
     ensures { result ≡ u32_at message.now place }
 {

@@ -8,7 +8,7 @@ mod replies;
 mod requests;
 mod responses;
 
-pub use fields::{octet_of, octets_of, u16_of};
+pub use fields::{octet_of, octets_of, u16_of, u32_of};
 pub use layout::{
     ADDRESS_PLACE, ANNOUNCE_OPCODE, CLIENT_PLACE, CODE_PLACE, EPOCH_PLACE, EXTERNAL_PLACE,
     HEAD_OCTETS, INTERNAL_PLACE, LAST_PLACE, LIFETIME_PLACE, MAP_OCTETS, MAP_OPCODE,
@@ -16,5 +16,7 @@ pub use layout::{
     REMOTE_PORT_PLACE, VERSION,
 };
 pub use replies::{write_head, write_refusal};
-pub use requests::{Body, Common, Frame, Framed, read_body, read_common, read_request};
+pub use requests::{
+    Body, Common, Frame, Framed, is_plain_map, read_body, read_common, read_request,
+};
 pub use responses::{CODES, Head, NotResponse, read_response_head};

@@ -4,7 +4,7 @@ ghost use Rattle.pcp_base.specs.Cases.{first_case};
 ghost use Rattle.pcp_codec.specs.Packets.{IsRequest};
 ghost use Rattle.pcp_codec.specs.Requests.{opcode_of, data_length, common_of, body_of};
 ghost use Rattle.pcp_base.specs.Refusals.{unparsed};
-ghost use Rattle.pcp_codec.specs.Framing.{frame_steps, reading_of};
+ghost use Rattle.pcp_codec.specs.Framing.{frame_steps, is_plain_map, reading_of};
 
 use crate::fields::{octet_of, octets_of, opcode_in, u16_of, u32_of};
 use crate::layout::*;
@@ -78,6 +78,17 @@ pub fn read_request(octets: &[u8], source: &Address) -> Framed
         → result ≡ Framed.Whole frame }
 {
     first_steps(octets, source)
+}
+
+/// Whether a datagram from `source` is a MAP request without options that [`read_request`] reads as whole:
+/// by its length, version, opcode and client address alone.
+pub fn is_plain_map(octets: &[u8], source: &Address) -> bool
+    ensures { result ≡ is_plain_map octets.now source.now }
+{
+    octets.len() == HEAD_OCTETS + MAP_OCTETS
+        && octet_of(octets, 0) == VERSION
+        && octet_of(octets, 1) == MAP_OPCODE
+        && Address(octets_of(octets, CLIENT_PLACE)) == *source
 }
 
 /// The answer of the first five steps.
