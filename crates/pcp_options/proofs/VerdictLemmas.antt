@@ -1,5 +1,5 @@
 -- The verdict by its parts.
-use Rattle.std.proofs.Common.{◌≡◌, ℕ, ◌≤◌, cond, List, [], ◌++◌, length, drop, Option, Some, None, unwrap_or, refl, ap, sym, ◌∙◌, subst, arith}
+use Rattle.std.proofs.Common.{◌≡◌, ℕ, ◌≤◌, true, cond, List, [], ◌++◌, length, drop, Option, Some, None, unwrap_or, refl, ap, sym, ◌∙◌, subst, arith}
 use Rattle.std.proofs.lemmas.List.{length-drop}
 use Rattle.pcp_base.specs.declared.addresses.Address.{Address}
 use Rattle.pcp_base.specs.declared.codes.Code.{Code}
@@ -8,19 +8,21 @@ use Rattle.pcp_base.specs.declared.configs.Config.{Config}
 use Rattle.pcp_base.specs.Cases.{first_case}
 use Rattle.pcp_codec.specs.declared.requests.Frame.{Frame}
 use Rattle.pcp_codec.specs.declared.requests.Framed.TheVariants as Framed
-use Rattle.pcp_codec.specs.Requests.{frame_of}
+use Rattle.pcp_codec.specs.Fields.{u32_at}
+use Rattle.pcp_codec.specs.Requests.{common_of, frame_of}
 use Rattle.pcp_base.specs.Refusals.{unparsed}
-use Rattle.pcp_codec.specs.Framing.{frame_steps, reading_of}
-use Rattle.pcp_codec.proofs.FramingLemmas.{framed_silent, framed_refused, framed_whole, first_case-Some, first_case-None, passed}
+use Rattle.pcp_codec.specs.Framing.{frame_steps, is_plain_map, reading_of}
+use Rattle.pcp_codec.proofs.FramingLemmas.{framed_silent, framed_refused, framed_whole, first_case-Some, first_case-None, passed, plain-body, plain-end, plain-whole}
 use Rattle.pcp_options.specs.declared.options.Item.{Item}
 use Rattle.pcp_options.specs.declared.options.Seen.{Seen}
 use Rattle.pcp_options.specs.declared.verdicts.Verdict.{Verdict}
 use Rattle.pcp_options.specs.declared.verdicts.Verdict.TheVariants.{Silent, Refuse}
 use Rattle.pcp_options.specs.Options.{found_in, items_of}
 use Rattle.pcp_options.specs.Steps.{options_steps}
-use Rattle.pcp_options.specs.Asking.{third_of, seen_of, subject_of}
+use Rattle.pcp_options.specs.Asking.{third_of, seen_of, subject_of, endpoint_of, map_ask, ask_by}
+use Rattle.pcp_base.specs.Pairing.{place_of}
 use Rattle.pcp_base.specs.Refusals.{parsed}
-use Rattle.pcp_options.specs.Verdicts.{IsFrameOf, options_in, third_steps, later_steps, asked_for, verdict_by, verdict_of}
+use Rattle.pcp_options.specs.Verdicts.{IsFrameOf, options_in, third_steps, later_steps, asked_by, asked_for, verdict_by, verdict_of}
 
 -- the data of the opcode is there
 pub frame-room : (frame : Frame) (octets : List ℕ) → IsFrameOf frame octets → frame.options ≤ length octets
@@ -104,3 +106,11 @@ pub steps-pass : (config : Config) (source : Address) (frame : Frame) (items : L
 steps-pass config source frame items seen subject s t u =
     sym (ap (verdict_by config source frame items) t
     ∙ ap (asked_for config frame items) (ap (λ x. subject_of source x.third) (sym s) ∙ subject-by source seen.third ∙ sym u))
+
+-- a plain MAP request: it is for its source, and has no options
+pub plain-verdict : (config : Config) (source : Address) (message : List ℕ) → is_plain_map message source ≡ true → verdict_of config source message ≡ asked_by [] (map_ask (u32_at message 4) (common_of message) (seen_of []) [] (endpoint_of source (common_of message))) (place_of config.subscribers source)
+plain-verdict config source message h =
+    judged-whole config source message (frame_of message) (sym (plain-whole message source h))
+    ∙ sym (no-options config source (frame_of message) (drop (frame_of message).options message) (seen_of []) (plain-end message source h) refl)
+    ∙ sym (steps-pass config source (frame_of message) [] (seen_of []) source refl refl refl)
+    ∙ ap (λ body. asked_by [] (ask_by source (u32_at message 4) body (seen_of []) []) (place_of config.subscribers source)) (plain-body message source h)

@@ -4,6 +4,9 @@ ghost use Rattle.std.specs.List.{list_any};
 ghost use Rattle.pcp_base.specs.Cases.{first_case};
 ghost use Rattle.pcp_base.specs.Pairing.{holds, place_of};
 ghost use Rattle.pcp_base.specs.Refusals.{unparsed};
+ghost use Rattle.pcp_codec.specs.Fields.{u32_at};
+ghost use Rattle.pcp_codec.specs.Requests.{common_of};
+ghost use Rattle.pcp_codec.specs.declared.layout.TheConstants.{LIFETIME_PLACE};
 ghost use Rattle.pcp_options.specs.Asking.{endpoint_of, filters_of, map_ask, peer_ask, seen_of};
 ghost use Rattle.pcp_options.specs.Options.{found_in, items_of};
 ghost use Rattle.pcp_base.specs.Refusals.{parsed};
@@ -16,7 +19,9 @@ use pcp_base::{
     Address, Ask, Code, Config, Endpoint, FilterList, MapAsk, Memory, PeerAsk, Protocol, Refusal,
     pair,
 };
-use pcp_codec::{Body, Common, Frame, Framed, read_request};
+use pcp_codec::{
+    Body, Common, Frame, Framed, LIFETIME_PLACE, is_plain_map, read_common, read_request, u32_of,
+};
 use std::alloc::Global;
 
 /// What a datagram is.
@@ -41,6 +46,53 @@ pub enum Verdict {
 /// (RFC 6887, section 8.2; the order is our own). Memory is taken, and can be wanting, only for a request
 /// that no step refuses.
 pub fn judge(
+    alloc: Global,
+    config: &Config,
+    source: &Address,
+    octets: &[u8],
+) -> Result<Verdict, Memory>
+    ensures ok { IfOk result (λ verdict. verdict ≡ verdict_of config.now source.now octets.now) }
+    ensures memory { OnErr result (IsAsked (verdict_of config.now source.now octets.now)) }
+{
+    if is_plain_map(octets, source) {
+        return Ok(judge_plain_map(alloc, config, source, octets));
+    }
+    judge_any(alloc, config, source, octets)
+}
+
+/// The verdict on a plain MAP request from `source`, which has no options and takes no memory.
+fn judge_plain_map(alloc: Global, config: &Config, source: &Address, octets: &[u8]) -> Verdict
+    ensures { result ≡ asked_by [] (map_ask (u32_at octets.now LIFETIME_PLACE)
+        (common_of octets.now) (seen_of []) [] (endpoint_of source.now (common_of octets.now)))
+        (place_of config.now.subscribers source.now) }
+{
+    let common = read_common(octets);
+    let Some(endpoint) = endpoint_in(*source, &common) else {
+        return Verdict::Refuse(refusal(Code::UnsuppProtocol, true));
+    };
+    let Some(shard) = pair(config, source) else {
+        return Verdict::Refuse(refusal(Code::NotAuthorized, true));
+    };
+    Verdict::Asked {
+        shard,
+        ask: Ask::Map(MapAsk {
+            endpoint,
+            nonce: common.nonce,
+            lifetime: u32_of(octets, LIFETIME_PLACE),
+            port: common.external,
+            address: common.address,
+            prefer: false,
+            set: None,
+            filters: FilterList::of(Vec::new(alloc)),
+        }),
+        items: Items::of(Vec::new(alloc)),
+    }
+}
+
+/// The verdict on any datagram. It stands apart because most datagrams are plain MAP requests, which needn't
+/// clear room for the parts that it reads.
+#[inline(never)]
+fn judge_any(
     alloc: Global,
     config: &Config,
     source: &Address,
