@@ -15,9 +15,9 @@ use std::marker::Brand;
 use std::sync::ledger::{Blank, Ledger};
 use step_count::Steps;
 
-/// The longest run of vacant ports, by the vacancies and by the plain pool, and how many ports more
-/// a host may own.
-type Told = (Option<Picked>, Option<Picked>, Result<u32, u32>);
+/// The longest run of vacant ports, by the vacancies and by the plain pool, how many ports more a
+/// host may own, and whether it is below its quota.
+type Told = (Option<Picked>, Option<Picked>, Result<u32, u32>, bool);
 
 /// An ask for 24 ports, from any on that has this remainder by 2.
 fn ask_any(parity: Option<u8>) -> PickAsk
@@ -51,7 +51,8 @@ fn told_from<L: Ledger>(
     let host = Address::v4(10, 0, 0, 9);
     let expected = plain.pick(&host, Udp, &ask_any(parity), &mut steps);
     let left = pool.room_for(who, &mut steps);
-    (found, expected.ok(), left)
+    let is_below = pool.is_below_quota(who, &mut steps);
+    (found, expected.ok(), left, is_below)
 }
 
 /// The same of a caller that counts no steps.
@@ -224,10 +225,10 @@ fn hold_and_release_in_new(
     hold_and_release(alloc, &mut pool, &mut plain, start, last, n)
 }
 
-/// What is told where both bodies find this run.
+/// What is told where both bodies find this run, and so many ports are left.
 fn both(start: u16, count: u32, left: Result<u32, u32>) -> Told {
     let run = Some(Picked { start, count });
-    (run, run, left)
+    (run, run, left, left.is_ok())
 }
 
 #[test]
