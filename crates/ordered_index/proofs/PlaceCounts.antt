@@ -8,14 +8,18 @@ use Rattle.ordered_index.specs.declared.places.TheConstants.{MIXER}
 use Rattle.ordered_index.specs.declared.sieves.TheConstants.{BUCKETS}
 
 abbrev mixed : (n a b : ℕ) → ℕ
-mixed n a b = (n + (a * 65536 + b) * 2 ^ 64) % 2 ^ 128 * MIXER % 2 ^ 128 / 2 ^ 111
+mixed n a b = ((n + a * 2 ^ 64) % 2 ^ 128 * MIXER % 2 ^ 128 / 2 ^ 111 + b) % BUCKETS
 
 pub bucket_of-from : (p : Place) (n a b : ℕ) → n ≡ from_be_bytes w128 p.0 → a ≡ p.1.0 → b ≡ p.1.1 → mixed n a b ≡ bucket_of p
 unfolding bucket_of
 bucket_of-from p n a b n_is a_is b_is = ap (λ m. mixed m a b) n_is ∙ ap (λ m. mixed (from_be_bytes w128 p.0) m b) a_is ∙ ap (mixed (from_be_bytes w128 p.0) p.1.0) b_is
 
-top_bits : (n : ℕ) → n % 2 ^ 128 / 2 ^ 111 < 131072
+-- the highest 17 bits of a product
+pub top_bits : (n : ℕ) → n % 2 ^ 128 / 2 ^ 111 < 131072
 top_bits n = omega arith
+
+rest_below : (n : ℕ) → n % 131072 < 131072
+rest_below n = omega arith
 
 none_there : (n i : ℕ) → slice_index (replicate n 0) i ≡ 0
 none_there zero i = refl
@@ -32,7 +36,7 @@ no_places-all = length-replicate {A = ℕ} BUCKETS 0
 
 pub below_buckets : (p : Place) → bucket_of p < BUCKETS
 unfolding bucket_of
-below_buckets p = top_bits _
+below_buckets p = rest_below _
 
 pub bucket_of-below : (p : Place) → bucket_of p < length no_places
 bucket_of-below p = let below = below_buckets p in let all = no_places-all in omega (arith, below, all)

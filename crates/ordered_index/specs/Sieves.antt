@@ -6,12 +6,12 @@ use Rattle.ordered_index.specs.Orders.{Place}
 use Rattle.ordered_index.specs.declared.places.TheConstants.{MIXER}
 use Rattle.ordered_index.specs.declared.sieves.TheConstants.{BUCKETS}
 
--- the number that the octets of the address spell, with the port's beside it, is multiplied modulo
--- 2 ^ 128, and its highest 17 bits are taken
+-- the number that the octets of the address spell, with the protocol's beside it, is multiplied
+-- modulo 2 ^ 128; its highest 17 bits and the port are added
 unfoldable pub bucket_of : Place → ℕ
 bucket_of p =
-    (from_be_bytes w128 p.0 + (p.1.0 * 65536 + p.1.1) * 2 ^ 64) % 2 ^ 128 * MIXER % 2 ^ 128
-    / 2 ^ 111
+    ((from_be_bytes w128 p.0 + p.1.0 * 2 ^ 64) % 2 ^ 128 * MIXER % 2 ^ 128 / 2 ^ 111 + p.1.1)
+    % BUCKETS
 
 -- one place more or less, where 255 stands for any number
 abbrev pub one_more : ℕ → ℕ

@@ -7,6 +7,7 @@ ghost use Rattle.ordered_index.specs.Orders.{place_of, place_cmp, place_total};
 ghost use Rattle.ordered_index.specs.Sieves.{bucket_of};
 
 use crate::keys::{Port, port_at};
+use crate::sieves::BUCKETS;
 use octet_order::compare_octets;
 use pcp_base::Endpoint;
 use std::cmp::Ordering;
@@ -71,19 +72,21 @@ impl Ord for Place {
     }
 }
 
-/// An odd number near 2^128 over the golden ratio: its products spread places over the buckets.
+/// An odd number near 2^128 over the golden ratio: its products spread hosts over the buckets.
 pub(crate) const MIXER: u128 = 0x9e37_79b9_7f4a_7c15_f39c_c060_5ced_c835;
 
 impl Place {
-    /// The bucket, below 2^17, that it falls on.
+    /// The bucket, below 2^17, that it falls on. Ports in a row fall on buckets in a row, so that what
+    /// is kept of a host's stays near.
     #[inline]
     pub(crate) fn bucket(&self) -> usize
         ensures { result ≡ bucket_of self.now }
     {
         let (protocol, port) = self.port;
-        let port = u128::from(protocol) * 65536 + u128::from(port);
-        let number = u128::from_be_bytes(self.address).wrapping_add(port * (1 << 64));
-        (number.wrapping_mul(MIXER) >> 111) as usize
+        let protocol = u128::from(protocol) * (1 << 64);
+        let number = u128::from_be_bytes(self.address).wrapping_add(protocol);
+        let first = (number.wrapping_mul(MIXER) >> 111) as usize;
+        (first + usize::from(port)) % BUCKETS
     }
 
     /// Whether the other falls on the same bucket.
