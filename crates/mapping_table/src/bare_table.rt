@@ -1,4 +1,5 @@
-//! Leases without their filters, by numbers that grow, and ordered maps to the numbers beside them.
+//! Leases without their filters, by numbers that grow, and what tells the numbers beside them: an
+//! ordered map by first endpoints, with a sieve and hints before it, and slots by external ports.
 
 ghost use Rattle.std.specs.Prelude.{◌≡◌, ◌≤◌, ◌<◌, ◌+◌, ◌-◌, ◌*◌, ◌++◌, [], not, map, filter, take, count_by, length, Some, IfSome, IfOk, OnOk};
 ghost use Rattle.std.specs.List.{AllByRecursion, list_any};
@@ -459,8 +460,8 @@ impl BareTable {
         )
     }
 
-    /// Takes out the lease with this first endpoint, and an entry of each of two maps, a port and an
-    /// expiry.
+    /// Takes out the lease with this first endpoint: its slot, its entry of the ordered map, its port
+    /// and its expiry.
     pub(crate) fn remove<L: Ledger>(
         &mut self,
         key: &Endpoint,

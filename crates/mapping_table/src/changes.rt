@@ -13,8 +13,8 @@ use pcp_base::Memory;
 use std::sync::ledger::Ledger;
 use step_count::{Steps, levels};
 
-/// Appends a lease whose key has no number. It puts an entry into two maps, a port into an array, and
-/// an expiry into its block; where a map fails, it takes out what came before.
+/// Appends a lease whose key has no number. It takes a slot, puts an entry into the ordered map, a
+/// port into an array, and an expiry into its block; where the map fails, the slot is given back.
 pub(crate) fn append<L: Ledger>(
     kept: &mut Owned<BareLease, Place>,
     sieve: &mut Sieve,

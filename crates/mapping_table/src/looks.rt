@@ -1,4 +1,4 @@
-//! Looks into the maps of a table, counted.
+//! Looks into what a table keeps, counted.
 
 ghost use Rattle.std.specs.Prelude.{◌≡◌, ◌+◌, length};
 ghost use Rattle.std.specs.Option.{option_copied};
@@ -12,7 +12,7 @@ use ordered_index::{Owned, Place};
 use std::sync::ledger::Ledger;
 use step_count::{Steps, levels};
 
-/// Counts a look into one of the maps, of which each has as many levels at most as the leases' own.
+/// Counts a look: at a slot, into an array, or into an ordered map, which has at most so many levels.
 pub(crate) fn look<L: Ledger>(kept: &Owned<BareLease, Place>, steps: &mut Steps<L>)
     ensures { steps.new ≡ steps.old + levels (length (values kept.now.leases)) }
 {

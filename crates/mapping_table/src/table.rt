@@ -1,4 +1,4 @@
-//! The fast body: leases in ordered maps, and the filters of those that have any beside them.
+//! The fast body: leases without their filters, and beside them the filters of those that have any.
 
 ghost use Rattle.std.specs.Prelude.{◌≡◌, ◌≤◌, ◌<◌, ◌+◌, ◌-◌, ◌*◌, ◌++◌, [], not, filter, map, count_by, length, IfOk, OnOk};
 ghost use Rattle.std.specs.List.{AllByRecursion, list_any};
@@ -23,9 +23,9 @@ use step_count::{Steps, levels};
 /// MAP leases, seen as a list in the order granted. Those that have ended stay until they are taken
 /// out.
 ///
-/// A step is a look at a level of one of its ordered maps, of which each has at most as many levels
-/// as its number of leases has binary digits. The tree of their expiries counts as such a map,
-/// though it has twelve levels, whatever there is.
+/// A step is a look at a level of an ordered map, which has at most as many levels as the number of
+/// leases has binary digits. A slot, the array of external ports and the tree of expiries count as
+/// such a map each, though that tree has twelve levels, whatever there is.
 #[derive(Drop)]
 pub struct MapTable {
     /// The leases without their filters.
