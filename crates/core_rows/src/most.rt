@@ -36,8 +36,14 @@ fn first_ungranted<S: LeaseStore>(
     Ok(None)
 }
 
-/// Whether no other host is granted a lease then, though ports are left, and a renewal needs no room.
-fn is_full<S: LeaseStore>(alloc: Global, core: &mut LeaseCore<S>, m: Moment) -> Result<bool, Fail>
+/// Whether no other host is granted a lease then, though ports are left, one more of the same host is
+/// answered so, and a renewal needs no room.
+fn is_full<S: LeaseStore>(
+    alloc: Global,
+    core: &mut LeaseCore<S>,
+    m: Moment,
+    more: Told,
+) -> Result<bool, Fail>
     requires may { MayServe (S.state core.old) (S.terms core.old) }
     requires later { S.reached core.old ≤ m }
     ensures { OnOk result (MayServe (S.state core.new) (S.terms core.new)) }
@@ -46,14 +52,19 @@ fn is_full<S: LeaseStore>(alloc: Global, core: &mut LeaseCore<S>, m: Moment) -> 
     if !is_answered(alloc, core, m, &another, Refused(8, 30))? {
         return Ok(false);
     }
+    let one_more = Request(5, 40_000, 1, 3600, 0, Nothing);
+    if !is_answered(alloc, core, m, &one_more, more)? {
+        return Ok(false);
+    }
     let again = Request(5, 20_000, 1, 3600, 0, Nothing);
     is_answered(alloc, core, m, &again, Leased(3600, 20_000))
 }
 
-/// Fills a core. Whether it is full then, and only then.
+/// Fills a core. Whether it is full then, and only then, and one more of the host is answered so.
 fn is_filled<S: LeaseStore + Drop>(
     alloc: Global,
     made: Result<LeaseCore<S>, Fail>,
+    more: Told,
 ) -> Result<bool, Fail>
     requires { IfOk made (λ core. AreTerms (S.terms core)) }
 {
@@ -62,13 +73,22 @@ fn is_filled<S: LeaseStore + Drop>(
     if first_ungranted(alloc, &mut core, m)?.is_some() {
         return Ok(false);
     }
-    Ok(is_full(alloc, &mut core, m)? && core.leases(m) == 32_768)
+    Ok(is_full(alloc, &mut core, m, more)? && core.leases(m) == 32_768)
 }
 
 #[test]
 fn no_more_leases_than_there_may_be(rt: HostRuntime) -> Result<(), Fail> {
     let alloc = rt.alloc();
     let made = indexed(alloc, Profile(1024, 65535, 65_535));
-    assert!(rt; is_filled(alloc, made)?);
+    assert!(rt; is_filled(alloc, made, Refused(8, 30))?);
+    Ok(())
+}
+
+// The quota is told before the want of room.
+#[test]
+fn a_quota_of_all_leases(rt: HostRuntime) -> Result<(), Fail> {
+    let alloc = rt.alloc();
+    let made = indexed(alloc, Profile(1024, 65535, 32_768));
+    assert!(rt; is_filled(alloc, made, Refused(10, 30))?);
     Ok(())
 }
