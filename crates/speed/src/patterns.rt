@@ -3,9 +3,12 @@
 //! pattern, how many ports or leases it has, and what the last request was told: its external port, 0
 //! where its lease was deleted, or the code by which it was refused. After a first word `times` a line
 //! also tells the nanoseconds of processor time of one request, or of a record that is admitted, and
-//! their ratios to a plain request that leaves no record and to the renewal of one port.
-ghost use Rattle.std.specs.Prelude.{◌≡◌, IfOk, OnOk};
+//! their ratios to a plain request that leaves no record and to the renewal of one port. A request that
+//! comes but once on a core, as the first when much falls due, is timed on some cores, one after the
+//! other: what is in the middle is told.
+ghost use Rattle.std.specs.Prelude.{◌≡◌, ◌<◌, ◌≤◌, IfOk, OnOk};
 ghost use Rattle.lease_store.specs.LeaseTerms.{AreTerms};
+ghost use Rattle.speed.specs.Serving.{MayServe};
 
 use crate::costs::{Cost, GRANTED, ask_often, core_with, cost_in_turn, cost_often, nanos_since};
 use crate::serving::{indexed, moment};
@@ -19,6 +22,9 @@ use std::time::CpuClock;
 
 /// As many leases as there may be beside one more.
 const MANY: u32 = 32_767;
+
+/// On how many cores a request is timed that comes but once on each.
+const CORES: usize = 15;
 
 /// When leases end that are granted for 120 seconds.
 const ENDED: u64 = 1120;
@@ -100,6 +106,51 @@ fn ended_ports_cost<S: LeaseStore + Drop, C: CpuClock>(
     let elsewhere = Wish {
         elsewhere: true,
         ..wish_for(1, 2, 3600)
+    };
+    let ask = ask_of(alloc, &elsewhere);
+    let m = moment(RESTED)?;
+    ask_often(alloc, &mut core, &ask, m, 1)?;
+    cost_often(clock, alloc, &mut core, &ask, m, rounds)
+}
+
+/// Grants host 1 a port for each of so many internal ports, from 1 on, for 120 seconds.
+fn grant_singles<S: LeaseStore>(
+    alloc: Global,
+    core: &mut LeaseCore<S>,
+    count: u16,
+    m: Moment,
+) -> anyhow::Result<()>
+    requires may { MayServe (S.state core.old) (S.terms core.old) }
+    requires reached { S.reached core.old ≤ m }
+    ensures may { OnOk result (MayServe (S.state core.new) (S.terms core.new)) }
+    ensures reached { OnOk result (S.reached core.new ≤ m) }
+{
+    for i in 0..count {
+        let single = Wish {
+            internal: 1 + i,
+            ..wish_for(1, 1, 120)
+        };
+        ask_often(alloc, core, &ask_of(alloc, &single), m, 1)?;
+    }
+    Ok(())
+}
+
+/// A request for a set of so many ports elsewhere, of a host that had a lease for each of them, which
+/// have all ended: refused, over and over, since it leaves no record.
+fn ended_singles_cost<S: LeaseStore + Drop, C: CpuClock>(
+    clock: &C,
+    alloc: Global,
+    core: LeaseCore<S>,
+    ports: u16,
+    rounds: u32,
+) -> anyhow::Result<Cost>
+    requires { AreTerms (S.terms core) }
+{
+    let mut core = core_with(alloc, core, 0, 1, 120)?;
+    grant_singles(alloc, &mut core, ports, moment(GRANTED)?)?;
+    let elsewhere = Wish {
+        elsewhere: true,
+        ..wish_for(1, ports, 3600)
     };
     let ask = ask_of(alloc, &elsewhere);
     let m = moment(RESTED)?;
@@ -195,29 +246,74 @@ fn opening_cost<S: LeaseStore + Drop, C: CpuClock>(
     Ok(Cost { told: 0, nanos })
 }
 
+/// Who asks first when much falls due.
+#[derive(Clone, Copy)]
+enum Asker {
+    /// A host that has a lease of one port, which it renews.
+    Renewing,
+    /// A new host, for one port.
+    New,
+    /// A new host, for two ports of the protocol of most leases: it pays for all that is due.
+    NewWithSet,
+    /// The last host whose lease is among those that end, where its quota is as many ports as it had:
+    /// it pays for all that is due.
+    AtQuota,
+}
+
+impl Asker {
+    /// The names of both lines: when leases end, and when their ports rest no more.
+    fn names(self) -> [&'static str; 2] {
+        match self {
+            Asker::Renewing => ["renewal-at-ends", "renewal-at-rests"],
+            Asker::New => ["grant-at-ends", "grant-at-rests"],
+            Asker::NewWithSet => ["set-at-ends", "set-at-rests"],
+            Asker::AtQuota => ["quota-at-ends", "quota-at-rests"],
+        }
+    }
+
+    /// How many ports a host may own where each set has so many.
+    fn quota(self, ports: u16) -> u32
+        ensures { (0 < result) × (result ≤ 65535) }
+    {
+        match self {
+            Asker::AtQuota => u32::from(ports.max(1)),
+            _ => 65_535,
+        }
+    }
+
+    /// What is asked for when so many leases end, number 0, and when their ports rest no more, number 1.
+    fn wish(self, sets: u32, number: u8) -> Wish {
+        let number = u32::from(number);
+        match self {
+            Asker::Renewing => wish_for(0, 1, 7200),
+            Asker::New => wish_for(40_000 + number, 1, 7200),
+            Asker::NewWithSet => wish_for(70_000 + number, 2, 7200),
+            Asker::AtQuota => wish_for(sets.saturating_sub(number), 1, 7200),
+        }
+    }
+}
+
 /// The first request at the moment at which so many sets of ports end, and the first at the moment at
-/// which their ports rest no more: of a host that has a lease, or of a new one.
+/// which their ports rest no more.
 fn due_costs<S: LeaseStore + Drop, C: CpuClock>(
     clock: &C,
     alloc: Global,
     core: LeaseCore<S>,
     sets: u32,
     ports: u16,
-    is_new: bool,
-) -> anyhow::Result<(Cost, Cost)>
+    asker: Asker,
+) -> anyhow::Result<[Cost; 2]>
     requires { AreTerms (S.terms core) }
 {
     let mut core = core_with(alloc, core, sets, ports, 120)?;
     let granted = moment(GRANTED)?;
     let lasting = ask_of(alloc, &wish_for(0, 1, 86_400));
     ask_often(alloc, &mut core, &lasting, granted, 1)?;
-    let host = if is_new { 40_000 } else { 0 };
-    let ask = ask_of(alloc, &wish_for(host, 1, 7200));
+    let ask = ask_of(alloc, &asker.wish(sets, 0));
     let ended = cost_often(clock, alloc, &mut core, &ask, moment(ENDED)?, 1)?;
-    let host = if is_new { 40_001 } else { 0 };
-    let ask = ask_of(alloc, &wish_for(host, 1, 7200));
+    let ask = ask_of(alloc, &asker.wish(sets, 1));
     let rested = cost_often(clock, alloc, &mut core, &ask, moment(RESTED)?, 1)?;
-    Ok((ended, rested))
+    Ok([ended, rested])
 }
 
 /// What each line is told by: whether times are, and the nanoseconds of both plain requests.
@@ -279,6 +375,10 @@ fn run_ended(rt: &HostRuntime, scale: &Scale, rounds: u32) -> anyhow::Result<()>
     let alloc = rt.alloc();
     let cost = ended_ports_cost(rt, alloc, wide_core(alloc)?, rounds)?;
     print_line(rt, scale, "ended-ports", 4096, &cost)?;
+    for ports in [64, 4096] {
+        let cost = ended_singles_cost(rt, alloc, wide_core(alloc)?, ports, rounds)?;
+        print_line(rt, scale, "ended-singles", u32::from(ports), &cost)?;
+    }
     let cost = ended_leases_cost(rt, alloc, wide_core(alloc)?, rounds)?;
     print_line(rt, scale, "ended-leases", MANY, &cost)
 }
@@ -306,15 +406,50 @@ fn run_openings(rt: &HostRuntime, scale: &Scale) -> anyhow::Result<()> {
     Ok(())
 }
 
+/// The cost in the middle, by its time.
+fn middle(mut costs: Vec<Cost>) -> anyhow::Result<Cost> {
+    costs.sort_unstable_by_key(|cost| cost.nanos);
+    costs
+        .get(costs.len() / 2)
+        .copied()
+        .context("nothing is timed")
+}
+
+/// First requests of an asker on so many cores: what is in the middle of each.
+fn middle_due_costs(
+    rt: &HostRuntime,
+    cores: usize,
+    sets: u32,
+    ports: u16,
+    asker: Asker,
+) -> anyhow::Result<[Cost; 2]> {
+    let alloc = rt.alloc();
+    let mut ended = Vec::new(alloc);
+    let mut rested = Vec::new(alloc);
+    for _core in 0..cores {
+        let core = indexed(alloc, asker.quota(ports))?;
+        let [first, second] = due_costs(rt, alloc, core, sets, ports, asker)?;
+        ended.push(first)?;
+        rested.push(second)?;
+    }
+    Ok([middle(ended)?, middle(rested)?])
+}
+
 /// First requests when so many sets of ports fall due.
 fn run_due(rt: &HostRuntime, scale: &Scale, sets: u32, ports: u16) -> anyhow::Result<()> {
-    let alloc = rt.alloc();
-    let (ended, rested) = due_costs(rt, alloc, wide_core(alloc)?, sets, ports, false)?;
-    print_line(rt, scale, "renewal-at-ends", sets, &ended)?;
-    print_line(rt, scale, "renewal-at-rests", sets, &rested)?;
-    let (ended, rested) = due_costs(rt, alloc, wide_core(alloc)?, sets, ports, true)?;
-    print_line(rt, scale, "grant-at-ends", sets, &ended)?;
-    print_line(rt, scale, "grant-at-rests", sets, &rested)
+    let cores = if scale.tells { CORES } else { 1 };
+    for asker in [
+        Asker::Renewing,
+        Asker::New,
+        Asker::NewWithSet,
+        Asker::AtQuota,
+    ] {
+        let [ended, rested] = middle_due_costs(rt, cores, sets, ports, asker)?;
+        let [at_ends, at_rests] = asker.names();
+        print_line(rt, scale, at_ends, sets, &ended)?;
+        print_line(rt, scale, at_rests, sets, &rested)?;
+    }
+    Ok(())
 }
 
 /// Makes the requests of each pattern.

@@ -5,11 +5,13 @@ ghost use Rattle.pcp_base.specs.Asks.{IsWellFormedAsk};
 use pcp_base::{Address, Ask, Endpoint, Filter, FilterList, MapAsk, Nonce, PortSet, Protocol};
 use std::alloc::Global;
 
-/// What a host asks for, from its internal port 1 on.
+/// What a host asks for.
 #[derive(Clone, Copy)]
 pub(crate) struct Wish {
     /// The host, below 2^24.
     pub(crate) host: u32,
+    /// Its first internal port; 0 counts as 1.
+    pub(crate) internal: u16,
     /// Each octet of the nonce.
     pub(crate) nonce: u8,
     /// How many ports; by PORT_SET where it isn't 1.
@@ -22,10 +24,11 @@ pub(crate) struct Wish {
     pub(crate) elsewhere: bool,
 }
 
-/// A host that asks for so many ports, for so many seconds.
+/// A host that asks for so many ports, from its internal port 1 on, for so many seconds.
 pub(crate) fn wish_for(host: u32, ports: u16, lifetime: u32) -> Wish {
     Wish {
         host,
+        internal: 1,
         nonce: 7,
         ports,
         lifetime,
@@ -34,16 +37,15 @@ pub(crate) fn wish_for(host: u32, ports: u16, lifetime: u32) -> Wish {
     }
 }
 
-/// Port 1 of a host. Hosts from 32,000 on ask for TCP, so that both protocols' ports are enough for
-/// all leases.
+/// Port 1 of a host. Hosts from 32,000 to 65,535 ask for TCP, so that both protocols' ports are enough
+/// for all leases.
 pub(crate) fn endpoint(host: u32) -> Endpoint
     ensures { result.port ≡ 1 }
 {
     let [_, high, middle, low] = host.to_be_bytes();
-    let protocol = if host < 32_000 {
-        Protocol::Udp
-    } else {
-        Protocol::Tcp
+    let protocol = match host {
+        32_000..=65_535 => Protocol::Tcp,
+        _ => Protocol::Udp,
     };
     Endpoint {
         address: Address::v4(10, high, middle, low),
@@ -78,7 +80,10 @@ fn address_of(wish: &Wish) -> Address {
 fn ask_suggesting(alloc: Global, wish: &Wish, port: u16) -> Ask
     ensures { IsWellFormedAsk result }
 {
-    let endpoint = endpoint(wish.host);
+    let endpoint = Endpoint {
+        port: wish.internal.max(1),
+        ..endpoint(wish.host)
+    };
     Ask::Map(MapAsk {
         endpoint,
         nonce: Nonce([wish.nonce; 12]),
