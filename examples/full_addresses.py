@@ -8,7 +8,7 @@ Each lease is of one UDP port, of a host of its own, for a day. Then
     mkdir FOLDER/journals
     /usr/bin/time -v pcp play FOLDER/full.toml FOLDER/full.script FOLDER/journals 1000 > FOLDER/replies
 
-tells how much memory they take, and `time pcp dump FOLDER/full.toml FOLDER/journals` how long it takes to open them.
+tells how much memory they take, and `time pcp play FOLDER/full.toml /dev/null FOLDER/journals 1000` how long it takes to open them.
 """
 import sys
 
