@@ -45,7 +45,8 @@ emptied pool = record {
   udp = uses_over pool.udp.low pool.udp.high (all_free 65536);
 }
 
--- of the n ports from start on the first has this use, and nothing else changes
+-- of the n ports from start on the first has this use and those behind it the uses along it, and
+-- nothing else changes
 abbrev pub with_use : Protocol → ℕ → ℕ → Use → Holdings → Holdings
 with_use Tcp start n value pool = record pool { tcp = with_uses start n value pool.tcp }
 with_use Udp start n value pool = record pool { udp = with_uses start n value pool.udp }

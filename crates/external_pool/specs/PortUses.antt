@@ -75,7 +75,8 @@ internal_of Free = 0
 internal_of (Held who) = 0
 internal_of (Resting last internal) = internal
 
--- of the n ports from start on the first has this use, and the others stay
+-- of the n ports from start on the first has this use and those behind it the uses along it; the
+-- others stay
 abbrev pub with_run : ℕ → ℕ → Use → List Use → List Use
 with_run start n value each =
     take start each ++ (uses_along n value ++ drop (start + n) each)
