@@ -26,7 +26,7 @@ module _ {X : Type 0} where
   value_step e es l false rest f h = inr (f h)
 
   -- what stands at a number is one of the values
-  value-in : (es : List (ℕ × X)) (n : ℕ) (l : X) → at es n ≡ Some l → IsIn l (values_of es)
+  pub value-in : (es : List (ℕ × X)) (n : ℕ) (l : X) → at es n ≡ Some l → IsIn l (values_of es)
   value-in [] n l a = absurd (let no : None ≡ Some l = a in cc)
   value-in (e ∷ es) n l a = value_step e es l (is_at (nat_cmp n) e.0) (at es n) (value-in es n l) a
 

@@ -12,6 +12,8 @@ pub mod SlotCalls
 pub mod SlotCounts
 pub mod SlotMoments
 pub mod DueSlots
+pub mod AgedLaws
+pub mod BothNumbers
 pub mod Keeping
 pub mod Endings
 pub mod FirstAndRest

@@ -23,7 +23,7 @@ reversed_eq Less = refl
 reversed_eq Equal = refl
 reversed_eq Greater = refl
 
-at_sym : {K : Type 0} {R : K → K → Ordering} → IsTotalOrder R → (k q : K) → is_at (R q) k ≡ is_at (R k) q
+pub at_sym : {K : Type 0} {R : K → K → Ordering} → IsTotalOrder R → (k q : K) → is_at (R q) k ≡ is_at (R k) q
 at_sym {R = R} o k q = ap is_eq (o.antisymm q k) ∙ reversed_eq (R k q)
 
 module _ {K V : Type 0} {R : K → K → Ordering} (o : IsTotalOrder R) (k : K) where
@@ -58,12 +58,12 @@ module _ {K V : Type 0} {R : K → K → Ordering} (o : IsTotalOrder R) (k : K) 
       let below : R e.0 k ≡ Less = o.antisymm e.0 k ∙ ap ordering_reverse h in
       sorted_cons R e.0 (keys_of (insert_entry R es k v)) (all_inserted (λ y. R e.0 y ≡ Less) v es (sorted_head R e.0 (keys_of es) sorted) below) rest
 
-  sorted_inserted : (v : V) (es : List (K × V)) → IsStrictlySortedBy R (keys_of es) → IsStrictlySortedBy R (keys_of (insert_entry R es k v))
+  pub sorted_inserted : (v : V) (es : List (K × V)) → IsStrictlySortedBy R (keys_of es) → IsStrictlySortedBy R (keys_of (insert_entry R es k v))
   sorted_inserted v [] sorted = sorted_cons R k [] tt sorted
   sorted_inserted v (e ∷ es) sorted = sorted_placed v e es (R k e.0) refl sorted (sorted_inserted v es (sorted_tail R e.0 (keys_of es) sorted))
 
   -- ---- one goes
-  none_past : (es : List (K × V)) → AllByRecursion (λ y. R k y ≡ Less) (keys_of es) → lookup (is_at (R k)) es ≡ None
+  pub none_past : (es : List (K × V)) → AllByRecursion (λ y. R k y ≡ Less) (keys_of es) → lookup (is_at (R k)) es ≡ None
   none_past [] all = refl
   none_past (e ∷ es) all = ap (λ t. cond (is_eq t) (Some e.1) (lookup (is_at (R k)) es)) all.0 ∙ none_past es all.1
 
@@ -79,14 +79,14 @@ module _ {K V : Type 0} {R : K → K → Ordering} (o : IsTotalOrder R) (k : K) 
   sorted_gone e es rest true sorted above less = sorted
   sorted_gone e es rest false sorted above less = sorted_cons R e.0 (keys_of rest) above less
 
-  sorted_removed : (es : List (K × V)) → IsStrictlySortedBy R (keys_of es) → IsStrictlySortedBy R (keys_of (remove_entry (is_at (R k)) es))
+  pub sorted_removed : (es : List (K × V)) → IsStrictlySortedBy R (keys_of es) → IsStrictlySortedBy R (keys_of (remove_entry (is_at (R k)) es))
   sorted_removed [] sorted = sorted
   sorted_removed (e ∷ es) sorted =
       sorted_gone e es (remove_entry (is_at (R k)) es) (is_at (R k) e.0) (sorted_tail R e.0 (keys_of es) sorted)
       (all_removed (λ y. R e.0 y ≡ Less) es (sorted_head R e.0 (keys_of es) sorted)) (sorted_removed es (sorted_tail R e.0 (keys_of es) sorted))
 
   module _ (exact : CmpEqualImpliesEq R) where
-    changed_by : (v : V) (es : List (K × V)) (q : K) (b : Bool) → is_at (R k) q ≡ b → lookup (is_at (R q)) (insert_entry R es k v) ≡ cond b (Some v) (lookup (is_at (R q)) es)
+    pub changed_by : (v : V) (es : List (K × V)) (q : K) (b : Bool) → is_at (R k) q ≡ b → lookup (is_at (R q)) (insert_entry R es k v) ≡ cond b (Some v) (lookup (is_at (R q)) es)
     changed_by v es q true h = ap (λ z. lookup (is_at (R z)) (insert_entry R es k v)) (sym (exact k q (equal (R k q) h))) ∙ found_here v es
     changed_by v es q false h = lookup-inserted o k exact q v es (at_sym o k q ∙ h)
 
@@ -110,7 +110,7 @@ module _ {K V : Type 0} {R : K → K → Ordering} (o : IsTotalOrder R) (k : K) 
     gone_other q apart [] = refl
     gone_other q apart (e ∷ es) = other_step q apart e es (is_at (R k) e.0) refl (gone_other q apart es)
 
-    removed_by : (es : List (K × V)) → IsStrictlySortedBy R (keys_of es) → (q : K) (b : Bool) → is_at (R k) q ≡ b → lookup (is_at (R q)) (remove_entry (is_at (R k)) es) ≡ cond b None (lookup (is_at (R q)) es)
+    pub removed_by : (es : List (K × V)) → IsStrictlySortedBy R (keys_of es) → (q : K) (b : Bool) → is_at (R k) q ≡ b → lookup (is_at (R q)) (remove_entry (is_at (R k)) es) ≡ cond b None (lookup (is_at (R q)) es)
     removed_by es sorted q true h = ap (λ z. lookup (is_at (R z)) (remove_entry (is_at (R k)) es)) (sym (exact k q (equal (R k q) h))) ∙ gone_here es sorted
     removed_by es sorted q false h = gone_other q h es
 

@@ -252,14 +252,14 @@ module _ {L : Type 0} (slots : slab.Slab (ℕ × L)) (order : BTreeMap ℕ ⊤) 
   pub held-keys : AreHeld (lease_at slots) (keys order)
   held-keys = in_order (λ n. IsSome (lease_at slots n)) key_held
 
-  keys_seen : keys seen ≡ keys order
-  keys_seen = entries-keys (lease_at slots) order.entries held-keys
+  pub seen-keys : keys seen ≡ keys order
+  seen-keys = entries-keys (lease_at slots) order.entries held-keys
 
   pub seen-ordered : IsOrdered nat_cmp seen
-  seen-ordered = subst (IsStrictlySortedBy nat_cmp) (sym keys_seen) h.ordered
+  seen-ordered = subst (IsStrictlySortedBy nat_cmp) (sym seen-keys) h.ordered
 
   pub seen-len : btree_map_len order ≡ btree_map_len seen
-  seen-len = sym (length-keys_of order.entries) ∙ sym (ap length keys_seen) ∙ length-keys_of seen.entries
+  seen-len = sym (length-keys_of order.entries) ∙ sym (ap length seen-keys) ∙ length-keys_of seen.entries
 
   pub seen-values : filter_map (lease_at slots) (keys order) ≡ values seen
   seen-values = sym (entries-values (lease_at slots) order.entries)

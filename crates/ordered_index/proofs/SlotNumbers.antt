@@ -22,7 +22,7 @@ use Rattle.ordered_index.proofs.Entries.{false_by, same_tests, some_of}
 use Rattle.ordered_index.proofs.SlotLaws.{lease-get, own, slot-entry}
 
 -- two lists in order with the same numbers
-same_sorted : (xs ys : List ℕ) → IsStrictlySortedBy nat_cmp xs → IsStrictlySortedBy nat_cmp ys → ((n : ℕ) → Contains xs n → Contains ys n) → ((n : ℕ) → Contains ys n → Contains xs n) → xs ≡ ys
+pub same_sorted : (xs ys : List ℕ) → IsStrictlySortedBy nat_cmp xs → IsStrictlySortedBy nat_cmp ys → ((n : ℕ) → Contains xs n → Contains ys n) → ((n : ℕ) → Contains ys n → Contains xs n) → xs ≡ ys
 same_sorted xs ys sorted sorted' there back =
     let in_xs = btree_set_contains_iff nat_cmp_total exact_unsigned (btree_set xs) in
     let in_ys = btree_set_contains_iff nat_cmp_total exact_unsigned (btree_set ys) in
@@ -31,7 +31,7 @@ same_sorted xs ys sorted sorted' there back =
     exact_unsigned
 
 -- numbers that differ rise where they are sorted
-sorted_strictly : (xs ys : List ℕ) → IsDistinct (λ a b. a == b) xs → IsPermutation xs ys → IsSorted nat_cmp ys → IsStrictlySortedBy nat_cmp ys
+pub sorted_strictly : (xs ys : List ℕ) → IsDistinct (λ a b. a == b) xs → IsPermutation xs ys → IsSorted nat_cmp ys → IsStrictlySortedBy nat_cmp ys
 sorted_strictly xs ys distinct moved sorted =
     sorted_from_strictly_increasing ys
     (IsStrictlyIncreasing-from_distinct ys (IsNonDecreasingBy-from_sort (λ n. n) ys sorted) (IsDistinct-IsPermutation (λ a b. a == b) nat_eq_equiv.symm xs ys moved distinct))

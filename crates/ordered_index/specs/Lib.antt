@@ -10,3 +10,4 @@ pub mod Hints
 pub mod Marks
 pub mod PortSlots
 pub mod Owned
+pub mod Aged

@@ -1,6 +1,7 @@
 //! Leases in the order granted, and ordered maps by which they are found.
 #![tactic(auto)]
 
+mod aged;
 mod changes;
 mod due;
 mod expires;
@@ -17,6 +18,7 @@ mod ports;
 mod sieves;
 mod slots;
 
+pub use aged::numbers_of_both;
 pub use expires::Expires;
 pub use hints::Hints;
 pub use keys::{Port, first_from, last_up_to, port_at};

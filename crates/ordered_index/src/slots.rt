@@ -153,6 +153,14 @@ impl<L: Expires + Drop> Slots<L> {
         self.slots.get(slot)
     }
 
+    /// The numbers of all leases, in order, gathered and sorted for the call. The one error is want
+    /// of memory.
+    pub(crate) fn numbers(&self) -> Result<Vec<u64>, AllocError>
+        ensures numbers { IfOk result (λ numbers. numbers.items ≡ keys self.now) }
+    {
+        numbers_in(self.alloc, &self.slots)
+    }
+
     /// The leases, in the order of their numbers, which are gathered and sorted for the call. The
     /// one error is want of memory.
     pub fn values(&self) -> Result<Values<'_, L>, AllocError>
