@@ -22,7 +22,6 @@ pub mod SearchLemmas
 pub mod BackLemmas
 pub mod MomentLemmas
 pub mod RecordLemmas
-pub mod PieceLemmas
 pub mod CameLemmas
 pub mod ListedLemmas
 pub mod ToldLemmas

@@ -1,6 +1,5 @@
 pub mod LastEnds
 pub mod Leased
-pub mod Pieces
 pub mod Kept
 pub mod Steps
 pub mod Among

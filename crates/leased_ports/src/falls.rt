@@ -21,8 +21,8 @@ pub const MOST_RUNS: u64 = 2;
 
 /// How many steps it takes at most to see to a run, beside those that find it: 39 moments and nodes
 /// of the wheel, one to tell its phase and 38 to move or take out what waits, and two looks
-/// at the count of its address, of 64 levels at most. What marks its ports, one by one, isn't
-/// counted.
+/// at the count of its address, of 64 levels at most. What marks its ports, by words of 64 and by
+/// nodes of a tree, isn't counted.
 pub const RUN_STEPS: u64 = 167;
 
 /// Sees to a run that falls due by `m`: where its end came it begins to rest, and where its rest is

@@ -7,7 +7,6 @@ pub mod laws;
 mod listing;
 mod phases;
 mod picks;
-mod pieces;
 mod plain;
 mod ports;
 mod recent;
@@ -16,5 +15,4 @@ mod steps;
 mod timed_ends;
 mod uses;
 
-pub use pieces::Piece;
 pub use ports::LeasedPorts;

@@ -34,14 +34,12 @@ ghost use Rattle.leased_ports.specs.Falling.{NoneDue};
 ghost use Rattle.leased_ports.specs.declared.falls.TheConstants.{MOST_RUNS, RUN_STEPS};
 ghost use Rattle.leased_ports.specs.declared.steps.TheConstants.{FREE_STEPS, PUT_STEPS, TAKEN_STEPS};
 ghost use Rattle.leased_ports.specs.Listed.{ends_come};
-ghost use Rattle.leased_ports.specs.Pieces.{IsPiece};
 ghost use Rattle.leased_ports.specs.Kept.{IsOn, AreInStep, HaveBegun};
 ghost use Rattle.leased_ports.specs.Steps.{AreAssigned, IsOwnRun, last_along, no_last};
 
 use crate::falls::{see_to_all, see_to_some};
 use crate::listing::{append_records, copy};
 use crate::picks::{goes_back, seek};
-use crate::pieces::{Piece, piece_at};
 use crate::plain::{first_over, is_one_port, lesser, one_port, start_of};
 use crate::recent::recent_end;
 use crate::steps::{free, insert, renew};
@@ -437,18 +435,6 @@ impl LeasedPorts {
             ≡ K.taken out.old ++ map (end_record m) (ends_come m self.now)) }
     {
         append_records(&self.ends, m, out)
-    }
-
-    /// The ports from `start` on, at least it and at most `most`, whose last ends are along that of
-    /// `start`, or which aren't held and don't rest. A run is told by one look, however many ports
-    /// it has; where `start` is of none, the ports up to the next run are looked at one by one.
-    pub fn piece(&self, protocol: Protocol, start: u16, most: u32) -> Piece
-        requires some { 1 ≤ most }
-        requires within { start + most ≤ 65536 }
-        ensures { IsPiece (λ port. while_recent self.now.reached (end_of self.now protocol port))
-            start most result }
-    {
-        piece_at(&self.ends, protocol, start, most, self.reached)
     }
 
     /// Whether the quota leaves this many ports to an address by the counts, which may have ports

@@ -28,8 +28,8 @@ use step_count::Steps;
 
 /// How many steps it takes at most to take out a run: one look at the run, one to tell its phase,
 /// 38 moments and nodes of the wheel by which it falls due, two looks at the count of its address,
-/// of 64 levels at most, and 39 for the run and when its rest is over. What marks its ports, one by
-/// one, isn't counted.
+/// of 64 levels at most, and 39 for the run and when its rest is over. What marks its ports, by words
+/// of 64 and by nodes of a tree, isn't counted.
 pub const TAKEN_STEPS: u64 = 207;
 
 /// How many steps it takes at most to part the run that has a spot: seven looks at runs, one at a
