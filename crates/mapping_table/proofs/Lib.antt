@@ -15,3 +15,6 @@ pub mod OneMore
 pub mod Nearest
 pub mod LevelLemmas
 pub mod PortFinds
+pub mod Views
+pub mod Numberings
+pub mod AgedMaps

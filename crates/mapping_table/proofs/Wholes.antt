@@ -18,7 +18,7 @@ use Rattle.ordered_index.specs.Orders.{Place, place_of, place_cmp, place_total}
 use Rattle.ordered_index.proofs.Entries.{false_by}
 use Rattle.ordered_index.proofs.EntryLaws.{key-self}
 use Rattle.ordered_index.proofs.OrderLaws.{at_exact, place_exact}
-use Rattle.mapping_table.specs.Kept.{place_of_lease, with_filters, bare, filters_at, whole, live_whole, WritesFilters}
+use Rattle.mapping_table.specs.Kept.{place_of_lease, with_filters, bare, filters_at, whole, WritesFilters}
 use Rattle.mapping_table.specs.MapLists.{is_live_map, some_live_map, is_covered, with_map, IsDeadMap, IsNextCovered, AreSeparate}
 use Rattle.mapping_table.proofs.MapKeeping.{map_tells}
 use Rattle.mapping_table.proofs.Rooms.{told_written}
@@ -61,16 +61,6 @@ module _ (kept : Place → List Filter) where
     pub count_whole : (ls : List MapLease) → count_by p (map (whole kept) ls) ≡ count_by p ls
     count_whole ls = sym (length-filter p (map (whole kept) ls)) ∙ ap length (filter_whole ls) ∙ length-map (filter p ls) (whole kept) ∙ length-filter p ls
 
-  copied_step : (m : ℕ) (b : Bool) (l : MapLease) (xs : List MapLease) → cons_option (cond b (Some (whole kept l)) None) xs ≡ cond b (whole kept l ∷ xs) xs
-  copied_step m true l xs = refl
-  copied_step m false l xs = refl
-
-  -- those that are live are copied
-  pub copied_whole : (m : ℕ) (ls : List MapLease) → filter_map (live_whole m kept) ls ≡ filter (is_live_map m) (map (whole kept) ls)
-  unfolding live_whole
-  copied_whole m [] = refl
-  copied_whole m (l ∷ ls) = copied_step m (is_live_map m l) l (filter_map (live_whole m kept) ls) ∙ ap (λ (xs : List MapLease). cond (is_live_map m l) (whole kept l ∷ xs) xs) (copied_whole m ls)
-
   pub some_live_whole : (m : ℕ) (o : Option MapLease) → some_live_map m (option_map (whole kept) o) ≡ some_live_map m o
   some_live_whole m None = refl
   some_live_whole m (Some l) = refl
@@ -104,12 +94,21 @@ module _ (kept : Place → List Filter) where
       none = tt;
     }
 
+not_true : (b : Bool) → not b ≡ true → b ≡ false
+not_true true h = sym h
+not_true false h = refl
+
+-- those that a filter by the key leaves have other keys
+pub others_left : (e : Endpoint) (ls : List MapLease) → AllByRecursion (λ l. is_map_of e l ≡ false) (filter (λ l. not (is_map_of e l)) ls)
+others_left e ls =
+    All-weaker (λ l. not (is_map_of e l) ≡ true) (λ l. is_map_of e l ≡ false) (λ l. not_true (is_map_of e l)) (filter (λ l. not (is_map_of e l)) ls) (All-kept (λ l. not (is_map_of e l)) ls)
+
 -- filters are written at the place of an endpoint
 module _ (e : Endpoint) (k : Place) (k_is : k ≡ place_of e) (filters : List Filter) (old new : BTreeMap Place (List Filter)) (writes : WritesFilters old k filters new) where
   written : filters_at new (place_of e) ≡ filters
   written = told_written k filters old new writes (place_of e) ∙ ap (λ b. cond b filters (filters_at old (place_of e))) (ap (λ (p : Place). is_at (place_cmp p) (place_of e)) k_is ∙ key-self place_total (place_of e))
 
-  other_at : (y : MapLease) → is_map_of e y ≡ false → filters_at new (place_of_lease y) ≡ filters_at old (place_of_lease y)
+  pub other_at : (y : MapLease) → is_map_of e y ≡ false → filters_at new (place_of_lease y) ≡ filters_at old (place_of_lease y)
   other_at y other =
       let apart : is_at (place_cmp k) (place_of_lease y) ≡ false = false_by (is_at (place_cmp k) (place_of_lease y)) (λ at.
       let same : place_of_lease y ≡ place_of e = sym (at_exact place_exact k (place_of_lease y) at) ∙ k_is in
@@ -124,13 +123,8 @@ module _ (e : Endpoint) (k : Place) (k_is : k ≡ place_of e) (filters : List Fi
   -- a lease is taken out
   pub removed_whole : (ls : List MapLease) → map (whole (filters_at new)) (filter (λ l. not (is_map_of e l)) ls) ≡ filter (λ l. not (is_map_of e l)) (map (whole (filters_at old)) ls)
   removed_whole ls =
-      others_same (filter (λ l. not (is_map_of e l)) ls)
-      (All-weaker (λ l. not (is_map_of e l) ≡ true) (λ l. is_map_of e l ≡ false) (λ l. not_true (is_map_of e l)) (filter (λ l. not (is_map_of e l)) ls) (All-kept (λ l. not (is_map_of e l)) ls))
+      others_same (filter (λ l. not (is_map_of e l)) ls) (others_left e ls)
       ∙ sym (filter_whole (filters_at old) (λ l. not (is_map_of e l)) (λ fs l. refl) ls)
-    where
-      not_true : (b : Bool) → not b ≡ true → b ≡ false
-      not_true true h = sym h
-      not_true false h = refl
 
   -- after one with the key there is none
   none_after : (x : MapLease) (xs : List MapLease) → IsMapLease x → AllByRecursion IsMapLease xs → AllByRecursion (AreSeparate x) xs → is_map_of e x ≡ true → AllByRecursion (λ y. is_map_of e y ≡ false) xs

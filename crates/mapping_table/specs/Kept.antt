@@ -1,20 +1,28 @@
 -- How a table keeps its leases (our own; for proofs alone).
-use Rattle.std.specs.Prelude.{◌≡◌, ℕ, ◌+◌, ◌<◌, ◌≤◌, ◌==◌, ◌&&◌, nat_lt, Bool, true, false, List, [], ◌∷◌, length, Contains, count_by, slice_index, Option, Some, None, IsSome, IfSome, IfNone, if◌then◌else◌}
+use Rattle.std.specs.Prelude.{◌≡◌, ℕ, ◌+◌, ◌<◌, ◌≤◌, ◌==◌, ◌&&◌, nat_lt, not, Bool, true, false, List, [], ◌∷◌, length, map, filter, Contains, count_by, slice_index, Option, Some, None, IsSome, IfSome, IfNone, if◌then◌else◌}
 use Rattle.std.specs.Ordering.{is_gt, nat_cmp}
 use Rattle.std.specs.declared.cmp.Ordering.{Ordering}
-use Rattle.std.specs.BTreeMap.{BTreeMap, get, is_at, values}
+use Rattle.std.specs.List.{AllByRecursion}
+use Rattle.std.specs.Map.{values_of}
+use Rattle.std_collections.specs.Layout.BTreeMap.{btree_map}
+use Rattle.std.specs.Option.{option_map}
+use Rattle.std.specs.BTreeMap.{BTreeMap, btree_map_len, get, is_at, values}
 use Rattle.pcp_base.specs.declared.leases.Filter.{Filter}
 use Rattle.pcp_base.specs.declared.leases.Endpoint.{Endpoint}
 use Rattle.pcp_base.specs.declared.leases.MapLease.{MapLease}
+use Rattle.pcp_base.specs.declared.leases.TheConstants.{MOST_LEASES}
 use Rattle.pcp_base.specs.Owners.{owns}
 use Rattle.pcp_base.specs.Protocols.{protocol_number}
 use Rattle.pcp_base.specs.Tables.{first_endpoint, is_map_of}
 use Rattle.ordered_index.specs.declared.numbered.Numbered.{Numbered}
+use Rattle.ordered_index.specs.Aged.{Aged, AreApart, either, entries_with, passing}
 use Rattle.ordered_index.specs.Kept.{Keying, IsKept}
+use Rattle.ordered_index.specs.MapSteps.{Inserts, Removes}
 use Rattle.ordered_index.specs.Orders.{Place, port_at, place_of, port_cmp, place_cmp}
 use Rattle.ordered_index.specs.PortSlots.{slot_of}
 use Rattle.ordered_index.specs.Sieves.{bucket_of, no_places}
 use Rattle.mapping_table.specs.MapLists.{AreSoundMaps, is_live_map, overlaps}
+use mathlib.Core.Logic.{inl}
 
 abbrev pub place_of_lease : MapLease → Place
 place_of_lease l = place_of (first_endpoint l)
@@ -65,6 +73,12 @@ pub record AreSievedMaps (it : Numbered MapLease Place (ℕ × ℕ)) (sets : ℕ
   pub counted : AreCountedMaps it sets
   pub sieved : SievesMaps sieve (values it.leases)
 
+-- the next number doesn't fall, and no free number below it gets a lease
+pub record KeepsNumbers (old new : Numbered MapLease Place (ℕ × ℕ)) : Type 0 where
+  pub next : old.next ≤ new.next
+  pub fresh : (n : ℕ) → n < old.next → get nat_cmp old.leases n ≡ None
+      → get nat_cmp new.leases n ≡ None
+
 -- each lease that passes the test, of the endpoint's address and protocol, begins from a second
 -- port on where it begins from a first one on
 abbrev pub NoneBegins : (MapLease → Bool) → Endpoint → (from end : ℕ) → List MapLease → Type 0
@@ -103,10 +117,6 @@ filters_at kept k = listed (get place_cmp kept k)
 -- the lease with the filters that are kept at the place of its first endpoint
 abbrev pub whole : (Place → List Filter) → MapLease → MapLease
 whole kept l = with_filters (kept (place_of_lease l)) l
-
--- the lease with its filters, where it is live at m
-unfoldable pub live_whole : ℕ → (Place → List Filter) → MapLease → Option MapLease
-live_whole m kept l = if is_live_map m l then Some (whole kept l) else None
 
 -- what is kept of these filters, nothing where they are none
 abbrev pub kept_filters : List Filter → Option (List Filter)
@@ -197,3 +207,59 @@ pub record TellsMet (meet : MapLease → MapLease → Bool) (l : MapLease) (ls :
   pub among : IfSome result (λ x. Contains ls x)
   pub tells : (x : MapLease) → Contains ls x → is_map_of (first_endpoint l) x ≡ false
       → meet l x ≡ true → IsSome (overlapped_key l result)
+
+-- the lease with a number, with its filters, or the one that has left
+abbrev pub lease_with : (Place → List Filter) → (leases past : BTreeMap ℕ MapLease) → ℕ
+    → Option MapLease
+lease_with kept leases past n =
+    either (option_map (whole kept) (get nat_cmp leases n)) (get nat_cmp past n)
+
+-- the same of the lease with a number
+unfoldable pub live_with : ℕ → (Place → List Filter) → (leases past : BTreeMap ℕ MapLease) → ℕ
+    → Option MapLease
+live_with m kept leases past n = passing (is_live_map m) (lease_with kept leases past n)
+
+-- the numbers, each with its lease and that with its filters
+abbrev pub whole_entries : (Place → List Filter) → List (ℕ × MapLease) → List (ℕ × MapLease)
+whole_entries kept es = map (λ e. (e.0, whole kept e.1)) es
+
+-- all leases with their filters, in the order of their numbers
+abbrev pub all_maps : (Place → List Filter) → (leases past : BTreeMap ℕ MapLease) → List MapLease
+all_maps kept leases past =
+    values_of (entries_with past.entries (whole_entries kept leases.entries))
+
+-- leases without their filters by their numbers, below the next one
+pub record BareLeases : Type 0 where
+  pub next : ℕ
+  pub entries : List (ℕ × MapLease)
+
+abbrev pub leases_in : BareLeases → BTreeMap ℕ MapLease
+leases_in it = btree_map it.entries (inl tt)
+
+-- what a table is seen as
+abbrev pub aged_maps : BareLeases → BTreeMap Place (List Filter) → BTreeMap ℕ MapLease
+    → Aged MapLease
+aged_maps it kept past = record {
+  found = map (whole (filters_at kept)) (values_of it.entries);
+  past = values past;
+  all = all_maps (filters_at kept) (leases_in it) past;
+}
+
+-- the lease with a number has left with its filters, and the filters at its place with it
+pub record Retires (it : BareLeases) (kept : BTreeMap Place (List Filter))
+    (past : BTreeMap ℕ MapLease) (n : ℕ) (l : MapLease) (it' : BareLeases)
+    (kept' : BTreeMap Place (List Filter)) (past' : BTreeMap ℕ MapLease) : Type 0 where
+  pub next : it'.next ≡ it.next
+  pub leases : Removes nat_cmp (leases_in it) (leases_in it') n
+  pub removed : values_of it'.entries
+      ≡ filter (λ x. not (is_map_of (first_endpoint l) x)) (values_of it.entries)
+  pub filters : WritesFilters kept (place_of_lease l) [] kept'
+  pub left : Inserts nat_cmp past past' n (whole (filters_at kept) l)
+
+-- sound leases with their filters, and those that have left, of which none is live from a moment on
+pub record AreAgedMaps (it : BareLeases) (kept : BTreeMap Place (List Filter))
+    (past : BTreeMap ℕ MapLease) (gone : ℕ) : Type 0 where
+  pub whole : AreWholeMaps (values_of it.entries) kept
+  pub apart : AreApart (leases_in it) it.next past
+  pub few : btree_map_len past ≤ MOST_LEASES
+  pub dead : AllByRecursion (λ l. l.expiry ≤ gone) (values past)

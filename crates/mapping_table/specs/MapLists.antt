@@ -1,11 +1,12 @@
 -- What is asked of a list of MAP leases, in the order granted, and what it must keep to (our own; a
 -- MAP lease is a mapping of RFC 6887, section 11).
-use Rattle.std.specs.Prelude.{◌≡◌, ℕ, ◌+◌, ◌<◌, ◌≤◌, ◌&&◌, ◌||◌, nat_lt, not, Bool, false, List, ◌++◌, length, filter, find, Contains, IsTrue, Option, Some, None, IfSome, IfNone, Result, OnOk, OnErr}
+use Rattle.std.specs.Prelude.{◌≡◌, ℕ, ◌+◌, ◌<◌, ◌≤◌, ◌&&◌, ◌||◌, ◌⊎◌, nat_lt, not, Bool, false, List, ◌++◌, length, filter, find, Contains, IsTrue, Option, Some, None, IfSome, IfNone, Result, OnOk, OnErr}
 use Rattle.std.specs.List.{AllByRecursion, list_any}
 use Rattle.pcp_base.specs.declared.leases.TheConstants.{MOST_LEASES}
 use Rattle.pcp_base.specs.declared.leases.Protocol.{Protocol}
 use Rattle.pcp_base.specs.declared.leases.Endpoint.{Endpoint}
 use Rattle.pcp_base.specs.declared.leases.MapLease.{MapLease}
+use Rattle.ordered_index.specs.Aged.{Aged}
 use Rattle.pcp_base.specs.Owners.{owns}
 use Rattle.pcp_base.specs.Tables.{EachTwo, IsMapLease, covers, first_endpoint, is_map_of, put, same_address, same_protocol}
 
@@ -115,3 +116,13 @@ pub record CopiesLiveMaps {X E : Type 0} (ls : List MapLease) (m : ℕ) (old : L
     (result : Result X E) (new : List MapLease) : Type 0 where
   pub ok : OnOk result (new ≡ old ++ filter (is_live_map m) ls)
   pub err : OnErr result (new ≡ old)
+
+-- a lease that isn't live at m has left: it is found no more, and stays among all
+pub record LeavesMap (m : ℕ) (old new : Aged MapLease) : Type 0 where
+  pub lease : MapLease
+  pub there : Contains old.found lease
+  pub dead : is_live_map m lease ≡ false
+  pub found : new.found ≡ filter (λ l. not (is_map_of (first_endpoint lease) l)) old.found
+  pub past : (l : MapLease) → Contains new.past l → Contains old.past l ⊎ (l ≡ lease)
+  pub more : length new.past ≡ length old.past + 1
+  pub all : new.all ≡ old.all

@@ -1,36 +1,34 @@
 //! Leases without their filters, by numbers that grow, and what tells the numbers beside them: an
 //! ordered map by first endpoints, with a sieve and hints before it, and slots by external ports.
 
-ghost use Rattle.std.specs.Prelude.{◌≡◌, ◌≤◌, ◌<◌, ◌+◌, ◌-◌, ◌*◌, ◌++◌, [], not, map, filter, take, count_by, length, Some, IfSome, IfOk, OnOk};
-ghost use Rattle.std.specs.List.{AllByRecursion, list_any};
+ghost use Rattle.std.specs.Prelude.{◌≡◌, ℕ, ◌≤◌, ◌<◌, ◌+◌, ◌-◌, ◌*◌, [], false, not, filter, count_by, length, Some, None, IfSome, IfNone, IfOk, OnErr};
+ghost use Rattle.std.specs.Map.{values_of};
+ghost use Rattle.std.specs.List.{list_any};
 ghost use Rattle.std.specs.Option.{option_copied, option_map};
 ghost use Rattle.std.specs.Ordering.{nat_cmp};
-ghost use Rattle.std.specs.BTreeMap.{get, values};
+ghost use Rattle.std.specs.BTreeMap.{IsOrdered, get, values};
 ghost use Rattle.step_count.specs.Levels.{levels};
 ghost use Rattle.pcp_base.specs.declared.leases.MapLease.{MapLease};
-ghost use Rattle.pcp_base.specs.Records.{IsWellFormedRecord};
-ghost use Rattle.pcp_base.specs.Snapshots.{map_record};
-ghost use Rattle.mapping_table.specs.MapLists.{is_live_map, some_live_map, map_covering, map_owning, IsDeadMap, IsNextCovered, AreSoundMaps, IsOverlapped, with_map, PutsMap, RemovesMap, CopiesLiveMaps};
+ghost use Rattle.pcp_base.specs.Tables.{first_endpoint, is_map_of};
+ghost use Rattle.mapping_table.specs.MapLists.{is_live_map, some_live_map, map_covering, map_owning, IsDeadMap, IsNextCovered, AreSoundMaps, IsOverlapped, with_map, PutsMap, RemovesMap, first_dead_map};
+ghost use Rattle.ordered_index.specs.MapSteps.{Removes};
 ghost use Rattle.ordered_index.specs.Orders.{place_cmp};
-ghost use Rattle.mapping_table.specs.Kept.{AreKeptMaps, SievesMaps, AreSievedMaps, place_of_lease, filters_at, whole};
+ghost use Rattle.mapping_table.specs.Kept.{AreKeptMaps, SievesMaps, AreSievedMaps, KeepsNumbers, place_of_lease, leases_in};
 
 use crate::bare::BareLease;
 use crate::begins::first_live;
 use crate::changes::{append, replace};
-use crate::filters::{live_whole, whole};
 use crate::looks::{lease_at, lease_in, look};
 use crate::overlaps::{is_renewed, overlapped_key, overlapping_set};
 use ordered_index::{Expires, Hints, Owned, Place, Sieve, Slots, place_of};
-use pcp_base::{Change, Endpoint, Filters, MapLease, Memory, Moment, Protocol, Record};
-use record_sink::RecordSink;
-use std::alloc::{AllocError, Global};
-use std::collections::BTreeMap;
+use pcp_base::{Endpoint, Memory, Moment, Protocol};
+use std::alloc::Global;
 use std::marker::Model;
 use std::sync::ledger::Ledger;
 use step_count::laws::levels_grow;
 use step_count::{Steps, levels};
 
-/// MAP leases without their filters, seen as a list in the order granted.
+/// MAP leases without their filters, by their numbers.
 #[derive(Drop)]
 pub(crate) struct BareTable {
     /// The leases, by their first endpoints and by their first external ports.
@@ -44,59 +42,13 @@ pub(crate) struct BareTable {
 }
 
 impl Model for BareTable {
-    ghost use Rattle.std.specs.Prelude.{List};
-    ghost use Rattle.std.specs.BTreeMap.{values};
-    ghost use Rattle.pcp_base.specs.declared.leases.MapLease.{MapLease};
-    ghost use Rattle.mapping_table.specs.Kept.{AreSievedMaps};
+    ghost use Rattle.mapping_table.specs.Kept.{BareLeases, AreSievedMaps};
 
-    ghost Value = { List MapLease };
+    ghost Value = { BareLeases };
 
-    ghost view = { λ t. values t.kept.leases };
+    ghost view = { λ t. record { next = t.kept.next; entries = t.kept.leases.entries } };
 
     ghost invariant = { λ t. AreSievedMaps t.kept t.sets t.sieve };
-}
-
-/// Appends the leases that are live at `m`, in the order of their numbers, with their filters.
-/// Where memory is wanting, some of them may stand behind the old ones.
-fn append_live(
-    leases: &Slots<BareLease>,
-    filters: &BTreeMap<Place, Filters>,
-    m: Moment,
-    out: &mut Vec<MapLease>,
-) -> Result<(), AllocError>
-    ensures ok { OnOk result (out.new.items ≡ out.old.items
-        ++ filter (is_live_map m) (map (whole (filters_at filters.now)) (values leases.now))) }
-    ensures old { take (length out.old.items) out.new.items ≡ out.old.items }
-{
-    out.extend(
-        leases
-            .values()?
-            .filter_map(|lease| live_whole(filters, lease, m)),
-    )
-}
-
-/// Hands on a record at `m` for each lease that is live then, in the order of their numbers, with
-/// its filters.
-fn append_records<K: RecordSink>(
-    leases: &Slots<BareLease>,
-    filters: &BTreeMap<Place, Filters>,
-    m: Moment,
-    out: &mut K,
-) -> Result<(), Memory>
-    requires { AllByRecursion IsWellFormedRecord (map (map_record m)
-        (filter (is_live_map m) (map (whole (filters_at filters.now)) (values leases.now)))) }
-    ensures { OnOk result (K.taken out.new ≡ K.taken out.old ++ map (map_record m)
-        (filter (is_live_map m) (map (whole (filters_at filters.now)) (values leases.now)))) }
-{
-    for lease in leases.values()? {
-        if lease.is_live(m) {
-            out.take(&Record {
-                moment: m,
-                change: Change::Map(whole(filters, lease)),
-            })?;
-        }
-    }
-    Ok(())
 }
 
 /// The number and the place of the lease in a slot.
@@ -185,6 +137,8 @@ fn put_kept<L: Ledger>(
     requires sound { AreSoundMaps (with_map lease (values kept.old.leases)) }
     ensures sieved { AreSievedMaps kept.new sets.new sieve.new }
     ensures put { PutsMap (values kept.old.leases) lease result (values kept.new.leases) }
+    ensures numbers { KeepsNumbers kept.old kept.new }
+    ensures err { OnErr result (kept.new.leases.entries ≡ kept.old.leases.entries) }
     ensures steps { steps.new ≤ steps.old + 8 * levels (length (values kept.old.leases) + 1) }
 {
     levels_grow();
@@ -203,7 +157,7 @@ fn put_kept<L: Ledger>(
 impl BareTable {
     /// A table without a lease. The one error is want of memory.
     pub(crate) fn new(alloc: Global) -> Result<BareTable, Memory>
-        ensures { IfOk result (λ table. table ≡ []) }
+        ensures { IfOk result (λ table. table.entries ≡ []) }
     {
         let kept = Owned::new(alloc)?;
         let sieve = Sieve::new(alloc)?;
@@ -218,7 +172,7 @@ impl BareTable {
 
     /// Forgets all leases. It takes no memory.
     pub(crate) fn clear(&mut self)
-        ensures { self.new ≡ [] }
+        ensures { self.new.entries ≡ [] }
     {
         self.kept.clear();
         self.sets = 0;
@@ -227,7 +181,7 @@ impl BareTable {
 
     /// How many leases there are.
     pub(crate) fn len(&self) -> usize
-        ensures { result ≡ length self.now }
+        ensures { result ≡ length (values_of self.now.entries) }
     {
         self.kept.len()
     }
@@ -238,8 +192,9 @@ impl BareTable {
         endpoint: &Endpoint,
         steps: &mut Steps<L>,
     ) -> Option<&BareLease>
-        ensures lease { option_copied result ≡ map_covering endpoint.now self.now }
-        ensures steps { steps.new ≤ steps.old + 3 * levels (length self.now) }
+        ensures lease { option_copied result
+            ≡ map_covering endpoint.now (values_of self.now.entries) }
+        ensures steps { steps.new ≤ steps.old + 3 * levels (length (values_of self.now.entries)) }
     {
         let kept = &self.kept;
         look(kept, steps);
@@ -259,8 +214,9 @@ impl BareTable {
         m: Moment,
         steps: &mut Steps<L>,
     ) -> bool
-        ensures covers { result ≡ some_live_map m (map_covering endpoint.now self.now) }
-        ensures steps { steps.new ≤ steps.old + 3 * levels (length self.now) }
+        ensures covers { result
+            ≡ some_live_map m (map_covering endpoint.now (values_of self.now.entries)) }
+        ensures steps { steps.new ≤ steps.old + 3 * levels (length (values_of self.now.entries)) }
     {
         is_live_at(self.find(endpoint, steps), m)
     }
@@ -271,8 +227,9 @@ impl BareTable {
         endpoint: &Endpoint,
         steps: &mut Steps<L>,
     ) -> Option<&BareLease>
-        ensures lease { option_copied result ≡ map_covering endpoint.now self.now }
-        ensures steps { steps.new ≤ steps.old + 2 * levels (length self.now) }
+        ensures lease { option_copied result
+            ≡ map_covering endpoint.now (values_of self.now.entries) }
+        ensures steps { steps.new ≤ steps.old + 2 * levels (length (values_of self.now.entries)) }
     {
         let kept = &self.kept;
         look(kept, steps);
@@ -296,8 +253,9 @@ impl BareTable {
         port: u16,
         steps: &mut Steps<L>,
     ) -> Option<&BareLease>
-        ensures lease { option_copied result ≡ map_owning protocol port self.now }
-        ensures steps { steps.new ≤ steps.old + 3 * levels (length self.now) }
+        ensures lease { option_copied result
+            ≡ map_owning protocol port (values_of self.now.entries) }
+        ensures steps { steps.new ≤ steps.old + 3 * levels (length (values_of self.now.entries)) }
     {
         let kept = &self.kept;
         look(kept, steps);
@@ -317,8 +275,9 @@ impl BareTable {
         port: u16,
         steps: &mut Steps<L>,
     ) -> Option<&BareLease>
-        ensures lease { option_copied result ≡ map_owning protocol port self.now }
-        ensures steps { steps.new ≤ steps.old + 2 * levels (length self.now) }
+        ensures lease { option_copied result
+            ≡ map_owning protocol port (values_of self.now.entries) }
+        ensures steps { steps.new ≤ steps.old + 2 * levels (length (values_of self.now.entries)) }
     {
         let kept = &self.kept;
         look(kept, steps);
@@ -345,8 +304,8 @@ impl BareTable {
         steps: &mut Steps<L>,
     ) -> Option<u64>
         ensures expiry { result
-            ≡ option_map (λ l. l.expiry) (map_owning protocol port self.now) }
-        ensures steps { steps.new ≤ steps.old + 4 * levels (length self.now) }
+            ≡ option_map (λ l. l.expiry) (map_owning protocol port (values_of self.now.entries)) }
+        ensures steps { steps.new ≤ steps.old + 4 * levels (length (values_of self.now.entries)) }
     {
         look(&self.kept, steps);
         let hinted = hinted_expiry(&self.hints, &self.kept, near, protocol, port);
@@ -368,9 +327,9 @@ impl BareTable {
         steps: &mut Steps<L>,
     ) -> Option<Endpoint>
         requires single { lease.now.count ≡ 1 }
-        requires sound { AreSoundMaps self.now }
-        ensures overlapped { IsOverlapped lease.now self.now result }
-        ensures steps { steps.new ≤ steps.old + 6 * levels (length self.now) }
+        requires sound { AreSoundMaps (values_of self.now.entries) }
+        ensures overlapped { IsOverlapped lease.now (values_of self.now.entries) result }
+        ensures steps { steps.new ≤ steps.old + 6 * levels (length (values_of self.now.entries)) }
     {
         let found = self.find(&lease.first_endpoint(), steps);
         if is_renewed(lease, found) {
@@ -389,8 +348,8 @@ impl BareTable {
         lease: &BareLease,
         steps: &mut Steps<L>,
     ) -> Option<Endpoint>
-        ensures overlapped { IsOverlapped lease.now self.now result }
-        ensures steps { steps.new ≤ steps.old + 6 * levels (length self.now) }
+        ensures overlapped { IsOverlapped lease.now (values_of self.now.entries) result }
+        ensures steps { steps.new ≤ steps.old + 6 * levels (length (values_of self.now.entries)) }
     {
         let kept = &self.kept;
         if lease.is_single() {
@@ -401,7 +360,7 @@ impl BareTable {
 
     /// How many leases are live at `m`. It looks at blocks of leases of which one has ended alone.
     pub(crate) fn live(&self, m: Moment) -> u32
-        ensures { result ≡ count_by (is_live_map m) self.now }
+        ensures { result ≡ count_by (is_live_map m) (values_of self.now.entries) }
     {
         (self.kept.len() - self.kept.ended(m)) as u32
     }
@@ -417,9 +376,10 @@ impl BareTable {
     ) -> Option<u16>
         requires below { endpoint.now.port < end }
         requires within { end ≤ 65536 }
-        ensures next { IsNextCovered endpoint.now end (filter (is_live_map m) self.now) result }
+        ensures next { IsNextCovered endpoint.now end
+            (filter (is_live_map m) (values_of self.now.entries)) result }
         ensures steps { steps.new ≤ steps.old
-            + (2 * (end - endpoint.now.port) + 1) * levels (length self.now) }
+            + (2 * (end - endpoint.now.port) + 1) * levels (length (values_of self.now.entries)) }
     {
         let kept = &self.kept;
         let next = u32::from(endpoint.port) + 1;
@@ -446,9 +406,15 @@ impl BareTable {
         lease: BareLease,
         steps: &mut Steps<L>,
     ) -> Result<(), Memory>
-        requires { AreSoundMaps (with_map lease self.old) }
-        ensures put { PutsMap self.old lease result self.new }
-        ensures steps { steps.new ≤ steps.old + 8 * levels (length self.old + 1) }
+        requires { AreSoundMaps (with_map lease (values_of self.old.entries)) }
+        ensures put { PutsMap (values_of self.old.entries) lease result
+            (values_of self.new.entries) }
+        ensures next { self.old.next ≤ self.new.next }
+        ensures fresh { (n : ℕ) → n < self.old.next → get nat_cmp (leases_in self.old) n ≡ None
+            → get nat_cmp (leases_in self.new) n ≡ None }
+        ensures err { OnErr result (self.new.entries ≡ self.old.entries) }
+        ensures steps { steps.new
+            ≤ steps.old + 8 * levels (length (values_of self.old.entries) + 1) }
     {
         put_kept(
             &mut self.kept,
@@ -460,35 +426,52 @@ impl BareTable {
         )
     }
 
-    /// Takes out the lease with this first endpoint: its slot, its entry of the ordered map, its port
-    /// and its expiry.
+    /// Takes out the lease with a number: its slot, its entry of the ordered map, its port and its
+    /// expiry.
+    pub(crate) fn take<L: Ledger>(&mut self, number: u64, lease: &BareLease, steps: &mut Steps<L>)
+        requires { get nat_cmp (leases_in self.old) number ≡ Some lease.now }
+        ensures next { self.new.next ≡ self.old.next }
+        ensures leases { Removes nat_cmp (leases_in self.old) (leases_in self.new) number }
+        ensures removed { values_of self.new.entries ≡ filter
+            (λ l. not (is_map_of (first_endpoint lease.now) l)) (values_of self.old.entries) }
+        ensures steps { steps.new ≤ steps.old + 4 * levels (length (values_of self.old.entries)) }
+    {
+        steps.take(4 * levels(self.kept.len()));
+        let place = lease.place();
+        self.kept.forget(number, place, lease.port());
+        self.sets -= lease.sets();
+        self.sieve.take(&place);
+    }
+
+    /// Takes out the lease with this first endpoint.
     pub(crate) fn remove<L: Ledger>(
         &mut self,
         key: &Endpoint,
         steps: &mut Steps<L>,
     ) -> Option<BareLease>
-        ensures removed { RemovesMap self.old key.now result self.new }
-        ensures steps { steps.new ≤ steps.old + 6 * levels (length self.old) }
+        ensures removed { RemovesMap (values_of self.old.entries) key.now result
+            (values_of self.new.entries) }
+        ensures next { self.new.next ≡ self.old.next }
+        ensures fewer { (n : ℕ) → get nat_cmp (leases_in self.old) n ≡ None
+            → get nat_cmp (leases_in self.new) n ≡ None }
+        ensures steps { steps.new ≤ steps.old + 6 * levels (length (values_of self.old.entries)) }
     {
         look(&self.kept, steps);
-        let place = place_of(key);
-        let Some(number) = number_at(&self.sieve, &self.hints, &self.kept, &place) else {
+        let Some(number) = number_at(&self.sieve, &self.hints, &self.kept, &place_of(key)) else {
             return None;
         };
         let Some(lease) = lease_at(&self.kept, number, steps).copied() else {
             return None;
         };
-        steps.take(4 * levels(self.kept.len()));
-        self.kept.forget(number, place, lease.port());
-        self.sets -= lease.sets();
-        self.sieve.take(&place);
+        self.take(number, &lease, steps);
         Some(lease)
     }
 
     /// Whether a lease isn't live at `m`, by one look.
     pub(crate) fn has_ended<L: Ledger>(&self, m: Moment, steps: &mut Steps<L>) -> bool
-        ensures ended { result ≡ list_any (λ l. not (is_live_map m l)) self.now }
-        ensures steps { steps.new ≤ steps.old + levels (length self.now) }
+        ensures ended { result
+            ≡ list_any (λ l. not (is_live_map m l)) (values_of self.now.entries) }
+        ensures steps { steps.new ≤ steps.old + levels (length (values_of self.now.entries)) }
     {
         look(&self.kept, steps);
         self.kept.one_ended(m).is_some()
@@ -496,8 +479,8 @@ impl BareTable {
 
     /// One of the leases that aren't live at `m` and expired first. It looks at one block of them.
     pub(crate) fn one_ended<L: Ledger>(&self, m: Moment, steps: &mut Steps<L>) -> Option<&BareLease>
-        ensures ended { IsDeadMap m self.now (option_copied result) }
-        ensures steps { steps.new ≤ steps.old + 2 * levels (length self.now) }
+        ensures ended { IsDeadMap m (values_of self.now.entries) (option_copied result) }
+        ensures steps { steps.new ≤ steps.old + 2 * levels (length (values_of self.now.entries)) }
     {
         let kept = &self.kept;
         look(kept, steps);
@@ -507,39 +490,42 @@ impl BareTable {
         lease_at(kept, number, steps)
     }
 
-    /// Appends the leases that are live at `m`, in the order granted, with their filters. The one
-    /// error is want of memory, which changes nothing.
-    pub(crate) fn copy_live(
+    /// The same with its number.
+    pub(crate) fn ended_entry<L: Ledger>(
         &self,
-        filters: &BTreeMap<Place, Filters>,
         m: Moment,
-        out: &mut Vec<MapLease>,
-    ) -> Result<(), Memory>
-        ensures { CopiesLiveMaps (map (whole (filters_at filters.now)) self.now) m out.old.items
-            result out.new.items }
+        steps: &mut Steps<L>,
+    ) -> Option<(u64, BareLease)>
+        ensures there { IfSome result (λ entry.
+            get nat_cmp (leases_in self.now) entry.0 ≡ Some entry.1) }
+        ensures dead { IfSome result (λ entry. is_live_map m entry.1 ≡ false) }
+        ensures none { IfNone result (first_dead_map m (values_of self.now.entries) ≡ None) }
+        ensures steps { steps.new ≤ steps.old + 2 * levels (length (values_of self.now.entries)) }
     {
-        out.reserve(self.live(m) as usize)?;
-        let before = out.len();
-        let Err(refused) = append_live(self.kept.leases(), filters, m, out) else {
-            return Ok(());
+        let kept = &self.kept;
+        look(kept, steps);
+        let Some(number) = kept.one_ended(m) else {
+            return None;
         };
-        out.truncate(before);
-        Err(refused.into())
+        let Some(lease) = lease_at(kept, number, steps).copied() else {
+            return None;
+        };
+        Some((number, lease))
     }
 
-    /// Hands on a record at `m` for each lease that is live then, in the order granted, with its
-    /// filters. The one error is want of memory.
-    pub(crate) fn add_records<K: RecordSink>(
-        &self,
-        filters: &BTreeMap<Place, Filters>,
-        m: Moment,
-        out: &mut K,
-    ) -> Result<(), Memory>
-        requires { AllByRecursion IsWellFormedRecord (map (map_record m)
-            (filter (is_live_map m) (map (whole (filters_at filters.now)) self.now))) }
-        ensures { OnOk result (K.taken out.new ≡ K.taken out.old ++ map (map_record m)
-            (filter (is_live_map m) (map (whole (filters_at filters.now)) self.now))) }
+    /// A law: the leases stand in the order of their numbers, which are below the next one.
+    pub(crate) fn tell_order(&self)
+        ensures ordered { IsOrdered nat_cmp (leases_in self.now) }
+        ensures below { (n : ℕ) (l : MapLease) → get nat_cmp (leases_in self.now) n ≡ Some l
+            → n < self.now.next }
     {
-        append_records(self.kept.leases(), filters, m, out)
+        let _ = &self.kept;
+    }
+
+    /// The leases by their numbers.
+    pub(crate) fn leases(&self) -> &Slots<BareLease>
+        ensures { result.now.entries ≡ self.now.entries }
+    {
+        self.kept.leases()
     }
 }

@@ -1,11 +1,11 @@
 //! Leases that come and change.
 
-ghost use Rattle.std.specs.Prelude.{◌≡◌, ◌≤◌, ◌+◌, ◌*◌, ℕ, List, Some, None, length};
+ghost use Rattle.std.specs.Prelude.{◌≡◌, ◌≤◌, ◌+◌, ◌*◌, ℕ, List, Some, None, OnErr, length};
 ghost use Rattle.std.specs.BTreeMap.{get, values};
 ghost use Rattle.step_count.specs.Levels.{levels};
 ghost use Rattle.ordered_index.specs.Orders.{place_cmp};
 ghost use Rattle.mapping_table.specs.MapLists.{AreSoundMaps, with_map, PutsMap};
-ghost use Rattle.mapping_table.specs.Kept.{place_of_lease, AreCountedMaps, SievesMaps};
+ghost use Rattle.mapping_table.specs.Kept.{place_of_lease, AreCountedMaps, SievesMaps, KeepsNumbers};
 
 use crate::bare::BareLease;
 use ordered_index::{Hints, Owned, Place, Sieve};
@@ -30,6 +30,8 @@ pub(crate) fn append<L: Ledger>(
     ensures counted { AreCountedMaps kept.new sets.new }
     ensures sieved { SievesMaps sieve.new (values kept.new.leases) }
     ensures put { PutsMap (values kept.old.leases) lease result (values kept.new.leases) }
+    ensures numbers { KeepsNumbers kept.old kept.new }
+    ensures err { OnErr result (kept.new.leases.entries ≡ kept.old.leases.entries) }
     ensures steps { steps.new ≤ steps.old + 7 * levels (length (values kept.old.leases) + 1) }
 {
     steps.take(7 * levels(kept.len() + 1));
@@ -57,6 +59,7 @@ pub(crate) fn replace<L: Ledger>(
     ensures sieved { (sieve : List ℕ) → SievesMaps sieve (values kept.old.leases)
         → SievesMaps sieve (values kept.new.leases) }
     ensures put { values kept.new.leases ≡ with_map lease (values kept.old.leases) }
+    ensures numbers { KeepsNumbers kept.old kept.new }
     ensures steps { steps.new ≤ steps.old + 6 * levels (length (values kept.old.leases) + 1) }
 {
     steps.take(6 * levels(kept.len() + 1));

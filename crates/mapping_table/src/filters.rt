@@ -3,11 +3,11 @@
 ghost use Rattle.std.specs.Prelude.{◌≡◌, ◌≤◌, ◌+◌, OnOk, OnErr};
 ghost use Rattle.std.specs.Option.{option_copied, option_map};
 ghost use Rattle.step_count.specs.Levels.{levels};
-ghost use Rattle.mapping_table.specs.Kept.{filters_at, place_of_lease, whole, live_whole, HasSameFilters, MakesRoom, HasRoomAt, WritesFilters};
+ghost use Rattle.mapping_table.specs.Kept.{filters_at, place_of_lease, whole, HasSameFilters, MakesRoom, HasRoomAt, WritesFilters};
 
 use crate::bare::BareLease;
 use ordered_index::Place;
-use pcp_base::{Filters, MapLease, Moment};
+use pcp_base::{Filters, MapLease};
 use std::alloc::AllocError;
 use std::collections::BTreeMap;
 use std::sync::ledger::Ledger;
@@ -50,22 +50,6 @@ pub(crate) fn whole_by_look<L: Ledger>(
     };
     steps.take(levels(leases));
     Some(whole(filters, lease))
-}
-
-/// The lease with its filters, where it is live at `m`.
-#[tactic(auto, unfolding(crate::specs::Kept::live_whole))]
-pub(crate) fn live_whole(
-    filters: &BTreeMap<Place, Filters>,
-    lease: &BareLease,
-    m: Moment,
-) -> Option<MapLease>
-    ensures { result ≡ live_whole m (filters_at filters.now) lease.now }
-{
-    if lease.is_live(m) {
-        Some(whole(filters, lease))
-    } else {
-        None
-    }
 }
 
 /// Makes room for filters at a place, which changes none. The one error is want of memory, which

@@ -7,6 +7,7 @@ mod begins;
 mod changes;
 mod filters;
 pub mod laws;
+mod lists;
 mod looks;
 mod overlaps;
 pub mod plain;

@@ -6,6 +6,7 @@ use Rattle.ordered_index.specs.Orders.{port_at}
 use Rattle.mapping_table.specs.Kept.{SievesMaps}
 use Rattle.mapping_table.proofs.MapKeeping.{map_appended, map_not_put}
 use Rattle.mapping_table.proofs.Sets.{counted_stays, counted_appended}
+use Rattle.mapping_table.proofs.Numberings.{numbers_stay, numbers_appended}
 use Rattle.mapping_table.proofs.Sieving.{sieved_stays, sieved_more}
 use Rattle.mapping_table.proofs.changes.append.Goals as goal
 
@@ -41,3 +42,10 @@ returns-clause-sieved g c =
 pub returns-in_err-number-clause-sieved : goal.returns-in_err-number-clause-sieved
 returns-in_err-number-clause-sieved g c =
     sieved_stays c.args.kept.now c.requires.counted.kept c.args.sieve.now c.requires.sieved c.append.new.self c.in_err-number.ensures.err
+
+pub returns-clause-numbers : goal.returns-clause-numbers
+returns-clause-numbers g c =
+    numbers_appended c.args.kept.now c.append.new.self c.args.lease c.place-place.result (port_at c.port.result.0 c.port.result.1) c.in_ok-number.number c.in_ok-number.ensures.ok
+
+pub returns-in_err-number-clause-numbers : goal.returns-in_err-number-clause-numbers
+returns-in_err-number-clause-numbers g c = numbers_stay c.args.kept.now c.append.new.self c.in_err-number.ensures.err

@@ -9,6 +9,7 @@ use Rattle.ordered_index.proofs.Keeping.{port-there}
 use Rattle.mapping_table.specs.Kept.{place_of_lease, map_keying}
 use Rattle.mapping_table.proofs.MapKeeping.{map_laws, place_has, map_replaced}
 use Rattle.mapping_table.proofs.Sets.{counted_replaced, replaced_few}
+use Rattle.mapping_table.proofs.Numberings.{numbers_replaced}
 use Rattle.mapping_table.proofs.Sieving.{sieved_as_many}
 use Rattle.mapping_table.proofs.changes.replace.Goals as goal
 
@@ -55,3 +56,9 @@ returns-clause-sieved g c =
     let put = map_replaced c.args.kept.now c.requires.counted.kept c.args.lease c.requires.sound {X = ⊤} {E = Memory} c.replace.new.self (Ok tt)
     c.args.number c.index.result.now (port_at c.port.result.0 c.port.result.1) (port_at c.port-2.result.0 c.port-2.result.1) c.requires.key at_n c.port.ensures c.port-2.ensures c.replace.ensures tt in
     λ sieve sieved. sieved_as_many c.args.kept.now c.requires.counted.kept sieve sieved c.replace.new.self c.args.lease put.1.ok c.args.number c.requires.key
+
+pub returns-clause-numbers : goal.returns-clause-numbers
+returns-clause-numbers g c =
+    let read : get nat_cmp c.leases.result.now c.args.number ≡ Some c.index.result.now = search rules in
+    let at_n : get nat_cmp c.args.kept.now.leases c.args.number ≡ Some c.index.result.now = ap (λ (m : BTreeMap ℕ MapLease). get nat_cmp m c.args.number) (sym c.leases.ensures) ∙ read in
+    numbers_replaced c.args.kept.now c.replace.new.self c.args.number c.args.lease c.index.result.now (port_at c.port.result.0 c.port.result.1) (port_at c.port-2.result.0 c.port-2.result.1) at_n c.replace.ensures

@@ -2,6 +2,7 @@ use Rattle.std.proofs.Common.{◌-◌, count_by, ap, ◌∙◌, arith}
 use Rattle.mapping_table.specs.MapLists.{is_live_map}
 use Rattle.pcp_base.specs.declared.leases.MapLease.{MapLease}
 use Rattle.ordered_index.proofs.Endings.{ended-few, live-count}
+use Rattle.mapping_table.proofs.Views.{values_is}
 use Rattle.mapping_table.proofs.bare_table.BareTable.live.Goals as goal
 
 pub overflow_sub-result : goal.overflow_sub-result
@@ -13,4 +14,4 @@ overflow_sub-result c =
 pub returns : goal.returns
 returns c =
     ap (λ n. n - c.ended.result) c.len.ensures.len ∙ live-count (λ (l : MapLease). l.expiry) c.self.inside.kept.leases c.self.invariant.counted.kept.kept.ordered c.args.m c.ended.result c.ended.ensures
-    ∙ ap (count_by (is_live_map c.args.m)) c.self.view_is
+    ∙ ap (count_by (is_live_map c.args.m)) (values_is c.self.view_is)

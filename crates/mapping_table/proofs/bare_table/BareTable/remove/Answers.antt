@@ -1,43 +1,34 @@
-use Rattle.std.proofs.Common.{ℕ, List, Some, None, sym, ◌∙◌, subst}
-use Rattle.std.specs.BTreeMap.{values}
+use Rattle.std.specs.Map.{values_of}
+use Rattle.std.proofs.Common.{List, None, not, filter, sym, ap, ◌∙◌, subst}
+use Rattle.pcp_base.specs.declared.leases.Endpoint.{Endpoint}
 use Rattle.pcp_base.specs.declared.leases.MapLease.{MapLease}
-use Rattle.ordered_index.specs.Orders.{port_at}
-use Rattle.mapping_table.specs.MapLists.{RemovesMap}
-use Rattle.mapping_table.specs.Kept.{SievesMaps}
+use Rattle.pcp_base.specs.Tables.{is_map_of}
+use Rattle.std.specs.BTreeMap.{get}
+use Rattle.ordered_index.specs.Orders.{place_of, place_cmp}
+use Rattle.ordered_index.proofs.Keeping.{key-found}
+use Rattle.mapping_table.specs.Kept.{map_keying, leases_in}
+use Rattle.mapping_table.specs.MapLists.{RemovesMap, map_with_key}
 use Rattle.mapping_table.proofs.Lookups.{number_stands}
-use Rattle.mapping_table.proofs.MapKeeping.{none_removed, map_removed}
-use Rattle.mapping_table.proofs.Sets.{removed_few, counted_removed}
-use Rattle.mapping_table.proofs.Sieving.{sieved_removed}
+use Rattle.mapping_table.proofs.MapKeeping.{map_laws, map_tells, none_removed}
+use Rattle.mapping_table.proofs.Numberings.{begins_at, numbers_removed}
+use Rattle.mapping_table.proofs.Views.{values_is, number_is}
 use Rattle.mapping_table.proofs.bare_table.BareTable.remove.Goals as goal
 
 pub returns-in_default-clause-removed : goal.returns-in_default-clause-removed
 returns-in_default-clause-removed g c =
-    subst (λ (v : List MapLease). RemovesMap v c.args.key.now None v) c.self.view_is
-    (none_removed c.self.inside.kept c.self.invariant.counted.kept c.args.key.now c.place_of-place.result c.place_of-place.ensures (sym c.in_default.ensures))
+    subst (λ (v : List MapLease). RemovesMap v c.args.key.now None v) (values_is c.self.view_is)
+    (none_removed c.self.inside.kept c.self.invariant.counted.kept c.args.key.now c.place_of.result c.place_of.ensures (sym c.in_default.ensures))
 
 pub returns-in_default-copied-clause-removed : goal.returns-in_default-copied-clause-removed
 returns-in_default-copied-clause-removed g c =
-    absurd (number_stands c.self.inside.kept c.self.invariant.counted.kept c.place_of-place.result c.in-Some.number (sym c.in-Some.ensures) (c.in_default-copied.ensures ∙ c.lease_at.ensures.lease))
-
-pub overflow_sub-self : goal.overflow_sub-self
-overflow_sub-self g c =
-    removed_few c.self.inside.kept c.self.inside.sets c.self.invariant.counted c.forget.new.self c.in-Some.number c.in-Some-copied.lease (sym (c.in-Some-copied.ensures ∙ c.lease_at.ensures.lease)) c.sets.result c.sets.ensures
-
-pub invariant_of-self : goal.invariant_of-self
-invariant_of-self g c =
-    let removed = map_removed c.self.inside.kept c.self.invariant.counted.kept c.args.key.now c.place_of-place.result c.place_of-place.ensures c.forget.new.self (port_at c.port.result.0 c.port.result.1) c.in-Some.number c.in-Some-copied.lease
-    c.port.ensures (sym c.in-Some.ensures) (sym (c.in-Some-copied.ensures ∙ c.lease_at.ensures.lease)) c.forget.ensures in
-    let at_number = sym (c.in-Some-copied.ensures ∙ c.lease_at.ensures.lease) in
-    let kept = c.self.inside.kept in let x = c.in-Some-copied.lease in
-    record {
-      counted = counted_removed kept c.self.inside.sets c.self.invariant.counted c.forget.new.self c.in-Some.number x at_number c.sets.result c.sets.ensures removed.0 c.forget.ensures.leases;
-      sieved = subst (λ (s : List ℕ). SievesMaps s (values c.forget.new.self.leases)) (sym c.take-2.ensures)
-          (sieved_removed kept c.self.inside.sieve c.self.invariant.sieved c.forget.new.self c.in-Some.number x at_number c.self.invariant.counted.kept c.forget.ensures.leases
-          c.place_of-place.result (sym c.in-Some.ensures));
-    }
+    absurd (number_stands c.self.inside.kept c.self.invariant.counted.kept c.place_of.result c.in-Some.number (sym c.in-Some.ensures) (c.in_default-copied.ensures ∙ c.lease_at.ensures.lease))
 
 pub returns-clause-removed : goal.returns-clause-removed
 returns-clause-removed g c =
-    let removed = (map_removed c.self.inside.kept c.self.invariant.counted.kept c.args.key.now c.place_of-place.result c.place_of-place.ensures c.forget.new.self (port_at c.port.result.0 c.port.result.1) c.in-Some.number c.in-Some-copied.lease
-    c.port.ensures (sym c.in-Some.ensures) (sym (c.in-Some-copied.ensures ∙ c.lease_at.ensures.lease)) c.forget.ensures).1 in
-    subst (λ (v : List MapLease). RemovesMap v c.args.key.now (Some c.in-Some-copied.lease) (values c.forget.new.self.leases)) c.self.view_is removed
+    let t = c.self.inside.kept in let kept = c.self.invariant.counted.kept in let e = c.args.key.now in let n = c.in-Some.number in let x = c.in-Some-copied.lease in
+    let at_n = sym (c.in-Some-copied.ensures ∙ c.lease_at.ensures.lease) in
+    let number = ap (get place_cmp t.keys) (sym c.place_of.ensures) ∙ sym c.in-Some.ensures in
+    record {
+      answer = sym at_n ∙ key-found map_keying map_laws t kept.kept (is_map_of e) (place_of e) n (map_tells e) number ∙ ap (map_with_key e) (values_is c.self.view_is);
+      removed = c.take.ensures.removed ∙ ap (λ (z : Endpoint). filter (λ (l : MapLease). not (is_map_of z l)) (values_of c.args.self.now.entries)) (begins_at t kept n x at_n e c.place_of.result c.place_of.ensures (sym c.in-Some.ensures));
+    }
