@@ -12,3 +12,6 @@ pub mod Fellows
 mod FewOpenings
 mod OneRemote
 pub mod OneMore
+pub mod Views
+pub mod Past
+pub mod Leaving

@@ -1,21 +1,23 @@
 -- How a table keeps its leases (our own; for proofs alone).
-use Rattle.std.specs.Prelude.{◌≡◌, ℕ, ◌&&◌, ◌==◌, nat_lt, Bool, true, false, bytes_eq, List, [], ◌∷◌, Contains, Option, Some, None, IsSome, IfSome, if◌then◌else◌}
-use Rattle.std.specs.List.{fold}
+use Rattle.std.specs.Prelude.{◌≡◌, ℕ, ◌≤◌, ◌&&◌, ◌==◌, nat_lt, Bool, true, false, bytes_eq, List, [], ◌∷◌, Contains, Option, Some, None, IsSome, IfSome, Result, OnErr, if◌then◌else◌}
+use Rattle.std.specs.List.{AllByRecursion, fold}
 use Rattle.std.specs.Ordering.{nat_cmp, ordering_then}
 use Rattle.std.specs.declared.cmp.Ordering.{Ordering}
 use Rattle.std.specs.Cmp.{IsTotalOrder, nat_cmp_total, on_total, then_total}
 use Rattle.std.specs.Cmp.Lexicographic.{slice_cmp, nat_list_cmp_total}
-use Rattle.std.specs.BTreeMap.{values}
+use Rattle.std.specs.BTreeMap.{BTreeMap, btree_map_len, get, values}
 use Rattle.pcp_base.specs.declared.addresses.Address.{Address}
 use Rattle.pcp_base.specs.declared.leases.Protocol.{Protocol}
 use Rattle.pcp_base.specs.declared.leases.Endpoint.{Endpoint}
 use Rattle.pcp_base.specs.declared.leases.PeerLease.{PeerLease}
+use Rattle.pcp_base.specs.declared.leases.TheConstants.{MOST_LEASES}
 use Rattle.pcp_base.specs.Protocols.{protocol_number}
 use Rattle.pcp_base.specs.Tables.{is_peer_of}
 use Rattle.ordered_index.specs.declared.numbered.Numbered.{Numbered}
+use Rattle.ordered_index.specs.Aged.{AreApart, either, passing}
 use Rattle.ordered_index.specs.Kept.{Keying, IsKept}
 use Rattle.ordered_index.specs.Orders.{Place, place_of, port_at}
-use Rattle.peer_table.specs.PeerLists.{AreSoundPeers, overlaps}
+use Rattle.peer_table.specs.PeerLists.{AreSoundPeers, is_live_peer, overlaps}
 
 -- an address, a protocol number and a port; 1, or 0 before all remotes and 2 behind them; and a
 -- remote address and port
@@ -139,3 +141,26 @@ pub record TellsOther (differs : PeerLease → PeerLease → Bool) (l : PeerLeas
   pub tells : (x : PeerLease) → Contains ls x
       → is_peer_of l.endpoint l.remote l.remote_port x ≡ false → differs l x ≡ true
       → IsSome (overlapped l result)
+
+-- the lease with a number, or the one that has left
+abbrev pub lease_with : (leases past : BTreeMap ℕ PeerLease) → ℕ → Option PeerLease
+lease_with leases past n = either (get nat_cmp leases n) (get nat_cmp past n)
+
+-- the same of the lease with a number
+unfoldable pub live_with : ℕ → (leases past : BTreeMap ℕ PeerLease) → ℕ → Option PeerLease
+live_with m leases past n = passing (is_live_peer m) (lease_with leases past n)
+
+-- what was apart from the leases is so afterwards, and where that fails, the leases stay
+pub record StaysApart {X E : Type 0} (old new : Numbered PeerLease PeerKey Opening)
+    (result : Result X E) : Type 0 where
+  pub apart : (past : BTreeMap ℕ PeerLease) → AreApart old.leases old.next past
+      → AreApart new.leases new.next past
+  pub err : OnErr result (new.leases.entries ≡ old.leases.entries)
+
+-- sound leases with their maps, and those that have left, of which none is live from a moment on
+pub record AreAgedPeers (it : Numbered PeerLease PeerKey Opening) (past : BTreeMap ℕ PeerLease)
+    (gone : ℕ) : Type 0 where
+  pub kept : AreKeptPeers it
+  pub apart : AreApart it.leases it.next past
+  pub few : btree_map_len past ≤ MOST_LEASES
+  pub dead : AllByRecursion (λ l. l.expiry ≤ gone) (values past)

@@ -1,6 +1,6 @@
 -- What is asked of a list of PEER leases, in the order granted, and what it must keep to (our own; a
 -- PEER lease is a mapping of RFC 6887, section 12).
-use Rattle.std.specs.Prelude.{◌≡◌, ℕ, ◌<◌, ◌≤◌, ◌&&◌, ◌||◌, ◌==◌, nat_lt, not, Bool, false, List, ◌++◌, length, filter, find, Contains, count_by, IsTrue, Option, None, IfSome, IfNone, Result, OnOk, OnErr}
+use Rattle.std.specs.Prelude.{◌≡◌, ℕ, ◌+◌, ◌<◌, ◌≤◌, ◌&&◌, ◌||◌, ◌⊎◌, ◌==◌, nat_lt, not, Bool, false, List, ◌++◌, length, filter, find, Contains, count_by, IsTrue, Option, None, IfSome, IfNone, Result, OnOk, OnErr}
 use Rattle.std.specs.List.{AllByRecursion, list_any}
 use Rattle.pcp_base.specs.declared.addresses.Address.{Address}
 use Rattle.pcp_base.specs.declared.leases.TheConstants.{MOST_LEASES, MOST_PEERS}
@@ -9,6 +9,7 @@ use Rattle.pcp_base.specs.declared.leases.Endpoint.{Endpoint}
 use Rattle.pcp_base.specs.declared.leases.PeerLease.{PeerLease}
 use Rattle.pcp_base.specs.Tables.{EachTwo, IsPeerLease, HaveOtherKeys, is_peer_of, names, put, same_address, same_endpoint, same_protocol}
 use Rattle.pcp_base.specs.Owners.{is_port, peer_owner}
+use Rattle.ordered_index.specs.Aged.{Aged}
 use Rattle.peer_table.specs.declared.uses.PortUse.{PortUse}
 
 -- whether the lease is live at m
@@ -162,3 +163,14 @@ pub record CopiesLivePeers {X E : Type 0} (ls : List PeerLease) (m : ℕ) (old :
     (result : Result X E) (new : List PeerLease) : Type 0 where
   pub ok : OnOk result (new ≡ old ++ filter (is_live_peer m) ls)
   pub err : OnErr result (new ≡ old)
+
+-- a lease that isn't live at m has left: it is found no more, and stays among all
+pub record LeavesPeer (m : ℕ) (old new : Aged PeerLease) : Type 0 where
+  pub lease : PeerLease
+  pub there : Contains old.found lease
+  pub dead : is_live_peer m lease ≡ false
+  pub found : new.found
+      ≡ filter (λ l. not (is_peer_of lease.endpoint lease.remote lease.remote_port l)) old.found
+  pub past : (l : PeerLease) → Contains new.past l → Contains old.past l ⊎ (l ≡ lease)
+  pub more : length new.past ≡ length old.past + 1
+  pub all : new.all ≡ old.all

@@ -4,7 +4,7 @@ ghost use Rattle.std.specs.Prelude.{◌≡◌, ◌+◌, ◌*◌, length, Some, N
 ghost use Rattle.std.specs.BTreeMap.{get, values};
 ghost use Rattle.step_count.specs.Levels.{levels};
 ghost use Rattle.peer_table.specs.PeerLists.{AreSoundPeers, with_peer, PutsPeer};
-ghost use Rattle.peer_table.specs.Kept.{key_cmp, key_of_lease, AreKeptPeers};
+ghost use Rattle.peer_table.specs.Kept.{key_cmp, key_of_lease, AreKeptPeers, StaysApart};
 
 use crate::keys::{Key, Opening, key_of, opening_of};
 use crate::looks::look_beside_one_more;
@@ -25,6 +25,7 @@ pub(crate) fn append<L: Ledger>(
     requires sound { AreSoundPeers (with_peer lease (values kept.old.leases)) }
     ensures kept { AreKeptPeers kept.new }
     ensures put { PutsPeer (values kept.old.leases) lease result (values kept.new.leases) }
+    ensures apart { StaysApart kept.old kept.new result }
     ensures steps { steps.new ≡ steps.old + 7 * levels (length (values kept.old.leases) + 1) }
 {
     look_beside_one_more(kept, 7, steps);
@@ -45,6 +46,7 @@ pub(crate) fn replace<L: Ledger>(
     requires sound { AreSoundPeers (with_peer lease (values kept.old.leases)) }
     ensures kept { AreKeptPeers kept.new }
     ensures put { PutsPeer (values kept.old.leases) lease result (values kept.new.leases) }
+    ensures apart { StaysApart kept.old kept.new result }
     ensures steps { steps.new ≡ steps.old + 6 * levels (length (values kept.old.leases) + 1) }
 {
     look_beside_one_more(kept, 6, steps);

@@ -5,6 +5,7 @@ mod changes;
 mod endpoints;
 mod keys;
 pub mod laws;
+mod lists;
 mod looks;
 mod named;
 mod overlaps;

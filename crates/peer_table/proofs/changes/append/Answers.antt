@@ -4,6 +4,7 @@ use Rattle.std.specs.BTreeMap.{get}
 use Rattle.pcp_base.specs.declared.errors.Memory.{Memory}
 use Rattle.peer_table.specs.Kept.{key_cmp, opening_cmp}
 use Rattle.peer_table.proofs.PeerKeeping.{opening_is_free, peer_appended, peer_not_put, peers_stay}
+use Rattle.peer_table.proofs.Past.{appended_apart, stay_apart}
 use Rattle.peer_table.proofs.changes.append.Goals as goal
 
 pub append-requires-clause-step : goal.append-requires-clause-step
@@ -32,3 +33,12 @@ returns-in_err-append-clause-kept g c = peers_stay c.args.kept.now c.requires.ke
 pub returns-in_err-append-clause-put : goal.returns-in_err-append-clause-put
 returns-in_err-append-clause-put g c =
     peer_not_put c.args.kept.now c.requires.kept c.append.new.self c.in_err-append.ensures.err c.args.lease c.from_residual.result c.from_residual.ensures.0
+
+pub returns-clause-apart : goal.returns-clause-apart
+returns-clause-apart g c = record {
+  apart = appended_apart c.args.kept.now c.append.new.self c.args.lease c.key_of.result c.opening_of.result c.in_ok-append.field-0 c.in_ok-append.ensures.ok;
+  err = tt;
+}
+
+pub returns-in_err-append-clause-apart : goal.returns-in_err-append-clause-apart
+returns-in_err-append-clause-apart g c = stay_apart c.args.kept.now c.append.new.self c.from_residual.result c.in_err-append.ensures.err

@@ -4,6 +4,7 @@ use Rattle.std.specs.BTreeMap.{get}
 use Rattle.ordered_index.proofs.Keeping.{port-there}
 use Rattle.peer_table.specs.Kept.{key_of_lease, peer_keying}
 use Rattle.peer_table.proofs.PeerKeeping.{key_has, peer_laws, peer_replaced}
+use Rattle.peer_table.proofs.Past.{replaced_apart}
 use Rattle.peer_table.proofs.changes.replace.Goals as goal
 
 pub index-requires : goal.index-requires
@@ -25,3 +26,8 @@ returns-clause-put g c =
     let at_n : get nat_cmp c.args.kept.now.leases c.args.number ≡ Some c.index.result.now = search rules in
     (peer_replaced c.args.kept.now c.requires.kept c.args.lease c.requires.sound c.replace.new.self c.replace.result
     c.args.number c.index.result.now c.opening_of.result c.opening_of-2.result c.requires.key at_n c.opening_of.ensures c.opening_of-2.ensures c.replace.ensures.ok c.replace.ensures.err).1
+
+pub returns-clause-apart : goal.returns-clause-apart
+returns-clause-apart g c =
+    let at_n : get nat_cmp c.args.kept.now.leases c.args.number ≡ Some c.index.result.now = search rules in
+    replaced_apart c.args.kept.now c.replace.new.self c.replace.result c.args.number c.index.result.now c.args.lease c.opening_of.result c.opening_of-2.result at_n c.replace.ensures.ok c.replace.ensures.err
