@@ -33,7 +33,7 @@ use Rattle.indexed_store.specs.Tabled.{TabledState}
 use Rattle.indexed_store.proofs.Uniques.{one-covers}
 use Rattle.indexed_store.proofs.LookLemmas.{one_port, some_any}
 use Rattle.indexed_store.proofs.LeavingLemmas.{not_back}
-use Rattle.indexed_store.proofs.StateLooks.{state-live}
+use Rattle.indexed_store.proofs.StateLooks.{reached-later, state-live}
 use Rattle.indexed_store.proofs.EndPorts.{port_is, is_port_of, while-is}
 use Rattle.pcp_base.proofs.EndLemmas.{owned-some, left-by_expiry, left-owned}
 
@@ -112,10 +112,10 @@ module _ (all : TabledState) (m : ℕ) (is : IsCurrent all m) where
 
   -- what is live in the state stands in its tables
   map-in : (x : MapLease) → IsIn x t.maps → IsIn x all.leases.maps
-  map-in x i = (IsIn-filter (λ (l : MapLease). nat_lt m l.expiry) all.leases.maps x (subst (λ (u : Table). IsIn x u.maps) (sym (state-live all m is.kept is.later)) i)).0
+  map-in x i = (IsIn-filter (λ (l : MapLease). nat_lt m l.expiry) all.leases.maps x (subst (λ (u : Table). IsIn x u.maps) (sym (state-live all m is.kept (reached-later all m is))) i)).0
 
   peer-in : (x : PeerLease) → IsIn x t.peers → IsIn x all.leases.peers
-  peer-in x i = (IsIn-filter (λ (l : PeerLease). nat_lt m l.expiry) all.leases.peers x (subst (λ (u : Table). IsIn x u.peers) (sym (state-live all m is.kept is.later)) i)).0
+  peer-in x i = (IsIn-filter (λ (l : PeerLease). nat_lt m l.expiry) all.leases.peers x (subst (λ (u : Table). IsIn x u.peers) (sym (state-live all m is.kept (reached-later all m is))) i)).0
 
   -- ---- ports that other endpoints hold
 

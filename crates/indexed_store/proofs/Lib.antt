@@ -30,3 +30,6 @@ pub mod StateLooks
 pub mod KeyLooks
 pub mod InsideSteps
 pub mod SpaceLemmas
+pub mod PastLemmas
+pub mod WholeLemmas
+pub mod RetireLemmas

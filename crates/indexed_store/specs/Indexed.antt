@@ -1,6 +1,6 @@
 -- What an indexed store is seen as, and what it keeps (our own).
-use Rattle.std.specs.Prelude.{◌≡◌, ℕ}
-use Rattle.indexed_store.specs.Tabled.{AreTabled, TabledState}
+use Rattle.std.specs.Prelude.{◌≡◌, ℕ, ◌≤◌}
+use Rattle.indexed_store.specs.Tabled.{ArePast, AreTabled, TabledState}
 use Rattle.pcp_base.specs.Tables.{live}
 use Rattle.pcp_base.specs.Reached.{IsReached, IsReachedFirst}
 use Rattle.lease_store.specs.declared.terms.Terms.{Terms}
@@ -25,11 +25,14 @@ pub record IsReplayingFirst (s : Indexed) : Type 0 where
   pub reached : IsReachedFirst s.kept.state
   pub at_last : s.reached ≡ s.kept.state.last
 
--- the leases of the tables that are live at the last moment are those of the state, and the ports
--- are the state's
+-- the state has what is live of all leases at its last moment; from the moment on that the ports
+-- reached, what is live of it is what is live of the leases that are looked up, and none that has
+-- left is; and the ports are the state's
 pub record IsKept (s : TabledState) : Type 0 where
   pub tabled : AreTabled s.leases
-  pub live : s.state.table ≡ live s.leases s.state.last
+  pub table : s.state.table ≡ live s.all s.state.last
+  pub live : (m : ℕ) → s.ports.reached ≤ m → live s.state.table m ≡ live s.leases m
+  pub past : ArePast s.ports.reached s.past
   pub ports : IsPortsOf s.ports s.state
 
 -- the ports reached that moment, on these terms

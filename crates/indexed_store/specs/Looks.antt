@@ -25,6 +25,7 @@ use Rattle.leased_ports.specs.declared.steps.TheConstants.{PUT_STEPS, TAKEN_STEP
 use Rattle.leased_ports.specs.Among.{runs_among}
 use Rattle.leased_ports.specs.Counts.{held_since, ports_due}
 use Rattle.leased_ports.specs.Leased.{Leased, at_moment}
+use Rattle.indexed_store.specs.declared.making_way.TheConstants.{MOST_RETIRED}
 use Rattle.indexed_store.specs.declared.owning.OwnerRun.{OwnerRun}
 use Rattle.indexed_store.specs.Runs.{has_port, touched_run}
 use Rattle.indexed_store.specs.Tabled.{TabledState}
@@ -34,9 +35,14 @@ use Rattle.indexed_store.specs.Tabled.{TabledState}
 abbrev pub look_steps : State → ℕ
 look_steps s = 35 * levels MOST_LEASES
 
--- what it takes to reach a moment: some runs of ports that are due are seen to, whatever falls due
+-- how deep the tables are while one lease more is put
+abbrev pub most_levels : ℕ
+most_levels = levels (MOST_LEASES + 1)
+
+-- what it takes to reach a moment: some leases that have ended leave, and some runs of ports that are
+-- due are seen to, whatever falls due
 abbrev pub reach_steps : ℕ
-reach_steps = (23 + RUN_STEPS) * MOST_RUNS
+reach_steps = MOST_RETIRED * (17 * most_levels) + (23 + RUN_STEPS) * MOST_RUNS
 
 -- what a pick takes at a moment, beside one for each port that is suggested: that of one port of any
 -- parity nothing for what is due, where the address is below its quota by the counts
@@ -54,10 +60,6 @@ plain-fewer v m who = step (nat_lt (held_since v who) v.quota)
         ≤ PICK_STEPS + DUE_STEPS * ports_due (at_moment m v)
     step true = omega arith
     step false = omega arith
-
--- how deep the tables are while one lease more is put
-abbrev pub most_levels : ℕ
-most_levels = levels (MOST_LEASES + 1)
 
 -- the leases that go since one is put: those that it overlaps, and those of the endpoint of a PEER
 -- lease that have ended
@@ -115,5 +117,5 @@ touched_steps v peers (Some r) = hold_steps v peers r
 -- that ended, a Rest's port, and the ports of the lease that it puts or deletes
 abbrev pub apply_steps : TabledState → Record → ℕ
 apply_steps s r = reach_steps + change_steps r.moment r.change s.leases
-    + (22 * most_levels + (PUT_STEPS + TAKEN_STEPS))
+    + (26 * most_levels + (PUT_STEPS + TAKEN_STEPS))
     + touched_steps s.ports s.leases.peers (touched_run r.change (live s.leases r.moment))

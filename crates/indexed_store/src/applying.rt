@@ -69,19 +69,19 @@ fn move_ports<L: Ledger>(
     steps: &mut Steps<L>,
 ) -> Result<(), Memory>
     requires formed { IsWellFormedChange kept.now.moment kept.now.change }
-    requires leases { AreNearAt kept.now.moment leases.now }
-    requires touched { IfSome touched (IsEvenRun leases.now.maps) }
+    requires leases { AreNearAt kept.now.moment leases.now.found }
+    requires touched { IfSome touched (IsEvenRun leases.now.found.maps) }
     requires later { ports.old.reached ≤ kept.now.moment }
     ensures terms { (terms : Terms) → IsOnTerms ports.old terms → IsOnTerms ports.new terms }
     ensures reached { OnOk result (ports.new.reached ≡ kept.now.moment) }
     ensures ports { OnOk result ((s : State) → IsReached s → Fits s kept.now
         → by_apply.empties kept.now.change ≡ false → IsPortsOf ports.old s
-        → live leases.now kept.now.moment ≡ table_2 s kept.now
+        → live leases.now.found kept.now.moment ≡ table_2 s kept.now
         → touched ≡ touched_run kept.now.change (table_1 s kept.now)
         → IsPortsOf ports.new (by_apply.apply s kept.now)) }
     ensures steps { (t : Table) → touched ≡ touched_run kept.now.change t →
         steps.new ≤ steps.old + (reach_steps + (PUT_STEPS + TAKEN_STEPS)
-        + touched_steps ports.old leases.now.peers touched) }
+        + touched_steps ports.old leases.now.found.peers touched) }
 {
     ports_follow_states();
     records_tell_last_ends();
@@ -124,6 +124,7 @@ fn change<L: Ledger>(
         .change(alloc, kept.moment, &kept.change, steps)?;
     move_ports(&mut state.ports, alloc, &state.leases, kept, touched, steps)?;
     state.leases.drop_some(kept.moment, steps);
+    state.leases.tell_all();
     state.note(kept);
     Ok(())
 }

@@ -1,7 +1,7 @@
 //! What a change makes of the leases.
 ghost use Rattle.std.specs.Prelude.{◌≡◌, ◌<◌, ◌≤◌, ◌+◌, ◌*◌, false, Contains, IfSome, IfOk, OnOk};
 ghost use Rattle.pcp_base.specs.declared.leases.PeerLease.{PeerLease};
-ghost use Rattle.pcp_base.specs.Tables.{IsMapLease, IsPeerLease, empty_table, live};
+ghost use Rattle.pcp_base.specs.Tables.{IsMapLease, IsPeerLease, live};
 ghost use Rattle.pcp_base.specs.declared.records.Change.TheVariants.{Map, Peer, DropMap, DropPeer};
 ghost use Rattle.pcp_base.specs.Sound.{Sound};
 ghost use Rattle.pcp_base.specs.Records.{IsWellFormedChange};
@@ -9,7 +9,7 @@ ghost use Rattle.pcp_base.specs.Apply.{table_changed};
 ghost use Rattle.pcp_base.specs.Apply as by_apply;
 ghost use Rattle.pcp_base.specs.Fits.{IsAllowed};
 ghost use Rattle.indexed_store.specs.Holding.{IsEvenRun};
-ghost use Rattle.indexed_store.specs.Tabled.{AreTabled};
+ghost use Rattle.indexed_store.specs.Tabled.{AreTabled, no_tables};
 ghost use Rattle.indexed_store.specs.Runs.{touched_run};
 ghost use Rattle.indexed_store.specs.Looks.{change_steps, most_levels, puts_peer};
 
@@ -26,7 +26,7 @@ use step_count::laws::levels_grow;
 impl Leases {
     /// No leases.
     pub(crate) fn clear(&mut self)
-        ensures { self.new ≡ empty_table }
+        ensures { self.new ≡ no_tables }
     {
         self.maps.clear();
         self.peers.clear();
@@ -40,20 +40,21 @@ impl Leases {
         lease: &MapLease,
         steps: &mut Steps<L>,
     ) -> Result<Option<OwnerRun>, Memory>
-        requires tabled { AreTabled self.old }
-        requires after { Sound (table_changed (Map lease.now) (live self.old m)) }
+        requires tabled { AreTabled self.old.found }
+        requires after { Sound (table_changed (Map lease.now) (live self.old.found m)) }
         requires lease { IsMapLease lease.now }
         requires later { m < lease.now.expiry }
-        ensures tabled { OnOk result (AreTabled self.new) }
-        ensures table { OnOk result (live self.new m
-            ≡ table_changed (Map lease.now) (live self.old m)) }
+        ensures tabled { OnOk result (AreTabled self.new.found) }
+        ensures table { OnOk result (live self.new.found m
+            ≡ table_changed (Map lease.now) (live self.old.found m)) }
         ensures touched { IfOk result (λ run.
-            run ≡ touched_run (Map lease.now) (live self.old m)) }
-        ensures formed { IfOk result (λ run. IfSome run (IsEvenRun self.new.maps)) }
-        ensures peers_from { OnOk result ((l : PeerLease) → Contains self.new.peers l
-            → Contains self.old.peers l) }
+            run ≡ touched_run (Map lease.now) (live self.old.found m)) }
+        ensures formed { IfOk result (λ run. IfSome run (IsEvenRun self.new.found.maps)) }
+        ensures peers_from { OnOk result ((l : PeerLease) → Contains self.new.found.peers l
+            → Contains self.old.found.peers l) }
+        ensures past { self.new.past ≡ self.old.past }
         ensures steps { steps.new ≤ steps.old
-            + change_steps m (Map lease.now) self.old }
+            + change_steps m (Map lease.now) self.old.found }
     {
         levels_grow();
         maps_are_sound_with_one_more();
@@ -70,18 +71,19 @@ impl Leases {
         lease: &PeerLease,
         steps: &mut Steps<L>,
     ) -> Result<Option<OwnerRun>, Memory>
-        requires tabled { AreTabled self.old }
-        requires after { Sound (table_changed (Peer lease.now) (live self.old m)) }
+        requires tabled { AreTabled self.old.found }
+        requires after { Sound (table_changed (Peer lease.now) (live self.old.found m)) }
         requires lease { IsPeerLease lease.now }
         requires later { m < lease.now.expiry }
-        ensures tabled { OnOk result (AreTabled self.new) }
-        ensures table { OnOk result (live self.new m
-            ≡ table_changed (Peer lease.now) (live self.old m)) }
+        ensures tabled { OnOk result (AreTabled self.new.found) }
+        ensures table { OnOk result (live self.new.found m
+            ≡ table_changed (Peer lease.now) (live self.old.found m)) }
         ensures touched { IfOk result (λ run.
-            run ≡ touched_run (Peer lease.now) (live self.old m)) }
-        ensures formed { IfOk result (λ run. IfSome run (IsEvenRun self.new.maps)) }
+            run ≡ touched_run (Peer lease.now) (live self.old.found m)) }
+        ensures formed { IfOk result (λ run. IfSome run (IsEvenRun self.new.found.maps)) }
+        ensures past { self.new.past ≡ self.old.past }
         ensures steps { steps.new ≤ steps.old
-            + change_steps m (Peer lease.now) self.old }
+            + change_steps m (Peer lease.now) self.old.found }
     {
         levels_grow();
         peers_are_sound_with_one_more();
@@ -97,14 +99,15 @@ impl Leases {
         key: &Endpoint,
         steps: &mut Steps<L>,
     ) -> Option<OwnerRun>
-        requires tabled { AreTabled self.old }
-        requires there { IsAllowed (live self.old m) (DropMap key.now) }
-        ensures tabled { AreTabled self.new }
-        ensures table { live self.new m
-            ≡ table_changed (DropMap key.now) (live self.old m) }
-        ensures touched { result ≡ touched_run (DropMap key.now) (live self.old m) }
-        ensures formed { IfSome result (IsEvenRun self.new.maps) }
-        ensures peers { self.new.peers ≡ self.old.peers }
+        requires tabled { AreTabled self.old.found }
+        requires there { IsAllowed (live self.old.found m) (DropMap key.now) }
+        ensures tabled { AreTabled self.new.found }
+        ensures table { live self.new.found m
+            ≡ table_changed (DropMap key.now) (live self.old.found m) }
+        ensures touched { result ≡ touched_run (DropMap key.now) (live self.old.found m) }
+        ensures formed { IfSome result (IsEvenRun self.new.found.maps) }
+        ensures peers { self.new.found.peers ≡ self.old.found.peers }
+        ensures past { self.new.past ≡ self.old.past }
         ensures steps { steps.new ≤ steps.old + 8 * most_levels }
     {
         levels_grow();
@@ -124,17 +127,18 @@ impl Leases {
         port: u16,
         steps: &mut Steps<L>,
     ) -> Option<OwnerRun>
-        requires tabled { AreTabled self.old }
-        requires there { IsAllowed (live self.old m)
+        requires tabled { AreTabled self.old.found }
+        requires there { IsAllowed (live self.old.found m)
             (DropPeer endpoint.now remote.now port) }
-        ensures tabled { AreTabled self.new }
-        ensures table { live self.new m
-            ≡ table_changed (DropPeer endpoint.now remote.now port) (live self.old m) }
+        ensures tabled { AreTabled self.new.found }
+        ensures table { live self.new.found m
+            ≡ table_changed (DropPeer endpoint.now remote.now port) (live self.old.found m) }
         ensures touched { result
-            ≡ touched_run (DropPeer endpoint.now remote.now port) (live self.old m) }
-        ensures formed { IfSome result (IsEvenRun self.new.maps) }
-        ensures peers_from { (l : PeerLease) → Contains self.new.peers l
-            → Contains self.old.peers l }
+            ≡ touched_run (DropPeer endpoint.now remote.now port) (live self.old.found m) }
+        ensures formed { IfSome result (IsEvenRun self.new.found.maps) }
+        ensures peers_from { (l : PeerLease) → Contains self.new.found.peers l
+            → Contains self.old.found.peers l }
+        ensures past { self.new.past ≡ self.old.past }
         ensures steps { steps.new ≤ steps.old + 6 * most_levels }
     {
         levels_grow();
@@ -156,18 +160,19 @@ impl Leases {
     ) -> Result<Option<OwnerRun>, Memory>
         requires formed { IsWellFormedChange m change.now }
         requires keeps { by_apply.empties change.now ≡ false }
-        requires tabled { AreTabled self.old }
-        requires allowed { IsAllowed (live self.old m) change.now }
-        requires after { Sound (table_changed change.now (live self.old m)) }
-        ensures tabled { OnOk result (AreTabled self.new) }
-        ensures table { OnOk result (live self.new m
-            ≡ table_changed change.now (live self.old m)) }
+        requires tabled { AreTabled self.old.found }
+        requires allowed { IsAllowed (live self.old.found m) change.now }
+        requires after { Sound (table_changed change.now (live self.old.found m)) }
+        ensures tabled { OnOk result (AreTabled self.new.found) }
+        ensures table { OnOk result (live self.new.found m
+            ≡ table_changed change.now (live self.old.found m)) }
         ensures touched { IfOk result (λ run.
-            run ≡ touched_run change.now (live self.old m)) }
-        ensures formed { IfOk result (λ run. IfSome run (IsEvenRun self.new.maps)) }
+            run ≡ touched_run change.now (live self.old.found m)) }
+        ensures formed { IfOk result (λ run. IfSome run (IsEvenRun self.new.found.maps)) }
         ensures peers_from { OnOk result (puts_peer change.now ≡ false → (l : PeerLease) →
-            Contains self.new.peers l → Contains self.old.peers l) }
-        ensures steps { steps.new ≤ steps.old + change_steps m change.now self.old }
+            Contains self.new.found.peers l → Contains self.old.found.peers l) }
+        ensures past { self.new.past ≡ self.old.past }
+        ensures steps { steps.new ≤ steps.old + change_steps m change.now self.old.found }
     {
         match change {
             Change::Map(lease) => self.put_map(alloc, m, lease, steps),

@@ -1,4 +1,4 @@
-//! What is looked up in a state at a moment, which isn't before its last. A step is a look at a level of
+//! What is looked up in a state at a moment, which isn't before the one reached. A step is a look at a level of
 //! an ordered map.
 ghost use Rattle.std.specs.Prelude.{◌≡◌, ◌≤◌, ◌+◌, ◌*◌, is_some, nat_lt};
 ghost use Rattle.step_count.specs.Levels.{levels};
@@ -21,7 +21,7 @@ impl IndexedState {
         steps: &mut Steps<L>,
     ) -> Option<MapLease>
         requires kept { IsKept self.now }
-        requires later { self.now.state.last ≤ m }
+        requires later { self.now.ports.reached ≤ m }
         ensures lease { result ≡ covering self.now.state.table m endpoint.now }
         ensures steps { steps.new ≤ steps.old + 4 * levels MOST_LEASES }
     {
@@ -37,7 +37,7 @@ impl IndexedState {
         steps: &mut Steps<L>,
     ) -> bool
         requires kept { IsKept self.now }
-        requires later { self.now.state.last ≤ m }
+        requires later { self.now.ports.reached ≤ m }
         ensures covered { result ≡ is_some (covering self.now.state.table m endpoint.now) }
         ensures steps { steps.new ≤ steps.old + 3 * levels MOST_LEASES }
     {
@@ -55,7 +55,7 @@ impl IndexedState {
         steps: &mut Steps<L>,
     ) -> Option<PeerLease>
         requires kept { IsKept self.now }
-        requires later { self.now.state.last ≤ m }
+        requires later { self.now.ports.reached ≤ m }
         ensures lease { result
             ≡ peering self.now.state.table m endpoint.now remote.now remote_port }
         ensures steps { steps.new ≤ steps.old + 2 * levels MOST_LEASES }
@@ -73,7 +73,7 @@ impl IndexedState {
         steps: &mut Steps<L>,
     ) -> Option<u16>
         requires kept { IsKept self.now }
-        requires later { self.now.state.last ≤ m }
+        requires later { self.now.ports.reached ≤ m }
         ensures port { result ≡ named_port self.now.state.table m endpoint.now }
         ensures steps { steps.new ≤ steps.old + 35 * levels MOST_LEASES }
     {
@@ -89,7 +89,7 @@ impl IndexedState {
         steps: &mut Steps<L>,
     ) -> u32
         requires kept { IsKept self.now }
-        requires later { self.now.state.last ≤ m }
+        requires later { self.now.ports.reached ≤ m }
         ensures count { result ≡ peer_count self.now.state.table m endpoint.now }
         ensures steps { steps.new ≤ steps.old + 35 * levels MOST_LEASES }
     {
@@ -107,7 +107,7 @@ impl IndexedState {
         steps: &mut Steps<L>,
     ) -> u32
         requires kept { IsKept self.now }
-        requires later { self.now.state.last ≤ m }
+        requires later { self.now.ports.reached ≤ m }
         requires some { 1 ≤ most }
         requires within { endpoint.now.port + most ≤ 65536 }
         ensures room { result ≡ up_to_next (next_inside self.now.state.table m endpoint.now)
@@ -121,7 +121,7 @@ impl IndexedState {
     /// Whether fewer than `MOST_LEASES` leases are live.
     pub(crate) fn has_room<L: Ledger>(&self, m: Moment, steps: &mut Steps<L>) -> bool
         requires kept { IsKept self.now }
-        requires later { self.now.state.last ≤ m }
+        requires later { self.now.ports.reached ≤ m }
         ensures room { result ≡ nat_lt (lease_count self.now.state.table m) MOST_LEASES }
         ensures steps { steps.new ≤ steps.old + 2 * levels MOST_LEASES }
     {

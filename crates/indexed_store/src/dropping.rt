@@ -18,14 +18,14 @@ use step_count::Steps;
 impl Leases {
     /// One of the MAP leases that aren't live at `m`.
     fn ended_map<L: Ledger>(&self, m: Moment, steps: &mut Steps<L>) -> Option<MapLease>
-        ensures { IsDeadMap m self.now.maps result }
+        ensures { IsDeadMap m self.now.found.maps result }
     {
         self.maps.one_ended(m, steps)
     }
 
     /// One of the PEER leases that aren't live at `m`.
     fn ended_peer<L: Ledger>(&self, m: Moment, steps: &mut Steps<L>) -> Option<PeerLease>
-        ensures { IsDeadPeer m self.now.peers result }
+        ensures { IsDeadPeer m self.now.found.peers result }
     {
         self.peers.one_ended(m, steps).copied()
     }
@@ -37,13 +37,14 @@ impl Leases {
         left: &mut Vec<OwnerRun>,
         steps: &mut Steps<L>,
     ) -> Result<bool, Memory>
-        requires { AreTabled self.old }
-        ensures leaving { OnOk result ((start : Table) → AreLeaving m start self.old left.old.items
-            → AreLeaving m start self.new left.new.items) }
-        ensures sound { OnOk result (AreTabled self.new) }
-        ensures peers { self.new.peers ≡ self.old.peers }
-        ensures fewer { result ≡ Ok true → length self.new.maps < length self.old.maps }
-        ensures all { result ≡ Ok false → self.new.maps ≡ (live self.new m).maps }
+        requires { AreTabled self.old.found }
+        ensures leaving { OnOk result ((start : Table) → AreLeaving m start self.old.found left.old.items
+            → AreLeaving m start self.new.found left.new.items) }
+        ensures sound { OnOk result (AreTabled self.new.found) }
+        ensures peers { self.new.found.peers ≡ self.old.found.peers }
+        ensures fewer { result ≡ Ok true → length self.new.found.maps < length self.old.found.maps }
+        ensures all { result ≡ Ok false → self.new.found.maps ≡ (live self.new.found m).maps }
+        ensures past { self.new.past ≡ self.old.past }
     {
         fewer_maps_are_sound();
         let Some(lease) = self.ended_map(m, steps) else {
@@ -61,13 +62,14 @@ impl Leases {
         left: &mut Vec<OwnerRun>,
         steps: &mut Steps<L>,
     ) -> Result<bool, Memory>
-        requires { AreTabled self.old }
-        ensures leaving { OnOk result ((start : Table) → AreLeaving m start self.old left.old.items
-            → AreLeaving m start self.new left.new.items) }
-        ensures sound { OnOk result (AreTabled self.new) }
-        ensures maps { self.new.maps ≡ self.old.maps }
-        ensures fewer { result ≡ Ok true → length self.new.peers < length self.old.peers }
-        ensures all { result ≡ Ok false → self.new.peers ≡ (live self.new m).peers }
+        requires { AreTabled self.old.found }
+        ensures leaving { OnOk result ((start : Table) → AreLeaving m start self.old.found left.old.items
+            → AreLeaving m start self.new.found left.new.items) }
+        ensures sound { OnOk result (AreTabled self.new.found) }
+        ensures maps { self.new.found.maps ≡ self.old.found.maps }
+        ensures fewer { result ≡ Ok true → length self.new.found.peers < length self.old.found.peers }
+        ensures all { result ≡ Ok false → self.new.found.peers ≡ (live self.new.found m).peers }
+        ensures past { self.new.past ≡ self.old.past }
     {
         fewer_peers_are_sound();
         let Some(lease) = self.ended_peer(m, steps) else {
@@ -86,12 +88,13 @@ impl Leases {
         left: &mut Vec<OwnerRun>,
         steps: &mut Steps<L>,
     ) -> Result<(), Memory>
-        requires { AreTabled self.old }
-        ensures leaving { OnOk result ((start : Table) → AreLeaving m start self.old left.old.items
-            → AreLeaving m start self.new left.new.items) }
-        ensures sound { OnOk result (AreTabled self.new) }
-        ensures peers { self.new.peers ≡ self.old.peers }
-        ensures all { OnOk result (self.new.maps ≡ (live self.new m).maps) }
+        requires { AreTabled self.old.found }
+        ensures leaving { OnOk result ((start : Table) → AreLeaving m start self.old.found left.old.items
+            → AreLeaving m start self.new.found left.new.items) }
+        ensures sound { OnOk result (AreTabled self.new.found) }
+        ensures peers { self.new.found.peers ≡ self.old.found.peers }
+        ensures all { OnOk result (self.new.found.maps ≡ (live self.new.found m).maps) }
+        ensures past { self.new.past ≡ self.old.past }
     {
         while self.drop_map(m, left, steps)? {}
         Ok(())
@@ -104,11 +107,12 @@ impl Leases {
         left: &mut Vec<OwnerRun>,
         steps: &mut Steps<L>,
     ) -> Result<(), Memory>
-        requires { AreTabled self.old }
-        ensures leaving { OnOk result ((start : Table) → AreLeaving m start self.old left.old.items
-            → AreLeaving m start self.new left.new.items) }
-        ensures maps { self.new.maps ≡ self.old.maps }
-        ensures all { OnOk result (self.new.peers ≡ (live self.new m).peers) }
+        requires { AreTabled self.old.found }
+        ensures leaving { OnOk result ((start : Table) → AreLeaving m start self.old.found left.old.items
+            → AreLeaving m start self.new.found left.new.items) }
+        ensures maps { self.new.found.maps ≡ self.old.found.maps }
+        ensures all { OnOk result (self.new.found.peers ≡ (live self.new.found m).peers) }
+        ensures past { self.new.past ≡ self.old.past }
     {
         while self.drop_peer(m, left, steps)? {}
         Ok(())
@@ -121,9 +125,10 @@ impl Leases {
         m: Moment,
         steps: &mut Steps<L>,
     ) -> Result<Vec<OwnerRun>, Memory>
-        requires { AreTabled self.old }
-        ensures table { OnOk result (self.new ≡ live self.old m) }
-        ensures left { IfOk result (λ left. AreOfDead m self.old left.items) }
+        requires { AreTabled self.old.found }
+        ensures table { OnOk result (self.new.found ≡ live self.old.found m) }
+        ensures left { IfOk result (λ left. AreOfDead m self.old.found left.items) }
+        ensures past { self.new.past ≡ self.old.past }
     {
         let mut left = Vec::new(alloc);
         self.drop_maps(m, &mut left, steps)?;

@@ -67,13 +67,13 @@ fn hold_all<L: Ledger>(
     runs: &[OwnerRun],
     steps: &mut Steps<L>,
 ) -> Result<(), Memory>
-    requires near { AreNearAt m leases.now }
-    requires live { AreLiveAt m leases.now }
-    requires runs { AllByRecursion (IsAgreed leases.now) runs.now }
+    requires near { AreNearAt m leases.now.found }
+    requires live { AreLiveAt m leases.now.found }
+    requires runs { AllByRecursion (IsAgreed leases.now.found) runs.now }
     requires reached { ports.old.reached ≡ m }
     ensures terms { (terms : Terms) → IsOnTerms ports.old terms → IsOnTerms ports.new terms }
     ensures reached { OnOk result (ports.new.reached ≡ m) }
-    ensures ports { OnOk result (AreHeld leases.now runs.now ports.old ports.new) }
+    ensures ports { OnOk result (AreHeld leases.now.found runs.now ports.old ports.new) }
 {
     for run in runs {
         hold_run(ports, alloc, leases, m, run, Unowned::IsFree, steps)?;
@@ -91,15 +91,16 @@ fn drop_dead<L: Ledger>(
     m: Moment,
     steps: &mut Steps<L>,
 ) -> Result<(), Memory>
-    requires near { AreNearAt last leases.old }
+    requires near { AreNearAt last leases.old.found }
     requires later { last ≤ m }
     requires reached { ports.old.reached ≡ m }
     ensures terms { (terms : Terms) → IsOnTerms ports.old terms → IsOnTerms ports.new terms }
-    ensures table { OnOk result (leases.new ≡ live leases.old m) }
+    ensures table { OnOk result (leases.new.found ≡ live leases.old.found m) }
+    ensures past { leases.new.past ≡ leases.old.past }
     ensures reached { OnOk result (ports.new.reached ≡ m) }
     ensures ports { OnOk result ((s : State) → IsReachedFirst s
-        → s.table ≡ live leases.old last → s.last ≤ m
-        → IsPortsOf ports.old s → AreEndsOf m (live leases.old m) ports.new) }
+        → s.table ≡ live leases.old.found last → s.last ≤ m
+        → IsPortsOf ports.old s → AreEndsOf m (live leases.old.found m) ports.new) }
 {
     sound_tables_have_sound_maps();
     sound_tables_have_sound_peers();
@@ -119,16 +120,17 @@ fn make_change<L: Ledger>(
 ) -> Result<(), Memory>
     requires formed { IsWellFormedRecord kept.now }
     requires keeps { by_apply.empties kept.now.change ≡ false }
-    requires ready { AreReadyFor kept.now leases.old }
+    requires ready { AreReadyFor kept.now leases.old.found }
     requires reached { ports.old.reached ≡ kept.now.moment }
-    requires ports { AreEndsOf kept.now.moment leases.old ports.old }
+    requires ports { AreEndsOf kept.now.moment leases.old.found ports.old }
     ensures terms { (terms : Terms) → IsOnTerms ports.old terms → IsOnTerms ports.new terms }
-    ensures tabled { OnOk result (AreTabled leases.new) }
+    ensures tabled { OnOk result (AreTabled leases.new.found) }
+    ensures past { leases.new.past ≡ leases.old.past }
     ensures table { OnOk result
-        (live leases.new kept.now.moment ≡ table_changed kept.now.change leases.old) }
+        (live leases.new.found kept.now.moment ≡ table_changed kept.now.change leases.old.found) }
     ensures reached { OnOk result (ports.new.reached ≡ kept.now.moment) }
     ensures ports { OnOk result
-        (AreEndsOf kept.now.moment (table_changed kept.now.change leases.old) ports.new) }
+        (AreEndsOf kept.now.moment (table_changed kept.now.change leases.old.found) ports.new) }
 {
     let touched = leases.change(alloc, kept.moment, &kept.change, steps)?;
     hold_touched(
@@ -153,7 +155,7 @@ fn change<L: Ledger>(
     requires kept { IsKept state.old }
     requires fits { FitsFirst state.old.state kept.now }
     requires keeps { by_apply.empties kept.now.change ≡ false }
-    requires later { state.old.ports.reached ≤ kept.now.moment }
+    requires at_last { state.old.ports.reached ≡ state.old.state.last }
     ensures terms { (terms : Terms) → IsOnTerms state.old.ports terms
         → IsOnTerms state.new.ports terms }
     ensures applied { OnOk result
@@ -176,6 +178,7 @@ fn change<L: Ledger>(
         steps,
     )?;
     make_change(&mut state.leases, &mut state.ports, alloc, kept, steps)?;
+    state.leases.tell_all();
     state.note(kept);
     Ok(())
 }
@@ -191,7 +194,7 @@ pub(crate) fn apply_first<L: Ledger>(
     requires sound { IsReachedFirst state.old.state }
     requires kept { IsKept state.old }
     requires fits { FitsFirst state.old.state kept.now }
-    requires later { state.old.ports.reached ≤ kept.now.moment }
+    requires at_last { state.old.ports.reached ≡ state.old.state.last }
     ensures terms { (terms : Terms) → IsOnTerms state.old.ports terms
         → IsOnTerms state.new.ports terms }
     ensures applied { OnOk result

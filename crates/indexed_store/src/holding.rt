@@ -54,9 +54,9 @@ impl Leases {
     /// The later of `m` and of the expiry of the MAP lease that owns the port. If there is one, it is
     /// most often the endpoint's.
     fn held_by_map<L: Ledger>(&self, m: Moment, owner: &Owner, steps: &mut Steps<L>) -> u64
-        requires { AreNearAt m self.now }
+        requires { AreNearAt m self.now.found }
         ensures value { result
-            ≡ held_by_map m self.now.maps owner.now.protocol owner.now.external }
+            ≡ held_by_map m self.now.found.maps owner.now.protocol owner.now.external }
         ensures bounds { (m ≤ result) × (result < 2 ^ 41) }
         ensures steps { steps.new ≤ steps.old + 4 * most_levels }
     {
@@ -72,9 +72,9 @@ impl Leases {
 /// hold all of them until `from`: those before the next one that a PEER lease owns, or that one.
 fn hold_along<L: Ledger>(peers: &PeerTable, run: &OwnerRun, from: u64, steps: &mut Steps<L>) -> Hold
     requires { IsOwnerRun run.now }
-    ensures hold { IsHold from peers.now run.now result }
-    ensures whole { is_parted peers.now run.now ≡ false → result.count ≡ run.now.count }
-    ensures steps { steps.new ≤ steps.old + 18 * levels (length peers.now) }
+    ensures hold { IsHold from peers.now.found run.now result }
+    ensures whole { is_parted peers.now.found run.now ≡ false → result.count ≡ run.now.count }
+    ensures steps { steps.new ≤ steps.old + 18 * levels (length peers.now.found) }
 {
     let first = &run.first;
     let Some(next) = peers.next_owned(first.protocol, first.external, steps) else {
@@ -157,23 +157,23 @@ fn hold_piece<L: Ledger>(
     unowned: Unowned,
     steps: &mut Steps<L>,
 ) -> Result<u32, Memory>
-    requires near { AreNearAt m leases.now }
+    requires near { AreNearAt m leases.now.found }
     requires run { IsOwnerRun run.now }
     requires from { (i : ℕ) → i < run.now.count → from
-        ≡ held_by_map m leases.now.maps run.now.first.protocol (run.now.first.external + i) }
+        ≡ held_by_map m leases.now.found.maps run.now.first.protocol (run.now.first.external + i) }
     requires bounds { (m ≤ from) × (from < 2 ^ 41) }
     requires reached { ports.old.reached ≡ m }
     ensures terms { (terms : Terms) → IsOnTerms ports.old terms → IsOnTerms ports.new terms }
     ensures reached { OnOk result (ports.new.reached ≡ m) }
     ensures count { IfOk result (λ n. (1 ≤ n) × (n ≤ run.now.count)) }
     ensures ports { IfOk result (λ n.
-        Holds unowned m leases.now (up_to n run.now) ports.old ports.new) }
+        Holds unowned m leases.now.found (up_to n run.now) ports.old ports.new) }
     ensures whole { IfOk result (λ n.
-        is_parted leases.now.peers run.now ≡ false → n ≡ run.now.count) }
+        is_parted leases.now.found.peers run.now ≡ false → n ≡ run.now.count) }
     ensures each { IfOk result (λ n. unowned ≡ Rests → steps.new ≤ steps.old
         + n * (18 * most_levels + PUT_STEPS + TAKEN_STEPS)) }
     ensures steps { unowned ≡ Rests →
-        steps.new ≤ steps.old + piece_steps ports.old leases.now.peers run.now }
+        steps.new ≤ steps.old + piece_steps ports.old leases.now.found.peers run.now }
 {
     levels_grow();
     let hold = hold_along(&leases.peers, run, from, steps);
@@ -196,14 +196,14 @@ pub(crate) fn hold_run<L: Ledger>(
     unowned: Unowned,
     steps: &mut Steps<L>,
 ) -> Result<(), Memory>
-    requires near { AreNearAt m leases.now }
-    requires run { IsEvenRun leases.now.maps run.now }
+    requires near { AreNearAt m leases.now.found }
+    requires run { IsEvenRun leases.now.found.maps run.now }
     requires reached { ports.old.reached ≡ m }
     ensures terms { (terms : Terms) → IsOnTerms ports.old terms → IsOnTerms ports.new terms }
     ensures reached { OnOk result (ports.new.reached ≡ m) }
-    ensures ports { OnOk result (Holds unowned m leases.now run.now ports.old ports.new) }
+    ensures ports { OnOk result (Holds unowned m leases.now.found run.now ports.old ports.new) }
     ensures steps { unowned ≡ Rests →
-        steps.new ≤ steps.old + hold_steps ports.old leases.now.peers run.now }
+        steps.new ≤ steps.old + hold_steps ports.old leases.now.found.peers run.now }
 {
     let from = leases.held_by_map(m, &run.first, steps);
     let mut done = 0;
@@ -225,14 +225,14 @@ pub(crate) fn hold_touched<L: Ledger>(
     unowned: Unowned,
     steps: &mut Steps<L>,
 ) -> Result<(), Memory>
-    requires near { AreNearAt m leases.now }
-    requires touched { IfSome touched (IsEvenRun leases.now.maps) }
+    requires near { AreNearAt m leases.now.found }
+    requires touched { IfSome touched (IsEvenRun leases.now.found.maps) }
     requires reached { ports.old.reached ≡ m }
     ensures terms { (terms : Terms) → IsOnTerms ports.old terms → IsOnTerms ports.new terms }
     ensures reached { OnOk result (ports.new.reached ≡ m) }
-    ensures ports { OnOk result (HoldsIf unowned m leases.now touched ports.old ports.new) }
+    ensures ports { OnOk result (HoldsIf unowned m leases.now.found touched ports.old ports.new) }
     ensures steps { unowned ≡ Rests →
-        steps.new ≤ steps.old + touched_steps ports.old leases.now.peers touched }
+        steps.new ≤ steps.old + touched_steps ports.old leases.now.found.peers touched }
 {
     match touched {
         Some(run) => hold_run(ports, alloc, leases, m, &run, unowned, steps),

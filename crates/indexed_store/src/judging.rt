@@ -122,16 +122,16 @@ fn port_behind(lease: &MapLease, endpoint: &Endpoint) -> u16
 impl Leases {
     /// The live MAP lease with this key: its first endpoint.
     pub(crate) fn map_of(&self, m: Moment, key: &Endpoint) -> Option<MapLease>
-        requires { AreTabled self.now }
-        ensures { result ≡ find (is_map_of key.now) (live self.now m).maps }
+        requires { AreTabled self.now.found }
+        ensures { result ≡ find (is_map_of key.now) (live self.now.found m).maps }
     {
         with_key(self.covering(m, key), key)
     }
 
     /// The port of the live MAP lease that covers the endpoint.
     fn covered_port(&self, m: Moment, endpoint: &Endpoint) -> Option<u16>
-        requires { AreTabled self.now }
-        ensures { result ≡ the.covered_port self.now m endpoint.now }
+        requires { AreTabled self.now.found }
+        ensures { result ≡ the.covered_port self.now.found m endpoint.now }
     {
         let Some(lease) = self.covering(m, endpoint) else {
             return None;
@@ -141,9 +141,9 @@ impl Leases {
 
     /// Whether the endpoint has no port, or this one, and may have a MAP lease on it.
     fn is_free_inside(&self, m: Moment, owner: &Owner) -> bool
-        requires { AreTabled self.now }
-        ensures { result ≡ (not (is_some (covering self.now m owner.now.endpoint))
-            && the.is_at_most (named_port self.now m owner.now.endpoint) owner.now.external) }
+        requires { AreTabled self.now.found }
+        ensures { result ≡ (not (is_some (covering self.now.found m owner.now.endpoint))
+            && the.is_at_most (named_port self.now.found m owner.now.endpoint) owner.now.external) }
     {
         !self.is_covered(m, &owner.endpoint)
             && is_at_most(self.named_port(m, &owner.endpoint), owner.external)
@@ -151,15 +151,15 @@ impl Leases {
 
     /// Whether a new MAP lease may have this port.
     fn has_room_at(&self, ports: &LeasedPorts, m: Moment, owner: &Owner) -> bool
-        requires { AreTabled self.now }
-        ensures { result ≡ the.has_room_at self.now m ports.now owner.now }
+        requires { AreTabled self.now.found }
+        ensures { result ≡ the.has_room_at self.now.found m ports.now owner.now }
     {
         self.is_free_inside(m, owner) && is_unheld_by(ports, m, owner)
     }
 
     fn have_room(&self, ports: &LeasedPorts, m: Moment, owners: &[Owner]) -> bool
-        requires { AreTabled self.now }
-        ensures { result ≡ list_all (the.has_room_at self.now m ports.now) owners.now }
+        requires { AreTabled self.now.found }
+        ensures { result ≡ list_all (the.has_room_at self.now.found m ports.now) owners.now }
     {
         for owner in owners {
             if !self.has_room_at(ports, m, owner) {
@@ -172,9 +172,9 @@ impl Leases {
     /// Whether there are few enough PEER leases of the endpoint, and those that cover it have this
     /// port.
     fn is_few_inside(&self, m: Moment, owner: &Owner) -> bool
-        requires { AreTabled self.now }
-        ensures { result ≡ (nat_lt (peer_count self.now m owner.now.endpoint) MOST_PEERS
-            && the.is_at_most (the.covered_port self.now m owner.now.endpoint)
+        requires { AreTabled self.now.found }
+        ensures { result ≡ (nat_lt (peer_count self.now.found m owner.now.endpoint) MOST_PEERS
+            && the.is_at_most (the.covered_port self.now.found m owner.now.endpoint)
             owner.now.external) }
     {
         (self.peer_count(m, &owner.endpoint) as usize) < MOST_PEERS
@@ -183,10 +183,10 @@ impl Leases {
 
     /// The same, and those that name it.
     fn is_one_inside(&self, m: Moment, owner: &Owner) -> bool
-        requires { AreTabled self.now }
-        ensures { result ≡ ((nat_lt (peer_count self.now m owner.now.endpoint) MOST_PEERS
-            && the.is_at_most (the.covered_port self.now m owner.now.endpoint) owner.now.external)
-            && the.is_at_most (named_port self.now m owner.now.endpoint) owner.now.external) }
+        requires { AreTabled self.now.found }
+        ensures { result ≡ ((nat_lt (peer_count self.now.found m owner.now.endpoint) MOST_PEERS
+            && the.is_at_most (the.covered_port self.now.found m owner.now.endpoint) owner.now.external)
+            && the.is_at_most (named_port self.now.found m owner.now.endpoint) owner.now.external) }
     {
         self.is_few_inside(m, owner)
             && is_at_most(self.named_port(m, &owner.endpoint), owner.external)
@@ -194,26 +194,26 @@ impl Leases {
 
     /// Whether a new PEER lease may have this port.
     fn peer_has_room(&self, ports: &LeasedPorts, m: Moment, owner: &Owner) -> bool
-        requires { AreTabled self.now }
-        ensures { result ≡ the.peer_has_room self.now m ports.now owner.now }
+        requires { AreTabled self.now.found }
+        ensures { result ≡ the.peer_has_room self.now.found m ports.now owner.now }
     {
         self.is_one_inside(m, owner) && is_unheld_by(ports, m, owner)
     }
 
     /// Whether a new MAP lease on these ports has room.
     fn has_room_for(&self, ports: &LeasedPorts, m: Moment, owners: &[Owner]) -> bool
-        requires { AreTabled self.now }
-        ensures { result ≡ (nat_lt (lease_count self.now m) MOST_LEASES
-            && list_all (the.has_room_at self.now m ports.now) owners.now) }
+        requires { AreTabled self.now.found }
+        ensures { result ≡ (nat_lt (lease_count self.now.found m) MOST_LEASES
+            && list_all (the.has_room_at self.now.found m ports.now) owners.now) }
     {
         self.has_space(m) && self.have_room(ports, m, owners)
     }
 
     /// Whether a new PEER lease on this port has room.
     fn has_room_for_peer(&self, ports: &LeasedPorts, m: Moment, owner: &Owner) -> bool
-        requires { AreTabled self.now }
-        ensures { result ≡ (nat_lt (lease_count self.now m) MOST_LEASES
-            && the.peer_has_room self.now m ports.now owner.now) }
+        requires { AreTabled self.now.found }
+        ensures { result ≡ (nat_lt (lease_count self.now.found m) MOST_LEASES
+            && the.peer_has_room self.now.found m ports.now owner.now) }
     {
         self.has_space(m) && self.peer_has_room(ports, m, owner)
     }

@@ -4,7 +4,8 @@ use mapping_table::MapTable;
 use peer_table::PeerTable;
 use std::marker::Model;
 
-/// MAP and PEER leases, seen as a table. Those that have ended stay until they are taken out.
+/// MAP and PEER leases, seen as a table of those that are looked up, beside those that have left and all.
+/// Those that have ended stay until they are taken out, or leave.
 #[derive(Drop)]
 pub(crate) struct Leases {
     pub(crate) maps: MapTable,
@@ -12,9 +13,9 @@ pub(crate) struct Leases {
 }
 
 impl Model for Leases {
-    ghost use Rattle.pcp_base.specs.Tables.{Table};
+    ghost use Rattle.indexed_store.specs.Tabled.{Tables, tables};
 
-    ghost Value = { Table };
+    ghost Value = { Tables };
 
-    ghost view = { λ t. record { maps = t.maps; peers = t.peers } };
+    ghost view = { λ t. tables t.maps t.peers };
 }

@@ -4,7 +4,6 @@ ghost use Rattle.std.specs.List.{AllByRecursion};
 ghost use Rattle.std.specs.List.Sorted.{IsSortedBy, IsStableBy};
 ghost use Rattle.pcp_base.specs.Tables.{IsMapLease, live};
 ghost use Rattle.pcp_base.specs.Owners.{map_owners, peer_owner, owners};
-ghost use Rattle.indexed_store.specs.Tabled.{AreTabled};
 ghost use Rattle.lease_store.specs.OwnerOrder.{precedes, in_order, owners_in_order};
 ghost use Rattle.indexed_store.specs.Leading.{leads};
 
@@ -92,18 +91,18 @@ fn in_order(alloc: Global, mut owners: Vec<Owner>) -> Result<Vec<Owner>, AllocEr
 }
 
 impl Leases {
-    /// The MAP leases that are live at `m`, in the order granted.
+    /// The MAP leases that are live at `m`, those that have left among them, in the order granted.
     pub(crate) fn live_maps(&self, alloc: Global, m: Moment) -> Result<Vec<MapLease>, Memory>
-        ensures { IfOk result (λ v. v.items ≡ (live self.now m).maps) }
+        ensures { IfOk result (λ v. v.items ≡ (live self.now.all m).maps) }
     {
         let mut maps = Vec::new(alloc);
         self.maps.copy_live(alloc, m, &mut maps)?;
         Ok(maps)
     }
 
-    /// The PEER leases that are live at `m`, in the order granted.
+    /// The PEER leases that are live at `m`, those that have left among them, in the order granted.
     pub(crate) fn live_peers(&self, alloc: Global, m: Moment) -> Result<Vec<PeerLease>, Memory>
-        ensures { IfOk result (λ v. v.items ≡ (live self.now m).peers) }
+        ensures { IfOk result (λ v. v.items ≡ (live self.now.all m).peers) }
     {
         let mut peers = Vec::new(alloc);
         self.peers.copy_live(alloc, m, &mut peers)?;
@@ -112,8 +111,8 @@ impl Leases {
 
     /// The ports that leases own which are live at `m`.
     pub(crate) fn live_owners(&self, alloc: Global, m: Moment) -> Result<Vec<Owner>, Memory>
-        requires { AreTabled self.now }
-        ensures { IfOk result (λ v. v.items ≡ owners (live self.now m)) }
+        requires { AllByRecursion IsMapLease (live self.now.all m).maps }
+        ensures { IfOk result (λ v. v.items ≡ owners (live self.now.all m)) }
     {
         let maps = self.live_maps(alloc, m)?;
         let peers = self.live_peers(alloc, m)?;
@@ -125,8 +124,8 @@ impl Leases {
 
     /// The ports that live leases own, each once, in the order of protocol number and port.
     pub(crate) fn owners_in_order(&self, alloc: Global, m: Moment) -> Result<Vec<Owner>, Memory>
-        requires { AreTabled self.now }
-        ensures { IfOk result (λ v. v.items ≡ owners_in_order self.now m) }
+        requires { AllByRecursion IsMapLease (live self.now.all m).maps }
+        ensures { IfOk result (λ v. v.items ≡ owners_in_order self.now.all m) }
     {
         let owners = self.live_owners(alloc, m)?;
         Ok(in_order(alloc, owners)?)

@@ -5,7 +5,7 @@ ghost use Rattle.step_count.specs.Levels.{levels};
 ghost use Rattle.pcp_base.specs.declared.leases.TheConstants.{MOST_LEASES};
 ghost use Rattle.pcp_base.specs.Tables.{is_map_of, live};
 ghost use Rattle.indexed_store.specs.Judging.{map_with_key};
-ghost use Rattle.indexed_store.specs.Tabled.{AreTabled};
+ghost use Rattle.indexed_store.specs.Tabled.{AreTabled, AreWhole};
 ghost use Rattle.lease_store.specs.Lookups.{covering, peering, named_port, peer_count, lease_count, next_inside, up_to_next};
 
 use crate::leases::Leases;
@@ -37,9 +37,9 @@ impl Leases {
         endpoint: &Endpoint,
         steps: &mut Steps<L>,
     ) -> Option<MapLease>
-        requires { AreTabled self.now }
-        ensures lease { result ≡ covering self.now m endpoint.now }
-        ensures steps { steps.new ≤ steps.old + 4 * levels (length self.now.maps) }
+        requires { AreTabled self.now.found }
+        ensures lease { result ≡ covering self.now.found m endpoint.now }
+        ensures steps { steps.new ≤ steps.old + 4 * levels (length self.now.found.maps) }
     {
         let Some(lease) = self.maps.find(endpoint, steps) else {
             return None;
@@ -54,9 +54,9 @@ impl Leases {
         endpoint: &Endpoint,
         steps: &mut Steps<L>,
     ) -> bool
-        requires { AreTabled self.now }
-        ensures covered { result ≡ is_some (covering self.now m endpoint.now) }
-        ensures steps { steps.new ≤ steps.old + 3 * levels (length self.now.maps) }
+        requires { AreTabled self.now.found }
+        ensures covered { result ≡ is_some (covering self.now.found m endpoint.now) }
+        ensures steps { steps.new ≤ steps.old + 3 * levels (length self.now.found.maps) }
     {
         self.maps.covers(endpoint, m, steps)
     }
@@ -68,9 +68,9 @@ impl Leases {
         key: &Endpoint,
         steps: &mut Steps<L>,
     ) -> Option<MapLease>
-        requires { AreTabled self.now }
-        ensures lease { result ≡ find (is_map_of key.now) (live self.now m).maps }
-        ensures steps { steps.new ≤ steps.old + 4 * levels (length self.now.maps) }
+        requires { AreTabled self.now.found }
+        ensures lease { result ≡ find (is_map_of key.now) (live self.now.found m).maps }
+        ensures steps { steps.new ≤ steps.old + 4 * levels (length self.now.found.maps) }
     {
         with_key(self.covering_counted(m, key, steps), key)
     }
@@ -84,9 +84,9 @@ impl Leases {
         remote_port: u16,
         steps: &mut Steps<L>,
     ) -> Option<PeerLease>
-        requires { AreTabled self.now }
-        ensures lease { result ≡ peering self.now m endpoint.now remote.now remote_port }
-        ensures steps { steps.new ≤ steps.old + 2 * levels (length self.now.peers) }
+        requires { AreTabled self.now.found }
+        ensures lease { result ≡ peering self.now.found m endpoint.now remote.now remote_port }
+        ensures steps { steps.new ≤ steps.old + 2 * levels (length self.now.found.peers) }
     {
         let Some(lease) = self.peers.find(endpoint, remote, remote_port, steps) else {
             return None;
@@ -101,9 +101,9 @@ impl Leases {
         endpoint: &Endpoint,
         steps: &mut Steps<L>,
     ) -> Option<u16>
-        requires { AreTabled self.now }
-        ensures port { result ≡ named_port self.now m endpoint.now }
-        ensures steps { steps.new ≤ steps.old + 35 * levels (length self.now.peers) }
+        requires { AreTabled self.now.found }
+        ensures port { result ≡ named_port self.now.found m endpoint.now }
+        ensures steps { steps.new ≤ steps.old + 35 * levels (length self.now.found.peers) }
     {
         let Some(used) = self.peers.of_endpoint(endpoint, m, steps) else {
             return None;
@@ -118,8 +118,8 @@ impl Leases {
         endpoint: &Endpoint,
         steps: &mut Steps<L>,
     ) -> u32
-        ensures count { result ≡ peer_count self.now m endpoint.now }
-        ensures steps { steps.new ≤ steps.old + 35 * levels (length self.now.peers) }
+        ensures count { result ≡ peer_count self.now.found m endpoint.now }
+        ensures steps { steps.new ≤ steps.old + 35 * levels (length self.now.found.peers) }
     {
         let Some(used) = self.peers.of_endpoint(endpoint, m, steps) else {
             return 0;
@@ -129,10 +129,10 @@ impl Leases {
 
     /// Whether fewer than `MOST_LEASES` are live: there are fewer of all, or one has ended.
     pub(crate) fn has_space_counted<L: Ledger>(&self, m: Moment, steps: &mut Steps<L>) -> bool
-        requires { AreTabled self.now }
-        ensures space { result ≡ nat_lt (lease_count self.now m) MOST_LEASES }
-        ensures steps { steps.new ≤ steps.old + levels (length self.now.maps)
-            + levels (length self.now.peers) }
+        requires { AreTabled self.now.found }
+        ensures space { result ≡ nat_lt (lease_count self.now.found m) MOST_LEASES }
+        ensures steps { steps.new ≤ steps.old + levels (length self.now.found.maps)
+            + levels (length self.now.found.peers) }
     {
         if self.maps.len() + self.peers.len() < MOST_LEASES {
             return true;
@@ -143,12 +143,23 @@ impl Leases {
         self.peers.has_ended(m, steps)
     }
 
-    /// How many leases are live, MAP and PEER together. It looks at those that have ended.
+    /// How many leases are live, MAP and PEER together, those that have left among them. It looks at
+    /// those that have ended.
     pub(crate) fn count(&self, m: Moment) -> u32
-        requires { AreTabled self.now }
-        ensures { result ≡ lease_count self.now m }
+        requires { AreTabled self.now.found }
+        ensures { result ≡ lease_count self.now.all m }
     {
+        self.maps.tell_all();
+        self.peers.tell_all();
         self.maps.live(m) + self.peers.live(m)
+    }
+
+    /// A law: what all leases tell by those that are looked up and those that have left.
+    pub(crate) fn tell_all(&self)
+        ensures { AreWhole self.now }
+    {
+        self.maps.tell_all();
+        self.peers.tell_all();
     }
 
     /// How many of the `most` internal ports from the endpoint's on come before the next greater one
@@ -160,11 +171,11 @@ impl Leases {
         most: u32,
         steps: &mut Steps<L>,
     ) -> u32
-        requires tabled { AreTabled self.now }
+        requires tabled { AreTabled self.now.found }
         requires some { 1 ≤ most }
         requires within { endpoint.now.port + most ≤ 65536 }
         ensures room { result
-            ≡ up_to_next (next_inside self.now m endpoint.now) endpoint.now.port most }
+            ≡ up_to_next (next_inside self.now.found m endpoint.now) endpoint.now.port most }
         ensures steps { steps.new ≤ steps.old + most * (35 * levels MOST_LEASES) }
     {
         levels_grow();

@@ -8,11 +8,11 @@ ghost use Rattle.pcp_base.specs.declared.leases.PeerLease.{PeerLease};
 ghost use Rattle.pcp_base.specs.declared.records.Change.TheVariants.{Map, Peer};
 ghost use Rattle.pcp_base.specs.Apply.{table_changed};
 ghost use Rattle.pcp_base.specs.Sound.{Sound};
-ghost use Rattle.pcp_base.specs.Tables.{is_map_of, is_peer_of, live, names};
+ghost use Rattle.pcp_base.specs.Tables.{empty_table, is_map_of, is_peer_of, live, names};
 ghost use Rattle.mapping_table.specs.MapLists.{is_live_map, overlaps as overlaps_map};
 ghost use Rattle.peer_table.specs.PeerLists.{overlaps as overlaps_peer, is_ended_of, is_ended_peer};
 ghost use Rattle.indexed_store.specs.MakingWay.{HasWayForMap, HasWayForPeer};
-ghost use Rattle.indexed_store.specs.Tabled.{AreTabled};
+ghost use Rattle.indexed_store.specs.Tabled.{ArePart, AreTabled, Retires, count_of};
 ghost use Rattle.indexed_store.specs.Looks.{most_levels};
 
 use crate::leases::Leases;
@@ -23,22 +23,27 @@ use std::sync::ledger::Ledger;
 use step_count::Steps;
 use step_count::laws::levels_grow;
 
-/// How many leases that have ended a record takes out at most, beside those that are in the way of one.
+/// How many leases that have ended a record takes out or forgets at most, beside those that are in the
+/// way of one.
 const MOST_DROPPED: u32 = 2;
+
+/// How many leases that have ended leave at most when a moment is reached.
+const MOST_RETIRED: u32 = 2;
 
 impl Leases {
     /// Takes out a lease that has ended by `m`; false where there is none.
     pub(crate) fn drop_one<L: Ledger>(&mut self, m: Moment, steps: &mut Steps<L>) -> bool
-        requires { AreTabled self.old }
-        ensures tabled { AreTabled self.new }
-        ensures live { live self.new m ≡ live self.old m }
-        ensures fewer { OnTrue result (length self.new.maps + length self.new.peers
-            < length self.old.maps + length self.old.peers) }
-        ensures all { OnFalse result (self.new ≡ live self.new m) }
-        ensures maps_from { (l : MapLease) → Contains self.new.maps l
-            → Contains self.old.maps l }
-        ensures peers_from { (l : PeerLease) → Contains self.new.peers l
-            → Contains self.old.peers l }
+        requires { AreTabled self.old.found }
+        ensures tabled { AreTabled self.new.found }
+        ensures live { live self.new.found m ≡ live self.old.found m }
+        ensures fewer { OnTrue result (length self.new.found.maps + length self.new.found.peers
+            < length self.old.found.maps + length self.old.found.peers) }
+        ensures all { OnFalse result (self.new.found ≡ live self.new.found m) }
+        ensures maps_from { (l : MapLease) → Contains self.new.found.maps l
+            → Contains self.old.found.maps l }
+        ensures peers_from { (l : PeerLease) → Contains self.new.found.peers l
+            → Contains self.old.found.peers l }
+        ensures past { self.new.past ≡ self.old.past }
         ensures steps { steps.new ≤ steps.old + 11 * most_levels }
     {
         levels_grow();
@@ -56,19 +61,79 @@ impl Leases {
         true
     }
 
-    /// Takes out two leases that have ended by `m`, or all where they are fewer.
+    /// Forgets a lease that has left; false where there is none.
+    fn forget_one<L: Ledger>(&mut self, steps: &mut Steps<L>) -> bool
+        ensures found { self.new.found ≡ self.old.found }
+        ensures past { ArePart self.new.past self.old.past }
+        ensures fewer { OnTrue result (count_of self.new.past < count_of self.old.past) }
+        ensures none { OnFalse result (self.new.past ≡ empty_table) }
+        ensures steps { steps.new ≤ steps.old + 2 * most_levels }
+    {
+        levels_grow();
+        self.maps.forget_one(steps) || self.peers.forget_one(steps)
+    }
+
+    /// Forgets a lease that has left, or else takes out one that has ended by `m`; false where there is
+    /// neither.
+    fn drop_any<L: Ledger>(&mut self, m: Moment, steps: &mut Steps<L>) -> bool
+        requires { AreTabled self.old.found }
+        ensures tabled { AreTabled self.new.found }
+        ensures live { live self.new.found m ≡ live self.old.found m }
+        ensures past { ArePart self.new.past self.old.past }
+        ensures fewer { OnTrue result (count_of self.new.found + count_of self.new.past
+            < count_of self.old.found + count_of self.old.past) }
+        ensures none { OnFalse result ((self.new.past ≡ empty_table)
+            × (self.new.found ≡ live self.new.found m)) }
+        ensures steps { steps.new ≤ steps.old + 13 * most_levels }
+    {
+        self.forget_one(steps) || self.drop_one(m, steps)
+    }
+
+    /// Forgets two leases that have left, or takes out as many that have ended by `m`, or all where they
+    /// are fewer.
     pub(crate) fn drop_some<L: Ledger>(&mut self, m: Moment, steps: &mut Steps<L>)
-        requires { AreTabled self.old }
-        ensures tabled { AreTabled self.new }
-        ensures live { live self.new m ≡ live self.old m }
-        ensures some { (self.new ≡ live self.new m)
-            ⊎ (length self.new.maps + length self.new.peers + 2
-            ≤ length self.old.maps + length self.old.peers) }
-        ensures steps { steps.new ≤ steps.old + 22 * most_levels }
+        requires { AreTabled self.old.found }
+        ensures tabled { AreTabled self.new.found }
+        ensures live { live self.new.found m ≡ live self.old.found m }
+        ensures past { ArePart self.new.past self.old.past }
+        ensures some { ((self.new.past ≡ empty_table) × (self.new.found ≡ live self.new.found m))
+            ⊎ (count_of self.new.found + count_of self.new.past + 2
+            ≤ count_of self.old.found + count_of self.old.past) }
+        ensures steps { steps.new ≤ steps.old + 26 * most_levels }
     {
         let mut left = MOST_DROPPED;
         while left > 0 {
-            if !self.drop_one(m, steps) {
+            if !self.drop_any(m, steps) {
+                return;
+            }
+            left -= 1;
+        }
+    }
+
+    /// Lets a lease leave that has ended by `m`; false where none has, and where memory is wanting or as
+    /// many have left as may.
+    fn retire_one<L: Ledger>(&mut self, m: Moment, steps: &mut Steps<L>) -> bool
+        requires { AreTabled self.old.found }
+        ensures retires { Retires m self.old self.new }
+        ensures fewer { OnTrue result (count_of self.new.found < count_of self.old.found) }
+        ensures none { OnFalse result (self.new ≡ self.old) }
+        ensures steps { steps.new ≤ steps.old + 17 * most_levels }
+    {
+        levels_grow();
+        fewer_maps_are_sound();
+        fewer_peers_are_sound();
+        self.maps.retire(m, steps) || self.peers.retire(m, steps)
+    }
+
+    /// Lets some leases leave that have ended by `m`.
+    pub(crate) fn retire_some<L: Ledger>(&mut self, m: Moment, steps: &mut Steps<L>)
+        requires { AreTabled self.old.found }
+        ensures retires { Retires m self.old self.new }
+        ensures steps { steps.new ≤ steps.old + MOST_RETIRED * (17 * most_levels) }
+    {
+        let mut left = MOST_RETIRED;
+        while left > 0 {
+            if !self.retire_one(m, steps) {
                 return;
             }
             left -= 1;
@@ -78,16 +143,17 @@ impl Leases {
     /// Where there are as many leases as may be, takes out one that has ended by `m`: then fewer than
     /// that are live.
     fn make_room<L: Ledger>(&mut self, m: Moment, steps: &mut Steps<L>)
-        requires tabled { AreTabled self.old }
-        requires some { length (live self.old m).maps + length (live self.old m).peers
+        requires tabled { AreTabled self.old.found }
+        requires some { length (live self.old.found m).maps + length (live self.old.found m).peers
             < MOST_LEASES }
-        ensures tabled { AreTabled self.new }
-        ensures live { live self.new m ≡ live self.old m }
-        ensures room { length self.new.maps + length self.new.peers < MOST_LEASES }
-        ensures maps_from { (l : MapLease) → Contains self.new.maps l
-            → Contains self.old.maps l }
-        ensures peers_from { (l : PeerLease) → Contains self.new.peers l
-            → Contains self.old.peers l }
+        ensures tabled { AreTabled self.new.found }
+        ensures live { live self.new.found m ≡ live self.old.found m }
+        ensures room { length self.new.found.maps + length self.new.found.peers < MOST_LEASES }
+        ensures maps_from { (l : MapLease) → Contains self.new.found.maps l
+            → Contains self.old.found.maps l }
+        ensures peers_from { (l : PeerLease) → Contains self.new.found.peers l
+            → Contains self.old.found.peers l }
+        ensures past { self.new.past ≡ self.old.past }
         ensures steps { steps.new ≤ steps.old + 11 * most_levels }
     {
         if self.maps.len() + self.peers.len() < MOST_LEASES {
@@ -98,18 +164,19 @@ impl Leases {
 
     /// The same, where a lease isn't put in the place of another.
     fn make_room_unless<L: Ledger>(&mut self, m: Moment, there: bool, steps: &mut Steps<L>)
-        requires tabled { AreTabled self.old }
-        requires some { OnFalse there (length (live self.old m).maps
-            + length (live self.old m).peers < MOST_LEASES) }
-        ensures tabled { AreTabled self.new }
-        ensures live { live self.new m ≡ live self.old m }
-        ensures room { OnFalse there (length self.new.maps + length self.new.peers
+        requires tabled { AreTabled self.old.found }
+        requires some { OnFalse there (length (live self.old.found m).maps
+            + length (live self.old.found m).peers < MOST_LEASES) }
+        ensures tabled { AreTabled self.new.found }
+        ensures live { live self.new.found m ≡ live self.old.found m }
+        ensures room { OnFalse there (length self.new.found.maps + length self.new.found.peers
             < MOST_LEASES) }
-        ensures same { OnTrue there (self.new ≡ self.old) }
-        ensures maps_from { (l : MapLease) → Contains self.new.maps l
-            → Contains self.old.maps l }
-        ensures peers_from { (l : PeerLease) → Contains self.new.peers l
-            → Contains self.old.peers l }
+        ensures same { OnTrue there (self.new.found ≡ self.old.found) }
+        ensures maps_from { (l : MapLease) → Contains self.new.found.maps l
+            → Contains self.old.found.maps l }
+        ensures peers_from { (l : PeerLease) → Contains self.new.found.peers l
+            → Contains self.old.found.peers l }
+        ensures past { self.new.past ≡ self.old.past }
         ensures steps { steps.new ≤ steps.old + 11 * most_levels }
     {
         if !there {
@@ -119,8 +186,8 @@ impl Leases {
 
     /// Whether a MAP lease has ended by `m`.
     fn has_ended_map<L: Ledger>(&self, m: Moment, steps: &mut Steps<L>) -> bool
-        requires { AreTabled self.now }
-        ensures ended { result ≡ list_any (λ l. not (is_live_map m l)) self.now.maps }
+        requires { AreTabled self.now.found }
+        ensures ended { result ≡ list_any (λ l. not (is_live_map m l)) self.now.found.maps }
         ensures steps { steps.new ≤ steps.old + most_levels }
     {
         levels_grow();
@@ -129,8 +196,8 @@ impl Leases {
 
     /// Whether a PEER lease has ended by `m`.
     fn has_ended_peer<L: Ledger>(&self, m: Moment, steps: &mut Steps<L>) -> bool
-        requires { AreTabled self.now }
-        ensures ended { result ≡ list_any (is_ended_peer m) self.now.peers }
+        requires { AreTabled self.now.found }
+        ensures ended { result ≡ list_any (is_ended_peer m) self.now.found.peers }
         ensures steps { steps.new ≤ steps.old + most_levels }
     {
         levels_grow();
@@ -140,14 +207,15 @@ impl Leases {
     /// Takes out the MAP leases that this one overlaps. None of them is live at `m`, so there are none
     /// where no lease has ended.
     fn drop_overlapped_maps<L: Ledger>(&mut self, m: Moment, lease: &MapLease, steps: &mut Steps<L>)
-        requires tabled { AreTabled self.old }
-        requires after { Sound (table_changed (Map lease.now) (live self.old m)) }
-        ensures tabled { AreTabled self.new }
-        ensures live { live self.new m ≡ live self.old m }
-        ensures apart { list_any (overlaps_map lease.now) self.new.maps ≡ false }
-        ensures peers { self.new.peers ≡ self.old.peers }
+        requires tabled { AreTabled self.old.found }
+        requires after { Sound (table_changed (Map lease.now) (live self.old.found m)) }
+        ensures tabled { AreTabled self.new.found }
+        ensures live { live self.new.found m ≡ live self.old.found m }
+        ensures apart { list_any (overlaps_map lease.now) self.new.found.maps ≡ false }
+        ensures peers { self.new.found.peers ≡ self.old.found.peers }
+        ensures past { self.new.past ≡ self.old.past }
         ensures steps { steps.new ≤ steps.old + 7 * most_levels
-            + 14 * (count_by (overlaps_map lease.now) self.old.maps * most_levels) }
+            + 14 * (count_by (overlaps_map lease.now) self.old.found.maps * most_levels) }
     {
         levels_grow();
         sound_tables_have_sound_maps();
@@ -167,15 +235,16 @@ impl Leases {
         lease: &PeerLease,
         steps: &mut Steps<L>,
     )
-        requires tabled { AreTabled self.old }
-        requires after { Sound (table_changed (Peer lease.now) (live self.old m)) }
-        ensures tabled { AreTabled self.new }
-        ensures live { live self.new m ≡ live self.old m }
-        ensures apart { list_any (overlaps_peer lease.now) self.new.peers ≡ false }
+        requires tabled { AreTabled self.old.found }
+        requires after { Sound (table_changed (Peer lease.now) (live self.old.found m)) }
+        ensures tabled { AreTabled self.new.found }
+        ensures live { live self.new.found m ≡ live self.old.found m }
+        ensures apart { list_any (overlaps_peer lease.now) self.new.found.peers ≡ false }
         ensures fewer { (test : PeerLease → Bool) →
-            count_by test self.new.peers ≤ count_by test self.old.peers }
+            count_by test self.new.found.peers ≤ count_by test self.old.found.peers }
+        ensures past { self.new.past ≡ self.old.past }
         ensures steps { steps.new ≤ steps.old + 5 * most_levels
-            + 11 * (count_by (overlaps_peer lease.now) self.old.peers * most_levels) }
+            + 11 * (count_by (overlaps_peer lease.now) self.old.found.peers * most_levels) }
     {
         levels_grow();
         sound_tables_have_sound_peers();
@@ -188,15 +257,16 @@ impl Leases {
 
     /// Takes out the PEER leases of an endpoint that have ended by `m`.
     fn drop_ended_of<L: Ledger>(&mut self, m: Moment, endpoint: &Endpoint, steps: &mut Steps<L>)
-        requires { AreTabled self.old }
-        ensures tabled { AreTabled self.new }
-        ensures live { live self.new m ≡ live self.old m }
-        ensures of_endpoint { count_by (λ l. names l endpoint.now) self.new.peers
-            ≡ count_by (λ l. names l endpoint.now) (live self.new m).peers }
-        ensures peers_from { (l : PeerLease) → Contains self.new.peers l
-            → Contains self.old.peers l }
+        requires { AreTabled self.old.found }
+        ensures tabled { AreTabled self.new.found }
+        ensures live { live self.new.found m ≡ live self.old.found m }
+        ensures of_endpoint { count_by (λ l. names l endpoint.now) self.new.found.peers
+            ≡ count_by (λ l. names l endpoint.now) (live self.new.found m).peers }
+        ensures peers_from { (l : PeerLease) → Contains self.new.found.peers l
+            → Contains self.old.found.peers l }
+        ensures past { self.new.past ≡ self.old.past }
         ensures steps { steps.new ≤ steps.old + 18 * most_levels
-            + 24 * (count_by (is_ended_of endpoint.now m) self.old.peers * most_levels) }
+            + 24 * (count_by (is_ended_of endpoint.now m) self.old.found.peers * most_levels) }
     {
         levels_grow();
         fewer_peers_are_sound();
@@ -209,16 +279,17 @@ impl Leases {
     /// Takes out the PEER leases that this one overlaps, and those of its endpoint that have ended by
     /// `m`. None of them is live, so there are none where no lease has ended.
     fn drop_peers_in_way<L: Ledger>(&mut self, m: Moment, lease: &PeerLease, steps: &mut Steps<L>)
-        requires tabled { AreTabled self.old }
-        requires after { Sound (table_changed (Peer lease.now) (live self.old m)) }
-        ensures tabled { AreTabled self.new }
-        ensures live { live self.new m ≡ live self.old m }
-        ensures apart { list_any (overlaps_peer lease.now) self.new.peers ≡ false }
-        ensures of_endpoint { count_by (λ l. names l lease.now.endpoint) self.new.peers
-            ≡ count_by (λ l. names l lease.now.endpoint) (live self.new m).peers }
+        requires tabled { AreTabled self.old.found }
+        requires after { Sound (table_changed (Peer lease.now) (live self.old.found m)) }
+        ensures tabled { AreTabled self.new.found }
+        ensures live { live self.new.found m ≡ live self.old.found m }
+        ensures apart { list_any (overlaps_peer lease.now) self.new.found.peers ≡ false }
+        ensures of_endpoint { count_by (λ l. names l lease.now.endpoint) self.new.found.peers
+            ≡ count_by (λ l. names l lease.now.endpoint) (live self.new.found m).peers }
+        ensures past { self.new.past ≡ self.old.past }
         ensures steps { steps.new ≤ steps.old + 24 * most_levels
-            + 11 * (count_by (overlaps_peer lease.now) self.old.peers * most_levels)
-            + 24 * (count_by (is_ended_of lease.now.endpoint m) self.old.peers * most_levels) }
+            + 11 * (count_by (overlaps_peer lease.now) self.old.found.peers * most_levels)
+            + 24 * (count_by (is_ended_of lease.now.endpoint m) self.old.found.peers * most_levels) }
     {
         sound_tables_have_sound_peers();
         if !self.has_ended_peer(m, steps) {
@@ -230,15 +301,16 @@ impl Leases {
 
     /// Whether there is a MAP lease with this key. One that has ended by `m` is taken out.
     fn keeps_map<L: Ledger>(&mut self, m: Moment, key: &Endpoint, steps: &mut Steps<L>) -> bool
-        requires { AreTabled self.old }
-        ensures tabled { AreTabled self.new }
-        ensures live { live self.new m ≡ live self.old m }
-        ensures own { IfSome (find (is_map_of key.now) self.new.maps)
+        requires { AreTabled self.old.found }
+        ensures tabled { AreTabled self.new.found }
+        ensures live { live self.new.found m ≡ live self.old.found m }
+        ensures own { IfSome (find (is_map_of key.now) self.new.found.maps)
             (λ l. nat_lt m l.expiry ≡ true) }
-        ensures there { result ≡ is_some (find (is_map_of key.now) self.new.maps) }
-        ensures maps_from { (l : MapLease) → Contains self.new.maps l
-            → Contains self.old.maps l }
-        ensures peers { self.new.peers ≡ self.old.peers }
+        ensures there { result ≡ is_some (find (is_map_of key.now) self.new.found.maps) }
+        ensures maps_from { (l : MapLease) → Contains self.new.found.maps l
+            → Contains self.old.found.maps l }
+        ensures peers { self.new.found.peers ≡ self.old.found.peers }
+        ensures past { self.new.past ≡ self.old.past }
         ensures steps { steps.new ≤ steps.old + 12 * most_levels }
     {
         levels_grow();
@@ -252,9 +324,9 @@ impl Leases {
 
     /// Whether there is a PEER lease with this key, where none of its endpoint has ended by `m`.
     fn keeps_peer<L: Ledger>(&self, m: Moment, lease: &PeerLease, steps: &mut Steps<L>) -> bool
-        requires { AreTabled self.now }
+        requires { AreTabled self.now.found }
         ensures there { result ≡ is_some (find (is_peer_of lease.now.endpoint lease.now.remote
-            lease.now.remote_port) (live self.now m).peers) }
+            lease.now.remote_port) (live self.now.found m).peers) }
         ensures steps { steps.new ≤ steps.old + 2 * most_levels }
     {
         levels_grow();
@@ -270,14 +342,15 @@ impl Leases {
         lease: &MapLease,
         steps: &mut Steps<L>,
     )
-        requires tabled { AreTabled self.old }
-        requires after { Sound (table_changed (Map lease.now) (live self.old m)) }
-        ensures way { HasWayForMap m lease.now self.new }
-        ensures live { live self.new m ≡ live self.old m }
-        ensures peers_from { (l : PeerLease) → Contains self.new.peers l
-            → Contains self.old.peers l }
+        requires tabled { AreTabled self.old.found }
+        requires after { Sound (table_changed (Map lease.now) (live self.old.found m)) }
+        ensures way { HasWayForMap m lease.now self.new.found }
+        ensures live { live self.new.found m ≡ live self.old.found m }
+        ensures peers_from { (l : PeerLease) → Contains self.new.found.peers l
+            → Contains self.old.found.peers l }
+        ensures past { self.new.past ≡ self.old.past }
         ensures steps { steps.new ≤ steps.old + 30 * most_levels
-            + 14 * (count_by (overlaps_map lease.now) self.old.maps * most_levels) }
+            + 14 * (count_by (overlaps_map lease.now) self.old.found.maps * most_levels) }
     {
         self.drop_overlapped_maps(m, lease, steps);
         let there = self.keeps_map(m, &lease.first_endpoint(), steps);
@@ -291,13 +364,14 @@ impl Leases {
         lease: &PeerLease,
         steps: &mut Steps<L>,
     )
-        requires tabled { AreTabled self.old }
-        requires after { Sound (table_changed (Peer lease.now) (live self.old m)) }
-        ensures way { HasWayForPeer m lease.now self.new }
-        ensures live { live self.new m ≡ live self.old m }
+        requires tabled { AreTabled self.old.found }
+        requires after { Sound (table_changed (Peer lease.now) (live self.old.found m)) }
+        ensures way { HasWayForPeer m lease.now self.new.found }
+        ensures live { live self.new.found m ≡ live self.old.found m }
+        ensures past { self.new.past ≡ self.old.past }
         ensures steps { steps.new ≤ steps.old + 37 * most_levels
-            + 11 * (count_by (overlaps_peer lease.now) self.old.peers * most_levels)
-            + 24 * (count_by (is_ended_of lease.now.endpoint m) self.old.peers * most_levels) }
+            + 11 * (count_by (overlaps_peer lease.now) self.old.found.peers * most_levels)
+            + 24 * (count_by (is_ended_of lease.now.endpoint m) self.old.found.peers * most_levels) }
     {
         self.drop_peers_in_way(m, lease, steps);
         let there = self.keeps_peer(m, lease, steps);

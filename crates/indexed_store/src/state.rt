@@ -1,6 +1,7 @@
 //! The state that records made, in tables and ports.
-ghost use Rattle.std.specs.Prelude.{◌≡◌, ◌≤◌, ◌+◌, ◌++◌, ◌||◌, IfOk, OnOk, if◌then◌else◌};
-ghost use Rattle.indexed_store.specs.Tabled.{IsNew, state_in};
+ghost use Rattle.std.specs.Prelude.{◌≡◌, ℕ, ◌≤◌, ◌+◌, ◌++◌, ◌||◌, IfOk, OnOk, if◌then◌else◌};
+ghost use Rattle.pcp_base.specs.Tables.{live};
+ghost use Rattle.indexed_store.specs.Tabled.{ArePast, AreTabled, IsNew, state_in};
 ghost use Rattle.indexed_store.specs.Looks.{reach_steps};
 ghost use Rattle.pcp_base.specs.Apply as the;
 ghost use Rattle.lease_store.specs.declared.terms.Terms.{Terms};
@@ -22,7 +23,7 @@ use std::sync::ledger::Ledger;
 use step_count::Steps;
 
 /// The state that records made. Leases that had ended by the last moment aren't of it, but stay for a
-/// while; and its ends are the last ends of ports that came by then.
+/// while; those that ended since are of it, also where they have left; and its ends are the last ends of ports that came by then.
 #[derive(Drop)]
 pub(crate) struct IndexedState {
     pub(crate) leases: Leases,
@@ -34,15 +35,11 @@ pub(crate) struct IndexedState {
 }
 
 impl Model for IndexedState {
-    ghost use Rattle.indexed_store.specs.Tabled.{TabledState, state_in};
+    ghost use Rattle.indexed_store.specs.Tabled.{TabledState, tabled_state};
 
     ghost Value = { TabledState };
 
-    ghost view = { λ s. record {
-      state = state_in s.leases s.ports s.base s.address s.last s.started;
-      leases = s.leases;
-      ports = s.ports;
-    } };
+    ghost view = { λ s. tabled_state s.leases s.ports s.base s.address s.last s.started };
 }
 
 /// The moment 0.
@@ -91,17 +88,22 @@ impl IndexedState {
         self.started = false;
     }
 
-    /// Moves on to a moment that isn't below the one reached: some runs of ports that are due are seen
-    /// to. The state stays.
+    /// Moves on to a moment that isn't below the one reached: some leases that have ended leave, and some
+    /// runs of ports that are due are seen to. The state stays.
     pub(crate) fn reach<L: Ledger>(&mut self, m: Moment, steps: &mut Steps<L>)
-        requires { self.old.ports.reached ≤ m }
+        requires later { self.old.ports.reached ≤ m }
+        requires tabled { AreTabled self.old.leases }
         ensures state { self.new.state ≡ self.old.state }
-        ensures leases { self.new.leases ≡ self.old.leases }
+        ensures tabled { AreTabled self.new.leases }
+        ensures live { (n : ℕ) → m ≤ n → live self.new.leases n ≡ live self.old.leases n }
+        ensures past { ArePast m self.old.past → ArePast m self.new.past }
+        ensures all { self.new.all ≡ self.old.all }
         ensures ports { self.new.ports
             ≡ record (at_moment m self.old.ports) { settled = self.new.ports.settled } }
         ensures from { self.old.ports.settled ≤ self.new.ports.settled }
         ensures steps { steps.new ≤ steps.old + reach_steps }
     {
+        self.leases.retire_some(m, steps);
         self.ports.reach(m, steps);
     }
 
@@ -118,12 +120,14 @@ impl IndexedState {
 
     /// Notes what a record makes of the base, the address and the last moment.
     pub(crate) fn note(&mut self, kept: &Record)
-        ensures state { self.new.state ≡ state_in self.old.leases self.old.ports
+        ensures state { self.new.state ≡ state_in self.old.all self.old.ports
             (if the.rebases kept.now.change self.old.state.address
             then kept.now.moment else self.old.state.base)
             (the.address_changed kept.now.change self.old.state.address) kept.now.moment
             (the.is_start kept.now.change || self.old.state.started) }
         ensures leases { self.new.leases ≡ self.old.leases }
+        ensures past { self.new.past ≡ self.old.past }
+        ensures all { self.new.all ≡ self.old.all }
         ensures ports { self.new.ports ≡ self.old.ports }
     {
         self.base = base_after(kept, self.address, self.base);

@@ -18,10 +18,12 @@ use crate::state::{IndexedState, zero};
 use external_pool::{PickAsk, PickRefused, Picked};
 use lease_store::{LeaseStore, Terms};
 use leased_ports::laws::ports_follow_states;
+use mapping_table::laws::sound_tables_have_sound_maps;
 use pcp_base::{
     Address, End, Endpoint, MapLease, Memory, Moment, Owner, PeerLease, Protocol, Record,
     first_states_are_sound, new_leases_need_room, states_are_sound,
 };
+use peer_table::laws::sound_tables_have_sound_peers;
 use record_sink::RecordSink;
 use std::alloc::Global;
 use std::marker::{Brand, Model};
@@ -128,7 +130,7 @@ fn take_first<L: Ledger>(
     requires sound { IsReachedFirst state.old.state }
     requires kept { IsKept state.old }
     requires fits { FitsFirst state.old.state kept.now }
-    requires later { state.old.ports.reached ≤ kept.now.moment }
+    requires at_last { state.old.ports.reached ≡ state.old.state.last }
     ensures terms { (terms : Terms) → IsOnTerms state.old.ports terms
         → IsOnTerms state.new.ports terms }
     ensures applied { OnOk result
@@ -319,6 +321,8 @@ impl LeaseStore for IndexedStore {
         remote_port: u16,
         m: Moment,
     ) -> Option<Endpoint> {
+        sound_tables_have_sound_maps();
+        sound_tables_have_sound_peers();
         let m = later(m, self.state.last);
         self.state
             .leases
@@ -327,7 +331,7 @@ impl LeaseStore for IndexedStore {
 
     fn covered(&self, endpoint: &Endpoint, m: Moment) -> bool {
         let m = later(m, self.state.last);
-        self.state.leases.is_covered(m, endpoint)
+        self.state.leases.covered(m, endpoint)
     }
 
     fn leases(&self, m: Moment) -> u32 {

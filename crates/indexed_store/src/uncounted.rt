@@ -22,16 +22,16 @@ impl Leases {
         requires name { blank.name ≡ L.name }
         requires parts { blank.parts ≡ L.parts }
         requires some { 0 < L.parts }
-        requires tabled { AreTabled self.now }
-        ensures { result ≡ covering self.now m endpoint.now }
+        requires tabled { AreTabled self.now.found }
+        ensures { result ≡ covering self.now.found m endpoint.now }
     {
         self.covering_counted(m, endpoint, &mut Steps::<L>::begin(blank))
     }
 
     /// The MAP lease that covers the endpoint.
     pub(crate) fn covering(&self, m: Moment, endpoint: &Endpoint) -> Option<MapLease>
-        requires { AreTabled self.now }
-        ensures { result ≡ covering self.now m endpoint.now }
+        requires { AreTabled self.now.found }
+        ensures { result ≡ covering self.now.found m endpoint.now }
     {
         self.covering_from::<Brand>(m, endpoint, Blank::new(1))
     }
@@ -47,8 +47,8 @@ impl Leases {
         requires name { blank.name ≡ L.name }
         requires parts { blank.parts ≡ L.parts }
         requires some { 0 < L.parts }
-        requires tabled { AreTabled self.now }
-        ensures { result ≡ peering self.now m endpoint.now remote.now remote_port }
+        requires tabled { AreTabled self.now.found }
+        ensures { result ≡ peering self.now.found m endpoint.now remote.now remote_port }
     {
         self.peering_counted(
             m,
@@ -67,8 +67,8 @@ impl Leases {
         remote: &Address,
         remote_port: u16,
     ) -> Option<PeerLease>
-        requires { AreTabled self.now }
-        ensures { result ≡ peering self.now m endpoint.now remote.now remote_port }
+        requires { AreTabled self.now.found }
+        ensures { result ≡ peering self.now.found m endpoint.now remote.now remote_port }
     {
         self.peering_from::<Brand>(m, endpoint, remote, remote_port, Blank::new(1))
     }
@@ -82,16 +82,16 @@ impl Leases {
         requires name { blank.name ≡ L.name }
         requires parts { blank.parts ≡ L.parts }
         requires some { 0 < L.parts }
-        requires tabled { AreTabled self.now }
-        ensures { result ≡ named_port self.now m endpoint.now }
+        requires tabled { AreTabled self.now.found }
+        ensures { result ≡ named_port self.now.found m endpoint.now }
     {
         self.named_port_counted(m, endpoint, &mut Steps::<L>::begin(blank))
     }
 
     /// The external port of the PEER leases that name the endpoint.
     pub(crate) fn named_port(&self, m: Moment, endpoint: &Endpoint) -> Option<u16>
-        requires { AreTabled self.now }
-        ensures { result ≡ named_port self.now m endpoint.now }
+        requires { AreTabled self.now.found }
+        ensures { result ≡ named_port self.now.found m endpoint.now }
     {
         self.named_port_from::<Brand>(m, endpoint, Blank::new(1))
     }
@@ -100,14 +100,14 @@ impl Leases {
         requires name { blank.name ≡ L.name }
         requires parts { blank.parts ≡ L.parts }
         requires some { 0 < L.parts }
-        ensures { result ≡ peer_count self.now m endpoint.now }
+        ensures { result ≡ peer_count self.now.found m endpoint.now }
     {
         self.peer_count_counted(m, endpoint, &mut Steps::<L>::begin(blank))
     }
 
     /// How many PEER leases name the endpoint.
     pub(crate) fn peer_count(&self, m: Moment, endpoint: &Endpoint) -> u32
-        ensures { result ≡ peer_count self.now m endpoint.now }
+        ensures { result ≡ peer_count self.now.found m endpoint.now }
     {
         self.peer_count_from::<Brand>(m, endpoint, Blank::new(1))
     }
@@ -116,16 +116,16 @@ impl Leases {
         requires name { blank.name ≡ L.name }
         requires parts { blank.parts ≡ L.parts }
         requires some { 0 < L.parts }
-        requires tabled { AreTabled self.now }
-        ensures { result ≡ nat_lt (lease_count self.now m) MOST_LEASES }
+        requires tabled { AreTabled self.now.found }
+        ensures { result ≡ nat_lt (lease_count self.now.found m) MOST_LEASES }
     {
         self.has_space_counted(m, &mut Steps::<L>::begin(blank))
     }
 
     /// Whether one more lease may be live.
     pub(crate) fn has_space(&self, m: Moment) -> bool
-        requires { AreTabled self.now }
-        ensures { result ≡ nat_lt (lease_count self.now m) MOST_LEASES }
+        requires { AreTabled self.now.found }
+        ensures { result ≡ nat_lt (lease_count self.now.found m) MOST_LEASES }
     {
         self.has_space_from::<Brand>(m, Blank::new(1))
     }
@@ -134,18 +134,27 @@ impl Leases {
         requires name { blank.name ≡ L.name }
         requires parts { blank.parts ≡ L.parts }
         requires some { 0 < L.parts }
-        requires tabled { AreTabled self.now }
-        ensures { result ≡ is_some (covering self.now m endpoint.now) }
+        requires tabled { AreTabled self.now.found }
+        ensures { result ≡ is_some (covering self.now.found m endpoint.now) }
     {
         self.maps.covers(endpoint, m, &mut Steps::<L>::begin(blank))
     }
 
     /// Whether a live MAP lease covers the endpoint.
     pub(crate) fn is_covered(&self, m: Moment, endpoint: &Endpoint) -> bool
-        requires { AreTabled self.now }
-        ensures { result ≡ is_some (covering self.now m endpoint.now) }
+        requires { AreTabled self.now.found }
+        ensures { result ≡ is_some (covering self.now.found m endpoint.now) }
     {
         self.is_covered_from::<Brand>(m, endpoint, Blank::new(1))
+    }
+
+    /// Whether a MAP lease that is live at `m` covers the endpoint, those that have left among them.
+    pub(crate) fn covered(&self, m: Moment, endpoint: &Endpoint) -> bool
+        requires { AreTabled self.now.found }
+        ensures { result ≡ is_some (covering self.now.all m endpoint.now) }
+    {
+        self.tell_all();
+        self.is_covered(m, endpoint) || self.maps.past_covers(endpoint, m)
     }
 
     fn map_owning_from<L: Ledger>(
@@ -157,7 +166,7 @@ impl Leases {
         requires name { blank.name ≡ L.name }
         requires parts { blank.parts ≡ L.parts }
         requires some { 0 < L.parts }
-        ensures { result ≡ map_owning protocol port self.now.maps }
+        ensures { result ≡ map_owning protocol port self.now.found.maps }
     {
         self.maps
             .by_external(protocol, port, &mut Steps::<L>::begin(blank))
@@ -165,7 +174,7 @@ impl Leases {
 
     /// The MAP lease that owns the port, live or not.
     pub(crate) fn map_owning(&self, protocol: Protocol, port: u16) -> Option<MapLease>
-        ensures { result ≡ map_owning protocol port self.now.maps }
+        ensures { result ≡ map_owning protocol port self.now.found.maps }
     {
         self.map_owning_from::<Brand>(protocol, port, Blank::new(1))
     }
@@ -181,7 +190,7 @@ impl Leases {
         requires name { blank.name ≡ L.name }
         requires parts { blank.parts ≡ L.parts }
         requires some { 0 < L.parts }
-        ensures { result ≡ peer_opening protocol port remote.now remote_port self.now.peers }
+        ensures { result ≡ peer_opening protocol port remote.now remote_port self.now.found.peers }
     {
         let mut steps = Steps::<L>::begin(blank);
         self.peers
@@ -197,7 +206,7 @@ impl Leases {
         remote: &Address,
         remote_port: u16,
     ) -> Option<PeerLease>
-        ensures { result ≡ peer_opening protocol port remote.now remote_port self.now.peers }
+        ensures { result ≡ peer_opening protocol port remote.now remote_port self.now.found.peers }
     {
         self.peer_opening_from::<Brand>(protocol, port, remote, remote_port, Blank::new(1))
     }

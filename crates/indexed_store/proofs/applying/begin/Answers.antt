@@ -17,15 +17,15 @@ pub returns-clause-applied : goal.returns-clause-applied
 returns-clause-applied g c =
     let i = c.state.inside in
     subst (λ (x : TabledState). c.note.new.self.state ≡ apply x.state c.args.kept.now) c.state.view_is
-    (begin-applied c.records_tell_last_ends.ensures.anew (state_in i.leases i.ports i.base i.address i.last i.started) c.args.kept.now c.requires c.clear.new.self c.reach.new.self i.ports
+    (begin-applied c.records_tell_last_ends.ensures.anew (state_in i.leases.all i.ports i.base i.address i.last i.started) c.args.kept.now c.requires c.clear.new.self c.reach.new.self i.ports
     c.clear.ensures (moved_from c.clear-2.new.self c.reach.new.self (vacated i.ports) c.args.kept.now.moment c.reach.ensures.moved c.clear-2.ensures) c.note.new.self c.note.ensures.state)
 
 pub returns-clause-kept : goal.returns-clause-kept
 returns-clause-kept g c =
     let i = c.state.inside in
-    begin-kept c.records_tell_last_ends.ensures.anew (state_in i.leases i.ports i.base i.address i.last i.started) c.args.kept.now c.requires c.clear.new.self c.reach.new.self i.ports
+    begin-kept c.records_tell_last_ends.ensures.anew (state_in i.leases.all i.ports i.base i.address i.last i.started) c.args.kept.now c.requires c.clear.new.self c.reach.new.self i.ports
     c.clear.ensures (moved_from c.clear-2.new.self c.reach.new.self (vacated i.ports) c.args.kept.now.moment c.reach.ensures.moved c.clear-2.ensures)
-    c.note.new.self c.note.ensures.state c.note.ensures.leases c.note.ensures.ports
+    c.note.new.self c.note.ensures.state c.note.ensures.leases c.note.ensures.past c.note.ensures.all c.note.ensures.ports
 
 pub returns-clause-reached : goal.returns-clause-reached
 returns-clause-reached g c = ap (λ (v : Leased). v.reached) (c.note.ensures.ports ∙ c.reach.ensures.moved)

@@ -21,7 +21,7 @@ pub returns-clause-ports : goal.returns-clause-ports
 returns-clause-ports g c = both_ok c.hold_touched.result _ _ _ (λ held moment s reached fits keeps ports table is.
     let r = c.args.kept.now in
     ports-after c.ports_follow_states.ensures.told c.records_tell_last_ends.ensures.ports s r reached fits keeps
-    c.args.leases.now c.args.touched c.args.ports.now c.hold_rest.new.ports c.hold_touched.new.ports table is ports
+    c.args.leases.now.found c.args.touched c.args.ports.now c.hold_rest.new.ports c.hold_touched.new.ports table is ports
     (λ protocol port. c.in_ok-hold_rest.ensures.ports protocol port ∙ ap (λ (runs : List (Run End)). end_by_rest r.change protocol port (end_by runs protocol port))
     (runs_moved c.args.ports.now c.reach.new.self r.moment c.reach.ensures.moved)) held moment)
     c.hold_touched.ensures.ports c.hold_touched.ensures.reached
@@ -32,6 +32,6 @@ returns-in_err-hold_rest-clause-steps g c = λ t is. let reached = c.reach.ensur
 pub returns-clause-steps : goal.returns-clause-steps
 returns-clause-steps g c = λ t is.
     let reached = c.reach.ensures.steps in let rested = c.hold_rest.ensures.steps in let held = c.hold_touched.ensures.steps refl in
-    let same = touched-same c.args.leases.now.peers c.args.touched _ c.args.ports.now c.reach.new.self c.hold_rest.new.ports is (c.hold_rest.ensures.stay t)
+    let same = touched-same c.args.leases.now.found.peers c.args.touched _ c.args.ports.now c.reach.new.self c.hold_rest.new.ports is (c.hold_rest.ensures.stay t)
     (runs_moved c.args.ports.now c.reach.new.self c.args.kept.now.moment c.reach.ensures.moved) in
     omega (arith, reached, rested, held, same)

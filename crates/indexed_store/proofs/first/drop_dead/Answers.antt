@@ -14,20 +14,20 @@ use Rattle.indexed_store.proofs.first.drop_dead.Goals as goal
 pub drop_dead-requires-2 : goal.drop_dead-requires-2
 drop_dead-requires-2 g c =
     subst AreTabled (sym c.in_ok-_ended.ensures.table)
-    (sound-tabled c.sound_tables_have_sound_maps.ensures c.sound_tables_have_sound_peers.ensures (live c.args.leases.now c.args.last) c.requires.near.sound)
+    (sound-tabled c.sound_tables_have_sound_maps.ensures c.sound_tables_have_sound_peers.ensures (live c.args.leases.now.found c.args.last) c.requires.near.sound)
 
 pub hold_all-requires-clause-near : goal.hold_all-requires-clause-near
 hold_all-requires-clause-near g c =
     let maps = c.sound_tables_have_sound_maps.ensures in let peers = c.sound_tables_have_sound_peers.ensures in let m = c.args.m in
     subst (AreNearAt m) (sym c.in_ok-left.ensures.table)
-    (live-near maps peers c.drop_dead.new.self m m (subst (AreNearAt m) (sym c.in_ok-_ended.ensures.table) (live-near maps peers c.args.leases.now c.args.last m c.requires.near)))
+    (live-near maps peers c.drop_dead.new.self.found m m (subst (AreNearAt m) (sym c.in_ok-_ended.ensures.table) (live-near maps peers c.args.leases.now.found c.args.last m c.requires.near)))
 
 pub hold_all-requires-clause-live : goal.hold_all-requires-clause-live
-hold_all-requires-clause-live g c = subst (AreLiveAt c.args.m) (sym c.in_ok-left.ensures.table) (live-live c.drop_dead.new.self c.args.m)
+hold_all-requires-clause-live g c = subst (AreLiveAt c.args.m) (sym c.in_ok-left.ensures.table) (live-live c.drop_dead.new.self.found c.args.m)
 
 pub hold_all-requires-clause-runs : goal.hold_all-requires-clause-runs
 hold_all-requires-clause-runs g c =
-    let gone = c.drop_dead.new.self in
+    let gone = c.drop_dead.new.self.found in
     let sound = subst Sound (sym c.in_ok-_ended.ensures.table) c.requires.near.sound in
     let tabled = sound-tabled c.sound_tables_have_sound_maps.ensures c.sound_tables_have_sound_peers.ensures gone sound in
     subst (λ (t : Table). AllByRecursion (IsAgreed t) c.deref.result.now) (sym c.in_ok-left.ensures.table)
@@ -37,7 +37,7 @@ hold_all-requires-clause-runs g c =
 pub returns-clause-table : goal.returns-clause-table
 returns-clause-table g c =
     on_ok_weaker c.hold_all.result (λ held. c.in_ok-left.ensures.table ∙ ap (λ (t : Table). live t c.args.m) c.in_ok-_ended.ensures.table
-    ∙ uniques.live-live c.args.leases.now c.args.last c.args.m c.requires.later) c.hold_all.ensures.ports
+    ∙ uniques.live-live c.args.leases.now.found c.args.last c.args.m c.requires.later) c.hold_all.ensures.ports
 
 pub returns-clause-ports : goal.returns-clause-ports
 returns-clause-ports g c =
@@ -46,6 +46,6 @@ returns-clause-ports g c =
     let same = table ∙ sym c.in_ok-_ended.ensures.table in
     let here = subst (λ (u : Table). AreHeld u c.deref.result.now c.args.ports.now w) (c.in_ok-left.ensures.table ∙ ap (λ (u : Table). live u m) (sym same)) held in
     let of = subst (λ (u : Table). AreOfDead m u c.deref.result.now) (sym same)
-    (subst (λ (runs : List OwnerRun). AreOfDead m c.drop_dead.new.self runs) (sym c.deref.ensures.value) c.in_ok-left.ensures.left) in
-    subst (λ (u : Table). AreEndsOf m u w) (ap (λ (u : Table). live u m) table ∙ uniques.live-live c.args.leases.now c.args.last m c.requires.later)
+    (subst (λ (runs : List OwnerRun). AreOfDead m c.drop_dead.new.self.found runs) (sym c.deref.ensures.value) c.in_ok-left.ensures.left) in
+    subst (λ (u : Table). AreEndsOf m u w) (ap (λ (u : Table). live u m) table ∙ uniques.live-live c.args.leases.now.found c.args.last m c.requires.later)
     (ports-left s first c.ports_follow_states.ensures.told m c.deref.result.now c.args.ports.now w passed of ports here)) c.hold_all.ensures.ports

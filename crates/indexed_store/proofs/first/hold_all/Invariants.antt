@@ -6,4 +6,4 @@ use Rattle.indexed_store.proofs.first.hold_all.Given as goal
 
 abbrev pub invariant-loop-run : goal.invariant-loop-run
 invariant-loop-run g l = ((terms : Terms) → IsOnTerms l.initial.ports terms → IsOnTerms l.ports terms) × (l.ports.reached ≡ l.m)
-    × AreHeld l.leases (take l.run-index l.runs) l.initial.ports l.ports
+    × AreHeld l.leases.found (take l.run-index l.runs) l.initial.ports l.ports

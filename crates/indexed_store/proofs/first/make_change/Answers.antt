@@ -20,7 +20,7 @@ change-requires-clause-after g c = subst (λ (t : Table). Sound (table_changed c
 pub hold_touched-requires-clause-near : goal.hold_touched-requires-clause-near
 hold_touched-requires-clause-near g c =
     let r = c.args.kept.now in
-    near-again r.moment _ (table_changed r.change c.args.leases.now) c.in_ok-touched.ensures.tabled
+    near-again r.moment _ (table_changed r.change c.args.leases.now.found) c.in_ok-touched.ensures.tabled
     (c.in_ok-touched.ensures.table ∙ ap (table_changed r.change) (sym c.requires.ready.live_before)) c.requires.ready.sound_after c.requires.ready.after c.requires.formed.moment
 
 pub returns-clause-table : goal.returns-clause-table
@@ -29,7 +29,7 @@ returns-clause-table g c =
 
 pub returns-clause-ports : goal.returns-clause-ports
 returns-clause-ports g c =
-    let t = c.args.leases.now in let r = c.args.kept.now in let run = c.in_ok-touched.touched in let w = c.hold_touched.new.ports in
+    let t = c.args.leases.now.found in let r = c.args.kept.now in let run = c.in_ok-touched.touched in let w = c.hold_touched.new.ports in
     let sound = subst Sound (sym c.requires.ready.live_before) c.requires.ready.before.sound in
     let table = c.in_ok-touched.ensures.table ∙ ap (table_changed r.change) (sym c.requires.ready.live_before) in
     let touched = c.in_ok-touched.ensures.touched ∙ ap (touched_run r.change) (sym c.requires.ready.live_before) in

@@ -4,7 +4,7 @@ use Rattle.pcp_base.specs.declared.records.Change.{Change}
 use Rattle.pcp_base.specs.Tables.{is_map_of, is_peer_of, live}
 use Rattle.pcp_base.specs.Fits.{IsAllowed}
 use Rattle.pcp_base.specs.Rooms.{HasRoom}
-use Rattle.indexed_store.proofs.StateLooks.{leases_of, looked_in}
+use Rattle.indexed_store.proofs.StateLooks.{leases_of, looked_in, reached-later}
 use Rattle.indexed_store.proofs.judging.suits_table.Goals as goal
 
 no_some : (X : Type 0) → IsSome {T = X} None → ⊥
@@ -25,7 +25,7 @@ returns-in-DropMap c =
     let m = c.args.kept.now.moment in let t = live c.args.state.now.state.table m in let key = c.in-DropMap.key in
     subst (λ (change : Change). IsTrue c.is_some.result ↔ (IsAllowed t change × HasRoom t change)) (sym c.in-DropMap.is)
     (there (find (is_map_of key) t.maps) c.is_some.result (c.is_some.ensures ∙ ap is_some (c.map_of.ensures
-    ∙ looked_in (λ u. find (is_map_of key) u.maps) c.args.state.now m c.state.inside.leases (leases_of c.state.view_is) c.requires.current.kept c.requires.current.later)))
+    ∙ looked_in (λ u. find (is_map_of key) u.maps) c.args.state.now m c.state.inside.leases.found (leases_of c.state.view_is) c.requires.current.kept (reached-later _ _ c.requires.current))))
 
 pub returns-in-DropPeer : goal.returns-in-DropPeer
 returns-in-DropPeer c =
@@ -33,4 +33,4 @@ returns-in-DropPeer c =
     let e = c.in-DropPeer.endpoint in let remote = c.in-DropPeer.remote in let port = c.in-DropPeer.port in
     subst (λ (change : Change). IsTrue c.is_some-in-DropPeer.result ↔ (IsAllowed t change × HasRoom t change)) (sym c.in-DropPeer.is)
     (there (find (is_peer_of e remote port) t.peers) c.is_some-in-DropPeer.result (c.is_some-in-DropPeer.ensures ∙ ap is_some (c.peering.ensures
-    ∙ looked_in (λ u. find (is_peer_of e remote port) u.peers) c.args.state.now m c.state.inside.leases (leases_of c.state.view_is) c.requires.current.kept c.requires.current.later)))
+    ∙ looked_in (λ u. find (is_peer_of e remote port) u.peers) c.args.state.now m c.state.inside.leases.found (leases_of c.state.view_is) c.requires.current.kept (reached-later _ _ c.requires.current))))

@@ -5,7 +5,7 @@ use Rattle.indexed_store.specs.Tabled.{AreTabled}
 use Rattle.indexed_store.proofs.leases.Leases.drop_maps.Given as goal
 
 abbrev pub invariant-loop : goal.invariant-loop
-invariant-loop g l = AreTabled l.self × ((start : Table) → AreLeaving l.m start l.initial.self l.initial.left.items → AreLeaving l.m start l.self l.left.items) × (l.self.peers ≡ l.initial.self.peers)
+invariant-loop g l = AreTabled l.self.found × ((start : Table) → AreLeaving l.m start l.initial.self.found l.initial.left.items → AreLeaving l.m start l.self.found l.left.items) × (l.self.found.peers ≡ l.initial.self.found.peers) × (l.self.past ≡ l.initial.self.past)
 
 abbrev pub decreases-loop : goal.decreases-loop
-decreases-loop g l = length l.self.maps
+decreases-loop g l = length l.self.found.maps

@@ -9,13 +9,13 @@ use Rattle.indexed_store.proofs.leases.Leases.look.Goals as goal
 pub returns-in_default : goal.returns-in_default
 returns-in_default c =
     let lets : MapLease → Bool = λ l. allows l.filters c.args.remote.now c.args.remote_port in
-    let t = live c.args.self.now c.args.m in
+    let t = live c.args.self.now.all c.args.m in
     let maps = filter lets t.maps in let peers = filter (is_with c.args.remote.now c.args.remote_port) t.peers in
     c.behind_peer.ensures ∙ looked c.args.protocol c.args.port maps peers c.in_default.ensures
 
 pub returns : goal.returns
 returns c =
     let lets : MapLease → Bool = λ l. allows l.filters c.args.remote.now c.args.remote_port in
-    let t = live c.args.self.now c.args.m in
+    let t = live c.args.self.now.all c.args.m in
     let maps = filter lets t.maps in let peers = filter (is_with c.args.remote.now c.args.remote_port) t.peers in
     Rattle.indexed_store.proofs.LookLemmas.looked_map c.args.protocol c.args.port maps peers c.in-Some.endpoint c.in-Some.ensures

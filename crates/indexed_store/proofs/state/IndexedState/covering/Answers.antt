@@ -9,10 +9,10 @@ pub returns-clause-lease : goal.returns-clause-lease
 returns-clause-lease g c =
     let e = c.args.endpoint.now in
     c.covering_counted.ensures.lease
-    ∙ looked_in (λ t. find (λ l. covers l e) t.maps) c.args.self.now c.args.m c.self.inside.leases (leases_of c.self.view_is) c.requires.kept c.requires.later
+    ∙ looked_in (λ t. find (λ l. covers l e) t.maps) c.args.self.now c.args.m c.self.inside.leases.found (leases_of c.self.view_is) c.requires.kept c.requires.later
 
 pub returns-clause-steps : goal.returns-clause-steps
 returns-clause-steps g c =
     let taken = c.covering_counted.ensures.steps in
-    let few = maps-levels c.levels_grow.ensures c.self.inside.leases (tabled_of c.self.view_is c.requires.kept) in
+    let few = maps-levels c.levels_grow.ensures c.self.inside.leases.found (tabled_of c.self.view_is c.requires.kept) in
     omega (arith, taken, few)

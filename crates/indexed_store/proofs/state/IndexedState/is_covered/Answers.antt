@@ -9,10 +9,10 @@ pub returns-clause-covered : goal.returns-clause-covered
 returns-clause-covered g c =
     let e = c.args.endpoint.now in
     c.is_covered_counted.ensures.covered
-    ∙ looked_in (λ t. is_some (find (λ l. covers l e) t.maps)) c.args.self.now c.args.m c.self.inside.leases (leases_of c.self.view_is) c.requires.kept c.requires.later
+    ∙ looked_in (λ t. is_some (find (λ l. covers l e) t.maps)) c.args.self.now c.args.m c.self.inside.leases.found (leases_of c.self.view_is) c.requires.kept c.requires.later
 
 pub returns-clause-steps : goal.returns-clause-steps
 returns-clause-steps g c =
     let taken = c.is_covered_counted.ensures.steps in
-    let few = maps-levels c.levels_grow.ensures c.self.inside.leases (tabled_of c.self.view_is c.requires.kept) in
+    let few = maps-levels c.levels_grow.ensures c.self.inside.leases.found (tabled_of c.self.view_is c.requires.kept) in
     omega (arith, taken, few)

@@ -9,10 +9,10 @@ pub returns-clause-count : goal.returns-clause-count
 returns-clause-count g c =
     let e = c.args.endpoint.now in
     c.peer_count_counted.ensures.count
-    ∙ looked_in (λ t. count_by (λ l. names l e) t.peers) c.args.self.now c.args.m c.self.inside.leases (leases_of c.self.view_is) c.requires.kept c.requires.later
+    ∙ looked_in (λ t. count_by (λ l. names l e) t.peers) c.args.self.now c.args.m c.self.inside.leases.found (leases_of c.self.view_is) c.requires.kept c.requires.later
 
 pub returns-clause-steps : goal.returns-clause-steps
 returns-clause-steps g c =
     let taken = c.peer_count_counted.ensures.steps in
-    let few = peers-levels c.levels_grow.ensures c.self.inside.leases (tabled_of c.self.view_is c.requires.kept) in
+    let few = peers-levels c.levels_grow.ensures c.self.inside.leases.found (tabled_of c.self.view_is c.requires.kept) in
     omega (arith, taken, few)

@@ -9,5 +9,5 @@ pub returns : goal.returns
 returns c =
     let i = c.self-inside.inside.0.0 in
     c.count.ensures ∙ ap (λ (t : Table). length t.maps + length t.peers)
-    (ap (live i.leases) c.later-m.ensures ∙ sym (live-max i.leases i.last c.args.m)
+    (ap (live i.leases.all) c.later-m.ensures ∙ sym (live-max i.leases.all i.last c.args.m)
     ∙ ap (λ (x : Inside). live x.state.state.table c.args.m) c.self-inside.view_is ∙ ap (λ (x : Indexed). live x.kept.state.table c.args.m) c.self.view_is)

@@ -15,7 +15,8 @@ invariant_of-self g c =
     record {
       allowed = inv.allowed;
       sound = subst IsReached (sym c.reach.ensures.state) inv.sound;
-      kept = later-kept c.ports_follow_states.ensures.later s c.reach.new.self c.args.m c.reach.new.self.ports.settled later c.reach.ensures.state c.reach.ensures.leases c.reach.ensures.ports inv.kept;
+      kept = later-kept c.ports_follow_states.ensures.later s c.reach.new.self c.args.m c.reach.new.self.ports.settled later c.reach.ensures.state c.reach.ensures.all
+          c.reach.ensures.tabled c.reach.ensures.live c.reach.ensures.past c.reach.ensures.ports inv.kept;
       now = ap (λ (v : Leased). v.reached) c.reach.ensures.ports;
       on = subst (λ (v : Leased). IsOnTerms v c.self.inside.terms) (sym c.reach.ensures.ports) (record { low = inv.on.low; high = inv.on.high; quota = inv.on.quota });
     }
