@@ -7,7 +7,7 @@ ghost use Rattle.external_pool.specs.Calls.{IsAsk};
 ghost use Rattle.leased_ports.specs.Leased.{IsLastEnd, AreLastEnds};
 
 use crate::making::{all_are_so, at, moment};
-use Call::{FreeRun, LastEnd, Pick, PieceOf, Put, PutRun, Reach};
+use Call::{FreeRun, LastEnd, Pick, Put, PutRun, Reach};
 use PickRefused::{CannotProvide, NoPort, Quota};
 use Protocol::{Tcp, Udp};
 use Wish::{Any, Away, First, Must};
@@ -46,8 +46,6 @@ enum Call {
     PutRun(u8, Protocol, u16, u16, u32, u32),
     /// A protocol, an external port, and how many from it on.
     FreeRun(Protocol, u16, u32),
-    /// The same, with host, internal port and end of the first, and how many are one piece.
-    PieceOf(Protocol, u16, u32, Option<(u8, u16, u64)>, u32),
 }
 
 static SUGGESTED: [Call; 11] = [
@@ -188,49 +186,45 @@ static LAST: [Call; 9] = [
     Pick(2, Udp, 7, 0, 4, Any, Ok((65533, 3))),
 ];
 
-static RUNS: [Call; 29] = [
-    PieceOf(Udp, 1024, 10, None, 10),
-    PieceOf(Udp, 65535, 1, None, 1),
+static RUNS: [Call; 26] = [
+    LastEnd(1024, None),
+    LastEnd(65535, None),
     PutRun(5, Udp, 5000, 1030, 4, 100),
     LastEnd(1033, Some((5, 5003, 100))),
     LastEnd(1034, None),
-    PieceOf(Udp, 1024, 10, None, 6),
-    PieceOf(Udp, 1024, 5, None, 5),
-    PieceOf(Udp, 1030, 10, Some((5, 5000, 100)), 4),
-    PieceOf(Udp, 1032, 10, Some((5, 5002, 100)), 2),
-    PieceOf(Udp, 1032, 1, Some((5, 5002, 100)), 1),
-    PieceOf(Udp, 1034, 3, None, 3),
-    // What is free over TCP ends at the last port.
-    PieceOf(Tcp, 1030, 64506, None, 64506),
+    LastEnd(1024, None),
+    LastEnd(1030, Some((5, 5000, 100))),
+    LastEnd(1032, Some((5, 5002, 100))),
+    LastEnd(1034, None),
     // A part gets another end.
     PutRun(5, Udp, 5001, 1031, 2, 50),
-    PieceOf(Udp, 1030, 4, Some((5, 5000, 100)), 1),
-    PieceOf(Udp, 1031, 4, Some((5, 5001, 50)), 2),
-    PieceOf(Udp, 1033, 4, Some((5, 5003, 100)), 1),
+    LastEnd(1030, Some((5, 5000, 100))),
+    LastEnd(1031, Some((5, 5001, 50))),
+    LastEnd(1033, Some((5, 5003, 100))),
     // All get one, and then another.
     PutRun(5, Udp, 5000, 1030, 4, 200),
-    PieceOf(Udp, 1030, 10, Some((5, 5000, 200)), 4),
+    LastEnd(1030, Some((5, 5000, 200))),
     PutRun(5, Udp, 5000, 1030, 4, 300),
-    PieceOf(Udp, 1031, 10, Some((5, 5001, 300)), 3),
+    LastEnd(1031, Some((5, 5001, 300))),
     FreeRun(Udp, 1031, 2),
-    PieceOf(Udp, 1030, 10, Some((5, 5000, 300)), 1),
-    PieceOf(Udp, 1031, 10, None, 2),
-    PieceOf(Udp, 1033, 10, Some((5, 5003, 300)), 1),
+    LastEnd(1030, Some((5, 5000, 300))),
+    LastEnd(1031, None),
+    LastEnd(1033, Some((5, 5003, 300))),
     Pick(6, Udp, 5000, 1031, 2, Must, Ok((1031, 2))),
     Pick(6, Udp, 5000, 1030, 1, Must, Err(CannotProvide)),
     // Over several runs and what lies between.
     FreeRun(Udp, 1029, 9),
-    PieceOf(Udp, 1024, 99, None, 99),
+    LastEnd(1030, None),
     Pick(6, Udp, 5000, 1029, 9, Must, Ok((1029, 9))),
 ];
 
-static RESTING_RUNS: [Call; 21] = [
+static RESTING_RUNS: [Call; 19] = [
     PutRun(5, Udp, 5000, 1030, 4, 300),
     Reach(299),
     Pick(5, Udp, 5001, 1031, 1, Must, Err(CannotProvide)),
     // Each port rests for its own endpoint.
     Reach(300),
-    PieceOf(Udp, 1031, 9, Some((5, 5001, 300)), 3),
+    LastEnd(1031, Some((5, 5001, 300))),
     Pick(5, Udp, 5001, 1031, 1, Must, Ok((1031, 1))),
     Pick(5, Udp, 5000, 1031, 1, Must, Err(CannotProvide)),
     Pick(6, Udp, 5001, 1031, 1, Must, Err(CannotProvide)),
@@ -239,12 +233,10 @@ static RESTING_RUNS: [Call; 21] = [
     Pick(7, Tcp, 7001, 2001, 2, Must, Ok((2001, 2))),
     Pick(6, Tcp, 7001, 2001, 1, Must, Err(CannotProvide)),
     Reach(370),
-    // What is over is a piece of its own.
-    PieceOf(Tcp, 1999, 5, None, 1),
-    PieceOf(Tcp, 2000, 5, None, 3),
-    PieceOf(Udp, 1030, 9, Some((5, 5000, 300)), 4),
+    // What is over is told no more.
+    LastEnd(1030, Some((5, 5000, 300))),
     Reach(420),
-    PieceOf(Udp, 1030, 9, None, 4),
+    LastEnd(1030, None),
     // It gets others, in place and in part.
     PutRun(5, Udp, 5000, 1030, 4, 900),
     Pick(6, Udp, 5000, 1030, 1, Must, Err(CannotProvide)),
@@ -253,15 +245,12 @@ static RESTING_RUNS: [Call; 21] = [
 ];
 
 // Of all ports: the last ones of TCP, and the first ones of UDP.
-static EDGES: [Call; 8] = [
+static EDGES: [Call; 5] = [
     PutRun(8, Tcp, 8000, 65534, 2, 900),
     PutRun(8, Udp, 8000, 1, 2, 900),
-    PieceOf(Tcp, 65530, 6, None, 4),
-    PieceOf(Tcp, 65534, 2, Some((8, 8000, 900)), 2),
-    PieceOf(Udp, 0, 9, None, 1),
-    PieceOf(Udp, 1, 9, Some((8, 8000, 900)), 2),
+    LastEnd(0, None),
+    LastEnd(1, Some((8, 8000, 900))),
     FreeRun(Tcp, 0, 65536),
-    PieceOf(Tcp, 0, 65536, None, 65536),
 ];
 
 // Of the ports from 1024 on; more runs fall due at once than `reach` sees to.
@@ -446,21 +435,6 @@ fn free_run(
     Ok(true)
 }
 
-/// Whether of `most` ports so many are one piece, with this last end.
-fn is_piece(
-    ports: &LeasedPorts,
-    protocol: Protocol,
-    start: u16,
-    most: u32,
-    wanted: (Option<End>, u32),
-) -> bool {
-    if most == 0 || most > ports_from(start) {
-        return false;
-    }
-    let piece = ports.piece(protocol, start, most);
-    (piece.last, piece.count) == wanted
-}
-
 /// What is picked for a caller that counts no steps.
 fn pick_from<L: Ledger>(
     ports: &mut LeasedPorts,
@@ -574,10 +548,6 @@ fn is_answered(
             put_run(alloc, ports, &first, n)?
         }
         FreeRun(protocol, start, n) => free_run(alloc, ports, protocol, start, n)?,
-        PieceOf(protocol, start, most, row, count) => {
-            let last = end_of(protocol, start, row);
-            is_piece(ports, protocol, start, most, (last, count))
-        }
     })
 }
 

@@ -5,6 +5,8 @@
 #[cfg(test)]
 mod leased;
 #[cfg(test)]
+mod leaving;
+#[cfg(test)]
 mod making;
 #[cfg(test)]
 mod maps;

@@ -168,15 +168,15 @@ fn told(lease: Option<&MapLease>) -> Option<u16> {
 }
 
 /// Puts a lease into both bodies, where the leases after it are sound.
-fn put_both<L: Ledger>(
+pub(crate) fn put_both<L: Ledger>(
     alloc: Global,
     table: &mut MapTable,
     plain: &mut PlainMapTable,
     lease: &MapLease,
     steps: &mut Steps<L>,
 ) -> Result<bool, Memory>
-    requires { table.old ≡ plain.old }
-    ensures { OnOk result (table.new ≡ plain.new) }
+    requires { table.old.found ≡ plain.old }
+    ensures { OnOk result (table.new.found ≡ plain.new) }
 {
     if !are_sound_with(alloc, plain.leases(), lease)? {
         return Ok(false);
@@ -194,8 +194,8 @@ fn is_removed<L: Ledger>(
     wanted: Option<u16>,
     steps: &mut Steps<L>,
 ) -> bool
-    requires { table.old ≡ plain.old }
-    ensures { table.new ≡ plain.new }
+    requires { table.old.found ≡ plain.old }
+    ensures { table.new.found ≡ plain.new }
 {
     let (removed, plainly) = (table.remove(key, steps), plain.remove(key, steps));
     (told(removed.as_ref()), told(plainly.as_ref())) == (wanted, wanted)
@@ -333,8 +333,8 @@ fn is_answered<L: Ledger>(
     call: &Call,
     steps: &mut Steps<L>,
 ) -> Result<bool, Memory>
-    requires { table.old ≡ plain.old }
-    ensures { OnOk result (table.new ≡ plain.new) }
+    requires { table.old.found ≡ plain.old }
+    ensures { OnOk result (table.new.found ≡ plain.new) }
 {
     Ok(match *call {
         Put(protocol, host, internal, count, external, expiry) => {
@@ -370,7 +370,7 @@ fn first_other<L: Ledger>(
     calls: &[Call],
     steps: &mut Steps<L>,
 ) -> Result<Option<usize>, Memory>
-    requires { table.old ≡ plain.old }
+    requires { table.old.found ≡ plain.old }
 {
     for (number, call) in calls.iter().enumerate() {
         if !is_answered(alloc, table, plain, call, steps)? {

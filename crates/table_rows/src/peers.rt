@@ -201,15 +201,15 @@ fn use_told(found: Option<PortUse>) -> Option<(u16, u32)> {
 }
 
 /// Puts a lease into both bodies, where the leases after it are sound.
-fn put_both<L: Ledger>(
+pub(crate) fn put_both<L: Ledger>(
     alloc: Global,
     table: &mut PeerTable,
     plain: &mut PlainPeerTable,
     lease: &PeerLease,
     steps: &mut Steps<L>,
 ) -> Result<bool, Memory>
-    requires { table.old ≡ plain.old }
-    ensures { OnOk result (table.new ≡ plain.new) }
+    requires { table.old.found ≡ plain.old }
+    ensures { OnOk result (table.new.found ≡ plain.new) }
 {
     if !are_sound_with(alloc, plain.leases(), lease)? {
         return Ok(false);
@@ -228,8 +228,8 @@ fn is_removed<L: Ledger>(
     wanted: Option<u64>,
     steps: &mut Steps<L>,
 ) -> bool
-    requires { table.old ≡ plain.old }
-    ensures { table.new ≡ plain.new }
+    requires { table.old.found ≡ plain.old }
+    ensures { table.new.found ≡ plain.new }
 {
     let removed = table.remove(endpoint, remote.0, remote.1, steps);
     let plainly = plain.remove(endpoint, remote.0, remote.1, steps);
@@ -305,8 +305,8 @@ fn is_answered<L: Ledger>(
     call: &Call,
     steps: &mut Steps<L>,
 ) -> Result<bool, Memory>
-    requires { table.old ≡ plain.old }
-    ensures { OnOk result (table.new ≡ plain.new) }
+    requires { table.old.found ≡ plain.old }
+    ensures { OnOk result (table.new.found ≡ plain.new) }
 {
     Ok(match *call {
         Put(host, port, external, number, remote_port, expiry) => {
@@ -348,7 +348,7 @@ fn first_other<L: Ledger>(
     calls: &[Call],
     steps: &mut Steps<L>,
 ) -> Result<Option<usize>, Memory>
-    requires { table.old ≡ plain.old }
+    requires { table.old.found ≡ plain.old }
 {
     for (number, call) in calls.iter().enumerate() {
         if !is_answered(alloc, table, plain, call, steps)? {
