@@ -22,9 +22,9 @@ use Rattle.ordered_index.specs.Aged.{Aged, AreApart, AreBoth, AreNumbersOf, AreT
 use Rattle.ordered_index.specs.Orders.{Place, place_of, place_cmp}
 use Rattle.ordered_index.proofs.AgedLaws.{together, moved-values, inserted-values, inserted-length, apart-retired, apart-came, copied-mapped-passing, mapped-at, mapped-values, mapped-sorted, mapped-apart}
 use Rattle.ordered_index.proofs.Endings.{one-among}
-use Rattle.ordered_index.proofs.Entries.{false_by}
+use Rattle.ordered_index.proofs.Entries.{false_by, number_self}
 use Rattle.ordered_index.proofs.EntryLaws.{tally, count-cons, none_by, none_some}
-use Rattle.mapping_table.specs.Kept.{BareLeases, Retires, WritesFilters, AreAgedMaps, AreWholeMaps, AreOwnFilters, aged_maps, all_maps, filters_at, leases_in, live_with, place_of_lease, whole, whole_entries, with_filters}
+use Rattle.mapping_table.specs.Kept.{BareLeases, Leaves, WritesFilters, AreAgedMaps, AreWholeMaps, AreOwnFilters, aged_maps, all_maps, filters_at, leases_in, live_with, place_of_lease, whole, whole_entries, with_filters}
 use Rattle.mapping_table.specs.MapLists.{AreSoundMaps, LeavesMap, is_live_map}
 use Rattle.mapping_table.proofs.Rooms.{own_blank, own_removed}
 use Rattle.mapping_table.proofs.Sounds.{AreSoundMaps-filter}
@@ -111,7 +111,7 @@ pub none_found_live : (m : ℕ) (ls : List MapLease) → AllByRecursion (λ l. i
 none_found_live m ls none test = none-found (λ l. is_live_map m l && test l) ls (none_both m ls none test)
 
 -- a lease has left
-module _ (it it' : BareLeases) (kept kept' : BTreeMap Place (List Filter)) (past past' : BTreeMap ℕ MapLease) (n : ℕ) (l : MapLease) (h : Retires it kept past n l it' kept' past')
+module _ (it it' : BareLeases) (kept kept' : BTreeMap Place (List Filter)) (past past' : BTreeMap ℕ MapLease) (n : ℕ) (l : MapLease) (h : Leaves it kept past n l it' kept' past')
     (gone : ℕ) (inv : AreAgedMaps it kept past gone) (ordered : IsOrdered nat_cmp (leases_in it)) (there : get nat_cmp (leases_in it) n ≡ Some l) where
   left_entries : whole_entries (filters_at kept') it'.entries ≡ remove_entry (is_at (nat_cmp n)) (whole_entries (filters_at kept) it.entries)
   left_entries =
@@ -135,6 +135,9 @@ module _ (it it' : BareLeases) (kept kept' : BTreeMap Place (List Filter)) (past
   left_more : length (values past') ≡ length (values past) + 1
   left_more = ap (λ (es : List (ℕ × MapLease)). length (values_of es)) h.left.entries ∙ inserted-length past.entries n (whole (filters_at kept) l) free
 
+  left_among : Contains (values past') (whole (filters_at kept) l)
+  left_among = one-among past' n (whole (filters_at kept) l) (h.left.changed n ∙ ap (λ b. cond b (Some (whole (filters_at kept) l)) (get nat_cmp past n)) (number_self n))
+
   left_past : (x : MapLease) → Contains (values past') x → Contains (values past) x ⊎ (x ≡ whole (filters_at kept) l)
   left_past x here = inserted-values past.entries n (whole (filters_at kept) l) x (subst (λ (es : List (ℕ × MapLease)). Contains (values_of es) x) h.left.entries here)
 
@@ -145,7 +148,7 @@ module _ (it it' : BareLeases) (kept kept' : BTreeMap Place (List Filter)) (past
     dead = dead;
     found = left_found;
     past = left_past;
-    more = left_more;
+    among = left_among;
     all = left_all;
   }
 

@@ -214,7 +214,7 @@ abbrev pub lease_with : (Place → List Filter) → (leases past : BTreeMap ℕ 
 lease_with kept leases past n =
     either (option_map (whole kept) (get nat_cmp leases n)) (get nat_cmp past n)
 
--- the same of the lease with a number
+-- the same, where it is live at m
 unfoldable pub live_with : ℕ → (Place → List Filter) → (leases past : BTreeMap ℕ MapLease) → ℕ
     → Option MapLease
 live_with m kept leases past n = passing (is_live_map m) (lease_with kept leases past n)
@@ -246,7 +246,7 @@ aged_maps it kept past = record {
 }
 
 -- the lease with a number has left with its filters, and the filters at its place with it
-pub record Retires (it : BareLeases) (kept : BTreeMap Place (List Filter))
+pub record Leaves (it : BareLeases) (kept : BTreeMap Place (List Filter))
     (past : BTreeMap ℕ MapLease) (n : ℕ) (l : MapLease) (it' : BareLeases)
     (kept' : BTreeMap Place (List Filter)) (past' : BTreeMap ℕ MapLease) : Type 0 where
   pub next : it'.next ≡ it.next

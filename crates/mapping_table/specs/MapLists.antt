@@ -124,5 +124,5 @@ pub record LeavesMap (m : ℕ) (old new : Aged MapLease) : Type 0 where
   pub dead : is_live_map m lease ≡ false
   pub found : new.found ≡ filter (λ l. not (is_map_of (first_endpoint lease) l)) old.found
   pub past : (l : MapLease) → Contains new.past l → Contains old.past l ⊎ (l ≡ lease)
-  pub more : length new.past ≡ length old.past + 1
+  pub among : Contains new.past lease
   pub all : new.all ≡ old.all

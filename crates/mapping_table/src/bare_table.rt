@@ -477,7 +477,7 @@ impl BareTable {
         self.kept.one_ended(m).is_some()
     }
 
-    /// One of the leases that aren't live at `m` and expired first. It looks at one block of them.
+    /// One of the leases that aren't live at `m`. It looks at one block of them.
     pub(crate) fn one_ended<L: Ledger>(&self, m: Moment, steps: &mut Steps<L>) -> Option<&BareLease>
         ensures ended { IsDeadMap m (values_of self.now.entries) (option_copied result) }
         ensures steps { steps.new ≤ steps.old + 2 * levels (length (values_of self.now.entries)) }

@@ -14,7 +14,7 @@ use std::sync::ledger::Ledger;
 use step_count::{Steps, levels};
 
 /// The filters of the lease. The map is asked only where it has any.
-fn filters_of(filters: &BTreeMap<Place, Filters>, lease: &BareLease) -> Filters
+pub(crate) fn filters_of(filters: &BTreeMap<Place, Filters>, lease: &BareLease) -> Filters
     ensures { result ≡ filters_at filters.now (place_of_lease lease.now) }
 {
     if filters.is_empty() {

@@ -10,6 +10,7 @@ pub mod laws;
 mod lists;
 mod looks;
 mod overlaps;
+mod past;
 pub mod plain;
 mod table;
 

@@ -10,6 +10,7 @@ ghost use Rattle.mapping_table.specs.Kept.{all_maps, filters_at, lease_with, liv
 
 use crate::bare::BareLease;
 use crate::filters::whole;
+use crate::past::{PastLease, whole_past};
 use ordered_index::{Place, Slots, numbers_of_both};
 use pcp_base::{Change, Filters, MapLease, Memory, Moment, Record};
 use record_sink::RecordSink;
@@ -20,14 +21,14 @@ use std::collections::BTreeMap;
 fn lease_with(
     leases: &Slots<BareLease>,
     filters: &BTreeMap<Place, Filters>,
-    past: &BTreeMap<u64, MapLease>,
+    past: &BTreeMap<u64, PastLease>,
     number: u64,
 ) -> Option<MapLease>
     ensures { result ≡ lease_with (filters_at filters.now) leases.now past.now number }
 {
     match leases.get(&number) {
         Some(lease) => Some(whole(filters, lease)),
-        None => past.get(&number).copied(),
+        None => whole_past(past.get(&number)),
     }
 }
 
@@ -36,7 +37,7 @@ fn lease_with(
 fn live_with(
     leases: &Slots<BareLease>,
     filters: &BTreeMap<Place, Filters>,
-    past: &BTreeMap<u64, MapLease>,
+    past: &BTreeMap<u64, PastLease>,
     m: Moment,
     number: u64,
 ) -> Option<MapLease>
@@ -53,7 +54,7 @@ fn live_with(
 pub(crate) fn append_live(
     leases: &Slots<BareLease>,
     filters: &BTreeMap<Place, Filters>,
-    past: &BTreeMap<u64, MapLease>,
+    past: &BTreeMap<u64, PastLease>,
     m: Moment,
     out: &mut Vec<MapLease>,
 ) -> Result<(), AllocError>
@@ -74,7 +75,7 @@ pub(crate) fn append_live(
 pub(crate) fn append_records<K: RecordSink>(
     leases: &Slots<BareLease>,
     filters: &BTreeMap<Place, Filters>,
-    past: &BTreeMap<u64, MapLease>,
+    past: &BTreeMap<u64, PastLease>,
     m: Moment,
     out: &mut K,
 ) -> Result<(), Memory>

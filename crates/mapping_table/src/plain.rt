@@ -15,8 +15,8 @@ use std::marker::Model;
 use std::sync::ledger::Ledger;
 use step_count::Steps;
 
-/// MAP leases in the order granted. Each call that `MapTable` has too has the same clauses. It has
-/// no ordered map, so it takes no steps.
+/// MAP leases in the order granted, which none leaves. Each call that `MapTable` has too has the same
+/// clauses of them. It has no ordered map, so it takes no steps.
 #[derive(Drop)]
 pub struct PlainMapTable {
     leases: Vec<MapLease>,

@@ -1,6 +1,6 @@
 //! The fast body: leases without their filters, and beside them the filters of those that have any.
 
-ghost use Rattle.std.specs.Prelude.{◌≡◌, ◌≤◌, ◌<◌, ◌+◌, ◌-◌, ◌*◌, ◌++◌, ◌&&◌, [], ◌∷◌, not, filter, find, map, count_by, length, Some, IfOk, OnOk, OnErr};
+ghost use Rattle.std.specs.Prelude.{◌≡◌, ◌≤◌, ◌<◌, ◌+◌, ◌-◌, ◌*◌, ◌++◌, ◌&&◌, ◌⊎◌, [], ◌∷◌, not, true, false, filter, find, map, count_by, length, Some, None, Ok, IfOk, OnOk, OnErr};
 ghost use Rattle.std.specs.Map.{values_of};
 ghost use Rattle.std.specs.Ordering.{nat_cmp};
 ghost use Rattle.std.specs.BTreeMap.{get, values};
@@ -15,13 +15,14 @@ ghost use Rattle.pcp_base.specs.Records.{IsWellFormedRecord};
 ghost use Rattle.pcp_base.specs.Snapshots.{map_record};
 ghost use Rattle.pcp_base.specs.Tables.{covers};
 ghost use Rattle.ordered_index.specs.Aged.{no_leases, AreTogether};
-ghost use Rattle.mapping_table.specs.MapLists.{is_live_map, some_live_map, map_covering, map_owning, IsDeadMap, IsNextCovered, AreSoundMaps, IsOverlapped, with_map, PutsMap, RemovesMap, CopiesLiveMaps, LeavesMap};
-ghost use Rattle.mapping_table.specs.Kept.{Retires, leases_in};
+ghost use Rattle.mapping_table.specs.MapLists.{is_live_map, some_live_map, map_covering, map_owning, IsDeadMap, IsNextCovered, AreSoundMaps, IsOverlapped, with_map, PutsMap, RemovesMap, CopiesLiveMaps, LeavesMap, first_dead_map};
+ghost use Rattle.mapping_table.specs.Kept.{Leaves, leases_in};
 
 use crate::bare::BareLease;
 use crate::bare_table::BareTable;
-use crate::filters::{leave_room, make_room, whole, whole_by_look, write};
+use crate::filters::{filters_of, leave_room, make_room, whole, whole_by_look, write};
 use crate::lists::{append_live, append_records};
+use crate::past::{PastLease, whole_past};
 use ordered_index::{Place, place_of};
 use pcp_base::{Endpoint, Filters, MOST_LEASES, MapLease, Memory, Moment, Protocol};
 use record_sink::RecordSink;
@@ -44,9 +45,11 @@ pub struct MapTable {
     /// The filters of these leases that have any, by the places of their first endpoints.
     filters: BTreeMap<Place, Filters>,
     /// The leases that have left, with their filters, by the numbers that they had.
-    past: BTreeMap<u64, MapLease>,
+    past: BTreeMap<u64, PastLease>,
     /// No lease that has left is live from this moment on.
     gone: u64,
+    /// Where memory for the filters of those that leave is taken.
+    alloc: Global,
 }
 
 impl Model for MapTable {
@@ -62,19 +65,19 @@ impl Model for MapTable {
 }
 
 /// Whether the lease is live at `m` and owns the external port.
-fn is_live_owner(lease: &MapLease, protocol: Protocol, port: u16, m: Moment) -> bool
+fn is_live_owner(lease: &PastLease, protocol: Protocol, port: u16, m: Moment) -> bool
     ensures { result ≡ (is_live_map m lease.now && owns protocol port lease.now) }
 {
-    lease.is_live(m) && BareLease::of(lease).owns(protocol, port)
+    lease.is_live(m) && lease.owns(protocol, port)
 }
 
 /// The first of the leases that are live at `m` that owns the external port.
 fn owner_in(
-    past: &BTreeMap<u64, MapLease>,
+    past: &BTreeMap<u64, PastLease>,
     protocol: Protocol,
     port: u16,
     m: Moment,
-) -> Option<&MapLease>
+) -> Option<&PastLease>
     ensures { option_copied result
         ≡ find (λ l. is_live_map m l && owns protocol port l) (values past.now) }
 {
@@ -85,15 +88,16 @@ fn owner_in(
 /// Lets the lease with a number leave, with its filters. The one error is want of memory, which
 /// changes nothing.
 fn leave<L: Ledger>(
+    alloc: Global,
     leases: &mut BareTable,
     filters: &mut BTreeMap<Place, Filters>,
-    past: &mut BTreeMap<u64, MapLease>,
+    past: &mut BTreeMap<u64, PastLease>,
     number: u64,
     lease: &BareLease,
     steps: &mut Steps<L>,
 ) -> Result<(), AllocError>
     requires { get nat_cmp (leases_in leases.old) number ≡ Some lease.now }
-    ensures ok { OnOk result (Retires leases.old filters.old past.old number lease.now
+    ensures ok { OnOk result (Leaves leases.old filters.old past.old number lease.now
         leases.new filters.new past.new) }
     ensures leases { OnErr result (leases.new ≡ leases.old) }
     ensures filters { OnErr result (filters.new ≡ filters.old) }
@@ -102,7 +106,7 @@ fn leave<L: Ledger>(
         + 7 * levels (length (values_of leases.old.entries)) + levels MOST_LEASES }
 {
     steps.take(3 * levels(leases.len()) + levels(MOST_LEASES));
-    let left = whole(filters, lease);
+    let left = PastLease::of(alloc, lease, filters_of(filters, lease))?;
     past.insert(number, left)?;
     leases.take(number, lease, steps);
     write(filters, lease.place(), Filters::none());
@@ -119,6 +123,7 @@ impl MapTable {
             filters: BTreeMap::new(alloc),
             past: BTreeMap::new(alloc),
             gone: 0,
+            alloc,
         })
     }
 
@@ -196,8 +201,9 @@ impl MapTable {
         self.leases.overlapping(&BareLease::of(lease), steps)
     }
 
-    /// How many leases are live at `m`, those that have left among them. It looks at blocks of
-    /// leases of which one has ended, and at those that have left where some may be live yet.
+    /// How many leases are live at `m`, those that have left among them. It looks at blocks of leases
+    /// of which one has ended, and at those that have left where `m` is before a moment at which one
+    /// left.
     pub fn live(&self, m: Moment) -> u32
         ensures { result ≡ count_by (is_live_map m) self.now.all }
     {
@@ -216,8 +222,8 @@ impl MapTable {
         self.past.values().filter(|lease| lease.is_live(m)).count() as u32
     }
 
-    /// Whether a lease that has left and is live at `m` covers the endpoint. It looks at none where
-    /// all have ended by then.
+    /// Whether a lease that has left and is live at `m` covers the endpoint. It looks at those that
+    /// have left where `m` is before a moment at which one left.
     pub fn past_covers(&self, endpoint: &Endpoint, m: Moment) -> bool
         ensures { result ≡ list_any (λ l. is_live_map m l && covers l endpoint.now) self.now.past }
     {
@@ -230,7 +236,7 @@ impl MapTable {
     }
 
     /// The first of the leases that have left and are live at `m` that owns the external port. It
-    /// looks at none where all have ended by then.
+    /// looks at those that have left where `m` is before a moment at which one left.
     pub fn past_owner(&self, protocol: Protocol, port: u16, m: Moment) -> Option<MapLease>
         ensures { result
             ≡ find (λ l. is_live_map m l && owns protocol port l) self.now.past }
@@ -238,7 +244,7 @@ impl MapTable {
         if self.gone <= m.get() {
             return None;
         }
-        owner_in(&self.past, protocol, port, m).copied()
+        whole_past(owner_in(&self.past, protocol, port, m))
     }
 
     /// A law: what all leases tell by those that are looked up and those that have left.
@@ -308,40 +314,42 @@ impl MapTable {
         Some(lease)
     }
 
-    /// Lets one of the leases that aren't live at `m` and expired first leave: it isn't looked up
-    /// any more, and stays among all. False, and nothing changes, where none has ended, where as
-    /// many as may be have left, or where memory is wanting.
-    pub fn retire<L: Ledger>(&mut self, m: Moment, steps: &mut Steps<L>) -> bool
-        ensures left { OnTrue result (LeavesMap m self.old self.new) }
-        ensures none { OnFalse result (self.new ≡ self.old) }
+    /// Lets one of the leases that aren't live at `m` leave: it isn't looked up any more, and stays
+    /// among all. False where none has ended, or as many as may be have left. The one error is want
+    /// of memory, which changes nothing.
+    pub fn retire<L: Ledger>(&mut self, m: Moment, steps: &mut Steps<L>) -> Result<bool, Memory>
+        ensures left { result ≡ Ok true → LeavesMap m self.old self.new }
+        ensures none { result ≡ Ok false → self.new ≡ self.old }
+        ensures cause { result ≡ Ok false → (first_dead_map m self.old.found ≡ None)
+            ⊎ (MOST_LEASES ≤ length self.old.past) }
+        ensures err { OnErr result (self.new ≡ self.old) }
         ensures steps { steps.new ≤ steps.old + 9 * levels (length self.old.found)
             + levels MOST_LEASES }
     {
         if self.past.len() >= MOST_LEASES {
-            return false;
+            return Ok(false);
         }
         self.leases.tell_order();
         let Some(entry) = self.leases.ended_entry(m, steps) else {
-            return false;
+            return Ok(false);
         };
         let (number, lease) = entry;
-        let Ok(()) = leave(
+        leave(
+            self.alloc,
             &mut self.leases,
             &mut self.filters,
             &mut self.past,
             number,
             &lease,
             steps,
-        ) else {
-            return false;
-        };
+        )?;
         self.gone = self.gone.max(m.get());
-        true
+        Ok(true)
     }
 
     /// Forgets the first of the leases that have left; false where none has.
     pub fn forget_one<L: Ledger>(&mut self, steps: &mut Steps<L>) -> bool
-        ensures gone { OnTrue result ((l : MapLease) × (self.old.past ≡ l ∷ self.new.past)) }
+        ensures forgot { OnTrue result ((l : MapLease) × (self.old.past ≡ l ∷ self.new.past)) }
         ensures none { OnFalse result ((self.old.past ≡ []) × (self.new.past ≡ [])) }
         ensures found { self.new.found ≡ self.old.found }
         ensures steps { steps.new ≡ steps.old + levels MOST_LEASES }
@@ -361,7 +369,7 @@ impl MapTable {
         self.leases.has_ended(m, steps)
     }
 
-    /// One of the leases that aren't live at `m` and expired first. It looks at one block of them.
+    /// One of the leases that aren't live at `m`. It looks at one block of them.
     pub fn one_ended<L: Ledger>(&self, m: Moment, steps: &mut Steps<L>) -> Option<MapLease>
         ensures ended { IsDeadMap m self.now.found result }
         ensures steps { steps.new ≤ steps.old + 3 * levels (length self.now.found) }

@@ -207,7 +207,7 @@ module _ {X : Type 0} (es past : List (ℕ × X)) (sorted : InOrder es) (past_so
 
   pub together : (found : List X) → found ≡ values_of es → AreTogether (record { found = found; past = values_of past; all = values_of (entries_with past es) })
   together found is = record {
-    either = λ x there. elim (with_either es past x (IsIn-from_Contains (values_of (entries_with past es)) x there)) [
+    of_all = λ x there. elim (with_either es past x (IsIn-from_Contains (values_of (entries_with past es)) x there)) [
       | inl old ↦ inl (subst (λ (xs : List X). Contains xs x) (sym is) (Contains-from_IsIn (values_of es) x old))
       | inr left ↦ inr (Contains-from_IsIn (values_of past) x left)
     ];

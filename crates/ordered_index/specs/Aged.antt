@@ -1,4 +1,4 @@
--- Leases of which some have left their table (our own).
+-- Leases of which some have left what they are looked up by (our own).
 use Rattle.std.specs.Prelude.{◌≡◌, ℕ, ◌+◌, ◌<◌, ◌⊎◌, Bool, false, List, [], ◌∷◌, Contains, count_by, filter, Option, Some, None, IsSome, if◌then◌else◌}
 use Rattle.std.specs.List.{AllByRecursion}
 use Rattle.std.specs.List.Sorted.{IsStrictlySortedBy}
@@ -11,17 +11,18 @@ pub record Aged (L : Type 0) : Type 0 where
   pub found : List L
   -- those that have left, in the order granted
   pub past : List L
-  -- all of them, in the order granted
+  -- all of them
   pub all : List L
 
 -- no lease
 abbrev pub no_leases : {L : Type 0} → Aged L
 no_leases = record { found = []; past = []; all = [] }
 
--- all are those that are found and those that have left; and what a test passes of all that passes
--- none of those that have left, it passes of those that are found, in the same order
+-- all are those that are found and those that have left, and as many of them pass a test as of both;
+-- where none of those that have left passes, those that pass are those that are found and pass, in
+-- the same order
 pub record AreTogether {L : Type 0} (t : Aged L) : Type 0 where
-  pub either : (l : L) → Contains t.all l → Contains t.found l ⊎ Contains t.past l
+  pub of_all : (l : L) → Contains t.all l → Contains t.found l ⊎ Contains t.past l
   pub of_found : (l : L) → Contains t.found l → Contains t.all l
   pub of_past : (l : L) → Contains t.past l → Contains t.all l
   pub same : (test : L → Bool) → AllByRecursion (λ l. test l ≡ false) t.past

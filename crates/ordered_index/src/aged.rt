@@ -1,4 +1,4 @@
-//! Leases that have left their table, beside those that it looks up.
+//! Leases that have left what they are looked up by, beside those that haven't.
 
 ghost use Rattle.std.specs.Prelude.{IfOk};
 ghost use Rattle.ordered_index.specs.Aged.{AreBoth, AreNumbersOf};

@@ -1,5 +1,5 @@
 -- Leases that leave, and those that are forgotten.
-use Rattle.std.proofs.Common.{◌≡◌, ℕ, ◌+◌, ◌≤◌, ◌<◌, nat_lt, false, List, ◌∷◌, length, Contains, Option, Some, None, IsSome, Result, Ok, Err, OnErr, refl, sym, ap, ◌∙◌, subst, inl, inr, ◌⊎◌, arith}
+use Rattle.std.proofs.Common.{◌≡◌, ℕ, ◌+◌, ◌≤◌, ◌<◌, nat_lt, cond, false, List, ◌∷◌, length, Contains, Option, Some, None, IsSome, Result, Ok, Err, OnErr, refl, sym, ap, ◌∙◌, subst, inl, inr, ◌⊎◌, arith}
 use Rattle.std.specs.Prelude.{IfSome, IfNone, is_some}
 use Rattle.std.specs.List.{AllByRecursion}
 use Rattle.std.specs.List.Sorted.{IsStrictlySortedBy}
@@ -18,6 +18,7 @@ use Rattle.ordered_index.specs.MapSteps.{Inserts}
 use Rattle.ordered_index.specs.Steps.{Forgets}
 use Rattle.ordered_index.proofs.AgedLaws.{apart-popped, apart-retired, inserted-length, inserted-values, moved-values}
 use Rattle.ordered_index.proofs.Endings.{one-stands, one-among}
+use Rattle.ordered_index.proofs.Entries.{number_self}
 use Rattle.ordered_index.proofs.EntryLaws.{none_by, none_some, some_one}
 use Rattle.ordered_index.proofs.Keeping.{key-to}
 use Rattle.peer_table.specs.PeerLists.{is_live_peer, LeavesPeer, RemovesPeer}
@@ -122,7 +123,7 @@ module _ (it : Numbered PeerLease PeerKey Opening) (past : BTreeMap ℕ PeerLeas
       dead = over;
       found = removed.1.removed;
       past = came;
-      more = one_more;
+      among = one-among past' n x (inserts.changed n ∙ ap (λ b. cond b (Some x) (get nat_cmp past n)) (number_self n));
       all = moved-values it.leases.entries past.entries h.kept.kept.ordered h.apart.ordered h.apart.apart n x at_n new.leases.entries past'.entries forgets.leases.entries inserts.entries;
     }
 

@@ -146,7 +146,7 @@ pub record TellsOther (differs : PeerLease → PeerLease → Bool) (l : PeerLeas
 abbrev pub lease_with : (leases past : BTreeMap ℕ PeerLease) → ℕ → Option PeerLease
 lease_with leases past n = either (get nat_cmp leases n) (get nat_cmp past n)
 
--- the same of the lease with a number
+-- the same, where it is live at m
 unfoldable pub live_with : ℕ → (leases past : BTreeMap ℕ PeerLease) → ℕ → Option PeerLease
 live_with m leases past n = passing (is_live_peer m) (lease_with leases past n)
 

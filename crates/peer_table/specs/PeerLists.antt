@@ -172,5 +172,5 @@ pub record LeavesPeer (m : ℕ) (old new : Aged PeerLease) : Type 0 where
   pub found : new.found
       ≡ filter (λ l. not (is_peer_of lease.endpoint lease.remote lease.remote_port l)) old.found
   pub past : (l : PeerLease) → Contains new.past l → Contains old.past l ⊎ (l ≡ lease)
-  pub more : length new.past ≡ length old.past + 1
+  pub among : Contains new.past lease
   pub all : new.all ≡ old.all

@@ -16,8 +16,8 @@ use std::marker::Model;
 use std::sync::ledger::Ledger;
 use step_count::Steps;
 
-/// PEER leases in the order granted. Each call that `PeerTable` has too has the same clauses. It has
-/// no ordered map, so it takes no steps.
+/// PEER leases in the order granted, which none leaves. Each call that `PeerTable` has too has the
+/// same clauses of them. It has no ordered map, so it takes no steps.
 #[derive(Drop)]
 pub struct PlainPeerTable {
     leases: Vec<PeerLease>,

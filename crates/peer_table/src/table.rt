@@ -1,6 +1,6 @@
 //! The fast body: leases by numbers that grow, and ordered maps to the numbers beside them.
 
-ghost use Rattle.std.specs.Prelude.{◌≡◌, ◌≤◌, ◌+◌, ◌-◌, ◌*◌, ◌++◌, ◌&&◌, [], ◌∷◌, find, filter, map, count_by, length, IfOk, OnOk, OnErr};
+ghost use Rattle.std.specs.Prelude.{◌≡◌, ◌≤◌, ◌+◌, ◌-◌, ◌*◌, ◌++◌, ◌&&◌, ◌⊎◌, [], ◌∷◌, true, false, find, filter, map, count_by, length, None, Ok, IfOk, OnOk, OnErr};
 ghost use Rattle.std.specs.List.{AllByRecursion, list_any};
 ghost use Rattle.std.specs.Bool.{OnTrue, OnFalse};
 ghost use Rattle.std.specs.Option.{option_copied};
@@ -10,7 +10,7 @@ ghost use Rattle.pcp_base.specs.declared.leases.PeerLease.{PeerLease};
 ghost use Rattle.pcp_base.specs.declared.leases.TheConstants.{MOST_LEASES, MOST_PEERS};
 ghost use Rattle.pcp_base.specs.Records.{IsWellFormedRecord};
 ghost use Rattle.pcp_base.specs.Snapshots.{peer_record};
-ghost use Rattle.peer_table.specs.PeerLists.{is_live_peer, is_ended_peer, peer_with_key, peer_opening, opens, IsDeadPeer, IsEndedOf, IsPortUse, IsLastExpiry, IsNextNamed, IsNextOwned, AreSoundPeers, IsOverlapped, with_peer, PutsPeer, RemovesPeer, CopiesLivePeers, LeavesPeer};
+ghost use Rattle.peer_table.specs.PeerLists.{is_live_peer, is_ended_peer, peer_with_key, peer_opening, opens, IsDeadPeer, IsEndedOf, IsPortUse, IsLastExpiry, IsNextNamed, IsNextOwned, AreSoundPeers, IsOverlapped, with_peer, PutsPeer, RemovesPeer, CopiesLivePeers, LeavesPeer, first_dead_peer};
 ghost use Rattle.ordered_index.specs.Aged.{no_leases, AreTogether};
 ghost use Rattle.peer_table.specs.Kept.{AreKeptPeers, StaysApart};
 
@@ -329,8 +329,9 @@ impl PeerTable {
         Some(lease)
     }
 
-    /// How many leases are live at `m`, those that have left among them. It looks at blocks of
-    /// leases of which one has ended, and before some of those that have left have ended at these.
+    /// How many leases are live at `m`, those that have left among them. It looks at blocks of leases
+    /// of which one has ended, and at those that have left where `m` is before a moment at which one
+    /// left.
     pub fn live(&self, m: Moment) -> u32
         ensures live { result ≡ count_by (is_live_peer m) self.now.all }
     {
@@ -349,7 +350,8 @@ impl PeerTable {
     }
 
     /// The first of the leases that have left and are live at `m` that owns the external port and
-    /// has exactly this remote. It looks at none where all have ended by then.
+    /// has exactly this remote. It looks at those that have left where `m` is before a moment at which
+    /// one left.
     pub fn past_opening(
         &self,
         protocol: Protocol,
@@ -378,37 +380,36 @@ impl PeerTable {
         let _ = &self.past;
     }
 
-    /// Lets one of the leases that aren't live at `m` and expired first leave: it isn't looked up
-    /// any more, and stays among all. False, and nothing changes, where none has ended, where as
-    /// many as may be have left, or where memory is wanting.
-    pub fn retire<L: Ledger>(&mut self, m: Moment, steps: &mut Steps<L>) -> bool
-        ensures left { OnTrue result (LeavesPeer m self.old self.new) }
-        ensures none { OnFalse result (self.new ≡ self.old) }
+    /// Lets one of the leases that aren't live at `m` leave: it isn't looked up any more, and stays
+    /// among all. False where none has ended, or as many as may be have left. The one error is want
+    /// of memory, which changes nothing.
+    pub fn retire<L: Ledger>(&mut self, m: Moment, steps: &mut Steps<L>) -> Result<bool, Memory>
+        ensures left { result ≡ Ok true → LeavesPeer m self.old self.new }
+        ensures none { result ≡ Ok false → self.new ≡ self.old }
+        ensures cause { result ≡ Ok false → (first_dead_peer m self.old.found ≡ None)
+            ⊎ (MOST_LEASES ≤ length self.old.past) }
+        ensures err { OnErr result (self.new ≡ self.old) }
         ensures steps { steps.new ≤ steps.old + 6 * levels (length self.old.found)
             + levels MOST_LEASES }
     {
         if self.past.len() >= MOST_LEASES {
-            return false;
+            return Ok(false);
         }
         look(&self.kept, steps);
         let Some(number) = self.kept.one_ended(m) else {
-            return false;
+            return Ok(false);
         };
-        let Some(lease) = lease_at(&self.kept, number, steps).copied() else {
-            return false;
-        };
-        steps.take(4 * levels(self.kept.leases.len()) + levels(MOST_LEASES));
-        let Ok(_none) = self.past.insert(number, lease) else {
-            return false;
-        };
+        let lease = self.kept.leases[&number];
+        steps.take(5 * levels(self.kept.leases.len()) + levels(MOST_LEASES));
+        self.past.insert(number, lease)?;
         self.kept.forget(number, key_of(&lease), opening_of(&lease));
         self.gone = self.gone.max(m.get());
-        true
+        Ok(true)
     }
 
     /// Forgets the first of the leases that have left; false where none has.
     pub fn forget_one<L: Ledger>(&mut self, steps: &mut Steps<L>) -> bool
-        ensures gone { OnTrue result ((l : PeerLease) × (self.old.past ≡ l ∷ self.new.past)) }
+        ensures forgot { OnTrue result ((l : PeerLease) × (self.old.past ≡ l ∷ self.new.past)) }
         ensures none { OnFalse result ((self.old.past ≡ []) × (self.new.past ≡ [])) }
         ensures found { self.new.found ≡ self.old.found }
         ensures steps { steps.new ≡ steps.old + levels MOST_LEASES }
@@ -433,7 +434,7 @@ impl PeerTable {
         self.kept.leases.len()
     }
 
-    /// One of the leases that aren't live at `m` and expired first. It looks at one block of them.
+    /// One of the leases that aren't live at `m`. It looks at one block of them.
     pub fn one_ended<L: Ledger>(&self, m: Moment, steps: &mut Steps<L>) -> Option<&PeerLease>
         ensures ended { IsDeadPeer m self.now.found (option_copied result) }
         ensures steps { steps.new ≤ steps.old + 2 * levels (length self.now.found) }

@@ -14,4 +14,4 @@ returns-then-self-get c =
     ∙ ap (find (λ l. is_live_map m l && owns c.args.protocol c.args.port l)) (past_is c.self.view_is)
 
 pub returns : goal.returns
-returns c = c.copied.ensures ∙ c.owner_in.ensures ∙ ap (find (λ l. is_live_map c.args.m l && owns c.args.protocol c.args.port l)) (past_is c.self.view_is)
+returns c = c.whole_past.ensures ∙ c.owner_in.ensures ∙ ap (find (λ l. is_live_map c.args.m l && owns c.args.protocol c.args.port l)) (past_is c.self.view_is)

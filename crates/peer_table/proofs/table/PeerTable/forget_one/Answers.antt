@@ -11,8 +11,8 @@ pub invariant_of-self : goal.invariant_of-self
 invariant_of-self g c =
     aged_popped c.self.inside.kept c.self.inside.past c.self.inside.gone c.self.invariant c.pop_first.new.self c.pop_first.result c.pop_first.ensures.removal c.pop_first.ensures.unchanged
 
-pub returns-clause-gone : goal.returns-clause-gone
-returns-clause-gone g c =
+pub returns-clause-forgot : goal.returns-clause-forgot
+returns-clause-forgot g c =
     let left = values c.pop_first.new.self in
     let told = told_gone c.self.inside.past.entries c.pop_first.new.self.entries c.pop_first.result c.pop_first.ensures.removal in
     subst (λ (b : Bool). OnTrue b ((l : PeerLease) × (c.args.self.now.past ≡ l ∷ left))) (sym c.is_some.ensures)
