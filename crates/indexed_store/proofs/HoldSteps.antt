@@ -28,7 +28,7 @@ use Rattle.leased_ports.specs.Steps.{IsOwnRun}
 use Rattle.leased_ports.proofs.CountLemmas.{one, one_le}
 use Rattle.indexed_store.specs.declared.owning.OwnerRun.{OwnerRun}
 use Rattle.indexed_store.specs.Runs.{IsOwnerRun, behind, has_port, owner_along, touched_run, up_to}
-use Rattle.indexed_store.specs.Looks.{change_steps, hold_steps, is_own, is_parted, most_levels, piece_steps, puts_peer, reach_steps, run_steps, touched_steps}
+use Rattle.indexed_store.specs.Looks.{change_steps, hold_steps, is_own, is_parted, most_levels, piece_steps, puts_peer, ports_steps, run_steps, touched_steps}
 use Rattle.indexed_store.proofs.RunLemmas.{along_none, in_place}
 
 -- ---- runs among ports
@@ -260,8 +260,8 @@ module _ (v : Leased) (old new : List PeerLease) where
 -- a record that doesn't forget all, but for the leases that ended
 pub moved-within : (leases t : Table) (ports : Leased) (r : Record) (touched : Option OwnerRun) → touched ≡ touched_run r.change (live leases r.moment)
     → (puts_peer r.change ≡ false → (l : PeerLease) → Contains t.peers l → Contains leases.peers l) → (before changed moved : ℕ) → changed ≤ before + change_steps r.moment r.change leases
-    → moved ≤ changed + (reach_steps + (PUT_STEPS + TAKEN_STEPS) + touched_steps ports t.peers touched)
-    → moved ≤ before + (reach_steps + change_steps r.moment r.change leases + (PUT_STEPS + TAKEN_STEPS) + touched_steps ports leases.peers (touched_run r.change (live leases r.moment)))
+    → moved ≤ changed + (ports_steps + (PUT_STEPS + TAKEN_STEPS) + touched_steps ports t.peers touched)
+    → moved ≤ before + (ports_steps + change_steps r.moment r.change leases + (PUT_STEPS + TAKEN_STEPS) + touched_steps ports leases.peers (touched_run r.change (live leases r.moment)))
 moved-within leases t ports r touched is from before changed moved first second =
     let same = ap (touched_steps ports t.peers) is in
     let fewer = touched-fewer ports leases.peers t.peers r.change (live leases r.moment) from in

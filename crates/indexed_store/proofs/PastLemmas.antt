@@ -34,7 +34,7 @@ past-none m t none = subst (ArePast m) (sym none) (record {
 
 together-none : {X : Type 0} → AreTogether {L = X} no_leases
 together-none = record {
-  either = λ l there. inl there;
+  of_all = λ l there. inl there;
   of_found = λ l there. there;
   of_past = λ l there. there;
   same = λ test fails. refl;

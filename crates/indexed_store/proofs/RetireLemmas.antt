@@ -1,6 +1,7 @@
 -- Leases that leave, and are forgotten.
-use Rattle.std.proofs.Common.{◌≡◌, ℕ, ◌<◌, ◌≤◌, Bool, true, false, List, [], ◌∷◌, Contains, refl, sym, ap, ◌∙◌, subst, inl, inr, arith}
+use Rattle.std.proofs.Common.{◌≡◌, ℕ, ◌<◌, ◌≤◌, Bool, true, false, List, [], ◌∷◌, Contains, Result, Ok, Err, OnErr, refl, sym, ap, ◌∙◌, subst, inl, inr, arith}
 use Rattle.std.specs.Bool.{OnTrue, OnFalse}
+use Rattle.pcp_base.specs.declared.errors.Memory.{Memory}
 use Rattle.pcp_base.specs.declared.leases.MapLease.{MapLease}
 use Rattle.pcp_base.specs.declared.leases.PeerLease.{PeerLease}
 use Rattle.pcp_base.specs.Tables.{first_endpoint}
@@ -58,8 +59,8 @@ module _ (maps : Aged MapLease) (peers : Aged PeerLease) (now : Tables) (seen : 
         | inr same ↦ ap (is_live_peer m) same ∙ left.dead
       ]
 
-      peer-retires : Retires m now (tables maps peers')
-      peer-retires = record {
+      peer_retires : Retires m now (tables maps peers')
+      peer_retires = record {
         tabled = (peer-gone m (omega arith)).rest.tabled;
         live = λ n later. (peer-gone n later).rest.same;
         past = λ past. record {
@@ -72,20 +73,22 @@ module _ (maps : Aged MapLease) (peers : Aged PeerLease) (now : Tables) (seen : 
       peer_fewer : count_of (tables maps peers').found < count_of now.found
       peer_fewer = (peer-gone m (omega arith)).fewer
 
-    -- it leaves, or nothing changes
-    pub peer-either : (b : Bool) → OnTrue b (LeavesPeer m peers peers') → OnFalse b (peers' ≡ peers) → Retires m now (tables maps peers')
-    peer-either true left same = peer-retires left
-    peer-either false left same =
-        subst (Retires m now) (sym (ap (tables maps) same ∙ seen)) (record {
-          tabled = tabled;
-          live = λ n later. refl;
-          past = λ past. past;
-          all = refl;
-        })
+    stays : peers' ≡ peers → Retires m now (tables maps peers')
+    stays same = subst (Retires m now) (sym (ap (tables maps) same ∙ seen)) (record {
+      tabled = tabled;
+      live = λ n later. refl;
+      past = λ past. past;
+      all = refl;
+    })
 
-    pub peer-fewer : (b : Bool) → OnTrue b (LeavesPeer m peers peers') → OnTrue b (count_of (tables maps peers').found < count_of now.found)
-    peer-fewer true left = peer_fewer left
-    peer-fewer false left = tt
+    -- it leaves, or nothing changes
+    pub peer-told : (r : Result Bool Memory) → (r ≡ Ok true → LeavesPeer m peers peers') → (r ≡ Ok false → peers' ≡ peers) → OnErr r (peers' ≡ peers) → Retires m now (tables maps peers')
+    peer-told (Ok true) left none err = peer_retires (left refl)
+    peer-told (Ok false) left none err = stays (none refl)
+    peer-told (Err e) left none err = stays err
+
+    pub peer-fewer : LeavesPeer m peers peers' → count_of (tables maps peers').found < count_of now.found
+    peer-fewer left = peer_fewer left
 
 -- ---- those that are forgotten
 

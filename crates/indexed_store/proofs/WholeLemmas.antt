@@ -32,7 +32,7 @@ module _ {X : Type 0} (t : Aged X) (are : AreTogether t) where
 
   pub any-whole : (p : X → Bool) → list_any p t.all ≡ (list_any p t.found || list_any p t.past)
   any-whole p = same_tests (list_any p t.all) (list_any p t.found || list_any p t.past)
-      (λ h. let s = any-some p t.all h in elim (are.either s.0 (Contains-from_IsIn t.all s.0 s.1)) [
+      (λ h. let s = any-some p t.all h in elim (are.of_all s.0 (Contains-from_IsIn t.all s.0 s.1)) [
         | inl here ↦ or_left _ _ (some-any p t.found s.0 (IsIn-from_Contains t.found s.0 here) s.2)
         | inr gone ↦ or_right _ _ (some-any p t.past s.0 (IsIn-from_Contains t.past s.0 gone) s.2)
       ])
@@ -59,7 +59,7 @@ module _ {X : Type 0} (t : Aged X) (are : AreTogether t) where
         fails : find (λ x. live x && p x) t.past ≡ None → (x : X) → IsIn x (filter live t.all) → p x ≡ false
         fails e x i =
             let all = IsIn-filter live t.all x i in
-            elim (are.either x (Contains-from_IsIn t.all x all.0)) [
+            elim (are.of_all x (Contains-from_IsIn t.all x all.0)) [
               | inl here ↦ false_by (p x) (λ passes. none x (IsIn-from_Contains t.found x here) all.1 passes)
               | inr gone ↦ false_by (p x) (λ passes.
                   let no = All-IsIn (λ y. (live y && p y) ≡ false) t.past x (find-none (λ y. live y && p y) t.past e) (IsIn-from_Contains t.past x gone) in

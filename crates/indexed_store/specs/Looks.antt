@@ -25,7 +25,6 @@ use Rattle.leased_ports.specs.declared.steps.TheConstants.{PUT_STEPS, TAKEN_STEP
 use Rattle.leased_ports.specs.Among.{runs_among}
 use Rattle.leased_ports.specs.Counts.{held_since, ports_due}
 use Rattle.leased_ports.specs.Leased.{Leased, at_moment}
-use Rattle.indexed_store.specs.declared.making_way.TheConstants.{MOST_RETIRED}
 use Rattle.indexed_store.specs.declared.owning.OwnerRun.{OwnerRun}
 use Rattle.indexed_store.specs.Runs.{has_port, touched_run}
 use Rattle.indexed_store.specs.Tabled.{TabledState}
@@ -39,10 +38,13 @@ look_steps s = 35 * levels MOST_LEASES
 abbrev pub most_levels : ℕ
 most_levels = levels (MOST_LEASES + 1)
 
--- what it takes to reach a moment: some leases that have ended leave, and some runs of ports that are
--- due are seen to, whatever falls due
+-- what it takes to bring the ports to a moment: some runs that are due are seen to, whatever falls due
+abbrev pub ports_steps : ℕ
+ports_steps = (23 + RUN_STEPS) * MOST_RUNS
+
+-- what it takes to reach a moment: two leases that have ended leave besides
 abbrev pub reach_steps : ℕ
-reach_steps = MOST_RETIRED * (17 * most_levels) + (23 + RUN_STEPS) * MOST_RUNS
+reach_steps = 34 * most_levels + ports_steps
 
 -- what a pick takes at a moment, beside one for each port that is suggested: that of one port of any
 -- parity nothing for what is due, where the address is below its quota by the counts
@@ -113,9 +115,9 @@ abbrev pub touched_steps : Leased → List PeerLease → Option OwnerRun → ℕ
 touched_steps v peers None = 0
 touched_steps v peers (Some r) = hold_steps v peers r
 
--- what it takes to apply a record: what it takes to reach its moment, the change of its leases and two
+-- what it takes to apply a record: what brings the ports to its moment, the change of its leases and two
 -- that ended, a Rest's port, and the ports of the lease that it puts or deletes
 abbrev pub apply_steps : TabledState → Record → ℕ
-apply_steps s r = reach_steps + change_steps r.moment r.change s.leases
+apply_steps s r = ports_steps + change_steps r.moment r.change s.leases
     + (26 * most_levels + (PUT_STEPS + TAKEN_STEPS))
     + touched_steps s.ports s.leases.peers (touched_run r.change (live s.leases r.moment))

@@ -1,5 +1,5 @@
 -- What leases and a state in tables are seen as (our own).
-use Rattle.std.specs.Prelude.{◌≡◌, ℕ, ◌+◌, ◌≤◌, length, Bool, false, List, Contains, Option}
+use Rattle.std.specs.Prelude.{◌≡◌, ℕ, ◌+◌, ◌≤◌, ◌⊎◌, length, Bool, false, List, Contains, Option, None}
 use Rattle.pcp_base.specs.declared.addresses.Address.{Address}
 use Rattle.pcp_base.specs.declared.leases.TheConstants.{MOST_LEASES}
 use Rattle.pcp_base.specs.Tables.{Table, empty_table, live}
@@ -7,8 +7,8 @@ use Rattle.pcp_base.specs.States.{State, empty_state}
 use Rattle.pcp_base.specs.declared.leases.MapLease.{MapLease}
 use Rattle.pcp_base.specs.declared.leases.PeerLease.{PeerLease}
 use Rattle.ordered_index.specs.Aged.{Aged, AreTogether}
-use Rattle.mapping_table.specs.MapLists.{AreSoundMaps, is_live_map}
-use Rattle.peer_table.specs.PeerLists.{AreSoundPeers, is_live_peer}
+use Rattle.mapping_table.specs.MapLists.{AreSoundMaps, first_dead_map, is_live_map}
+use Rattle.peer_table.specs.PeerLists.{AreSoundPeers, first_dead_peer, is_live_peer}
 use Rattle.leased_ports.specs.Leased.{Leased}
 use Rattle.leased_ports.specs.Listed.{ends_come}
 
@@ -58,6 +58,11 @@ pub record Retires (m : ℕ) (old new : Tables) : Type 0 where
   pub live : (n : ℕ) → m ≤ n → live new.found n ≡ live old.found n
   pub past : ArePast m old.past → ArePast m new.past
   pub all : new.all ≡ old.all
+
+-- no lease that is looked up has ended by m, or as many of its kind have left as may
+pub record NoneMayLeave (m : ℕ) (t : Tables) : Type 0 where
+  pub maps : (first_dead_map m t.found.maps ≡ None) ⊎ (MOST_LEASES ≤ length t.past.maps)
+  pub peers : (first_dead_peer m t.found.peers ≡ None) ⊎ (MOST_LEASES ≤ length t.past.peers)
 
 -- all leases of each kind tell what those tell that are looked up and those that have left
 pub record AreWhole (t : Tables) : Type 0 where

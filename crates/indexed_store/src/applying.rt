@@ -12,7 +12,7 @@ ghost use Rattle.lease_store.specs.declared.terms.Terms.{Terms};
 ghost use Rattle.leased_ports.specs.declared.steps.TheConstants.{PUT_STEPS, TAKEN_STEPS};
 ghost use Rattle.leased_ports.specs.Leased.{IsPortsOf, IsOnTerms, end_of};
 ghost use Rattle.leased_ports.specs.Recorded.{end_by_rest};
-ghost use Rattle.indexed_store.specs.Looks.{apply_steps, reach_steps, touched_steps};
+ghost use Rattle.indexed_store.specs.Looks.{apply_steps, ports_steps, touched_steps};
 ghost use Rattle.indexed_store.specs.Runs.{touched_run};
 ghost use Rattle.indexed_store.specs.Holding.{AreNearAt, IsEvenRun};
 ghost use Rattle.indexed_store.specs.Indexed.{IsKept};
@@ -80,7 +80,7 @@ fn move_ports<L: Ledger>(
         → touched ≡ touched_run kept.now.change (table_1 s kept.now)
         → IsPortsOf ports.new (by_apply.apply s kept.now)) }
     ensures steps { (t : Table) → touched ≡ touched_run kept.now.change t →
-        steps.new ≤ steps.old + (reach_steps + (PUT_STEPS + TAKEN_STEPS)
+        steps.new ≤ steps.old + (ports_steps + (PUT_STEPS + TAKEN_STEPS)
         + touched_steps ports.old leases.now.found.peers touched) }
 {
     ports_follow_states();
@@ -137,7 +137,7 @@ pub(crate) fn begin<L: Ledger>(state: &mut IndexedState, kept: &Record, steps: &
     ensures applied { state.new.state ≡ by_apply.apply state.old.state kept.now }
     ensures kept { IsKept state.new }
     ensures reached { state.new.ports.reached ≡ kept.now.moment }
-    ensures steps { steps.new ≤ steps.old + reach_steps }
+    ensures steps { steps.new ≤ steps.old + ports_steps }
 {
     records_tell_last_ends();
     state.leases.clear();

@@ -1,5 +1,5 @@
-//! What is looked up in a state at a moment, which isn't before the one reached. A step is a look at a level of
-//! an ordered map.
+//! What is looked up in a state at a moment, which isn't before the one reached. A step is a look at
+//! a level of an ordered map.
 ghost use Rattle.std.specs.Prelude.{◌≡◌, ◌≤◌, ◌+◌, ◌*◌, is_some, nat_lt};
 ghost use Rattle.step_count.specs.Levels.{levels};
 ghost use Rattle.pcp_base.specs.declared.leases.TheConstants.{MOST_LEASES};

@@ -38,11 +38,13 @@ impl Leases {
         steps: &mut Steps<L>,
     ) -> Result<bool, Memory>
         requires { AreTabled self.old.found }
-        ensures leaving { OnOk result ((start : Table) → AreLeaving m start self.old.found left.old.items
+        ensures leaving { OnOk result ((start : Table) →
+            AreLeaving m start self.old.found left.old.items
             → AreLeaving m start self.new.found left.new.items) }
         ensures sound { OnOk result (AreTabled self.new.found) }
         ensures peers { self.new.found.peers ≡ self.old.found.peers }
-        ensures fewer { result ≡ Ok true → length self.new.found.maps < length self.old.found.maps }
+        ensures fewer { result ≡ Ok true →
+            length self.new.found.maps < length self.old.found.maps }
         ensures all { result ≡ Ok false → self.new.found.maps ≡ (live self.new.found m).maps }
         ensures past { self.new.past ≡ self.old.past }
     {
@@ -63,11 +65,13 @@ impl Leases {
         steps: &mut Steps<L>,
     ) -> Result<bool, Memory>
         requires { AreTabled self.old.found }
-        ensures leaving { OnOk result ((start : Table) → AreLeaving m start self.old.found left.old.items
+        ensures leaving { OnOk result ((start : Table) →
+            AreLeaving m start self.old.found left.old.items
             → AreLeaving m start self.new.found left.new.items) }
         ensures sound { OnOk result (AreTabled self.new.found) }
         ensures maps { self.new.found.maps ≡ self.old.found.maps }
-        ensures fewer { result ≡ Ok true → length self.new.found.peers < length self.old.found.peers }
+        ensures fewer { result ≡ Ok true →
+            length self.new.found.peers < length self.old.found.peers }
         ensures all { result ≡ Ok false → self.new.found.peers ≡ (live self.new.found m).peers }
         ensures past { self.new.past ≡ self.old.past }
     {
@@ -89,7 +93,8 @@ impl Leases {
         steps: &mut Steps<L>,
     ) -> Result<(), Memory>
         requires { AreTabled self.old.found }
-        ensures leaving { OnOk result ((start : Table) → AreLeaving m start self.old.found left.old.items
+        ensures leaving { OnOk result ((start : Table) →
+            AreLeaving m start self.old.found left.old.items
             → AreLeaving m start self.new.found left.new.items) }
         ensures sound { OnOk result (AreTabled self.new.found) }
         ensures peers { self.new.found.peers ≡ self.old.found.peers }
@@ -108,7 +113,8 @@ impl Leases {
         steps: &mut Steps<L>,
     ) -> Result<(), Memory>
         requires { AreTabled self.old.found }
-        ensures leaving { OnOk result ((start : Table) → AreLeaving m start self.old.found left.old.items
+        ensures leaving { OnOk result ((start : Table) →
+            AreLeaving m start self.old.found left.old.items
             → AreLeaving m start self.new.found left.new.items) }
         ensures maps { self.new.found.maps ≡ self.old.found.maps }
         ensures all { OnOk result (self.new.found.peers ≡ (live self.new.found m).peers) }

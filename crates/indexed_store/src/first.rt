@@ -183,8 +183,8 @@ fn change<L: Ledger>(
     Ok(())
 }
 
-/// Applies a record that fits in the first format. All leases that have ended go at once, and their
-/// ports are free. After an error nothing is said of the state.
+/// Applies a record that fits in the first format. All leases that have ended and haven't left go at
+/// once, and their ports are free. After an error nothing is said of the state.
 pub(crate) fn apply_first<L: Ledger>(
     state: &mut IndexedState,
     alloc: Global,

@@ -185,7 +185,8 @@ impl Leases {
     fn is_one_inside(&self, m: Moment, owner: &Owner) -> bool
         requires { AreTabled self.now.found }
         ensures { result ≡ ((nat_lt (peer_count self.now.found m owner.now.endpoint) MOST_PEERS
-            && the.is_at_most (the.covered_port self.now.found m owner.now.endpoint) owner.now.external)
+            && the.is_at_most (the.covered_port self.now.found m owner.now.endpoint)
+            owner.now.external)
             && the.is_at_most (named_port self.now.found m owner.now.endpoint) owner.now.external) }
     {
         self.is_few_inside(m, owner)

@@ -127,7 +127,7 @@ impl Leases {
         used.count
     }
 
-    /// Whether fewer than `MOST_LEASES` are live: there are fewer of all, or one has ended.
+    /// Whether fewer than `MOST_LEASES` are live: fewer are looked up, or one of these has ended.
     pub(crate) fn has_space_counted<L: Ledger>(&self, m: Moment, steps: &mut Steps<L>) -> bool
         requires { AreTabled self.now.found }
         ensures space { result ≡ nat_lt (lease_count self.now.found m) MOST_LEASES }
@@ -143,8 +143,8 @@ impl Leases {
         self.peers.has_ended(m, steps)
     }
 
-    /// How many leases are live, MAP and PEER together, those that have left among them. It looks at
-    /// those that have ended.
+    /// How many leases are live, MAP and PEER together, those that have left among them. It looks
+    /// at those that have ended.
     pub(crate) fn count(&self, m: Moment) -> u32
         requires { AreTabled self.now.found }
         ensures { result ≡ lease_count self.now.all m }

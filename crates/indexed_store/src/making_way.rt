@@ -1,5 +1,5 @@
 //! Leases that have ended make way for one that is put.
-ghost use Rattle.std.specs.Prelude.{◌≡◌, ◌<◌, ◌≤◌, ◌+◌, ◌*◌, ◌⊎◌, length, count_by, find, is_some, nat_lt, not, Bool, true, false, Contains, IfSome};
+ghost use Rattle.std.specs.Prelude.{◌≡◌, ◌<◌, ◌≤◌, ◌+◌, ◌*◌, ◌⊎◌, length, count_by, find, is_some, nat_lt, not, Bool, true, false, Contains, Ok, IfSome, OnOk};
 ghost use Rattle.std.specs.List.{list_any};
 ghost use Rattle.std.specs.Bool.{OnTrue, OnFalse};
 ghost use Rattle.pcp_base.specs.declared.leases.TheConstants.{MOST_LEASES};
@@ -12,22 +12,22 @@ ghost use Rattle.pcp_base.specs.Tables.{empty_table, is_map_of, is_peer_of, live
 ghost use Rattle.mapping_table.specs.MapLists.{is_live_map, overlaps as overlaps_map};
 ghost use Rattle.peer_table.specs.PeerLists.{overlaps as overlaps_peer, is_ended_of, is_ended_peer};
 ghost use Rattle.indexed_store.specs.MakingWay.{HasWayForMap, HasWayForPeer};
-ghost use Rattle.indexed_store.specs.Tabled.{ArePart, AreTabled, Retires, count_of};
+ghost use Rattle.indexed_store.specs.Tabled.{ArePart, AreTabled, NoneMayLeave, Retires, count_of};
 ghost use Rattle.indexed_store.specs.Looks.{most_levels};
 
 use crate::leases::Leases;
 use mapping_table::laws::{fewer_maps_are_sound, sound_tables_have_sound_maps};
-use pcp_base::{Endpoint, MOST_LEASES, MapLease, Moment, PeerLease};
+use pcp_base::{Endpoint, MOST_LEASES, MapLease, Memory, Moment, PeerLease};
 use peer_table::laws::{fewer_peers_are_sound, sound_tables_have_sound_peers};
 use std::sync::ledger::Ledger;
 use step_count::Steps;
 use step_count::laws::levels_grow;
 
-/// How many leases that have ended a record takes out or forgets at most, beside those that are in the
-/// way of one.
+/// How many leases a record takes out that have ended, or forgets that have left, beside those in the
+/// way of one and one where as many are kept as may be.
 const MOST_DROPPED: u32 = 2;
 
-/// How many leases that have ended leave at most when a moment is reached.
+/// How many leases that have ended leave when a moment is reached.
 const MOST_RETIRED: u32 = 2;
 
 impl Leases {
@@ -110,34 +110,46 @@ impl Leases {
         }
     }
 
-    /// Lets a lease leave that has ended by `m`; false where none has, and where memory is wanting or as
-    /// many have left as may.
-    fn retire_one<L: Ledger>(&mut self, m: Moment, steps: &mut Steps<L>) -> bool
+    /// Lets a lease leave that has ended by `m`; false where none has, or as many have left as may. The
+    /// one error is want of memory.
+    fn retire_one<L: Ledger>(&mut self, m: Moment, steps: &mut Steps<L>) -> Result<bool, Memory>
         requires { AreTabled self.old.found }
         ensures retires { Retires m self.old self.new }
-        ensures fewer { OnTrue result (count_of self.new.found < count_of self.old.found) }
-        ensures none { OnFalse result (self.new ≡ self.old) }
+        ensures fewer { result ≡ Ok true →
+            count_of self.new.found < count_of self.old.found }
+        ensures all { result ≡ Ok false → NoneMayLeave m self.new }
         ensures steps { steps.new ≤ steps.old + 17 * most_levels }
     {
         levels_grow();
         fewer_maps_are_sound();
         fewer_peers_are_sound();
-        self.maps.retire(m, steps) || self.peers.retire(m, steps)
+        if self.maps.retire(m, steps)? {
+            return Ok(true);
+        }
+        self.peers.retire(m, steps)
     }
 
-    /// Lets some leases leave that have ended by `m`.
-    pub(crate) fn retire_some<L: Ledger>(&mut self, m: Moment, steps: &mut Steps<L>)
+    /// Lets two leases leave that have ended by `m`, or all that may where they are fewer. The one error
+    /// is want of memory; one may have left before.
+    pub(crate) fn retire_some<L: Ledger>(
+        &mut self,
+        m: Moment,
+        steps: &mut Steps<L>,
+    ) -> Result<(), Memory>
         requires { AreTabled self.old.found }
         ensures retires { Retires m self.old self.new }
-        ensures steps { steps.new ≤ steps.old + MOST_RETIRED * (17 * most_levels) }
+        ensures some { OnOk result (NoneMayLeave m self.new
+            ⊎ (count_of self.new.found + 2 ≤ count_of self.old.found)) }
+        ensures steps { steps.new ≤ steps.old + 34 * most_levels }
     {
         let mut left = MOST_RETIRED;
         while left > 0 {
-            if !self.retire_one(m, steps) {
-                return;
+            if !self.retire_one(m, steps)? {
+                return Ok(());
             }
             left -= 1;
         }
+        Ok(())
     }
 
     /// Where there are as many leases as may be, takes out one that has ended by `m`: then fewer than
@@ -289,7 +301,8 @@ impl Leases {
         ensures past { self.new.past ≡ self.old.past }
         ensures steps { steps.new ≤ steps.old + 24 * most_levels
             + 11 * (count_by (overlaps_peer lease.now) self.old.found.peers * most_levels)
-            + 24 * (count_by (is_ended_of lease.now.endpoint m) self.old.found.peers * most_levels) }
+            + 24 * (count_by (is_ended_of lease.now.endpoint m) self.old.found.peers
+            * most_levels) }
     {
         sound_tables_have_sound_peers();
         if !self.has_ended_peer(m, steps) {
@@ -371,7 +384,8 @@ impl Leases {
         ensures past { self.new.past ≡ self.old.past }
         ensures steps { steps.new ≤ steps.old + 37 * most_levels
             + 11 * (count_by (overlaps_peer lease.now) self.old.found.peers * most_levels)
-            + 24 * (count_by (is_ended_of lease.now.endpoint m) self.old.found.peers * most_levels) }
+            + 24 * (count_by (is_ended_of lease.now.endpoint m) self.old.found.peers
+            * most_levels) }
     {
         self.drop_peers_in_way(m, lease, steps);
         let there = self.keeps_peer(m, lease, steps);

@@ -27,7 +27,7 @@ fn endpoint_behind(lease: &MapLease, protocol: Protocol, port: u16) -> Endpoint
 
 impl Leases {
     /// The MAP lease that is live at `m` and owns the port, those that have left among them.
-    fn map_owner(&self, m: Moment, protocol: Protocol, port: u16) -> Option<MapLease>
+    fn live_owner(&self, m: Moment, protocol: Protocol, port: u16) -> Option<MapLease>
         requires found { AreTabled self.now.found }
         requires sound { AreTabled (live self.now.all m) }
         ensures { result ≡ find (owns protocol port) (live self.now.all m).maps }
@@ -45,7 +45,7 @@ impl Leases {
 
     /// The PEER lease that is live at `m`, owns the port and has exactly this remote, those that have
     /// left among them.
-    fn peer_owner(
+    fn live_opening(
         &self,
         m: Moment,
         protocol: Protocol,
@@ -86,7 +86,7 @@ impl Leases {
         ensures { result ≡ find (owns protocol port)
             (filter (λ l. lets l.filters remote.now remote_port) (live self.now.all m).maps) }
     {
-        let Some(lease) = self.map_owner(m, protocol, port) else {
+        let Some(lease) = self.live_owner(m, protocol, port) else {
             return None;
         };
         if allows(&lease.filters, remote, remote_port) {
@@ -131,7 +131,7 @@ impl Leases {
             (find (λ l. is_port protocol port (peer_owner l))
             (filter (is_with remote.now remote_port) (live self.now.all m).peers)) }
     {
-        let Some(lease) = self.peer_owner(m, protocol, port, remote, remote_port) else {
+        let Some(lease) = self.live_opening(m, protocol, port, remote, remote_port) else {
             return None;
         };
         Some(lease.endpoint)

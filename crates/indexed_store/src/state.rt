@@ -22,8 +22,9 @@ use std::marker::Model;
 use std::sync::ledger::Ledger;
 use step_count::Steps;
 
-/// The state that records made. Leases that had ended by the last moment aren't of it, but stay for a
-/// while; those that ended since are of it, also where they have left; and its ends are the last ends of ports that came by then.
+/// The state that records made. Leases that had ended by the last moment aren't of it, but stay for
+/// a while; those that ended since are of it, also where they have left; and its ends are the last
+/// ends of ports that came by then.
 #[derive(Drop)]
 pub(crate) struct IndexedState {
     pub(crate) leases: Leases,
@@ -103,7 +104,8 @@ impl IndexedState {
         ensures from { self.old.ports.settled ≤ self.new.ports.settled }
         ensures steps { steps.new ≤ steps.old + reach_steps }
     {
-        self.leases.retire_some(m, steps);
+        // Where memory is wanting the leases stay until it isn't.
+        let _ = self.leases.retire_some(m, steps);
         self.ports.reach(m, steps);
     }
 

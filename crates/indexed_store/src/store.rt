@@ -32,13 +32,15 @@ use step_count::Steps;
 
 /// The state that records made, at a moment that is reached. What is looked up, picked and applied
 /// takes logarithmic time in the number of leases, for each lease and each run of ports that it
-/// touches, and for each lease that has ended and is in the way of one that is put: the ports of a MAP
-/// lease are one run, parted where PEER leases own some of them. What has ended is seen to a few leases
-/// and runs at a time, and what is left waits for later calls. But a pick of a set, with a parity, or
-/// for an address that by the counts is at its quota sees to all runs that are due, and so does a look
-/// at the quota of such an address. `admit_first` takes out all leases that have ended. `admit` and
-/// `admit_first` look at each port of a new lease besides. Room inside takes a look for each port. Calls
-/// that copy lists or count leases take more.
+/// touches, and for each lease that has ended and is in the way of one that is put: the ports of a
+/// MAP lease are one run, parted where PEER leases own some of them. What has ended is seen to two
+/// leases and two runs at a time, and what is left waits for later calls. But a pick of a set or with
+/// a parity sees to the runs that are due before what it picks, and one for an address whose quota by
+/// the counts leaves less than it asks for to all that are due, as a look at the quota of an address
+/// that is at it. `admit_first` takes out all leases that have ended and haven't left. `admit` and
+/// `admit_first` look at each port of a new lease besides. Room inside takes a look for each port.
+/// Calls that copy lists or count leases take more, and so do `look` and `covered` at a moment before
+/// that at which the last lease left.
 #[derive(Drop)]
 pub struct IndexedStore {
     state: IndexedState,

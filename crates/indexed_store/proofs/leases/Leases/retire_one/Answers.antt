@@ -1,31 +1,29 @@
-use Rattle.std.proofs.Common.{◌<◌, sym, subst}
-use Rattle.std.specs.Bool.{OnTrue}
+use Rattle.std.proofs.Common.{◌<◌, Ok, sym, ap, subst}
 use Rattle.pcp_base.specs.declared.leases.MapLease.{MapLease}
 use Rattle.ordered_index.specs.Aged.{Aged}
-use Rattle.ordered_index.proofs.FirstAndRest.{on-true}
 use Rattle.indexed_store.specs.Tabled.{Retires, count_of, tables}
-use Rattle.indexed_store.proofs.RetireLemmas.{map-fewer, map-retires, peer-either, peer-fewer}
+use Rattle.indexed_store.proofs.RetireLemmas.{map-fewer, map-retires, peer-fewer, peer-told}
 use Rattle.indexed_store.proofs.leases.Leases.retire_one.Goals as goal
 
-pub returns-then-retire-clause-retires : goal.returns-then-retire-clause-retires
-returns-then-retire-clause-retires g c =
-    map-retires c.self.inside.maps c.self.inside.peers c.args.self.now c.self.view_is c.requires c.args.m c.fewer_maps_are_sound.ensures c.retire.new.self c.if-retire.ensures.left
+pub returns-then-branch-clause-retires : goal.returns-then-branch-clause-retires
+returns-then-branch-clause-retires g c =
+    map-retires c.self.inside.maps c.self.inside.peers c.args.self.now c.self.view_is c.requires c.args.m c.fewer_maps_are_sound.ensures c.retire.new.self
+    (c.in_ok-retire.ensures.left (ap Ok c.if-branch.true))
 
-pub returns-then-retire-clause-fewer : goal.returns-then-retire-clause-fewer
-returns-then-retire-clause-fewer g c =
-    on-true c.retire.result (map-fewer c.self.inside.maps c.self.inside.peers c.args.self.now c.self.view_is c.requires c.args.m c.fewer_maps_are_sound.ensures c.retire.new.self)
-    c.retire.ensures.left
+pub returns-then-branch-clause-fewer : goal.returns-then-branch-clause-fewer
+returns-then-branch-clause-fewer g c = λ is.
+    map-fewer c.self.inside.maps c.self.inside.peers c.args.self.now c.self.view_is c.requires c.args.m c.fewer_maps_are_sound.ensures c.retire.new.self
+    (c.in_ok-retire.ensures.left (ap Ok c.if-branch.true))
 
-pub returns-else-retire-clause-retires : goal.returns-else-retire-clause-retires
-returns-else-retire-clause-retires g c =
-    let peers = c.retire-else-retire.new.self in
-    subst (λ (maps : Aged MapLease). Retires c.args.m c.args.self.now (tables maps peers)) (sym c.if-retire.ensures.none)
-    (peer-either c.self.inside.maps c.self.inside.peers c.args.self.now c.self.view_is c.requires c.args.m c.fewer_peers_are_sound.ensures peers c.retire-else-retire.result
-    c.retire-else-retire.ensures.left c.retire-else-retire.ensures.none)
+pub returns-clause-retires : goal.returns-clause-retires
+returns-clause-retires g c =
+    let peers = c.retire-2.new.self in
+    subst (λ (maps : Aged MapLease). Retires c.args.m c.args.self.now (tables maps peers)) (sym (c.in_ok-retire.ensures.none (ap Ok c.if-branch.false)))
+    (peer-told c.self.inside.maps c.self.inside.peers c.args.self.now c.self.view_is c.requires c.args.m c.fewer_peers_are_sound.ensures peers c.retire-2.result
+    c.retire-2.ensures.left c.retire-2.ensures.none c.retire-2.ensures.err)
 
-pub returns-else-retire-clause-fewer : goal.returns-else-retire-clause-fewer
-returns-else-retire-clause-fewer g c =
-    let peers = c.retire-else-retire.new.self in
-    subst (λ (maps : Aged MapLease). OnTrue c.retire-else-retire.result (count_of (tables maps peers).found < count_of c.args.self.now.found)) (sym c.if-retire.ensures.none)
-    (peer-fewer c.self.inside.maps c.self.inside.peers c.args.self.now c.self.view_is c.requires c.args.m c.fewer_peers_are_sound.ensures peers c.retire-else-retire.result
-    c.retire-else-retire.ensures.left)
+pub returns-clause-fewer : goal.returns-clause-fewer
+returns-clause-fewer g c = λ is.
+    let peers = c.retire-2.new.self in
+    subst (λ (maps : Aged MapLease). count_of (tables maps peers).found < count_of c.args.self.now.found) (sym (c.in_ok-retire.ensures.none (ap Ok c.if-branch.false)))
+    (peer-fewer c.self.inside.maps c.self.inside.peers c.args.self.now c.self.view_is c.requires c.args.m c.fewer_peers_are_sound.ensures peers (c.retire-2.ensures.left is))

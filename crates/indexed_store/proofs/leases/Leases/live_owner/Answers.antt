@@ -6,7 +6,7 @@ use Rattle.pcp_base.proofs.Members.{All-IsIn, find-none, find-some}
 use Rattle.indexed_store.specs.Tabled.{Tables}
 use Rattle.indexed_store.proofs.Uniques.{one-owns}
 use Rattle.indexed_store.proofs.WholeLemmas.{found-whole, past-whole}
-use Rattle.indexed_store.proofs.leases.Leases.map_owner.Goals as goal
+use Rattle.indexed_store.proofs.leases.Leases.live_owner.Goals as goal
 
 pub returns-in_default : goal.returns-in_default
 returns-in_default c =

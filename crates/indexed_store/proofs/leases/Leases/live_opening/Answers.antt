@@ -6,7 +6,7 @@ use Rattle.peer_table.specs.PeerLists.{opens}
 use Rattle.indexed_store.specs.Tabled.{Tables}
 use Rattle.indexed_store.proofs.Uniques.{one-opens}
 use Rattle.indexed_store.proofs.WholeLemmas.{found-whole, past-whole}
-use Rattle.indexed_store.proofs.leases.Leases.peer_owner.Goals as goal
+use Rattle.indexed_store.proofs.leases.Leases.live_opening.Goals as goal
 
 pub returns-in_default : goal.returns-in_default
 returns-in_default c =
