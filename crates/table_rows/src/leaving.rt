@@ -123,18 +123,21 @@ fn opened_once(table: &PeerTable) -> bool {
 }
 
 /// Whether one of both leaves at 15, and none before or behind it.
-fn retires_one<L: Ledger>(table: &mut MapTable, steps: &mut Steps<L>) -> bool {
-    let early = table.retire(moment(9), steps);
-    let once = table.retire(moment(15), steps);
-    let twice = table.retire(moment(15), steps);
-    !early && once && !twice
+fn retires_one<L: Ledger>(table: &mut MapTable, steps: &mut Steps<L>) -> Result<bool, Memory> {
+    let early = table.retire(moment(9), steps)?;
+    let once = table.retire(moment(15), steps)?;
+    let twice = table.retire(moment(15), steps)?;
+    Ok(!early && once && !twice)
 }
 
-fn retires_one_peer<L: Ledger>(table: &mut PeerTable, steps: &mut Steps<L>) -> bool {
-    let early = table.retire(moment(9), steps);
-    let once = table.retire(moment(15), steps);
-    let twice = table.retire(moment(15), steps);
-    !early && once && !twice
+fn retires_one_peer<L: Ledger>(
+    table: &mut PeerTable,
+    steps: &mut Steps<L>,
+) -> Result<bool, Memory> {
+    let early = table.retire(moment(9), steps)?;
+    let once = table.retire(moment(15), steps)?;
+    let twice = table.retire(moment(15), steps)?;
+    Ok(!early && once && !twice)
 }
 
 /// The number of the first answer that is another than is wanted.
@@ -144,7 +147,7 @@ fn first_other_map<L: Ledger>(
     steps: &mut Steps<L>,
 ) -> Result<Option<usize>, Memory> {
     table.tell_all();
-    if !retires_one(table, steps) {
+    if !retires_one(table, steps)? {
         return Ok(Some(1));
     }
     if !is_left(table, steps) || !covers_once(table) || !owned_once(table) {
@@ -168,7 +171,7 @@ fn first_other_peer<L: Ledger>(
     steps: &mut Steps<L>,
 ) -> Result<Option<usize>, Memory> {
     table.tell_all();
-    if !retires_one_peer(table, steps) {
+    if !retires_one_peer(table, steps)? {
         return Ok(Some(1));
     }
     if !is_left_peer(table, steps) || !opened_once(table) {
