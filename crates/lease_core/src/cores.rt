@@ -49,7 +49,8 @@ impl<S: LeaseStore> LeaseCore<S> {
     }
 
     /// What is decided on a request at a moment that isn't below the one reached, which it becomes.
-    /// The state stays: a record that is told is to be applied by `apply`. It takes no memory.
+    /// The state stays: a record that is told is to be applied by `apply`. Want of memory changes
+    /// none of this.
     pub fn decide(&mut self, _alloc: Global, ask: &Ask, m: Moment) -> Result<Decided, Memory>
         requires sound { IsReached (S.state self.old) }
         requires later { S.reached self.old ≤ m }

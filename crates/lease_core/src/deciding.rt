@@ -70,10 +70,10 @@ fn decide_kept<S: LeaseStore, L: Ledger>(
 }
 
 /// What is decided on a request at a moment that isn't below the one reached, which it becomes. The
-/// state stays: a record that is told is for the caller to apply. No memory is taken. It is what
-/// `reach` takes, three look-ups for a MAP request and five for a PEER request, and, only where a new
-/// lease is asked for whose endpoint has no port, a pick for its address with a look-up for each port
-/// of a set.
+/// state stays: a record that is told is for the caller to apply. Want of memory changes none of this.
+/// It takes what `reach` takes, three look-ups for a MAP request and five for a PEER request, and,
+/// only where a new lease is asked for whose endpoint has no port, a pick for its address with a
+/// look-up for each port of a set.
 pub fn decide<S: LeaseStore, L: Ledger>(
     store: &mut S,
     ask: &Ask,
