@@ -152,3 +152,39 @@ room-one t m e within = up_to-next (is_taken_inside t m e) e.port 1 within (omeg
   between = tt;
   none = λ o up less. absurd (omega (arith, up, less));
 })
+
+-- where all ports above one are asked, the next one is told
+module _ (test : ℕ → Bool) (after : ℕ) (within : after < 65536) where
+  abbrev found : Option ℕ
+  found = find test (range_with_len (after + 1) (65535 - after))
+
+  pub next-found : (r : Option ℕ) → IsNextOf test after 65536 r → r ≡ found
+  next-found (Some n) h =
+      let up = h.above in let under = h.below in
+      first-in_range test (after + 1) (65535 - after) n (omega (arith, up)) (omega (arith, up, under, within)) h.passes (λ o lo hi. h.between o (omega (arith, lo)) hi)
+  next-found None all_fail = step found refl
+    where
+      fails : (other : ℕ) → after < other → other < 65536 → test other ≡ false
+      fails = all_fail.none
+
+      step : (o : Option ℕ) → found ≡ o → None ≡ o
+      step None is = refl
+      step (Some n) is =
+          let f = find-some test (range_with_len (after + 1) (65535 - after)) n is in
+          let from = range-IsIn (after + 1) (65535 - after) n f.0 in
+          let lo = from.0 in let hi = from.1 in
+          let never : test n ≡ false = fails n (omega (arith, lo)) (omega (arith, hi, within)) in
+          absurd (let both : true ≡ false = sym f.1 ∙ never in cc)
+
+-- the lesser of what both tables tell is the next of all
+pub next-known : (t : Table) (m : ℕ) (e : Endpoint) (within : e.port < 65536) (a b : Option ℕ)
+    → IsNextCovered e 65536 (live t m).maps a → IsNextNamed e 65536 (live t m).peers b
+    → lesser a b ≡ next_inside t m e
+unfolding next_inside
+next-known t m e within a b h k = next-found (is_taken_inside t m e) e.port within (lesser a b) (next-taken t m e 65536 a b h k)
+
+-- no port is above the last one
+pub next-last : (t : Table) (m : ℕ) (e : Endpoint) → e.port ≡ 65535 → None ≡ next_inside t m e
+unfolding next_inside
+next-last t m e last =
+    ap (λ n. find (is_taken_inside t m e) (range_with_len (e.port + 1) n)) (let none : 0 ≡ 65535 - e.port = omega (arith, last) in none)

@@ -97,6 +97,16 @@ impl IndexedState {
         self.leases.peer_count_counted(m, endpoint, steps)
     }
 
+    /// The next greater internal port, of the endpoint's address and protocol, that a lease covers
+    /// or names. It counts no steps.
+    pub(crate) fn next_inside(&self, m: Moment, endpoint: &Endpoint) -> Option<u16>
+        requires kept { IsKept self.now }
+        requires later { self.now.ports.reached ≤ m }
+        ensures { result ≡ next_inside self.now.state.table m endpoint.now }
+    {
+        self.leases.next_inside(m, endpoint)
+    }
+
     /// How many of the `most` internal ports from the endpoint's on come before the next greater one
     /// that a lease covers or names.
     pub(crate) fn room_inside<L: Ledger>(

@@ -162,6 +162,24 @@ impl Leases {
         self.peers.tell_all();
     }
 
+    /// The next greater internal port, of the endpoint's address and protocol, that a lease covers
+    /// or names.
+    pub(crate) fn next_inside_counted<L: Ledger>(
+        &self,
+        m: Moment,
+        endpoint: &Endpoint,
+        steps: &mut Steps<L>,
+    ) -> Option<u16>
+        ensures { result ≡ next_inside self.now.found m endpoint.now }
+    {
+        if endpoint.port == u16::MAX {
+            return None;
+        }
+        let mapped = self.maps.next_internal(endpoint, 65536, m, steps);
+        let named = self.peers.next_internal(endpoint, 65536, m, steps);
+        lesser(mapped, named)
+    }
+
     /// How many of the `most` internal ports from the endpoint's on come before the next greater one
     /// that a lease covers or names.
     pub(crate) fn room_inside_counted<L: Ledger>(

@@ -294,8 +294,16 @@ impl LeaseStore for IndexedStore {
         self.state.peer_count(self.reached, endpoint, steps)
     }
 
+    fn next_inside(&self, endpoint: &Endpoint) -> Option<u16> {
+        self.state.next_inside(self.reached, endpoint)
+    }
+
     fn room_inside<L: Ledger>(&self, endpoint: &Endpoint, most: u32, steps: &mut Steps<L>) -> u32 {
         self.state.room_inside(self.reached, endpoint, most, steps)
+    }
+
+    fn lease_count(&self) -> u32 {
+        self.leases(self.reached)
     }
 
     fn has_room<L: Ledger>(&self, steps: &mut Steps<L>) -> bool {

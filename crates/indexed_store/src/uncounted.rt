@@ -2,7 +2,7 @@
 ghost use Rattle.std.specs.Prelude.{◌≡◌, ◌<◌, nat_lt, is_some};
 ghost use Rattle.pcp_base.specs.declared.leases.TheConstants.{MOST_LEASES};
 ghost use Rattle.indexed_store.specs.Tabled.{AreTabled};
-ghost use Rattle.lease_store.specs.Lookups.{covering, peering, named_port, peer_count, lease_count};
+ghost use Rattle.lease_store.specs.Lookups.{covering, peering, named_port, peer_count, lease_count, next_inside};
 ghost use Rattle.mapping_table.specs.MapLists.{map_owning};
 ghost use Rattle.peer_table.specs.PeerLists.{peer_opening};
 
@@ -110,6 +110,28 @@ impl Leases {
         ensures { result ≡ peer_count self.now.found m endpoint.now }
     {
         self.peer_count_from::<Brand>(m, endpoint, Blank::new(1))
+    }
+
+    fn next_inside_from<L: Ledger>(
+        &self,
+        m: Moment,
+        endpoint: &Endpoint,
+        blank: Blank,
+    ) -> Option<u16>
+        requires name { blank.name ≡ L.name }
+        requires parts { blank.parts ≡ L.parts }
+        requires some { 0 < L.parts }
+        ensures { result ≡ next_inside self.now.found m endpoint.now }
+    {
+        self.next_inside_counted(m, endpoint, &mut Steps::<L>::begin(blank))
+    }
+
+    /// The next greater internal port, of the endpoint's address and protocol, that a lease covers
+    /// or names.
+    pub(crate) fn next_inside(&self, m: Moment, endpoint: &Endpoint) -> Option<u16>
+        ensures { result ≡ next_inside self.now.found m endpoint.now }
+    {
+        self.next_inside_from::<Brand>(m, endpoint, Blank::new(1))
     }
 
     fn has_space_from<L: Ledger>(&self, m: Moment, blank: Blank) -> bool

@@ -176,6 +176,12 @@ pub trait LeaseStore {
         ensures count { result ≡ peer_count (state self.now).table (reached self.now) endpoint.now }
         ensures steps { steps.new ≤ steps.old + look_steps (state self.now) };
 
+    /// The next greater internal port, of the endpoint's address and protocol, that a lease covers
+    /// or names which is live at the moment reached. It counts no steps.
+    fn next_inside(&self, endpoint: &Endpoint) -> Option<u16>
+        requires { IsReached (state self.now) }
+        ensures { result ≡ next_inside (state self.now).table (reached self.now) endpoint.now };
+
     /// How many of the `most` internal ports from the endpoint's on, 1 to all that there are, come
     /// before the next greater one, of the endpoint's address and protocol, that a lease covers or
     /// names which is live at the moment reached.
@@ -187,6 +193,11 @@ pub trait LeaseStore {
             (next_inside (state self.now).table (reached self.now) endpoint.now)
             endpoint.now.port most }
         ensures steps { steps.new ≤ steps.old + most * look_steps (state self.now) };
+
+    /// How many leases are live at the moment reached. It counts no steps.
+    fn lease_count(&self) -> u32
+        requires { IsReached (state self.now) }
+        ensures { result ≡ lease_count (state self.now).table (reached self.now) };
 
     /// Whether fewer than [`MOST_LEASES`](pcp_base::MOST_LEASES) leases are live at the moment
     /// reached.

@@ -142,7 +142,7 @@ fn is_taken_inside(replay: &PlainReplay, m: Moment, endpoint: &Endpoint, port: u
 /// The next greater internal port, of the endpoint's address and protocol, that a live lease covers
 /// or names.
 #[tactic(auto, unfolding(lease_store::specs::Lookups::next_inside))]
-fn next_inside(replay: &PlainReplay, m: Moment, endpoint: &Endpoint) -> Option<u16>
+pub(crate) fn next_inside(replay: &PlainReplay, m: Moment, endpoint: &Endpoint) -> Option<u16>
     ensures { result ≡ next_inside replay.now.table m endpoint.now }
 {
     for before in endpoint.port..65535 {

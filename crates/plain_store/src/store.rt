@@ -150,8 +150,16 @@ impl LeaseStore for PlainStore {
         lookups::peer_count(&self.replay, self.reached, endpoint)
     }
 
+    fn next_inside(&self, endpoint: &Endpoint) -> Option<u16> {
+        lookups::next_inside(&self.replay, self.reached, endpoint)
+    }
+
     fn room_inside<L: Ledger>(&self, endpoint: &Endpoint, most: u32, _steps: &mut Steps<L>) -> u32 {
         lookups::room_inside(&self.replay, self.reached, endpoint, most)
+    }
+
+    fn lease_count(&self) -> u32 {
+        lookups::lease_count(&self.replay, self.reached)
     }
 
     fn has_room<L: Ledger>(&self, _steps: &mut Steps<L>) -> bool {
