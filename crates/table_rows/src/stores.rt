@@ -307,6 +307,15 @@ fn tells_leases<L: Ledger>(store: &PlainStore, steps: &mut Steps<L>) -> bool
     inside == (1000, 1, 8) && covered == (true, false) && counts == (5, 3) && store.has_room(steps)
 }
 
+/// Whether the next port inside and the number of leases are told.
+fn tells_next(store: &PlainStore) -> bool
+    requires { IsReached store.now.state }
+{
+    let next = store.next_inside(&at(Udp, 5, 4000));
+    let none = store.next_inside(&at(Udp, 5, 5001));
+    (next, none) == (Some(5000), None) && store.lease_count() == 5
+}
+
 /// Whether the lists are those of the records.
 fn tells_lists(alloc: Global, store: &PlainStore) -> Result<bool, Memory>
     requires { IsReached store.now.state }
@@ -382,7 +391,8 @@ fn tells_state(alloc: Global, store: &PlainStore) -> Result<bool, Memory>
 {
     let finds = finds_from::<Brand>(store, Blank::new(1));
     let lists = tells_lists(alloc, store)? && tells_records(alloc, store)?;
-    Ok(finds && lists && tells_the_rest(store) && tells_owners(alloc, store)?)
+    let told = tells_next(store) && tells_the_rest(store);
+    Ok(finds && lists && told && tells_owners(alloc, store)?)
 }
 
 #[test]
