@@ -319,54 +319,35 @@ fn read_u16(octets: &[u8], at: usize) -> u16 {
     u16::from_be_bytes(octets[at..at + 2].try_into().unwrap())
 }
 
-fn judge(config: &Config, source: Address, octets: &[u8]) -> Verdict {
-    if octets.len() < 2 || octets[1] & 0x80 != 0 || (octets[0] == 2 && octets.len() < HEADER) {
-        return Verdict::Silent;
-    }
-    let unparsed = |code| Verdict::Refuse {
-        code,
-        parsed: false,
-    };
-    let parsed = |code| Verdict::Refuse { code, parsed: true };
+/// Why a message isn't read as a request, or the THIRD_PARTY address of one that is.
+fn read_head(source: Address, octets: &[u8]) -> Result<Option<Address>, Code> {
     if octets[0] != 2 {
-        return unparsed(Code::UnsuppVersion);
+        return Err(Code::UnsuppVersion);
     }
     if octets.len() > LONGEST_MESSAGE || octets.len() % 4 != 0 {
-        return unparsed(Code::MalformedRequest);
+        return Err(Code::MalformedRequest);
     }
     if octets[1] > 1 {
-        return unparsed(Code::UnsuppOpcode);
+        return Err(Code::UnsuppOpcode);
     }
-    let data = if octets[1] == 1 { MAP_DATA } else { 0 };
-    if octets.len() < HEADER + data {
-        return unparsed(Code::MalformedRequest);
+    let map = octets[1] == 1;
+    let end = if map { HEADER + MAP_DATA } else { HEADER };
+    if octets.len() < end {
+        return Err(Code::MalformedRequest);
     }
     if Address::read(&octets[8..]) != source {
-        return unparsed(Code::AddressMismatch);
+        return Err(Code::AddressMismatch);
     }
-    let third_party = match read_options(&octets[HEADER + data..], data > 0) {
-        Ok(third_party) => third_party,
-        Err(code) => return unparsed(code),
-    };
-    match third_party {
-        Some(_) if !config.third_party.iter().any(|prefix| prefix.holds(source)) => {
-            return parsed(Code::UnsuppOption)
-        }
-        Some(third) if third == source => return parsed(Code::MalformedRequest),
-        _ => {}
+    read_options(&octets[end..], map)
+}
+
+/// The ask of a MAP request whose head and options are read.
+fn read_map(octets: &[u8], address: Address, third_party: Option<Address>) -> Result<MapAsk, Code> {
+    let data = &octets[HEADER..HEADER + MAP_DATA];
+    if !matches!(data[12], TCP | UDP) || read_u16(data, 16) == 0 {
+        return Err(Code::UnsuppProtocol);
     }
-    let data = &octets[HEADER..HEADER + data];
-    if !data.is_empty() && (!matches!(data[12], TCP | UDP) || read_u16(data, 16) == 0) {
-        return parsed(Code::UnsuppProtocol);
-    }
-    let address = third_party.unwrap_or(source);
-    let Some(place) = config.place(address) else {
-        return parsed(Code::NotAuthorized);
-    };
-    if data.is_empty() {
-        return Verdict::Announce { place };
-    }
-    let ask = MapAsk {
+    Ok(MapAsk {
         endpoint: Endpoint {
             address,
             protocol: data[12],
@@ -377,8 +358,45 @@ fn judge(config: &Config, source: Address, octets: &[u8]) -> Verdict {
         suggested_port: read_u16(data, 18),
         suggested_address: Address::read(&data[20..]),
         third_party,
-    };
-    Verdict::Map { place, ask }
+    })
+}
+
+/// What becomes of a request whose head and options are read.
+fn judge_parsed(
+    config: &Config,
+    source: Address,
+    octets: &[u8],
+    third_party: Option<Address>,
+) -> Result<Verdict, Code> {
+    match third_party {
+        Some(_) if !config.third_party.iter().any(|prefix| prefix.holds(source)) => {
+            return Err(Code::UnsuppOption)
+        }
+        Some(third) if third == source => return Err(Code::MalformedRequest),
+        _ => {}
+    }
+    let address = third_party.unwrap_or(source);
+    if octets[1] == 0 {
+        let place = config.place(address).ok_or(Code::NotAuthorized)?;
+        return Ok(Verdict::Announce { place });
+    }
+    let ask = read_map(octets, address, third_party)?;
+    let place = config.place(address).ok_or(Code::NotAuthorized)?;
+    Ok(Verdict::Map { place, ask })
+}
+
+fn judge(config: &Config, source: Address, octets: &[u8]) -> Verdict {
+    if octets.len() < 2 || octets[1] & 0x80 != 0 || (octets[0] == 2 && octets.len() < HEADER) {
+        return Verdict::Silent;
+    }
+    match read_head(source, octets) {
+        Ok(third_party) => judge_parsed(config, source, octets, third_party)
+            .unwrap_or_else(|code| Verdict::Refuse { code, parsed: true }),
+        Err(code) => Verdict::Refuse {
+            code,
+            parsed: false,
+        },
+    }
 }
 
 /// Walks the options. Of the known ones there is THIRD_PARTY alone.
