@@ -3,13 +3,16 @@ ghost use Rattle.std.specs.Prelude.{◌≡◌};
 ghost use Rattle.pcp_base.specs.Pairing.{place_of};
 
 use crate::addresses::{Address, Prefix};
-use crate::lists::Listed;
+use crate::lists::{Listed, Octets};
 
 /// How many external addresses a server may have.
 pub const MOST_EXTERNALS: usize = 16;
 
 /// How many subscriber rows a configuration may have.
 pub const MOST_SUBSCRIBERS: usize = 1_024;
+
+/// At how many addresses a server may listen.
+pub const MOST_DOORS: usize = 16;
 
 /// How many prefixes of hosts may ask for others.
 pub const MOST_THIRD_PARTIES: usize = 256;
@@ -49,6 +52,28 @@ pub type Externals = Listed<External>;
 /// Subscribers, of which the first that holds an address counts.
 pub type Subscribers = Listed<Subscriber>;
 
+/// An address at which the server listens.
+#[derive(Debug, Drop)]
+pub struct ListenAddress {
+    /// Neither all-zero nor a multicast one.
+    pub address: Address,
+    /// The name of the link on which a link-local address stands, at most 15 octets; empty where none is
+    /// named.
+    pub link: Octets,
+}
+
+/// Addresses at which the server listens, one door each.
+pub type Addresses = Listed<ListenAddress>;
+
+/// Where orders come from.
+#[derive(Clone, Copy, Debug, PartialEq, Eq, Hash)]
+pub enum Orders {
+    /// From 127.0.0.1, and by the folder of the journals.
+    Both,
+    /// By the folder of the journals alone.
+    Folder,
+}
+
 /// The configuration of a server.
 #[derive(Debug, Drop)]
 pub struct Config {
@@ -64,6 +89,10 @@ pub struct Config {
     pub externals: Externals,
     /// At most [`MOST_SUBSCRIBERS`].
     pub subscribers: Subscribers,
+    /// Where the server listens, at most [`MOST_DOORS`] different ones: a door each, counted from 0. None
+    /// where it listens at all addresses of the host, by IPv4 at door 0 and by IPv6 at door 1.
+    pub listen: Addresses,
+    pub orders: Orders,
 }
 
 /// The external index of the first subscriber row whose prefix holds the address; none where none does.

@@ -12,6 +12,8 @@ pub struct Datagram {
     pub peer: Address,
     /// The peer's UDP port.
     pub port: u16,
+    /// The door by which it came or goes: the number of a socket of this host.
+    pub door: u8,
     pub octets: Octets,
 }
 
@@ -23,7 +25,7 @@ pub struct Entry {
     pub moment: Moment,
     /// The request and its sender.
     pub from: Datagram,
-    /// The octets of the reply, which goes to that sender.
+    /// The octets of the reply, which goes to that sender by the door of the request.
     pub reply: Octets,
     /// What the lease table and its journal keep of it.
     pub kept: Option<Record>,

@@ -21,8 +21,9 @@ pub use addresses::{Address, Nonce, NotAddress, NotPrefix, Prefix};
 pub use asks::{Answer, Ask, MapAsk, PeerAsk, PortSet, Refusal};
 pub use codes::{Code, LONG_ERROR, SHORT_ERROR};
 pub use configs::{
-    Config, External, Externals, LONGEST_LIFETIME, MOST_EXTERNALS, MOST_QUOTA, MOST_SUBSCRIBERS,
-    MOST_THIRD_PARTIES, Prefixes, Subscriber, Subscribers, pair,
+    Addresses, Config, External, Externals, LONGEST_LIFETIME, ListenAddress, MOST_DOORS,
+    MOST_EXTERNALS, MOST_QUOTA, MOST_SUBSCRIBERS, MOST_THIRD_PARTIES, Orders, Prefixes, Subscriber,
+    Subscribers, pair,
 };
 pub use datagrams::{Datagram, Entry};
 pub use errors::{Failed, Memory};

@@ -7,6 +7,7 @@ use Rattle.pcp_base.specs.declared.datagrams.Datagram.{Datagram}
 abbrev pub sent_with : Option (List Datagram) → List Datagram → Option (List Datagram)
 sent_with before more = option_map (λ ds. ds ++ more) before
 
-abbrev pub sent_after : Option (List Datagram) → Address → ℕ → List ℕ → Option (List Datagram)
-sent_after before peer port octets =
-    sent_with before (record { peer = peer; port = port; octets = octets } ∷ [])
+-- a datagram by this door to this peer comes behind the others
+abbrev pub sent_after : Option (List Datagram) → ℕ → Address → ℕ → List ℕ → Option (List Datagram)
+sent_after before door peer port octets =
+    sent_with before (record { peer = peer; port = port; door = door; octets = octets } ∷ [])

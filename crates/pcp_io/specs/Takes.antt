@@ -9,16 +9,18 @@ use Rattle.pcp_io.specs.declared.inboxes.TheConstants.{LONGEST_DATAGRAM}
 
 -- the item that a take gave, with the room's octets; none at a stop
 abbrev pub item_of : Incoming → List ℕ → Option InboxItem
-item_of (Incomings.Packet peer port n) room =
-    Some (Items.Packet (record { peer = peer; port = port; octets = take n room }))
-item_of (Incomings.Lose address) room = Some (Items.Lose address)
+item_of (Incomings.Packet peer port door n) room =
+    Some (Items.Packet (record { peer = peer; port = port; door = door; octets = take n room }))
+item_of (Incomings.Lose order address) room = Some (Items.Lose order address)
+item_of (Incomings.Status order) room = Some (Items.Status order)
 item_of Incomings.Quiet room = Some Items.Quiet
 item_of Incomings.Stop room = None
 
 -- how many octets of the room it fills
 abbrev pub filled : Incoming → ℕ
-filled (Incomings.Packet peer port n) = n
-filled (Incomings.Lose address) = 0
+filled (Incomings.Packet peer port door n) = n
+filled (Incomings.Lose order address) = 0
+filled (Incomings.Status order) = 0
 filled Incomings.Quiet = 0
 filled Incomings.Stop = 0
 
@@ -39,9 +41,10 @@ pub record Takes (before now : Option (List InboxItem)) (room : List ℕ) (incom
 -- a datagram as an inbox gives it
 abbrev pub cut_datagram : Datagram → Datagram
 cut_datagram d =
-    record { peer = d.peer; port = d.port; octets = take LONGEST_DATAGRAM d.octets }
+    record { peer = d.peer; port = d.port; door = d.door; octets = take LONGEST_DATAGRAM d.octets }
 
 abbrev pub cut_item : InboxItem → InboxItem
 cut_item (Items.Packet d) = Items.Packet (cut_datagram d)
-cut_item (Items.Lose address) = Items.Lose address
+cut_item (Items.Lose order address) = Items.Lose order address
+cut_item (Items.Status order) = Items.Status order
 cut_item Items.Quiet = Items.Quiet

@@ -14,8 +14,10 @@ pub const LONGEST_DATAGRAM: usize = 2048;
 #[derive(Drop)]
 pub enum InboxItem {
     Packet(Datagram),
-    /// All leases of this external address are to be lost.
-    Lose(Address),
+    /// All leases of this external address are to be lost, by the order of this number.
+    Lose(u32, Address),
+    /// The order of this number asks how the server is.
+    Status(u32),
     /// Nothing came in the inbox's own waiting time.
     Quiet,
 }
@@ -23,14 +25,18 @@ pub enum InboxItem {
 /// What a take gave.
 #[derive(Clone, Copy, PartialEq, Eq)]
 pub enum Incoming {
-    /// A datagram, whose octets stand in the front of the room.
+    /// A datagram that came by this door, whose octets stand in the front of the room.
     Packet {
         peer: Address,
         port: u16,
+        door: u8,
         length: usize,
     },
-    /// All leases of this external address are to be lost.
-    Lose(Address),
+    /// All leases of this external address are to be lost, by the order of this number: 0 where nobody
+    /// waits for an answer.
+    Lose(u32, Address),
+    /// The order of this number asks how the server is.
+    Status(u32),
     /// Nothing came in the inbox's own waiting time.
     Quiet,
     /// Nothing comes any more.
@@ -53,4 +59,9 @@ pub trait Inbox {
         ensures takes { IfOk result (Takes (left self.old) (left self.new) room.new) }
         ensures unchanged { OnErr result (left self.new ≡ left self.old) }
         ensures cause { HasCause (faults self.old) (faults self.new) result };
+
+    /// Tells whoever gave the order of this number what became of it.
+    fn answered(&mut self, order: u32, text: &[u8])
+        ensures left { left self.new ≡ left self.old }
+        ensures later { faults self.old ≤ faults self.new };
 }

@@ -34,8 +34,9 @@ pub trait LaneLink {
     // How many faults it has counted.
     ghost faults: { Self → ℕ };
 
-    /// Gives what is asked next. After `Failed` nothing was taken, and a fault was counted.
-    fn ask(&mut self) -> Result<LaneAsk, Failed>
+    /// Gives what is asked next. It is told whether the server's work is over, so that a link may stop
+    /// although it is asked on. After `Failed` nothing was taken, and a fault was counted.
+    fn ask(&mut self, over: bool) -> Result<LaneAsk, Failed>
         ensures asks { IfOk result (IsNextAsk (asks self.old) (asks self.new)) }
         ensures unchanged { OnErr result (asks self.new ≡ asks self.old) }
         ensures answers { answers self.new ≡ answers self.old }

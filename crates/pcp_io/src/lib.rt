@@ -29,6 +29,7 @@ mod writers;
 
 pub use calls::Calls;
 pub use clocks::{Clock, END_OF_TIME_MS};
+pub use controls::ORDER_DOOR;
 pub use gates::{Gate, NoGate};
 pub use inboxes::{Inbox, InboxItem, Incoming, LONGEST_DATAGRAM};
 pub use lane_links::{LaneAsk, LaneLink};

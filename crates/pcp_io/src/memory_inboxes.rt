@@ -78,6 +78,7 @@ fn give_packet(datagram: &Datagram, room: &mut [u8]) -> Incoming
     Incoming::Packet {
         peer: datagram.peer,
         port: datagram.port,
+        door: datagram.door,
         length,
     }
 }
@@ -90,7 +91,8 @@ fn give(item: &InboxItem, room: &mut [u8]) -> Incoming
 {
     match item {
         InboxItem::Packet(datagram) => give_packet(datagram, room),
-        InboxItem::Lose(address) => Incoming::Lose(*address),
+        InboxItem::Lose(order, address) => Incoming::Lose(*order, *address),
+        InboxItem::Status(order) => Incoming::Status(*order),
         InboxItem::Quiet => Incoming::Quiet,
     }
 }
@@ -126,4 +128,9 @@ impl Inbox for MemoryInbox {
         self.at += 1;
         Ok(incoming)
     }
+
+    // Nobody hears it.
+    fn answered(&mut self, _order: u32, _text: &[u8])
+        ensures { self.new ≡ self.old }
+    {}
 }

@@ -86,7 +86,7 @@ impl LaneLink for MemoryLane {
 
     ghost faults = { λ s. s.calls.faults };
 
-    fn ask(&mut self) -> Result<LaneAsk, Failed>
+    fn ask(&mut self, _over: bool) -> Result<LaneAsk, Failed>
         ensures asks { IfOk result (IsNextAsk (Some self.old.asks) (Some self.new.asks)) }
         ensures unchanged { OnErr result (self.new.asks ≡ self.old.asks) }
         ensures answers { self.new.answers ≡ self.old.answers }

@@ -75,14 +75,21 @@ impl MemoryOutbox {
     }
 }
 
-/// A datagram to this peer.
-fn datagram_of(alloc: Global, peer: Address, port: u16, octets: &[u8]) -> Result<Datagram, Memory>
+/// A datagram by this door to this peer.
+fn datagram_of(
+    alloc: Global,
+    door: u8,
+    peer: Address,
+    port: u16,
+    octets: &[u8],
+) -> Result<Datagram, Memory>
     ensures { IfOk result
-        (λ d. d ≡ record { peer = peer; port = port; octets = octets.now }) }
+        (λ d. d ≡ record { peer = peer; port = port; door = door; octets = octets.now }) }
 {
     Ok(Datagram {
         peer,
         port,
+        door,
         octets: Octets::of(octets.to_vec(alloc)?),
     })
 }
@@ -98,9 +105,9 @@ impl Outbox for MemoryOutbox {
 
     ghost faults = { λ s. s.calls.faults };
 
-    fn send(&mut self, peer: Address, port: u16, octets: &[u8]) -> Result<(), Failed>
+    fn send(&mut self, door: u8, peer: Address, port: u16, octets: &[u8]) -> Result<(), Failed>
         ensures sends { OnOk result
-            (Some self.new.sent ≡ sent_after (Some self.old.sent) peer port octets.now) }
+            (Some self.new.sent ≡ sent_after (Some self.old.sent) door peer port octets.now) }
         ensures unchanged { OnErr result (self.new.sent ≡ self.old.sent) }
         ensures cause { HasCause self.old.calls.faults self.new.calls.faults result }
 
@@ -119,7 +126,7 @@ impl Outbox for MemoryOutbox {
         if named || free < octets.len() as u64 {
             return Err(self.calls.fail());
         }
-        let Ok(datagram) = datagram_of(self.alloc, peer, port, octets) else {
+        let Ok(datagram) = datagram_of(self.alloc, door, peer, port, octets) else {
             return Err(self.calls.starve());
         };
         if self.sent.reserve(1).is_err() {

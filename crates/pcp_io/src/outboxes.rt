@@ -14,10 +14,10 @@ pub trait Outbox {
     // How many faults it has counted.
     ghost faults: { Self → ℕ };
 
-    /// Takes a datagram to this peer. After `Failed` it wasn't taken, and a fault was counted.
-    fn send(&mut self, peer: Address, port: u16, octets: &[u8]) -> Result<(), Failed>
+    /// Takes a datagram to this peer, by this door. After `Failed` it wasn't taken, and a fault was counted.
+    fn send(&mut self, door: u8, peer: Address, port: u16, octets: &[u8]) -> Result<(), Failed>
         ensures sends { OnOk result
-            (sent self.new ≡ sent_after (sent self.old) peer port octets.now) }
+            (sent self.new ≡ sent_after (sent self.old) door peer port octets.now) }
         ensures unchanged { OnErr result (sent self.new ≡ sent self.old) }
         ensures cause { HasCause (faults self.old) (faults self.new) result };
 }

@@ -1,11 +1,11 @@
-//! What the links over UDP sockets share: how they wait, what a read of a socket gives, and the addresses
-//! of peers.
+//! What the links over UDP sockets share: how they wait, what a read of a socket gives, how a send never
+//! waits, and the addresses of peers.
 ghost use Rattle.std.specs.Prelude.{◌≡◌, ◌≤◌, length, IfSome, IfOk};
 
 use libc::net as c;
 use pcp_base::Address;
 use std::io::ErrorKind;
-use std::net::{IpAddr, Ipv6Addr, SocketAddr, UdpSocket};
+use std::net::{IpAddr, SocketAddr, UdpSocket};
 use std::os::fd::AsRawFd;
 use std::time::Duration;
 
@@ -44,17 +44,27 @@ pub(crate) fn ready(socket: Option<UdpSocket>) -> Option<UdpSocket> {
     if socket.set_read_timeout(waits).is_err() {
         return None;
     }
-    ask_for_room(&socket);
+    let most = most_room();
+    let fd = socket.as_raw_fd();
+    let _status = unsafe { c::setsockopt(fd, c::SOL_SOCKET, c::SO_RCVBUF, &most, 4) };
     Some(socket)
 }
 
-/// Asks for the most room for datagrams that wait. The system gives what it has, and a socket that gets
+/// The socket with as much room for datagrams that wait to be sent as the system gives.
+pub(crate) fn ready_to_send(socket: Option<UdpSocket>) -> Option<UdpSocket> {
+    let socket = socket?;
+    let most = most_room();
+    let fd = socket.as_raw_fd();
+    let _status = unsafe { c::setsockopt(fd, c::SOL_SOCKET, c::SO_SNDBUF, &most, 4) };
+    Some(socket)
+}
+
+/// The most room that a socket can be asked to have. The system gives what it has, and a socket that gets
 /// no more than it had is used as it is.
-fn ask_for_room(socket: &UdpSocket) {
+fn most_room() -> [u8; 16] {
     let mut most = [0u8; 16];
     most[..4].copy_from_slice(&i32::MAX.to_ne_bytes());
-    let fd = socket.as_raw_fd();
-    let _status = unsafe { c::setsockopt(fd, c::SOL_SOCKET, c::SO_RCVBUF, &most, 4) };
+    most
 }
 
 /// Takes the next datagram: its length, and who sent it; none where none came in the waiting time.
@@ -89,27 +99,59 @@ fn trouble_of(kind: ErrorKind) -> Option<Trouble> {
     }
 }
 
-/// Whether the system took the whole datagram.
-pub(crate) fn sends(socket: &UdpSocket, to: SocketAddr, octets: &[u8]) -> bool {
-    match socket.send_to(octets, to) {
-        Ok(count) => count == octets.len(),
-        Err(_) => false,
-    }
+/// Whether the system took the whole datagram at once: a send never waits. A peer on a link of its own,
+/// or a group of hosts of a link, is on the link of this scope, where it isn't 0.
+pub(crate) fn sends(
+    socket: &UdpSocket,
+    peer: &Address,
+    port: u16,
+    scope: u32,
+    octets: &[u8],
+) -> bool {
+    let place = place_of(peer, port, scope);
+    let length = place_length(peer);
+    let flags = c::MSG_DONTWAIT | c::MSG_NOSIGNAL;
+    let fd = socket.as_raw_fd();
+    let count = unsafe { c::sendto(fd, octets, flags, &place, length) };
+    usize::try_from(count) == Ok(octets.len())
 }
 
-/// The address of a peer, an IPv4 one in its IPv4-mapped form (RFC 6887, section 5).
-pub(crate) fn address_of(ip: IpAddr) -> Address {
+/// The address of the sender, an IPv4 one in its IPv4-mapped form (RFC 6887, section 5). None where an
+/// IPv6 packet has such an address itself: anyone can write that, and it is nobody's.
+pub(crate) fn sender_of(ip: IpAddr) -> Option<Address> {
     match ip {
-        IpAddr::V4(v4) => Address(v4.to_ipv6_mapped().octets()),
-        IpAddr::V6(v6) => Address(v6.octets()),
+        IpAddr::V4(v4) => Some(Address(v4.to_ipv6_mapped().octets())),
+        IpAddr::V6(v6) => {
+            let address = Address(v6.octets());
+            if is_v4(&address) { None } else { Some(address) }
+        }
     }
 }
 
-/// Where a peer is reached: an IPv4 one by its IPv4 address, which sockets of either family take.
-pub(crate) fn place_of(peer: Address, port: u16) -> SocketAddr {
-    let v6 = Ipv6Addr::from_octets(peer.0);
-    match v6.to_ipv4_mapped() {
-        Some(v4) => SocketAddr::new(IpAddr::V4(v4), port),
-        None => SocketAddr::new(IpAddr::V6(v6), port),
+/// Whether a peer is reached by IPv4.
+fn is_v4(peer: &Address) -> bool {
+    peer.0
+        .starts_with(&[0, 0, 0, 0, 0, 0, 0, 0, 0, 0, 255, 255])
+}
+
+/// How many octets the system's form of an address has.
+fn place_length(peer: &Address) -> u32
+    ensures { result ≤ 28 }
+{
+    if is_v4(peer) { 16 } else { 28 }
+}
+
+/// A peer and its port in the system's form: an IPv4 one by its IPv4 address.
+fn place_of(peer: &Address, port: u16, scope: u32) -> [u8; 128] {
+    let mut place = [0u8; 128];
+    place[2..4].copy_from_slice(&port.to_be_bytes());
+    if is_v4(peer) {
+        place[..2].copy_from_slice(&(c::AF_INET as u16).to_ne_bytes());
+        place[4..8].copy_from_slice(&peer.0[12..]);
+    } else {
+        place[..2].copy_from_slice(&(c::AF_INET6 as u16).to_ne_bytes());
+        place[8..24].copy_from_slice(&peer.0);
+        place[24..28].copy_from_slice(&scope.to_ne_bytes());
     }
+    place
 }

@@ -6,17 +6,19 @@ ghost use Rattle.pcp_io.specs.Takes.{filled};
 
 use crate::controls::read_control;
 use crate::inboxes::{Inbox, Incoming, LONGEST_DATAGRAM};
-use crate::sockets::{Trouble, address_of, ready, receive};
+use crate::sockets::{Trouble, ready, receive, sender_of};
 use pcp_base::Failed;
 use std::marker::Model;
 use std::net::{SocketAddr, UdpSocket};
 
-/// Datagrams that come to a socket, and orders of this host. A take waits for at most 100
-/// milliseconds. Each error of the socket is a fault that it counts, and nothing else is. Where the error
-/// tells that a packet sent before is lost, the take gives `Quiet`. A count that stands at 2^64 - 1
-/// stands still.
+/// Datagrams that come by a door, the socket of one family, and, where it is the door of orders, orders of
+/// this host. A take waits for at most 100 milliseconds. An IPv6 packet whose source is an IPv4-mapped
+/// address is passed over, as if nothing had come. Each error of the socket is a fault that it counts, and
+/// nothing else is. Where the error tells that a packet sent before is lost, the take gives `Quiet`. A
+/// count that stands at 2^64 - 1 stands still.
 #[derive(Drop)]
 pub struct UdpInbox {
+    door: u8,
     socket: Option<UdpSocket>,
     faults: u64,
 }
@@ -33,12 +35,13 @@ impl Model for UdpInbox {
 impl UdpInbox {
     ghost use Rattle.std.specs.Prelude.{◌≡◌};
 
-    /// An inbox of this socket that has counted no fault. Without one, or where it takes no waiting
-    /// time, each take fails.
-    pub fn of(socket: Option<UdpSocket>) -> UdpInbox
+    /// An inbox of this door and its socket that has counted no fault. Without a socket, or where it takes
+    /// no waiting time, each take fails.
+    pub fn of(door: u8, socket: Option<UdpSocket>) -> UdpInbox
         ensures { result ≡ 0 }
     {
         UdpInbox {
+            door,
             socket: ready(socket),
             faults: 0,
         }
@@ -46,22 +49,25 @@ impl UdpInbox {
 }
 
 /// What these octets from there are: an order of this host, or a datagram.
-fn incoming_of(from: SocketAddr, octets: &[u8]) -> Incoming
+fn incoming_of(door: u8, from: SocketAddr, octets: &[u8]) -> Incoming
     ensures { filled result ≤ length octets.now }
 {
-    let peer = address_of(from.ip());
-    match read_control(&peer, octets) {
+    let Some(peer) = sender_of(from.ip()) else {
+        return Incoming::Quiet;
+    };
+    match read_control(door, &peer, octets) {
         Some(incoming) => incoming,
         None => Incoming::Packet {
             peer,
             port: from.port(),
+            door,
             length: octets.len(),
         },
     }
 }
 
 /// Takes what comes next, a datagram's first `LONGEST_DATAGRAM` octets at most.
-fn take_by(socket: &Option<UdpSocket>, room: &mut [u8]) -> Result<Incoming, Trouble>
+fn take_by(door: u8, socket: &Option<UdpSocket>, room: &mut [u8]) -> Result<Incoming, Trouble>
     requires { LONGEST_DATAGRAM ≤ length room.old }
     ensures same { length room.new ≡ length room.old }
     ensures most { IfOk result (λ incoming. filled incoming ≤ LONGEST_DATAGRAM) }
@@ -70,7 +76,7 @@ fn take_by(socket: &Option<UdpSocket>, room: &mut [u8]) -> Result<Incoming, Trou
         return Ok(Incoming::Quiet);
     };
     let (length, from) = found;
-    Ok(incoming_of(from, &room[..length]))
+    Ok(incoming_of(door, from, &room[..length]))
 }
 
 /// What a take gives after an error.
@@ -102,7 +108,7 @@ impl Inbox for UdpInbox {
             ⊎ ((incoming ≡ Quiet) × (self.new ≡ one_more self.old))) }
         ensures counted { OnErr result (self.new ≡ one_more self.old) }
     {
-        match take_by(&self.socket, room) {
+        match take_by(self.door, &self.socket, room) {
             Ok(incoming) => Ok(incoming),
             Err(trouble) => {
                 self.faults = self.faults.saturating_add(1);
@@ -110,4 +116,9 @@ impl Inbox for UdpInbox {
             }
         }
     }
+
+    // Who orders by a datagram hears nothing.
+    fn answered(&mut self, _order: u32, _text: &[u8])
+        ensures { self.new ≡ self.old }
+    {}
 }

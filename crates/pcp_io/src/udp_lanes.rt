@@ -4,14 +4,15 @@ ghost use Rattle.pcp_io.specs.declared.lane_links.LaneAsk.TheVariants.{Quiet};
 
 use crate::lane_links::{LaneAsk, LaneLink};
 use crate::lane_texts::{ROOM, read_ask, write_answer};
-use crate::sockets::{Trouble, ready, receive, sends};
+use crate::sockets::{Trouble, ready, receive, sender_of, sends};
 use pcp_base::{Endpoint, Failed};
 use std::marker::Model;
 use std::net::{SocketAddr, UdpSocket};
 
 /// Asks that come to a socket, each a text, and are answered to their senders: `look PROTOCOL PORT REMOTE
 /// REMOTEPORT` asks for an owner and `stop` for the end; any other is passed over, as if none had
-/// come. An ask waits for at most 100 milliseconds. Each error of the socket is a fault that it counts,
+/// come. An ask waits for at most 100 milliseconds. Once it is told that the work is over, it asks for
+/// the end after 64 more asks at the latest. Each error of the socket is a fault that it counts,
 /// and nothing else is. An answer that the system doesn't take is lost and counted, and the link goes
 /// on; so it does where an ask's error tells that an answer sent before is lost. A count that stands at
 /// 2^64 - 1 stands still.
@@ -20,8 +21,13 @@ pub struct UdpLane {
     socket: Option<UdpSocket>,
     // who asked for an owner last
     asker: Option<SocketAddr>,
+    // how many asks there were since the work is over
+    late: u32,
     faults: u64,
 }
+
+/// How many asks a lane still hears once the work is over.
+const MOST_LATE: u32 = 64;
 
 impl Model for UdpLane {
     ghost use Rattle.std.specs.Prelude.{ℕ};
@@ -43,8 +49,21 @@ impl UdpLane {
         UdpLane {
             socket: ready(socket),
             asker: None,
+            late: 0,
             faults: 0,
         }
+    }
+}
+
+impl UdpLane {
+    ghost use Rattle.std.specs.Prelude.{◌≡◌};
+
+    /// Counts an ask since the work is over. Whether there were enough.
+    fn is_late(&mut self) -> bool
+        ensures { self.new ≡ self.old }
+    {
+        self.late = self.late.saturating_add(1);
+        self.late > MOST_LATE
     }
 }
 
@@ -77,9 +96,12 @@ fn answers(socket: &UdpSocket, asker: Option<SocketAddr>, owner: &Option<Endpoin
     let Some(to) = asker else {
         return true;
     };
+    let Some(peer) = sender_of(to.ip()) else {
+        return false;
+    };
     let mut room = [0; ROOM];
     match write_answer(owner, &mut room) {
-        Ok(length) => sends(socket, to, &room[..length]),
+        Ok(length) => sends(socket, &peer, to.port(), 0, &room[..length]),
         Err(_) => false,
     }
 }
@@ -96,12 +118,15 @@ impl LaneLink for UdpLane {
 
     ghost faults = { λ s. s };
 
-    fn ask(&mut self) -> Result<LaneAsk, Failed>
+    fn ask(&mut self, over: bool) -> Result<LaneAsk, Failed>
         ensures cause { HasCause self.old self.new result }
         ensures same { IfOk result (λ asked. (self.new ≡ self.old)
             ⊎ ((asked ≡ Quiet) × (self.new ≡ one_more self.old))) }
         ensures counted { OnErr result (self.new ≡ one_more self.old) }
     {
+        if over && self.is_late() {
+            return Ok(LaneAsk::Stop);
+        }
         match ask_by(&self.socket, &mut self.asker) {
             Ok(asked) => Ok(asked),
             Err(trouble) => {

@@ -10,6 +10,7 @@ returns-clause-item c =
     let given : List ℕ → Option InboxItem = λ octets. Some (Items.Packet (record {
       peer = c.args.datagram.now.peer;
       port = c.args.datagram.now.port;
+      door = c.args.datagram.now.door;
       octets = octets;
     })) in
     ap given (front_of_room _ _ _ _ _ c.min-length.ensures c.copy_from_slice.ensures.after
