@@ -1,5 +1,5 @@
 -- What the texts of orders say.
-use Rattle.std.proofs.Common.{◌≡◌, ℕ, List, ◌∷◌, ◌++◌, codes, inl, inr, refl, ap, subst, sym, ◌∙◌}
+use Rattle.std.proofs.Common.{◌≡◌, ℕ, List, ◌∷◌, ◌++◌, codes, inl, inr, refl, ap, subst, sym, ◌∙◌, ap₂}
 use Rattle.pcp_base.specs.declared.addresses.Address.{Address}
 use Rattle.pcp_base.specs.AddressTexts.{IsAddressText}
 use Rattle.pcp_io.specs.declared.inboxes.Incoming.{Incoming}
@@ -26,7 +26,7 @@ says-lose : (text : List ℕ) (address : Address) → Says text (Lose 0 address)
     → ((other : Address) → Says text (Lose 0 other) → other ≡ address)
     → (other : Incoming) → Says text other → other ≡ Lose 0 address
 says-lose text address lost only (Packet peer port door n) says = absurd says
-says-lose text address lost only (Lose order other) says = ap2 Lose says.0 (only other (refl, says.1))
+says-lose text address lost only (Lose order other) says = ap₂ Lose says.0 (only other (refl, says.1))
 says-lose text address lost only (Status order) says = absurd says
 says-lose text address lost only Quiet says = absurd says
 says-lose text address lost only Stop says = absurd (let e : codes "stop" ≡ codes "lose " ++ lost.1.0 = sym says ∙ lost.1.1 in cc)
