@@ -34,7 +34,7 @@ texts_again octets rs is = subst (AreTexts octets) (sym (texts_in octets rs is))
 pub no_texts : AreTexts [] []
 no_texts = record { text = refl; values = tt; formed = tt }
 
-records_text-append : (rs qs : List Record) → records_text (rs ++ qs) ≡ records_text rs ++ records_text qs
+pub records_text-append : (rs qs : List Record) → records_text (rs ++ qs) ≡ records_text rs ++ records_text qs
 records_text-append [] qs = refl
 records_text-append (r ∷ rs) qs = ap (λ (l : List ℕ). record_text r ++ l) (records_text-append rs qs) ∙ sym (append_assoc (record_text r) (records_text rs) (records_text qs))
 

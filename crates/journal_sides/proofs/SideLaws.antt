@@ -11,20 +11,26 @@ use Rattle.lease_disk.specs.Images.{Torn}
 use Rattle.lease_disk.proofs.Within.{after_write_within, torn_front}
 use Rattle.journal_sides.specs.declared.formats.Format.TheVariants.{Second}
 use Rattle.journal_sides.specs.Frames.{frame_text, frames_text, records_of}
-use Rattle.journal_sides.specs.Appending.{MayFollow}
+use Rattle.journal_sides.specs.Appending.{AllMayFollow}
 use Rattle.journal_sides.specs.Sides.{head_text, side_text, AreBatches, IsOpenSide}
-use Rattle.journal_sides.proofs.FrameLaws.{frames_text-push, records_of-push, fit-append, each-push}
+use Rattle.journal_sides.proofs.FrameLaws.{frames_text-append, frames_text-push, records_of-append, fit-append, each-append, gate_and_rest}
 
--- what the batches hold with one more
-pub more_batches : (parity generation : ℕ) (batches : List (List Record)) (batch : List Record) → AreBatches Second parity generation batches → MayFollow Second batches batch → AreBatches Second parity generation (batches ++ batch ∷ [])
-more_batches parity generation batches batch are may = record {
+-- what the batches hold with more
+pub more_batches : (parity generation : ℕ) (batches more : List (List Record)) → AreBatches Second parity generation batches → AllMayFollow Second batches more → AreBatches Second parity generation (batches ++ more)
+more_batches parity generation batches more are may = record {
   width = are.width;
   next = tt;
   of_side = are.of_side;
-  some = omega (arith, are.some, length_push batches batch);
-  each = each-push batches batch are.each may.is;
-  fit = subst (AllFit empty_state) (sym (records_of-push batches batch)) (fit-append empty_state (records_of batches) batch are.fit may.fit);
+  some = omega (arith, are.some, length-append batches more);
+  each = each-append batches more are.each may.each;
+  fit = subst (AllFit empty_state) (sym (records_of-append batches more)) (fit-append empty_state (records_of batches) (records_of more) are.fit may.fit);
 }
+
+pub side_text-append : (generation : ℕ) (batches more : List (List Record)) (rest : List ℕ) → side_text Second generation (batches ++ more) ++ rest ≡ side_text Second generation batches ++ (frames_text more ++ rest)
+side_text-append generation batches more rest =
+    append_assoc (head_text Second generation) (frames_text (batches ++ more)) rest
+    ∙ ap (λ (l : List ℕ). head_text Second generation ++ l) (ap (λ (l : List ℕ). l ++ rest) (frames_text-append batches more) ∙ append_assoc (frames_text batches) (frames_text more) rest)
+    ∙ sym (append_assoc (head_text Second generation) (frames_text batches) (frames_text more ++ rest))
 
 pub side_text-push : (generation : ℕ) (batches : List (List Record)) (batch : List Record) (rest : List ℕ) → side_text Second generation (batches ++ batch ∷ []) ++ rest ≡ side_text Second generation batches ++ 1 ∷ (frame_text batch ++ rest)
 side_text-push generation batches batch rest =
@@ -69,24 +75,24 @@ module _ (parity generation : ℕ) (batches : List (List Record)) (octets : List
       ∙ append_assoc (front ++ side.gate ∷ []) piece rest
       ∙ append_assoc front (side.gate ∷ []) (piece ++ rest)
 
--- a whole frame and a closed gate stand behind a gate
-module _ (parity generation : ℕ) (batches : List (List Record)) (batch : List Record) (are : AreBatches Second parity generation batches) (may : MayFollow Second batches batch) (behind : List ℕ) where
+-- whole frames and a closed gate stand behind a gate
+module _ (parity generation : ℕ) (batches more : List (List Record)) (are : AreBatches Second parity generation batches) (may : AllMayFollow Second batches more) (behind : List ℕ) where
   abbrev pub staged : ℕ → List ℕ
-  staged gate = side_text Second generation batches ++ gate ∷ (frame_text batch ++ 0 ∷ behind)
+  staged gate = side_text Second generation batches ++ gate ∷ (drop 1 (frames_text more) ++ 0 ∷ behind)
 
   pub staged_closed : (gate : ℕ) → gate ≢ 1 → IsOpenSide Second parity (staged gate) generation batches
-  staged_closed gate closed = record { contents = are; gate = gate; behind = frame_text batch ++ 0 ∷ behind; closed = closed; text = refl }
+  staged_closed gate closed = record { contents = are; gate = gate; behind = drop 1 (frames_text more) ++ 0 ∷ behind; closed = closed; text = refl }
 
-  pub staged_open : (gate : ℕ) → gate ≡ 1 → IsOpenSide Second parity (staged gate) generation (batches ++ batch ∷ [])
+  pub staged_open : (gate : ℕ) → gate ≡ 1 → IsOpenSide Second parity (staged gate) generation (batches ++ more)
   staged_open gate is = record {
-    contents = more_batches parity generation batches batch are may;
+    contents = more_batches parity generation batches more are may;
     gate = 0;
     behind = behind;
     closed = omega arith;
-    text = ap staged is ∙ sym (side_text-push generation batches batch (0 ∷ behind));
+    text = ap staged is ∙ ap (λ (l : List ℕ). side_text Second generation batches ++ (l ++ 0 ∷ behind)) (gate_and_rest more may.some) ∙ sym (side_text-append generation batches more (0 ∷ behind));
   }
 
-  pub with_or_without : (gate : ℕ) → IsOpenSide Second parity (staged gate) generation batches ⊎ IsOpenSide Second parity (staged gate) generation (batches ++ batch ∷ [])
+  pub with_or_without : (gate : ℕ) → IsOpenSide Second parity (staged gate) generation batches ⊎ IsOpenSide Second parity (staged gate) generation (batches ++ more)
   with_or_without gate = elim (cases_eq gate 1) [
     | inl is ↦ inr (staged_open gate is)
     | inr not ↦ inl (staged_closed gate not)
@@ -97,7 +103,7 @@ module _ (parity generation : ℕ) (batches : List (List Record)) (batch : List 
     before = side_text Second generation batches
 
     abbrev rest : List ℕ
-    rest = frame_text batch ++ 0 ∷ behind
+    rest = drop 1 (frames_text more) ++ 0 ∷ behind
 
     long : length (staged gate) ≡ «end» + 1 + length rest
     long = omega (arith, length-append before (gate ∷ rest), place)

@@ -1,6 +1,6 @@
 -- Frames of a journal (our own). A frame is a gate, a length in 4 octets, and that many octets of
 -- records.
-use Rattle.std.specs.Prelude.{ℕ, ◌<◌, ◌≤◌, List, [], ◌∷◌, ◌++◌, length}
+use Rattle.std.specs.Prelude.{ℕ, ◌+◌, ◌*◌, ◌/◌, ◌<◌, ◌≤◌, List, [], ◌∷◌, ◌++◌, length}
 use Rattle.std.specs.List.{flat_map, AllByRecursion}
 use Rattle.std.specs.Int.{to_be_bytes, w32}
 use Rattle.pcp_base.specs.declared.records.Record.{Record}
@@ -32,3 +32,7 @@ frames_text (batch ∷ batches) = 1 ∷ (frame_text batch ++ frames_text batches
 abbrev pub records_of : List (List Record) → List Record
 records_of [] = []
 records_of (batch ∷ batches) = batch ++ records_of batches
+
+-- how many octets frames of these records have with their gates, where all but the last are full
+abbrev pub frames_octets : List Record → ℕ
+frames_octets records = length (records_text records) + 5 * ((length records + 15) / 16)

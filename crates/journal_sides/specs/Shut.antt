@@ -4,7 +4,7 @@ use Rattle.std.specs.List.{AllByRecursion}
 use Rattle.pcp_base.specs.declared.records.Record.{Record}
 use Rattle.journal_sides.specs.declared.formats.Format.TheVariants.{Second}
 use Rattle.journal_sides.specs.declared.layout.TheConstants.{MOST_RECORDS}
-use Rattle.journal_sides.specs.Frames.{IsBatch, records_of}
+use Rattle.journal_sides.specs.Frames.{IsBatch, frames_text, records_of}
 use Rattle.journal_sides.specs.Sides.{side_text}
 
 pub record IsShut (octets : List ℕ) : Type 0 where
@@ -30,3 +30,20 @@ pub record IsHidden (generation : ℕ) (records : List Record) (octets : List �
   pub full : AreFull batches
   pub holds : records_of batches ≡ records
   pub text : octets ≡ hidden_text generation batches ++ 0 ∷ []
+
+-- these records, in batches, as open frames behind what stood there
+pub record AreFramed (records : List Record) (old new : List ℕ) : Type 0 where
+  pub batches : List (List Record)
+  pub each : AllByRecursion IsBatch batches
+  pub full : AreFull batches
+  pub holds : records_of batches ≡ records
+  pub text : new ≡ old ++ frames_text batches
+
+-- these records, in batches, as they stand behind the gate of the first frame
+pub record AreAppended (records : List Record) (octets : List ℕ) : Type 0 where
+  pub batches : List (List Record)
+  pub some : 0 < length batches
+  pub each : AllByRecursion IsBatch batches
+  pub full : AreFull batches
+  pub holds : records_of batches ≡ records
+  pub text : octets ≡ drop 1 (frames_text batches) ++ 0 ∷ []

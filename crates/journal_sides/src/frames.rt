@@ -5,8 +5,8 @@ ghost use Rattle.std.specs.List.{AllByRecursion};
 ghost use Rattle.pcp_base.specs.Records.{IsWellFormedRecord};
 ghost use Rattle.journal_sides.specs.declared.layout.TheConstants.{MOST_FRAMED, MOST_RECORDS};
 ghost use Rattle.journal_sides.specs.declared.formats.Format.TheVariants.{Second};
-ghost use Rattle.journal_sides.specs.Frames.{IsBatch, frame_text};
-ghost use Rattle.journal_sides.specs.Shut.{IsHidden};
+ghost use Rattle.journal_sides.specs.Frames.{frame_text};
+ghost use Rattle.journal_sides.specs.Shut.{AreAppended, AreFramed, IsHidden};
 ghost use Rattle.journal_sides.specs.Sides.{head_text};
 ghost use Rattle.journal_sides.specs.Texts.{AreBehind, AreTexts, records_in};
 
@@ -35,22 +35,6 @@ fn put_frame_text(out: &mut Vec<u8>, texts: &[u8]) -> Result<(), AllocError>
     out.extend_from_slice(texts)
 }
 
-/// A frame of 1 to [`MOST_RECORDS`] well formed records behind its gate, and the closed gate of the
-/// next.
-pub fn frame_of(alloc: Global, batch: &[Record]) -> Result<Vec<u8>, Memory>
-    requires some { 0 < length batch.now }
-    requires few { length batch.now ≤ MOST_RECORDS }
-    requires formed { AllByRecursion IsWellFormedRecord batch.now }
-    ensures text { IfOk result (λ frame. frame.items ≡ frame_text batch.now ++ 0 ∷ []) }
-    ensures batch { OnOk result (IsBatch batch.now) }
-{
-    let texts = texts_of(alloc, batch)?;
-    let mut frame = Vec::new(alloc);
-    put_frame_text(&mut frame, &texts)?;
-    frame.push(0)?;
-    Ok(frame)
-}
-
 /// The head of a side in the format that is written, all but its gate.
 fn head_behind_gate(alloc: Global, generation: u64) -> Result<Vec<u8>, Memory>
     ensures { IfOk result (λ text. text.items ≡ drop 1 (head_text Second generation)) }
@@ -59,8 +43,24 @@ fn head_behind_gate(alloc: Global, generation: u64) -> Result<Vec<u8>, Memory>
     Ok(head[1..].to_vec(alloc)?)
 }
 
-/// Appends an open frame of the first [`MOST_RECORDS`] records of these texts, or of all where they
-/// are fewer. How long their texts are.
+/// Appends a frame of the first [`MOST_RECORDS`] records of these texts, or of all where they are
+/// fewer, all but its gate. How long their texts are.
+fn put_first_frame(out: &mut Vec<u8>, texts: &[u8]) -> Result<usize, AllocError>
+    requires some { 0 < length texts.now }
+    requires texts { AreTexts texts.now (records_in texts.now) }
+    ensures behind { IfOk result
+        (λ size. AreBehind texts.now (records_in texts.now) MOST_RECORDS size) }
+    ensures some { IfOk result (λ size. 0 < size) }
+    ensures within { IfOk result (λ size. size ≤ length texts.now) }
+    ensures frame { OnOk result (out.new.items
+        ≡ out.old.items ++ frame_text (take MOST_RECORDS (records_in texts.now))) }
+{
+    let size = batch_length(texts);
+    put_frame_text(out, &texts[..size])?;
+    Ok(size)
+}
+
+/// The same behind an open gate.
 fn put_open_frame(out: &mut Vec<u8>, texts: &[u8]) -> Result<usize, AllocError>
     requires some { 0 < length texts.now }
     requires texts { AreTexts texts.now (records_in texts.now) }
@@ -71,10 +71,47 @@ fn put_open_frame(out: &mut Vec<u8>, texts: &[u8]) -> Result<usize, AllocError>
     ensures frame { OnOk result (out.new.items
         ≡ out.old.items ++ 1 ∷ frame_text (take MOST_RECORDS (records_in texts.now))) }
 {
-    let size = batch_length(texts);
     out.push(1)?;
-    put_frame_text(out, &texts[..size])?;
-    Ok(size)
+    put_first_frame(out, texts)
+}
+
+/// Appends open frames of the records of these texts, [`MOST_RECORDS`] in each but the last.
+fn put_open_frames(out: &mut Vec<u8>, texts: &[u8]) -> Result<(), AllocError>
+    requires { AreTexts texts.now (records_in texts.now) }
+    ensures { OnOk result (AreFramed (records_in texts.now) out.old.items out.new.items) }
+{
+    let mut at = 0;
+    while at < texts.len() {
+        at += put_open_frame(out, &texts[at..])?;
+    }
+    Ok(())
+}
+
+/// Writes frames of the records of these texts, [`MOST_RECORDS`] in each but the last: all that
+/// stands behind the gate of the first, and the closed gate of the next.
+fn put_appended(out: &mut Vec<u8>, texts: &[u8]) -> Result<(), AllocError>
+    requires empty { out.old.items ≡ [] }
+    requires some { 0 < length texts.now }
+    requires texts { AreTexts texts.now (records_in texts.now) }
+    ensures { OnOk result (AreAppended (records_in texts.now) out.new.items) }
+{
+    let first = put_first_frame(out, texts)?;
+    put_open_frames(out, &texts[first..])?;
+    out.push(0)?;
+    Ok(())
+}
+
+/// Frames of well formed records, [`MOST_RECORDS`] in each but the last: all that stands behind the
+/// gate of the first, and the closed gate of the next.
+pub fn frames_of(alloc: Global, batch: &[Record]) -> Result<Vec<u8>, Memory>
+    requires some { 0 < length batch.now }
+    requires formed { AllByRecursion IsWellFormedRecord batch.now }
+    ensures { IfOk result (λ frames. AreAppended batch.now frames.items) }
+{
+    let texts = texts_of(alloc, batch)?;
+    let mut frames = Vec::new(alloc);
+    put_appended(&mut frames, &texts)?;
+    Ok(frames)
 }
 
 /// All that stands behind the gate of a side in the format that is written: the rest of its head,
@@ -86,10 +123,7 @@ pub fn hidden_of(alloc: Global, generation: u64, texts: &[u8]) -> Result<Vec<u8>
     ensures { IfOk result (λ text. IsHidden generation (records_in texts.now) text.items) }
 {
     let mut text = head_behind_gate(alloc, generation)?;
-    let mut at = 0;
-    while at < texts.len() {
-        at += put_open_frame(&mut text, &texts[at..])?;
-    }
+    put_open_frames(&mut text, texts)?;
     text.push(0)?;
     Ok(text)
 }

@@ -3,6 +3,9 @@
 /// How many records a frame has at most. It has at least one.
 pub const MOST_RECORDS: usize = 16;
 
+/// How many records an append may take, in as many frames as they need.
+pub const MOST_APPENDED: usize = 128;
+
 /// How long the records of a frame are at most.
 pub(crate) const MOST_FRAMED: usize = 4096;
 

@@ -15,10 +15,10 @@ mod walks;
 
 pub use errors::JournalFault;
 pub use formats::Format;
-pub use frames::{frame_of, hidden_of};
+pub use frames::{frames_of, hidden_of};
 pub use judging::{Verdict, judge};
 pub use laws::{formats_differ, one_journal, snapshots_take_over};
-pub use layout::{MOST_RECORDS, SHORTEST_SIDE};
+pub use layout::{MOST_APPENDED, MOST_RECORDS, SHORTEST_SIDE};
 pub use sides::Side;
 pub use texts::{read_first, texts_of};
 pub use walks::{Judged, Standing, fill};

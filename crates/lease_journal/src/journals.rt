@@ -1,12 +1,13 @@
 //! A journal over a pair of disks.
 ghost use Rattle.std.specs.Prelude.{◌≡◌};
 
-use crate::appending::put_frame;
+use crate::appending::put_frames;
 use crate::compacting::take_over;
 use crate::errors::{Found, Unopened};
 use crate::openings::open;
 use journal_sides::{
-    Format, JournalFault, MOST_RECORDS, Side, Standing, Verdict, frame_of, hidden_of, judge,
+    Format, JournalFault, MOST_APPENDED, MOST_RECORDS, Side, Standing, Verdict, frames_of,
+    hidden_of, judge,
 };
 use lease_disk::{DiskPair, LeaseDisk};
 use pcp_base::{Moment, Record, Replay};
@@ -51,9 +52,9 @@ impl<D: LeaseDisk> Journal<D> {
     ghost use Rattle.lease_disk.specs.Pairs.{PairHasCause, PairLeavesOnly};
     ghost use Rattle.journal_sides.specs.declared.errors.JournalFault.TheVariants.{Disk, Memory};
     ghost use Rattle.journal_sides.specs.declared.formats.Format.TheVariants.{Second};
-    ghost use Rattle.journal_sides.specs.declared.layout.TheConstants.{MOST_RECORDS};
+    ghost use Rattle.journal_sides.specs.declared.layout.TheConstants.{MOST_APPENDED};
     ghost use Rattle.journal_sides.specs.Formats.{HasNext, IsReplaying, format_octet};
-    ghost use Rattle.journal_sides.specs.Frames.{frame_text};
+    ghost use Rattle.journal_sides.specs.Frames.{frames_octets};
     ghost use Rattle.journal_sides.specs.Journals.{StandsFor, StandsForWithOrWithout};
     ghost use Rattle.lease_journal.specs.Openings.{FoundMeans, HasStarted, IsClearedUnless, IsStillOrShut, LeavesOld, Opens, ViewMeans, ViewReplays};
     ghost use Rattle.journal_sides.specs.Reads.{ArePairRead, AreSeenStill};
@@ -61,12 +62,13 @@ impl<D: LeaseDisk> Journal<D> {
     ghost use Rattle.lease_journal.specs.Views.{IsFilled, IsSettled};
     ghost use Rattle.journal_sides.specs.Writes.{of_side, other, side_parity};
 
-    /// Appends 1 to [`MOST_RECORDS`] well formed records that fit, in one frame, to a journal of
-    /// format 2. At each moment a crash leaves all of them or none; from `Ok` on all. After
-    /// `Memory` nothing has changed; after `Disk` the journal is to be read `again`.
+    /// Appends 1 to [`MOST_APPENDED`] well formed records that fit to a journal of format 2, in frames
+    /// that are full but for the last, by two syncs. At each moment a crash leaves all of them or
+    /// none; from `Ok` on all. After `Memory` nothing has changed; after `Disk` the journal is to be
+    /// read `again`.
     pub fn append(&mut self, alloc: Global, batch: &[Record]) -> Result<(), JournalFault>
         requires some { 1 ≤ length batch.now }
-        requires few { length batch.now ≤ MOST_RECORDS }
+        requires few { length batch.now ≤ MOST_APPENDED }
         requires formed { AllByRecursion IsWellFormedRecord batch.now }
         requires read { self.old.unread ≡ false }
         requires second { self.old.standing.format ≡ Second }
@@ -88,15 +90,15 @@ impl<D: LeaseDisk> Journal<D> {
             ≡ of_side (other self.old.side) (D.seen self.old.pair.a) (D.seen self.old.pair.b)) }
         ensures grown { D.tells → (s : State) → IsSettled D.seen D.may_leave self.old s
             → OnOk result (self.new.standing.length
-            ≤ self.old.standing.length + (1 + length (frame_text batch.now))) }
+            ≤ self.old.standing.length + frames_octets batch.now) }
         ensures memory { result ≡ Err Memory → self.new ≡ self.old }
         ensures doubt { result ≡ Err Disk → self.new.unread ≡ true }
         ensures cause { PairHasCause D.faults self.old.pair self.new.pair (result ≡ Err Disk) }
     {
-        let frame = frame_of(alloc, batch)?;
+        let frames = frames_of(alloc, batch)?;
         self.unread = true;
-        put_frame(&mut self.pair, self.side, self.standing.end, &frame)?;
-        self.standing = self.standing.with_frame(frame.len() as u64);
+        put_frames(&mut self.pair, self.side, self.standing.end, &frames)?;
+        self.standing = self.standing.with_frame(frames.len() as u64);
         self.unread = false;
         Ok(())
     }

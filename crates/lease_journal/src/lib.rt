@@ -11,6 +11,6 @@ mod writes;
 
 pub use errors::{Found, Unopened};
 pub use journal_sides::{
-    JournalFault, MOST_RECORDS, formats_differ, one_journal, snapshots_take_over,
+    JournalFault, MOST_APPENDED, MOST_RECORDS, formats_differ, one_journal, snapshots_take_over,
 };
 pub use journals::Journal;

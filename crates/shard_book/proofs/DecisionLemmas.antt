@@ -11,7 +11,7 @@ use Rattle.pcp_base.specs.Fits.{AllFit, Fits}
 use Rattle.pcp_base.specs.States.{State}
 use Rattle.lease_store.specs.declared.terms.Terms.{Terms}
 use Rattle.lease_core.specs.Decide.{decide}
-use Rattle.journal_sides.specs.declared.layout.TheConstants.{MOST_RECORDS}
+use Rattle.journal_sides.specs.declared.layout.TheConstants.{MOST_APPENDED}
 use Rattle.lease_core.proofs.Deeds.{MapDeed, drop, renew, grant, map_deed, PeerDeed, drop_peer, renew_peer, grant_peer, peer_deed}
 use Rattle.lease_journal.proofs.StandingLaws.{apply_all-append}
 use Rattle.lease_core.specs.declared.decided.Decided.{Decided}
@@ -51,7 +51,7 @@ pub kept_slice : (kept told : Option Record) (rs : List Record) → MatchOption 
 kept_slice None told rs is same = is ∙ ap (λ (k : Option Record). kept_before k []) same
 kept_slice (Some r) told rs is same = is ∙ ap (λ (k : Option Record). kept_before k []) same
 
-pub few_one : (kept : Option Record) → length (kept_before kept []) ≤ MOST_RECORDS
+pub few_one : (kept : Option Record) → length (kept_before kept []) ≤ MOST_APPENDED
 few_one None = let none : length {A = Record} [] ≡ 0 = refl in omega (arith, none)
 few_one (Some r) = let one : length (r ∷ []) ≡ 1 = refl in omega (arith, one)
 

@@ -9,13 +9,13 @@ use Rattle.lease_disk.proofs.PairLemmas.{pair_started, pair_weaker}
 use Rattle.journal_sides.specs.declared.formats.Format.{Format}
 use Rattle.journal_sides.specs.declared.formats.Format.TheVariants.{First, Second}
 use Rattle.journal_sides.specs.Formats.{HasNext, format_octet}
-use Rattle.journal_sides.specs.Frames.{frame_text}
+use Rattle.journal_sides.specs.Frames.{frames_octets}
 use Rattle.journal_sides.specs.Journals.{StandsFor, StandsForWithOrWithout}
 use Rattle.journal_sides.specs.Laws.{OneState}
 use Rattle.lease_journal.specs.Views.{JournalView, IsSettled}
 use Rattle.lease_journal.proofs.StandingLaws.{settled_holds, stands_for}
 use Rattle.shard_book.specs.Books.{IsWritable}
-use Rattle.shard_book.specs.Keepings.{IsAppended, IsBeside, frame_octets}
+use Rattle.shard_book.specs.Keepings.{IsAppended, IsBeside}
 
 pub one_settled : {D : Type 0} → OneState → (seen : D → List ℕ) (may_leave : D → List ℕ → Type 0) (j : JournalView D) (s t : State) → IsSettled seen may_leave j s → IsSettled seen may_leave j t → s ≡ t
 one_settled one seen may_leave j s t is_s is_t =
@@ -32,10 +32,6 @@ still_settled seen may_leave moment left_since j s is = pair_started moment left
 -- standing for a state is standing for it with or without records
 pub without : {D : Type 0} (moment : D → ℕ) (left_since : D → ℕ → List ℕ → Type 0) (may_leave : D → List ℕ → Type 0) (old new : DiskPair D) (s : State) (rs : List Record) → PairLeavesOnly moment left_since may_leave old new (StandsFor s) → PairLeavesOnly moment left_since may_leave old new (StandsForWithOrWithout s rs)
 without moment left_since may_leave old new s rs run = pair_weaker moment left_since may_leave old new (StandsFor s) (StandsForWithOrWithout s rs) run (λ x y is. inl is)
-
-pub some_frame : (rs : List Record) → 1 ≤ length rs → frame_octets rs ≡ 1 + length (frame_text rs)
-some_frame [] some = absurd (omega (arith, some))
-some_frame (r ∷ rs) some = refl
 
 pub is_second : (f : Format) → format_octet f ≡ 2 → f ≡ Second
 is_second First is = absurd (omega (arith, is))
@@ -54,7 +50,7 @@ none_left [] is = refl
 none_left (x ∷ xs) is = absurd (omega (arith, is))
 
 pub appended_ok : {D T E : Type 0} → (r : Result T E) (tells : Type 0) (seen : D → List ℕ) (rs : List Record) (old new : JournalView D) → (rs ≡ [] → new ≡ old) → OnOk r (new.side ≡ old.side) → OnOk r (new.standing.generation ≡ old.standing.generation) → OnOk r (new.first_length ≡ old.first_length)
-    → (tells → OnOk r (IsBeside seen old new)) → (tells → OnOk r (new.standing.length ≤ old.standing.length + frame_octets rs)) → OnOk r (IsAppended tells seen rs old new)
+    → (tells → OnOk r (IsBeside seen old new)) → (tells → OnOk r (new.standing.length ≤ old.standing.length + frames_octets rs)) → OnOk r (IsAppended tells seen rs old new)
 appended_ok (Ok x) tells seen rs old new idle side generation first beside grown = record { idle = idle; side = side; generation = generation; first_length = first; beside = beside; grown = grown }
 appended_ok (Err e) tells seen rs old new idle side generation first beside grown = tt
 

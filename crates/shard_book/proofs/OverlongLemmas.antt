@@ -4,7 +4,8 @@ use Rattle.std.proofs.lemmas.Bool.{ltb-false, ltb-true}
 use Rattle.pcp_base.specs.declared.records.Record.{Record}
 use Rattle.lease_journal.specs.Views.{JournalView}
 use Rattle.shard_book.specs.declared.lengths.TheConstants.{LONGEST_SIDE}
-use Rattle.shard_book.specs.Keepings.{Journals, frame_octets, is_overlong}
+use Rattle.journal_sides.specs.Frames.{frames_octets}
+use Rattle.shard_book.specs.Keepings.{Journals, is_overlong}
 
 -- a journal that is too long has a next generation
 pub overlong_next : {D : Type 0} (j : JournalView D) → is_overlong j ≡ true → j.standing.generation < 2 ^ 64 - 1
@@ -29,8 +30,8 @@ short_enough j is next = by (nat_lt LONGEST_SIDE j.standing.length) (nat_lt (2 *
 -- what a batch does to a journal that is compacted exactly where it is too long
 pub journals_by : {D : Type 0} (tells : Type 0) (records : List Record) (old new : JournalView D) (anew : Bool) → anew ≡ is_overlong old
     → (anew ≡ false → records ≡ [] → new ≡ old) → (anew ≡ false → new.standing.generation ≡ old.standing.generation) → (anew ≡ false → new.first_length ≡ old.first_length)
-    → (tells → anew ≡ false → new.standing.length ≤ old.standing.length + frame_octets records)
-    → (anew ≡ true → new.standing.generation ≡ old.standing.generation + 1) → (tells → anew ≡ true → new.standing.length ≤ new.first_length + frame_octets records)
+    → (tells → anew ≡ false → new.standing.length ≤ old.standing.length + frames_octets records)
+    → (anew ≡ true → new.standing.generation ≡ old.standing.generation + 1) → (tells → anew ≡ true → new.standing.length ≤ new.first_length + frames_octets records)
     → Journals tells records old new
 journals_by tells records old new anew is idle plain plain_first grown compacted short = record {
   idle = λ none less. idle (is ∙ less) none;
@@ -43,7 +44,7 @@ journals_by tells records old new anew is idle plain plain_first grown compacted
     generation true e = compacted e ∙ ap (λ (b : Bool). if b then old.standing.generation + 1 else old.standing.generation) (sym e ∙ is)
     generation false e = plain e ∙ ap (λ (b : Bool). if b then old.standing.generation + 1 else old.standing.generation) (sym e ∙ is)
 
-    length : (b : Bool) → anew ≡ b → tells → old.standing.generation < 2 ^ 64 - 1 → new.standing.length ≤ frame_octets records + max LONGEST_SIDE (2 * new.first_length)
+    length : (b : Bool) → anew ≡ b → tells → old.standing.generation < 2 ^ 64 - 1 → new.standing.length ≤ frames_octets records + max LONGEST_SIDE (2 * new.first_length)
     length true e told next = omega (arith, short told e)
     length false e told next = omega (arith, grown told e, plain_first e, short_enough old (sym is ∙ e) next)
 

@@ -9,7 +9,7 @@ use Rattle.lease_store.specs.Lookups.{lease_count}
 use Rattle.lease_disk.specs.Pairs.{PairLeavesOnly}
 use Rattle.journal_sides.specs.declared.errors.JournalFault.{JournalFault}
 use Rattle.journal_sides.specs.declared.errors.JournalFault.TheVariants.{Disk, Memory}
-use Rattle.journal_sides.specs.Frames.{frame_text}
+use Rattle.journal_sides.specs.Frames.{frames_octets}
 use Rattle.journal_sides.specs.Journals.{StandsForWithOrWithout}
 use Rattle.journal_sides.specs.Writes.{of_side, other}
 use Rattle.lease_journal.specs.Views.{JournalView}
@@ -80,17 +80,12 @@ is_overlong journal = nat_lt LONGEST_SIDE journal.standing.length
     && nat_lt (2 * journal.first_length) journal.standing.length
     && nat_lt journal.standing.generation (2 ^ 64 - 1)
 
--- how many octets a frame of the records has with its gate; none without records
-abbrev pub frame_octets : List Record → ℕ
-frame_octets [] = 0
-frame_octets (r ∷ rs) = 1 + length (frame_text (r ∷ rs))
-
 -- the side beside the one that counted is as it was
 abbrev pub IsBeside : {D : Type 0} → (D → List ℕ) → JournalView D → JournalView D → Type 0
 IsBeside seen old new = of_side (other old.side) (seen new.pair.a) (seen new.pair.b)
     ≡ of_side (other old.side) (seen old.pair.a) (seen old.pair.b)
 
--- the records were appended to a journal in one frame, if there are any
+-- the records were appended to a journal, if there are any
 pub record IsAppended {D : Type 0} (tells : Type 0) (seen : D → List ℕ) (records : List Record)
     (old new : JournalView D) : Type 0 where
   pub idle : records ≡ [] → new ≡ old
@@ -98,7 +93,7 @@ pub record IsAppended {D : Type 0} (tells : Type 0) (seen : D → List ℕ) (rec
   pub generation : new.standing.generation ≡ old.standing.generation
   pub first_length : new.first_length ≡ old.first_length
   pub beside : tells → IsBeside seen old new
-  pub grown : tells → new.standing.length ≤ old.standing.length + frame_octets records
+  pub grown : tells → new.standing.length ≤ old.standing.length + frames_octets records
 
 -- what a batch does to the journal
 pub record Journals {D : Type 0} (tells : Type 0) (records : List Record)
@@ -108,9 +103,9 @@ pub record Journals {D : Type 0} (tells : Type 0) (records : List Record)
   pub generation : new.standing.generation
       ≡ (if is_overlong old then old.standing.generation + 1 else old.standing.generation)
   pub first_length : is_overlong old ≡ false → new.first_length ≡ old.first_length
-  -- less the batch's frame it isn't too long
+  -- less the batch's frames it isn't too long
   pub short : tells → old.standing.generation < 2 ^ 64 - 1 →
-      new.standing.length ≤ frame_octets records + max LONGEST_SIDE (2 * new.first_length)
+      new.standing.length ≤ frames_octets records + max LONGEST_SIDE (2 * new.first_length)
 
 -- the batch is answered, after the book was settled
 pub record Serves {D : Type 0} (tells : Type 0) (moment : D → ℕ)

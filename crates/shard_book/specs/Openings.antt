@@ -19,7 +19,7 @@ use Rattle.journal_sides.specs.Settled.{StandsBy}
 use Rattle.journal_sides.specs.Writes.{AreDurable, other}
 use Rattle.shard_book.specs.Addresses.{renumbering}
 use Rattle.shard_book.specs.Books.{BookView}
-use Rattle.shard_book.specs.Keepings.{frame_octets}
+use Rattle.journal_sides.specs.Frames.{frames_octets}
 
 -- where no records were found the journal was started at m
 abbrev pub IsStartUnless : ℕ → State → Found → Type 0
@@ -56,7 +56,7 @@ IsOpenedAnew tells seen pair s journal Damaged =
 pub record IsFirstLength {D : Type 0} (tells : Type 0) (records : List Record)
     (journal : JournalView D) : Type 0 where
   pub alone : records ≡ [] → journal.first_length ≡ journal.standing.length
-  pub most : tells → journal.standing.length ≤ journal.first_length + frame_octets records
+  pub most : tells → journal.standing.length ≤ journal.first_length + frames_octets records
 
 -- a book opened at m over a pair
 pub record IsOpened {D : Type 0} (tells : Type 0) (seen : D → List ℕ) (pair : DiskPair D)

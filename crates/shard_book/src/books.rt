@@ -69,14 +69,14 @@ impl<D: LeaseDisk, S: LeaseStore + Drop> LeaseBook<D, S> {
     ghost use Rattle.lease_store.specs.Lookups.{lease_count};
     ghost use Rattle.lease_disk.specs.Pairs.{PairHasCause};
     ghost use Rattle.journal_sides.specs.declared.errors.JournalFault.TheVariants.{Disk};
-    ghost use Rattle.journal_sides.specs.declared.layout.TheConstants.{MOST_RECORDS};
+    ghost use Rattle.journal_sides.specs.declared.layout.TheConstants.{MOST_APPENDED};
     ghost use Rattle.shard_book.specs.Books.{IsBook};
     ghost use Rattle.shard_book.specs.Keepings.{Doubts, IsRefused, Journals, Keeps, Loses, Serves, ServesOne, batch_answers, batch_records, lose_records, dated_answer};
     ghost use Rattle.shard_book.specs.Settlings.{HasSettled, KeepsDoubt, Settles};
 
-    /// Answers at most [`MOST_RECORDS`](lease_journal::MOST_RECORDS) well formed requests, at the
+    /// Answers at most [`MOST_APPENDED`](lease_journal::MOST_APPENDED) well formed requests, at the
     /// greater of `now` and the moment of the last batch; the base told is the greater of `base` and
-    /// the book's own. Their records go into the journal in one frame. First the book is settled,
+    /// the book's own. Their records go into the journal all or none. First the book is settled,
     /// and a journal that has grown long is compacted. After a fault the journal has all the records
     /// or none, after `Memory` none.
     pub fn batch(
@@ -86,7 +86,7 @@ impl<D: LeaseDisk, S: LeaseStore + Drop> LeaseBook<D, S> {
         now: Moment,
         base: Moment,
     ) -> Result<Vec<Answered>, BookFault>
-        requires few { length asks.now ≤ MOST_RECORDS }
+        requires few { length asks.now ≤ MOST_APPENDED }
         requires asks { AllByRecursion IsWellFormedAsk asks.now }
         ensures served { IfOk result
             (λ answers. Serves D.tells D.moment D.left_since D.may_leave now base asks.now
@@ -189,7 +189,7 @@ impl<D: LeaseDisk, S: LeaseStore + Drop> LeaseBook<D, S> {
         base: Moment,
     ) -> Result<Vec<Answered>, BookFault>
         requires settled { self.old.fault ≡ None }
-        requires few { length asks.now ≤ MOST_RECORDS }
+        requires few { length asks.now ≤ MOST_APPENDED }
         requires asks { AllByRecursion IsWellFormedAsk asks.now }
         ensures answers { IfOk result
             (λ answers. answers.items ≡ batch_answers now base asks.now self.old) }

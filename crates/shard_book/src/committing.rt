@@ -11,14 +11,15 @@ ghost use Rattle.lease_disk.specs.Pairs.{PairHasCause, PairLeavesOnly};
 ghost use Rattle.lease_journal.specs.declared.errors.Found.TheVariants.{Recovered};
 ghost use Rattle.journal_sides.specs.declared.errors.JournalFault.TheVariants.{Disk};
 ghost use Rattle.journal_sides.specs.declared.formats.Format.TheVariants.{Second};
-ghost use Rattle.journal_sides.specs.declared.layout.TheConstants.{MOST_RECORDS};
+ghost use Rattle.journal_sides.specs.declared.layout.TheConstants.{MOST_APPENDED};
 ghost use Rattle.journal_sides.specs.Formats.{HasNext};
+ghost use Rattle.journal_sides.specs.Frames.{frames_octets};
 ghost use Rattle.journal_sides.specs.Journals.{StandsFor, StandsForWithOrWithout};
 ghost use Rattle.journal_sides.specs.Texts.{AreTexts, records_in};
 ghost use Rattle.lease_journal.specs.Views.{IsSettled};
 ghost use Rattle.shard_book.specs.Books.{IsWritable};
 ghost use Rattle.shard_book.specs.Insides.{IsKnownAs};
-ghost use Rattle.shard_book.specs.Keepings.{IsAppended, IsBeside, frame_octets, is_overlong, unsure_after};
+ghost use Rattle.shard_book.specs.Keepings.{IsAppended, IsBeside, is_overlong, unsure_after};
 ghost use Rattle.shard_book.specs.Openings.{IsOnOther};
 
 use crate::lengths::LONGEST_SIDE;
@@ -109,13 +110,13 @@ fn compact_by<D: LeaseDisk>(
     Ok(())
 }
 
-/// Appends records in one frame, if there are any.
+/// Appends records in frames, if there are any.
 fn append_all<D: LeaseDisk>(
     alloc: Global,
     journal: &mut Journal<D>,
     records: &[Record],
 ) -> Result<(), JournalFault>
-    requires few { length records.now ≤ MOST_RECORDS }
+    requires few { length records.now ≤ MOST_APPENDED }
     requires formed { AllByRecursion IsWellFormedRecord records.now }
     requires read { journal.old.unread ≡ false }
     requires second { journal.old.standing.format ≡ Second }
@@ -136,7 +137,7 @@ fn append_all<D: LeaseDisk>(
     ensures beside { D.tells → OnOk result (IsBeside D.seen journal.old journal.new) }
     ensures grown { D.tells → (s : State) → IsSettled D.seen D.may_leave journal.old s
         → OnOk result (journal.new.standing.length
-        ≤ journal.old.standing.length + frame_octets records.now) }
+        ≤ journal.old.standing.length + frames_octets records.now) }
     ensures memory { result ≡ Err JournalFault.Memory → journal.new ≡ journal.old }
     ensures cause { PairHasCause D.faults journal.old.pair journal.new.pair
         (result ≡ Err Disk) }
@@ -148,7 +149,7 @@ fn append_all<D: LeaseDisk>(
 }
 
 /// Compacts a journal with a snapshot, of which these are the texts, if that is to be done, and then
-/// appends records in one frame, if there are any.
+/// appends records in frames, if there are any.
 fn write<D: LeaseDisk>(
     alloc: Global,
     journal: &mut Journal<D>,
@@ -156,7 +157,7 @@ fn write<D: LeaseDisk>(
     snapshot: &[u8],
     records: &[Record],
 ) -> Result<(), JournalFault>
-    requires few { length records.now ≤ MOST_RECORDS }
+    requires few { length records.now ≤ MOST_APPENDED }
     requires formed { AllByRecursion IsWellFormedRecord records.now }
     requires read { journal.old.unread ≡ false }
     requires second { journal.old.standing.format ≡ Second }
@@ -184,12 +185,12 @@ fn write<D: LeaseDisk>(
         (journal.new.first_length ≡ journal.old.first_length) }
     ensures grown { D.tells → (s : State) → IsSettled D.seen D.may_leave journal.old s
         → anew ≡ false → OnOk result (journal.new.standing.length
-        ≤ journal.old.standing.length + frame_octets records.now) }
+        ≤ journal.old.standing.length + frames_octets records.now) }
     ensures compacted { anew ≡ true → OnOk result
         (journal.new.standing.generation ≡ journal.old.standing.generation + 1) }
     ensures short { D.tells → (s : State) → IsSettled D.seen D.may_leave journal.old s
         → anew ≡ true → OnOk result
-        (journal.new.standing.length ≤ journal.new.first_length + frame_octets records.now) }
+        (journal.new.standing.length ≤ journal.new.first_length + frames_octets records.now) }
     ensures cause { PairHasCause D.faults journal.old.pair journal.new.pair
         (result ≡ Err Disk) }
 {
@@ -199,7 +200,7 @@ fn write<D: LeaseDisk>(
 }
 
 /// Compacts a journal with the snapshot that is kept for good, if that is to be done, and then appends
-/// records in one frame, if there are any. Keeps the texts of the records for good. After `Memory`
+/// records in frames, if there are any. Keeps the texts of the records for good. After `Memory`
 /// they are forgotten, since the journal has none of them.
 pub(crate) fn commit<D: LeaseDisk>(
     alloc: Global,
@@ -208,7 +209,7 @@ pub(crate) fn commit<D: LeaseDisk>(
     anew: bool,
     records: &[Record],
 ) -> Result<(), JournalFault>
-    requires few { length records.now ≤ MOST_RECORDS }
+    requires few { length records.now ≤ MOST_APPENDED }
     requires writable { IsWritable D.tells D.seen D.may_leave journal.old
         (state_of texts.old.sure) }
     requires fit { AllFit (state_of texts.old.sure) records.now }
@@ -235,11 +236,11 @@ pub(crate) fn commit<D: LeaseDisk>(
     ensures plain_first { anew ≡ false → OnOk result
         (journal.new.first_length ≡ journal.old.first_length) }
     ensures grown { D.tells → anew ≡ false → OnOk result (journal.new.standing.length
-        ≤ journal.old.standing.length + frame_octets records.now) }
+        ≤ journal.old.standing.length + frames_octets records.now) }
     ensures compacted { anew ≡ true → OnOk result
         (journal.new.standing.generation ≡ journal.old.standing.generation + 1) }
     ensures short { D.tells → anew ≡ true → OnOk result
-        (journal.new.standing.length ≤ journal.new.first_length + frame_octets records.now) }
+        (journal.new.standing.length ≤ journal.new.first_length + frames_octets records.now) }
     ensures cause { PairHasCause D.faults journal.old.pair journal.new.pair
         (result ≡ Err Disk) }
 {

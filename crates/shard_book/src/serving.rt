@@ -8,7 +8,7 @@ ghost use Rattle.lease_core.specs.Decide.{decide};
 ghost use Rattle.lease_store.specs.Lookups.{lease_count};
 ghost use Rattle.lease_disk.specs.Pairs.{PairHasCause, PairLeavesOnly};
 ghost use Rattle.journal_sides.specs.declared.errors.JournalFault.TheVariants.{Disk};
-ghost use Rattle.journal_sides.specs.declared.layout.TheConstants.{MOST_RECORDS};
+ghost use Rattle.journal_sides.specs.declared.layout.TheConstants.{MOST_APPENDED};
 ghost use Rattle.journal_sides.specs.Journals.{StandsForWithOrWithout};
 ghost use Rattle.shard_book.specs.Batches.{answers_at, decide_all, records_kept};
 ghost use Rattle.shard_book.specs.Books.{IsWritable};
@@ -46,7 +46,7 @@ pub(crate) fn write_batch<D: LeaseDisk, S: LeaseStore>(
     requires texts { StandAlone texts.old.sure (S.state core.old) }
     requires none { texts.old.added ≡ [] }
     requires writable { IsWritable D.tells D.seen D.may_leave journal.old (S.state core.old) }
-    requires few { length asks.now ≤ MOST_RECORDS }
+    requires few { length asks.now ≤ MOST_APPENDED }
     requires asks { AllByRecursion IsWellFormedAsk asks.now }
     ensures answers { IfOk result (λ answers. answers.items
         ≡ answers_at m base (decide_all (S.terms core.old) (S.state core.old) m asks.now)) }

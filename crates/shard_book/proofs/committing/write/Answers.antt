@@ -6,7 +6,7 @@ use Rattle.lease_disk.specs.Pairs.{PairLeavesOnly}
 use Rattle.lease_disk.proofs.PairLemmas.{pair_goes_on}
 use Rattle.journal_sides.specs.Journals.{StandsFor, StandsForWithOrWithout}
 use Rattle.lease_journal.specs.Views.{JournalView}
-use Rattle.shard_book.specs.Keepings.{frame_octets}
+use Rattle.journal_sides.specs.Frames.{frames_octets}
 use Rattle.shard_book.proofs.JournalLemmas.{one_settled, without}
 use Rattle.shard_book.proofs.ResultLemmas.{both_ok}
 use Rattle.shard_book.proofs.committing.write.Goals as goal
@@ -45,7 +45,7 @@ returns-clause-before g c = λ told s is e.
 
 pub returns-clause-grown : goal.returns-clause-grown
 returns-clause-grown g c = λ told s is none.
-    subst (λ (j : JournalView g.row.D.Denot). OnOk c.append_all.result (c.append_all.new.journal.standing.length ≤ j.standing.length + frame_octets c.args.records.now)) (c.compact_by.ensures.idle none) (c.append_all.ensures.grown told s (c.in_ok-compact_by.ensures.settled told s is))
+    subst (λ (j : JournalView g.row.D.Denot). OnOk c.append_all.result (c.append_all.new.journal.standing.length ≤ j.standing.length + frames_octets c.args.records.now)) (c.compact_by.ensures.idle none) (c.append_all.ensures.grown told s (c.in_ok-compact_by.ensures.settled told s is))
 
 pub returns-clause-short : goal.returns-clause-short
 returns-clause-short g c = λ told s is some.

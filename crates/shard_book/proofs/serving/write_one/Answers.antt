@@ -8,7 +8,7 @@ use Rattle.pcp_base.specs.Snapshots.{snapshot}
 use Rattle.pcp_base.specs.States.{State}
 use Rattle.lease_core.specs.Decide.{decide}
 use Rattle.lease_disk.specs.Pairs.{PairLeavesOnly}
-use Rattle.journal_sides.specs.declared.layout.TheConstants.{MOST_RECORDS}
+use Rattle.journal_sides.specs.declared.layout.TheConstants.{MOST_APPENDED}
 use Rattle.journal_sides.specs.Journals.{StandsForWithOrWithout}
 use Rattle.shard_book.specs.Batches.{kept_before}
 use Rattle.shard_book.specs.Books.{IsWritable}
@@ -101,7 +101,7 @@ commit-requires-clause-few g c =
     let s = g.S.LeaseStore.state c.args.core.now in
     let kept = (decide (g.S.LeaseStore.terms c.args.core.now) s c.args.m c.args.ask.now).kept in
     let told : c.as_slice-records.result.now ≡ kept_before kept [] = kept_slice _ kept _ c.as_slice-records.ensures c.decide_applied.ensures.kept in
-    subst (λ (l : List Record). length l ≤ MOST_RECORDS) (sym told) (few_one kept)
+    subst (λ (l : List Record). length l ≤ MOST_APPENDED) (sym told) (few_one kept)
 
 pub commit-requires-clause-fit : goal.commit-requires-clause-fit
 commit-requires-clause-fit g c =

@@ -1,11 +1,11 @@
 use Rattle.std.proofs.Common.{◌-◌, ◌≤◌, length}
-use Rattle.journal_sides.proofs.HiddenLaws.{HasHiddenTo}
-use Rattle.journal_sides.proofs.frames.hidden_of.Given as goal
+use Rattle.journal_sides.proofs.HiddenLaws.{HasFramedTo}
+use Rattle.journal_sides.proofs.frames.put_open_frames.Given as goal
 
 abbrev pub invariant-loop-at : goal.invariant-loop-at
 invariant-loop-at l = record {
   within : l.at ≤ length l.texts;
-  hidden : HasHiddenTo l.generation l.texts l.at l.text.items;
+  framed : HasFramedTo l.texts l.at l.fn.out.items l.out.items;
 }
 
 abbrev pub decreases-loop-at : goal.decreases-loop-at
