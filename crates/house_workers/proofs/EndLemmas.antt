@@ -176,7 +176,7 @@ module _ {D : Type 0} (tells : Type 0) (seen : D → List ℕ) (moment : D → �
           clocks = old.clocks;
         })
         then result
-        → EndsAll tells seen may_leave faults back.turns then.passes ended back.spare pairs
+        → EndsAll tells seen moment left_since may_leave faults back.turns then.passes ended back.spare pairs
         → ServesToEnd tells seen moment left_since may_leave faults config groups port begun old
         (record {
           left = then.left;
@@ -212,7 +212,7 @@ module _ {D : Type 0} (tells : Type 0) (seen : D → List ℕ) (moment : D → �
           })
           then result) readers answers);
       ended = ended;
-      ends = subst (λ (h : HouseView D). EndsAll tells seen may_leave faults h.turns then.passes ended h.spare pairs) (again ∙ same) ends;
+      ends = subst (λ (h : HouseView D). EndsAll tells seen moment left_since may_leave faults h.turns then.passes ended h.spare pairs) (again ∙ same) ends;
     }
 
     -- the passes with which a house that was served is ended

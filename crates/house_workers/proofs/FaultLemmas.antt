@@ -128,7 +128,7 @@ module _ {D : Type 0} (tells : Type 0) (seen : D → List ℕ) (moment : D → �
     pub few_faults : (house : HouseView D) (shard : ℕ) (ds : List Dispatched) (r : ShardRun (HousePass D))
         → IsShardRun (calls_of tells seen moment left_since may_leave faults house) shard ds r
         → (o : Opening D) (ended : HousePass D) (pair : DiskPair D)
-        → EndsOne tells seen may_leave faults o r.new.pass ended pair
+        → EndsOne tells seen moment left_since may_leave faults o r.new.pass ended pair
         → AreFewFaults D tells seen moment left_since may_leave faults o pair r.row.faulted
     few_faults house shard ds r is o ended pair ends =
         let noted = counted_along house is.works.calls r.old r.new is.works.does in

@@ -1,4 +1,5 @@
 pub mod CallLemmas
+pub mod CrashLemmas
 pub mod EndLemmas
 pub mod FaultLemmas
 pub mod FullLemmas

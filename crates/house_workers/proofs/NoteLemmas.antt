@@ -41,7 +41,7 @@ zip_append R (x ∷ xs) xs' (y ∷ ys) ys' h k = (h.0, zip_append R xs xs' ys ys
 
 -- ---- places
 
-entries_later : {X : Type 0} (seen now : List X) (places : List ℕ) (entries : List X) → IsPrefix seen now
+pub entries_later : {X : Type 0} (seen now : List X) (places : List ℕ) (entries : List X) → IsPrefix seen now
     → AllZip (λ p x. slice_get seen p ≡ Some x) places entries → AllZip (λ p x. slice_get now p ≡ Some x) places entries
 entries_later seen now [] [] h k = tt
 entries_later seen now [] (x ∷ xs) h k = absurd k

@@ -1,23 +1,33 @@
 -- What holds of the run of an external address (our own).
-use Rattle.std.specs.Prelude.{ℕ, ◌*◌, ◌<◌, ◌≤◌, List, Ok}
-use Rattle.std.specs.List.{AllByRecursion, sum_by}
+use Rattle.std.specs.Prelude.{◌≡◌, ℕ, ◌*◌, ◌<◌, ◌≤◌, List, Ok, Result, Some}
+use Rattle.std.specs.List.{AllByRecursion, slice_get, sum_by}
 use Rattle.pcp_base.specs.declared.addresses.Address.{Address}
 use Rattle.pcp_base.specs.declared.configs.Config.{Config}
+use Rattle.pcp_base.specs.declared.configs.External.{External}
+use Rattle.pcp_base.specs.declared.datagrams.Entry.{Entry}
+use Rattle.pcp_base.specs.States.{State}
 use Rattle.lease_disk.specs.declared.disks.DiskPair.{DiskPair}
+use Rattle.shard_book.specs.Books.{BookView}
+use Rattle.lease_histories.specs.Entries.{Served}
+use Rattle.lease_house.specs.SoloOpenings.{OpensOne}
 use Rattle.job_queue.specs.declared.batches.TheConstants.{MOST_BATCH}
 use Rattle.job_queue.specs.declared.jobs.TheConstants.{MOST_JOBS}
 use Rattle.job_workers.specs.declared.tallies.TallyRow.{TallyRow}
 use Rattle.job_workers.specs.Sends.{HasRisenBy}
 use Rattle.job_workers.specs.Works.{unsent_in}
 use Rattle.job_dispatch.specs.Dispatches.{Dispatched}
+use Rattle.request_workers.specs.declared.faults.ServeFault.{ServeFault}
 use Rattle.request_workers.specs.Counts.{Counts}
 use Rattle.request_workers.specs.Served.{IsShardRun, ShardRun}
 use Rattle.turned_shards.specs.declared.openings.Opening.{Opening}
 use Rattle.turned_shards.specs.declared.passes.HousePass.{HousePass}
+use Rattle.turned_shards.specs.Crashes.{StandsAlong}
 use Rattle.turned_shards.specs.FaultCounts.{HaveRisenBy}
+use Rattle.shared_house.specs.Beginnings.{Begins}
 use Rattle.shared_house.specs.HouseCalls.{HouseView}
 use Rattle.shared_house.specs.declared.beginning.Begun.{Begun}
 use Rattle.turned_shards.specs.Turnings.{EndsOne}
+use Rattle.house_workers.specs.Crashes.{IsRecovered, KeepsAcknowledged, KeepsServed}
 use Rattle.house_workers.specs.HouseCallsOf.{calls_of}
 use Rattle.house_workers.specs.OwnEntries.{HandsReplies, NotesInOrder, StandInOrder, answered_in, own_in}
 use Rattle.house_workers.specs.ServingAll.{Edges, ServesToEnd}
@@ -76,7 +86,7 @@ module _ (D : Type 0) (tells : Type 0) (seen : D → List ℕ) (moment : D → �
     FaultsAreCounted = (house : HouseView D) (shard : ℕ) (ds : List Dispatched)
         (r : ShardRun (HousePass D)) → IsRunOf house shard ds r →
         (o : Opening D) (ended : HousePass D) (pair : DiskPair D) →
-        EndsOne tells seen may_leave faults o r.new.pass ended pair →
+        EndsOne tells seen moment left_since may_leave faults o r.new.pass ended pair →
         AreFewFaults o pair r.row.faulted
 
     -- So it is with each row that serving tells at its end.
@@ -86,3 +96,35 @@ module _ (D : Type 0) (tells : Type 0) (seen : D → List ℕ) (moment : D → �
         ServesToEnd tells seen moment left_since may_leave faults config groups port begun old new
         (Ok rows) pairs →
         AllByRecursion IsFilled rows
+
+    -- Where the house was ended behind its serving, each entry of an answered batch is kept.
+    abbrev pub AcknowledgedEntriesAreKept : Type 0
+    AcknowledgedEntriesAreKept = (house : HouseView D) (shard : ℕ) (ds : List Dispatched)
+        (r : ShardRun (HousePass D)) → (is : IsRunOf house shard ds r) →
+        (o : Opening D) (ended : HousePass D) (pair : DiskPair D) →
+        EndsOne tells seen moment left_since may_leave faults o r.new.pass ended pair →
+        KeepsAcknowledged tells may_leave o is.works.calls ended.history.seen pair
+
+    -- A house that was opened, served and ended, whatever serving answered: at each moment since the
+    -- call's start a crash leaves of the pair of each external address what is said here, along the
+    -- history that its pass has seen at the end.
+    abbrev pub CrashesAreAlongHistories : Type 0
+    CrashesAreAlongHistories = (config : Config) (groups : List Address) (port m : ℕ)
+        (before pairs : List (DiskPair D)) (begun : Begun D) (old new : Edges)
+        (result : Result (List TallyRow) ServeFault) →
+        Begins tells seen moment left_since may_leave faults config m before begun →
+        (serves : ServesToEnd tells seen moment left_since may_leave faults config groups port begun
+        old new result pairs) →
+        (place : ℕ) (x : External) (p now : DiskPair D) (last : HousePass D) →
+        slice_get config.externals place ≡ Some x → slice_get before place ≡ Some p →
+        slice_get pairs place ≡ Some now → slice_get serves.ended place ≡ Some last →
+        KeepsServed tells seen moment left_since may_leave m x last.history.seen p now
+
+    -- What an opening finds of sides that a crash has left.
+    abbrev pub CrashesAreRecovered : Type 0
+    CrashesAreRecovered = (served : Served) (opening : State) (doubts : List (List Entry))
+        (log : List Entry) (config : Config) (m : ℕ) (x : External) (pair : DiskPair D)
+        (book : BookView D) → tells →
+        StandsAlong served opening doubts log (seen pair.a) (seen pair.b) →
+        OpensOne tells seen moment left_since may_leave faults config m x pair book →
+        IsRecovered served opening doubts log m x.address book.state

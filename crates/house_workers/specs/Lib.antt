@@ -1,3 +1,4 @@
+pub mod Crashes
 pub mod HouseCallsOf
 pub mod Laws
 pub mod OwnEntries

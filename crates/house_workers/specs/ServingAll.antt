@@ -66,5 +66,5 @@ module _ {D : Type 0} (tells : Type 0) (seen : D → List ℕ) (moment : D → �
           })
           then result
       pub ended : List (HousePass D)
-      pub ends : EndsAll tells seen may_leave faults begun.house.turns then.passes ended
+      pub ends : EndsAll tells seen moment left_since may_leave faults begun.house.turns then.passes ended
           begun.house.spare pairs

@@ -1,7 +1,8 @@
 //! What holds of the run of an external address. A proof that needs a law calls its function.
-ghost use Rattle.house_workers.specs.Laws.{FaultsAreCounted, FullQueuesWereFilled, JobsAreCounted, OwnEntriesAreInOrder, OwnEntriesAreNoted, RepliesAreOfOwnEntries, UnsentAreCounted};
+ghost use Rattle.house_workers.specs.Laws.{AcknowledgedEntriesAreKept, CrashesAreAlongHistories, CrashesAreRecovered, FaultsAreCounted, FullQueuesWereFilled, JobsAreCounted, OwnEntriesAreInOrder, OwnEntriesAreNoted, RepliesAreOfOwnEntries, UnsentAreCounted};
 
 use lease_disk::LeaseDisk;
+use lease_house::crashes_are_found;
 
 /// The entries of a worker stand in the history that its pass has seen, in order and each once, behind
 /// what it had seen before. That history is legal, and begins the one that `House::end` finds.
@@ -44,3 +45,23 @@ pub fn unsent_are_counted<D: LeaseDisk>()
 pub fn full_queues_were_filled<D: LeaseDisk>()
     ensures { FullQueuesWereFilled D D.tells D.seen D.moment D.left_since D.may_leave D.faults }
 {}
+
+/// At the end each entry of a batch that was answered stands in the history of its external address, and
+/// a crash leaves the state to which that leads, or that with all that is in doubt.
+pub fn acknowledged_entries_are_kept<D: LeaseDisk>()
+    ensures { AcknowledgedEntriesAreKept D D.tells D.seen D.moment D.left_since D.may_leave D.faults }
+{}
+
+/// A crash at any moment of the call leaves what the opening leaves, or the state after some first
+/// entries of the history that the end finds, or, right behind a fault, that with what was in doubt.
+pub fn crashes_are_along_histories<D: LeaseDisk>()
+    ensures { CrashesAreAlongHistories D D.tells D.seen D.moment D.left_since D.may_leave D.faults }
+{}
+
+/// What an opening finds of sides that a crash has left along a history: the state after some first
+/// entries, or that with what was in doubt behind them, and then perhaps a Renumber.
+pub fn crashes_are_recovered<D: LeaseDisk>()
+    ensures { CrashesAreRecovered D D.tells D.seen D.moment D.left_since D.may_leave D.faults }
+{
+    crashes_are_found::<D>();
+}

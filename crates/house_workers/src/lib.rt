@@ -8,6 +8,7 @@ mod serving;
 
 pub use houses::ServingHouse;
 pub use laws::{
+    acknowledged_entries_are_kept, crashes_are_along_histories, crashes_are_recovered,
     faults_are_counted, full_queues_were_filled, jobs_are_counted, own_entries_are_in_order,
     own_entries_are_noted, replies_are_of_own_entries, unsent_are_counted,
 };

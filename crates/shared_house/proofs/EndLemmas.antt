@@ -19,7 +19,8 @@ get-behind : {X : Type 0} (xs ys : List X) (x : X) →
 get-behind [] ys x = refl
 get-behind (z ∷ zs) ys x = get-behind zs ys x
 
-module _ {D : Type 0} (tells : Type 0) (seen : D → List ℕ) (may_leave : D → List ℕ → Type 0)
+module _ {D : Type 0} (tells : Type 0) (seen : D → List ℕ) (moment : D → ℕ)
+    (left_since : D → ℕ → List ℕ → Type 0) (may_leave : D → List ℕ → Type 0)
     (counts : D → ℕ) where
   -- the turns behind these were taken for good
   pub record AreEndedFrom (all left : List (TurnName (Opening D))) (old now : List (HousePass D))
@@ -32,7 +33,7 @@ module _ {D : Type 0} (tells : Type 0) (seen : D → List ℕ) (may_leave : D �
     pub each : (i n : ℕ) (turn : TurnName (Opening D)) (p q : HousePass D) (pair : DiskPair D) →
         n ≡ length left + i → slice_get rest i ≡ Some turn → slice_get old n ≡ Some p →
         slice_get now n ≡ Some q → slice_get ended i ≡ Some pair →
-        EndsOne tells seen may_leave counts turn.key p q pair
+        EndsOne tells seen moment left_since may_leave counts turn.key p q pair
     pub before : (place : ℕ) → place < length left → slice_get now place ≡ slice_get old place
     pub back : pairs ≡ ended ++ spare
 
@@ -87,7 +88,7 @@ module _ {D : Type 0} (tells : Type 0) (seen : D → List ℕ) (may_leave : D �
       left ≡ fewer ++ t ∷ [] →
       AreEndedFrom all left old now spare pairs →
       ChangesAt (length fewer) now new
-      (λ p q. EndsOne tells seen may_leave counts t.key p q pair) → more ≡ pair ∷ pairs →
+      (λ p q. EndsOne tells seen moment left_since may_leave counts t.key p q pair) → more ≡ pair ∷ pairs →
       AreEndedFrom all fewer old new spare more
   one-ended all left fewer old now new spare pairs more t pair is so changes put =
       record {
@@ -123,7 +124,7 @@ module _ {D : Type 0} (tells : Type 0) (seen : D → List ℕ) (may_leave : D �
 
       here : (n : ℕ) (turn : TurnName (Opening D)) (p q : HousePass D) (d : DiskPair D) → n ≡ k →
           t ≡ turn → pair ≡ d → slice_get old n ≡ Some p → slice_get new n ≡ Some q →
-          EndsOne tells seen may_leave counts turn.key p q d
+          EndsOne tells seen moment left_since may_leave counts turn.key p q d
       here n turn p q d at turn_is pair_is b c =
           let old_is : changes.before ≡ p =
           (let h : Some changes.before ≡ Some p = sym was ∙ ap (slice_get old) (sym at) ∙ b in
@@ -133,18 +134,18 @@ module _ {D : Type 0} (tells : Type 0) (seen : D → List ℕ) (may_leave : D �
           let new_is : changes.after ≡ q =
           (let h : Some changes.after ≡ Some q = sym now_there ∙ sym (same-place k)
           ∙ ap (slice_get new) (sym at) ∙ c in cc) in
-          subst (λ (u : TurnName (Opening D)). EndsOne tells seen may_leave counts u.key p q d)
+          subst (λ (u : TurnName (Opening D)). EndsOne tells seen moment left_since may_leave counts u.key p q d)
           turn_is
-          (subst (λ (u : HousePass D). EndsOne tells seen may_leave counts t.key u q d) old_is
-          (subst (λ (u : HousePass D). EndsOne tells seen may_leave counts t.key changes.before u d)
+          (subst (λ (u : HousePass D). EndsOne tells seen moment left_since may_leave counts t.key u q d) old_is
+          (subst (λ (u : HousePass D). EndsOne tells seen moment left_since may_leave counts t.key changes.before u d)
           new_is
-          (subst (λ (u : DiskPair D). EndsOne tells seen may_leave counts t.key changes.before
+          (subst (λ (u : DiskPair D). EndsOne tells seen moment left_since may_leave counts t.key changes.before
           changes.after u) pair_is changes.how)))
 
       each : (i n : ℕ) (turn : TurnName (Opening D)) (p q : HousePass D) (d : DiskPair D) →
           n ≡ k + i → slice_get (t ∷ so.rest) i ≡ Some turn → slice_get old n ≡ Some p →
           slice_get new n ≡ Some q → slice_get (pair ∷ so.ended) i ≡ Some d →
-          EndsOne tells seen may_leave counts turn.key p q d
+          EndsOne tells seen moment left_since may_leave counts turn.key p q d
       each zero n turn p q d at a b c e = here n turn p q d (omega (arith, at))
           (let h : Some t ≡ Some turn = a in cc) (let h : Some pair ≡ Some d = e in cc) b c
       each (suc i) n turn p q d at a b c e =
@@ -157,7 +158,7 @@ module _ {D : Type 0} (tells : Type 0) (seen : D → List ℕ) (may_leave : D �
   pub all-ended : (turns : List (TurnName (Opening D))) (left : List (TurnName (Opening D)))
       (old now : List (HousePass D)) (spare pairs : List (DiskPair D)) → left ≡ [] →
       AreEndedFrom turns left old now spare pairs →
-      EndsAll tells seen may_leave counts turns old now spare pairs
+      EndsAll tells seen moment left_since may_leave counts turns old now spare pairs
   all-ended turns left old now spare pairs none so =
       let whole : turns ≡ so.rest = so.split
       ∙ ap (λ (l : List (TurnName (Opening D))). l ++ so.rest) none in

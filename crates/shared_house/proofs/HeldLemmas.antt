@@ -110,7 +110,7 @@ given-notes p h q k others settling own more came noted given =
 module _ {D : Type 0} (tells : Type 0) (seen : D → List ℕ) (moment : D → ℕ)
     (left_since : D → ℕ → List ℕ → Type 0) (may_leave : D → List ℕ → Type 0) (counts : D → ℕ) where
   abbrev Stands : Opening D → Shard D → List Entry → Type 0
-  Stands = StandsFor tells seen may_leave counts
+  Stands = StandsFor tells seen moment left_since may_leave counts
 
   abbrev Settling : Opening D → ℕ → List Entry → List Entry → Type 0
   Settling o now = IsSettling o tells seen moment left_since may_leave counts now

@@ -23,7 +23,8 @@ module _ {D : Type 0} where
 
   -- Each turn was taken for good with the pass of its place. All pairs come back in their order,
   -- before those that had no call.
-  pub record EndsAll (tells : Type 0) (seen : D → List ℕ) (may_leave : D → List ℕ → Type 0)
+  pub record EndsAll (tells : Type 0) (seen : D → List ℕ) (moment : D → ℕ)
+      (left_since : D → ℕ → List ℕ → Type 0) (may_leave : D → List ℕ → Type 0)
       (faults : D → ℕ) (turns : List (TurnName (Opening D))) (old new : List (HousePass D))
       (spare pairs : List (DiskPair D)) : Type 0 where
     pub ended : List (DiskPair D)
@@ -32,5 +33,5 @@ module _ {D : Type 0} where
     pub each : (place : ℕ) (turn : TurnName (Opening D)) (p q : HousePass D) (pair : DiskPair D) →
         slice_get turns place ≡ Some turn → slice_get old place ≡ Some p →
         slice_get new place ≡ Some q → slice_get ended place ≡ Some pair →
-        EndsOne tells seen may_leave faults turn.key p q pair
+        EndsOne tells seen moment left_since may_leave faults turn.key p q pair
     pub back : pairs ≡ ended ++ spare

@@ -111,7 +111,7 @@ module _ {D : Type 0} (o : Opening D) where
     pub record IsSettling (now : ℕ) (log settling : List Entry) : Type 0 where
       pub shard : Shard D
       pub settled : Shard D
-      pub stands : StandsFor tells seen may_leave faults o shard log
+      pub stands : StandsFor tells seen moment left_since may_leave faults o shard log
       pub settles : SettlesShard tells moment left_since may_leave now shard settled
       pub added : settling ≡ settled.added
 

@@ -24,7 +24,7 @@ fn end_at<D: LeaseDisk + Drop, R: Wait>(
     requires home { (pass : HousePass D) → slice_get passes.old.items place ≡ Some pass →
         IsAtHome turn pass }
     ensures { ChangesAt place passes.old.items passes.new.items
-        (λ p q. EndsOne D.tells D.seen D.may_leave D.faults turn.key p q result) }
+        (λ p q. EndsOne D.tells D.seen D.moment D.left_since D.may_leave D.faults turn.key p q result) }
 {
     end_one(rt, turn, &mut passes[place])
 }
@@ -39,7 +39,7 @@ fn end_all<D: LeaseDisk + Drop, R: Wait>(
 ) -> Vec<DiskPair<D>>
     requires home { AreAtHome turns.items passes.old.items }
     requires room { length turns.items + length spare.items ≤ vec_capacity spare }
-    ensures { EndsAll D.tells D.seen D.may_leave D.faults turns.items passes.old.items
+    ensures { EndsAll D.tells D.seen D.moment D.left_since D.may_leave D.faults turns.items passes.old.items
         passes.new.items spare.items result.items }
 {
     let mut turns = turns;
@@ -64,7 +64,7 @@ impl<D: LeaseDisk + Drop> House<D> {
     /// ever, and every later lookup of a lane may.
     pub fn end<R: Wait>(self, rt: &R, passes: &mut Vec<HousePass<D>>) -> Vec<DiskPair<D>>
         requires { AreAtHome self.turns passes.old.items }
-        ensures ended { EndsAll D.tells D.seen D.may_leave D.faults self.turns passes.old.items
+        ensures ended { EndsAll D.tells D.seen D.moment D.left_since D.may_leave D.faults self.turns passes.old.items
             passes.new.items self.spare result.items }
         ensures count { length result.items ≡ length self.turns + length self.spare }
     {

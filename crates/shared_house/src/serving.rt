@@ -37,11 +37,11 @@ fn note_added<D: LeaseDisk + Drop>(
     own: bool,
 )
     requires pass { (pass.old.turn ≡ turn.now.id) × (pass.old.out ≡ true) }
-    requires stands { StandsFor D.tells D.seen D.may_leave D.faults turn.now.key held.old
+    requires stands { StandsFor D.tells D.seen D.moment D.left_since D.may_leave D.faults turn.now.key held.old
         (pass.old.seen ++ held.old.added) }
     ensures pass { pass.new ≡ after_note own held.old.added pass.old }
     ensures held { held.new ≡ record held.old { added = [] } }
-    ensures by { IsHeldBy D.tells D.seen D.may_leave D.faults turn.now held.new pass.new }
+    ensures by { IsHeldBy D.tells D.seen D.moment D.left_since D.may_leave D.faults turn.now held.new pass.new }
 {
     let count = held.value().added_count();
     turn.note(pass, held, count, own);
@@ -56,10 +56,10 @@ fn settle_held<D: LeaseDisk + Drop>(
     held: &mut Held<Shard<D>>,
     now: Moment,
 ) -> Result<(), BookFault>
-    requires held { IsHeldBy D.tells D.seen D.may_leave D.faults turn.now held.old
+    requires held { IsHeldBy D.tells D.seen D.moment D.left_since D.may_leave D.faults turn.now held.old
         pass.old.history }
     requires word { pass.old.epoch.word ≡ word.now }
-    ensures held { IsHeldBy D.tells D.seen D.may_leave D.faults turn.now held.new
+    ensures held { IsHeldBy D.tells D.seen D.moment D.left_since D.may_leave D.faults turn.now held.new
         pass.new.history }
     ensures shard { pass.new.shard ≡ pass.old.shard }
     ensures epoch { pass.new.epoch ≡ raised_to held.new.book.state.base pass.old.epoch }
@@ -86,10 +86,10 @@ fn settle_and_publish<D: LeaseDisk + Drop, R: Wait>(
     held: &mut Held<Shard<D>>,
     now: Moment,
 ) -> Result<(), BookFault>
-    requires held { IsHeldBy D.tells D.seen D.may_leave D.faults turn.now held.old
+    requires held { IsHeldBy D.tells D.seen D.moment D.left_since D.may_leave D.faults turn.now held.old
         pass.old.history }
     requires word { pass.old.epoch.word ≡ word.now }
-    ensures held { IsHeldBy D.tells D.seen D.may_leave D.faults turn.now held.new
+    ensures held { IsHeldBy D.tells D.seen D.moment D.left_since D.may_leave D.faults turn.now held.new
         pass.new.history }
     ensures shard { pass.new.shard ≡ pass.old.shard }
     ensures epoch { pass.new.epoch ≡ raised_to held.new.book.state.base pass.old.epoch }
@@ -119,11 +119,11 @@ fn answer_held<D: LeaseDisk + Drop>(
     requires config { IsConfig config.now }
     requires few { length batch.now ≤ MOST_RECORDS }
     requires batch { IsBatchOf turn.now.key config.now batch.now }
-    requires held { IsHeldBy D.tells D.seen D.may_leave D.faults turn.now held.old
+    requires held { IsHeldBy D.tells D.seen D.moment D.left_since D.may_leave D.faults turn.now held.old
         pass.old.history }
     requires settled { held.old.book.fault ≡ None }
     requires word { pass.old.epoch.word ≡ word.now }
-    ensures held { IsHeldBy D.tells D.seen D.may_leave D.faults turn.now held.new
+    ensures held { IsHeldBy D.tells D.seen D.moment D.left_since D.may_leave D.faults turn.now held.new
         pass.new.history }
     ensures shard { pass.new.shard ≡ pass.old.shard }
     ensures heard { HearsMore pass.old.epoch pass.new.epoch }
@@ -150,11 +150,11 @@ fn lose_held<D: LeaseDisk + Drop>(
     held: &mut Held<Shard<D>>,
     now: Moment,
 ) -> Result<u32, BookFault>
-    requires held { IsHeldBy D.tells D.seen D.may_leave D.faults turn.now held.old
+    requires held { IsHeldBy D.tells D.seen D.moment D.left_since D.may_leave D.faults turn.now held.old
         pass.old.history }
     requires settled { held.old.book.fault ≡ None }
     requires word { pass.old.epoch.word ≡ word.now }
-    ensures held { IsHeldBy D.tells D.seen D.may_leave D.faults turn.now held.new
+    ensures held { IsHeldBy D.tells D.seen D.moment D.left_since D.may_leave D.faults turn.now held.new
         pass.new.history }
     ensures shard { pass.new.shard ≡ pass.old.shard }
     ensures heard { HearsAndRaises pass.old.epoch pass.new.epoch held.new.book.state.base }
@@ -190,11 +190,11 @@ fn answer_and_publish<D: LeaseDisk + Drop, R: Wait>(
     requires config { IsConfig config.now }
     requires few { length batch.now ≤ MOST_RECORDS }
     requires batch { IsBatchOf turn.now.key config.now batch.now }
-    requires held { IsHeldBy D.tells D.seen D.may_leave D.faults turn.now held.old
+    requires held { IsHeldBy D.tells D.seen D.moment D.left_since D.may_leave D.faults turn.now held.old
         pass.old.history }
     requires settled { held.old.book.fault ≡ None }
     requires word { pass.old.epoch.word ≡ word.now }
-    ensures held { IsHeldBy D.tells D.seen D.may_leave D.faults turn.now held.new
+    ensures held { IsHeldBy D.tells D.seen D.moment D.left_since D.may_leave D.faults turn.now held.new
         pass.new.history }
     ensures shard { pass.new.shard ≡ pass.old.shard }
     ensures heard { HearsMore pass.old.epoch pass.new.epoch }
@@ -228,11 +228,11 @@ fn lose_and_publish<D: LeaseDisk + Drop, R: Wait>(
     held: &mut Held<Shard<D>>,
     now: Moment,
 ) -> Result<(u32, Told), BookFault>
-    requires held { IsHeldBy D.tells D.seen D.may_leave D.faults turn.now held.old
+    requires held { IsHeldBy D.tells D.seen D.moment D.left_since D.may_leave D.faults turn.now held.old
         pass.old.history }
     requires settled { held.old.book.fault ≡ None }
     requires word { pass.old.epoch.word ≡ word.now }
-    ensures held { IsHeldBy D.tells D.seen D.may_leave D.faults turn.now held.new
+    ensures held { IsHeldBy D.tells D.seen D.moment D.left_since D.may_leave D.faults turn.now held.new
         pass.new.history }
     ensures shard { pass.new.shard ≡ pass.old.shard }
     ensures heard { HearsAndRaises pass.old.epoch pass.new.epoch held.new.book.state.base }
@@ -270,10 +270,10 @@ fn settle_and_answer<D: LeaseDisk + Drop, R: Wait>(
     requires config { IsConfig config.now }
     requires few { length batch.now ≤ MOST_RECORDS }
     requires batch { IsBatchOf turn.now.key config.now batch.now }
-    requires held { IsHeldBy D.tells D.seen D.may_leave D.faults turn.now held.old
+    requires held { IsHeldBy D.tells D.seen D.moment D.left_since D.may_leave D.faults turn.now held.old
         pass.old.history }
     requires word { pass.old.epoch.word ≡ word.now }
-    ensures held { IsHeldBy D.tells D.seen D.may_leave D.faults turn.now held.new
+    ensures held { IsHeldBy D.tells D.seen D.moment D.left_since D.may_leave D.faults turn.now held.new
         pass.new.history }
     ensures shard { pass.new.shard ≡ pass.old.shard }
     ensures word { pass.new.epoch.word ≡ pass.old.epoch.word }
@@ -303,10 +303,10 @@ fn settle_and_lose<D: LeaseDisk + Drop, R: Wait>(
     held: &mut Held<Shard<D>>,
     now: Moment,
 ) -> Result<(u32, Told), BookFault>
-    requires held { IsHeldBy D.tells D.seen D.may_leave D.faults turn.now held.old
+    requires held { IsHeldBy D.tells D.seen D.moment D.left_since D.may_leave D.faults turn.now held.old
         pass.old.history }
     requires word { pass.old.epoch.word ≡ word.now }
-    ensures held { IsHeldBy D.tells D.seen D.may_leave D.faults turn.now held.new
+    ensures held { IsHeldBy D.tells D.seen D.moment D.left_since D.may_leave D.faults turn.now held.new
         pass.new.history }
     ensures shard { pass.new.shard ≡ pass.old.shard }
     ensures word { pass.new.epoch.word ≡ pass.old.epoch.word }

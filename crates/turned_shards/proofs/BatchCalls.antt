@@ -80,16 +80,17 @@ no-faults-kept m base Disk = refl
 no-faults-kept m base Memory = refl
 
 -- a fault is added, or nothing: no record waits
-pub fault-adds : {D : Type 0} (tells : Type 0) (seen : D → List ℕ) (may_leave : D → List ℕ → Type 0)
+pub fault-adds : {D : Type 0} (tells : Type 0) (seen : D → List ℕ) (moment : D → ℕ)
+    (left_since : D → ℕ → List ℕ → Type 0) (may_leave : D → List ℕ → Type 0)
     (counts : D → ℕ) (o : Opening D) (s t : Shard D) (log : List Entry) (fault : JournalFault) →
-    StandsFor tells seen may_leave counts o s log →
-    Holds tells seen may_leave counts o t (log ++ faults_of s.moment s.base fault) →
+    StandsFor tells seen moment left_since may_leave counts o s log →
+    Holds tells seen moment left_since may_leave counts o t (log ++ faults_of s.moment s.base fault) →
     t.added ≡ faults_of s.moment s.base fault →
     t.writer ≡ s.writer → t.unpushed ≡ s.unpushed →
-    StandsFor tells seen may_leave counts o t (log ++ faults_of s.moment s.base fault)
-fault-adds tells seen may_leave counts o s t log fault stands holds added writer waits =
+    StandsFor tells seen moment left_since may_leave counts o t (log ++ faults_of s.moment s.base fault)
+fault-adds tells seen moment left_since may_leave counts o s t log fault stands holds added writer waits =
     let es : List Entry = faults_of s.moment s.base fault in
-    stands-adding tells seen may_leave counts o s t t log es stands holds refl writer
+    stands-adding tells seen moment left_since may_leave counts o s t t log es stands holds refl writer
     (ap (λ v. v.items) waits ∙ sym (append-nil s.unpushed.items)
     ∙ ap (λ (l : List Record). s.unpushed.items ++ l)
     (sym (no-faults-kept s.moment s.base fault))) added
@@ -97,10 +98,10 @@ fault-adds tells seen may_leave counts o s t log fault stands holds added writer
 module _ {D : Type 0} (tells : Type 0) (seen : D → List ℕ) (moment : D → ℕ)
     (left_since : D → ℕ → List ℕ → Type 0) (may_leave : D → List ℕ → Type 0) (counts : D → ℕ) where
   abbrev Stands : Opening D → Shard D → List Entry → Type 0
-  Stands = StandsFor tells seen may_leave counts
+  Stands = StandsFor tells seen moment left_since may_leave counts
 
   abbrev Held : Opening D → Shard D → List Entry → Type 0
-  Held = Holds tells seen may_leave counts
+  Held = Holds tells seen moment left_since may_leave counts
 
   abbrev entries : Shard D → ℕ → ℕ → Config → List Datagram → List Entry
   entries s m base config batch = entries_along s.book.terms s.book.state m base
@@ -220,7 +221,7 @@ module _ {D : Type 0} (tells : Type 0) (seen : D → List ℕ) (moment : D → �
       (λ (x : Shard D). x.unpushed.items ++ filter_map (λ (q : Answered). q.kept) answers) same
       ∙ ap (λ (l : List Record). s.unpushed.items ++ l)
       (kept-are greatest config batch requests s t.book m base answers o log a serves) in
-      let done = stands-adding tells seen may_leave counts o s t u log es a.stands holds up
+      let done = stands-adding tells seen moment left_since may_leave counts o s t u log es a.stands holds up
       (ap (λ (x : Shard D). x.writer) same) more added in
       subst (λ (l : List Entry). Stands o u (log ++ l))
       (sym (ap (λ (x : Shard D). x.added) up ∙ added)) done
@@ -302,7 +303,7 @@ module _ {D : Type 0} (tells : Type 0) (seen : D → List ℕ) (moment : D → �
       let added : t.added ≡ es = ap (λ (x : Shard D). x.added) same in
       let holds : Held o t (log ++ es) =
       subst (λ (l : List Entry). Held o t (log ++ l)) added full in
-      let done = fault-adds tells seen may_leave counts o s t log fault a.stands holds added
+      let done = fault-adds tells seen moment left_since may_leave counts o s t log fault a.stands holds added
       (ap (λ (x : Shard D). x.writer) same) (ap (λ (x : Shard D). x.unpushed) same) in
       subst (λ (l : List Entry). Stands o t (log ++ l)) (sym added) done
 
@@ -313,7 +314,7 @@ module _ {D : Type 0} (tells : Type 0) (seen : D → List ℕ) (moment : D → �
       let none : t.added ≡ [] = ap (λ (x : Shard D). x.added) moved.same ∙ noted in
       subst (λ (l : List Entry). Stands o t (log ++ l)) (sym none)
       (subst (Stands o t) (sym (append-nil log))
-      (stands-moved tells seen may_leave counts o s t log stands moved))
+      (stands-moved tells seen moment left_since may_leave counts o s t log stands moved))
 
   -- what a call adds to a shard with room it adds to the one before
   pub adds-moved : (config : Config) (now given : ℕ) (batch : List Datagram) (s r t u : Shard D) →

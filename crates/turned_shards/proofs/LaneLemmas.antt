@@ -71,14 +71,15 @@ module _ {D : Type 0} where
             ∙ ap (λ (l : List Entry). t.unpushed.items ++ records_of l) (sym added);
       }
 
-  module _ (tells : Type 0) (seen : D → List ℕ) (may_leave : D → List ℕ → Type 0)
+  module _ (tells : Type 0) (seen : D → List ℕ) (moment : D → ℕ)
+      (left_since : D → ℕ → List ℕ → Type 0) (may_leave : D → List ℕ → Type 0)
       (counts : D → ℕ) where
     abbrev Stands : Opening D → Shard D → List Entry → Type 0
-    Stands = StandsFor tells seen may_leave counts
+    Stands = StandsFor tells seen moment left_since may_leave counts
 
     -- what holds but for the lane doesn't speak of the lane
     pub stands-up : (o : Opening D) (s t : Shard D) (log : List Entry) →
-        Holds tells seen may_leave counts o s log →
+        Holds tells seen moment left_since may_leave counts o s log →
         t ≡ record s { writer = t.writer; unpushed = t.unpushed } → HasIndexed o t log →
         Stands o t log
     stands-up o s t log holds same has =
@@ -97,10 +98,11 @@ module _ {D : Type 0} where
           failed = holds.failed;
           risen = holds.risen;
           indexed = subst (λ (x : Shard D). HasIndexed o x log) same has;
+          kept = holds.kept;
         })
 
     pub stands-down : (o : Opening D) (s : Shard D) (log : List Entry) → Stands o s log →
-        Holds tells seen may_leave counts o s log
+        Holds tells seen moment left_since may_leave counts o s log
     stands-down o s log stands =
         record {
           opening = stands.opening;
@@ -114,6 +116,7 @@ module _ {D : Type 0} where
           sure = stands.sure;
           failed = stands.failed;
           risen = stands.risen;
+          kept = stands.kept;
         }
 
     -- what waits was moved to where there is room
@@ -149,7 +152,7 @@ module _ {D : Type 0} where
 
     -- entries are added, and their records wait
     pub stands-adding : (o : Opening D) (s t u : Shard D) (log es : List Entry) → Stands o s log →
-        Holds tells seen may_leave counts o t (log ++ es) → u ≡ record t { unpushed = u.unpushed } →
+        Holds tells seen moment left_since may_leave counts o t (log ++ es) → u ≡ record t { unpushed = u.unpushed } →
         t.writer ≡ s.writer → u.unpushed.items ≡ s.unpushed.items ++ records_of es → t.added ≡ es →
         Stands o u (log ++ es)
     stands-adding o s t u log es stands holds same writer waiting added =
@@ -232,8 +235,8 @@ module _ {D : Type 0} where
 
     -- a held shard of which all records are published, or wait still
     pub held-shown : (turn : TurnName (Opening D)) (p : PassKnowledge Entry) (s t : Shard D) →
-        IsHeldBy tells seen may_leave counts turn s p → IsWithLane s t → KeepsRecords s t →
-        IsHeldBy tells seen may_leave counts turn t p
+        IsHeldBy tells seen moment left_since may_leave counts turn s p → IsWithLane s t → KeepsRecords s t →
+        IsHeldBy tells seen moment left_since may_leave counts turn t p
     held-shown turn p s t held same keeps =
         record {
           turn_is = held.turn_is;

@@ -1,3 +1,4 @@
+mod CrashLemmas
 mod Histories
 mod RecordsOf
 mod LaneLemmas

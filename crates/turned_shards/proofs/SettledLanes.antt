@@ -70,7 +70,7 @@ module _ {D : Type 0} where
       (counts : D → ℕ) where
     -- the records of the entries that a settling adds are those that wait
     pub found-records : (o : Opening D) (s : Shard D) (b : BookView D) (log : List Entry) (m : ℕ)
-        (unsure : List Record) (settled : Settled) → StandsFor tells seen may_leave counts o s log →
+        (unsure : List Record) (settled : Settled) → StandsFor tells seen moment left_since may_leave counts o s log →
         s.added ≡ [] →
         Settles tells moment left_since may_leave m s.book b settled → unsure ≡ s.book.unsure →
         records_found unsure settled.address settled.journal

@@ -12,8 +12,8 @@ use Rattle.pcp_base.specs.declared.records.Record.{Record}
 use Rattle.pcp_base.specs.Apply.{apply, empties, is_another}
 use Rattle.pcp_base.specs.States.{State}
 use Rattle.pcp_base.proofs.Same.{same_address-Decides}
-use Rattle.lease_disk.specs.Pairs.{PairHasCause}
-use Rattle.journal_sides.specs.Journals.{fresh_state}
+use Rattle.lease_disk.specs.Pairs.{PairHasCause, PairLeavesOnly}
+use Rattle.journal_sides.specs.Journals.{StandsForWithOrWithout, fresh_state}
 use Rattle.journal_sides.specs.declared.errors.JournalFault.{JournalFault}
 use Rattle.journal_sides.specs.declared.errors.JournalFault.TheVariants.{Disk, Memory}
 use Rattle.shard_book.specs.declared.standings.Settled.{Settled}
@@ -21,7 +21,7 @@ use Rattle.shard_book.specs.declared.standings.Standing.{Standing}
 use Rattle.shard_book.specs.declared.standings.Standing.TheVariants.{Clean, In, Out, Fresh}
 use Rattle.shard_book.specs.Addresses.{renumber_at, state_anew}
 use Rattle.shard_book.specs.Books.{BookView, IsBook}
-use Rattle.shard_book.specs.Settlings.{KeepsDoubt, Settles, StandingMeans, refused_of}
+use Rattle.shard_book.specs.Settlings.{IsExpected, KeepsDoubt, Settles, StandingMeans, refused_of}
 use Rattle.lease_histories.specs.Entries.{entry_kind, has_just_begun, begins_anew}
 use Rattle.lease_histories.specs.Legal.{IsLegal, IsOfServer, state_after, moment_after, base_after}
 use Rattle.lease_histories.specs.Laws.{FaultsComeNext, IsNoLess, LastIsGreatest, NextIsLegal}
@@ -33,8 +33,9 @@ use Rattle.turned_shards.specs.Inside.{settled_shard, shard_by}
 use Rattle.turned_shards.specs.ShardCalls.{faults_of}
 use Rattle.turned_shards.specs.Shards.{LeadsTo, MayCome, StandsFor, served_by}
 use Rattle.turned_shards.proofs.Histories.{after-one, last-append, state-append}
-use Rattle.turned_shards.proofs.Standing.{Holds, leads-in, may-come-still, stands-fault}
-use Rattle.turned_shards.proofs.Standing.{stands-still, stands-with}
+use Rattle.turned_shards.proofs.Standing.{Holds, doubt-legal, kept-refused, kept-still, kept-with}
+use Rattle.turned_shards.proofs.Standing.{leads-in, may-come-still, stands-fault, stands-still}
+use Rattle.turned_shards.proofs.Standing.{stands-with, unsure-by, unsure-how}
 
 -- ---- a table that begins anew
 
@@ -138,35 +139,44 @@ module _ {D : Type 0} where
     settles-by : NextIsLegal → LastIsGreatest → ServersComeNext →
         (o : Opening D) (s : Shard D) (b : BookView D) (log : List Entry) (m : ℕ) (F : Type 0)
         (address : Option Record) (standing : Standing) →
-        StandsFor tells seen may_leave counts o s log → s.added ≡ [] → s.moment ≤ m →
+        StandsFor tells seen moment left_since may_leave counts o s log → s.added ≡ [] → s.moment ≤ m →
         StandingMeans (max m s.book.last) s.book.terms.external.address
         (refused_of s.book) b.state address standing →
         b.last ≡ max s.book.last b.state.last → b.terms ≡ s.book.terms → b.fault ≡ None →
         IsBook tells seen may_leave b →
         PairHasCause counts s.book.journal.pair b.journal.pair F →
-        Holds tells seen may_leave counts o
+        (tells → IsExpected standing) →
+        (tells → PairLeavesOnly moment left_since may_leave s.book.journal.pair b.journal.pair
+        (StandsForWithOrWithout s.book.state s.book.unsure)) →
+        Holds tells seen moment left_since may_leave counts o
         (record (shard_by address standing s) { book = b; doubt = [] })
         (log ++ (shard_by address standing s).added)
     settles-by next greatest servers o s b log m F address Clean stands noted reached means last
-        terms settled book cause =
+        terms settled book cause expected run =
         let p = stands.later in let q = stands.book.later in
         let same : b.state.last ≡ s.book.state.last = ap (λ (u : State). u.last) means.same in
-        subst (λ (es : List Entry). Holds tells seen may_leave counts o
+        subst (λ (es : List Entry). Holds tells seen moment left_since may_leave counts o
         (record s { book = b; doubt = [] }) (log ++ es)) (sym noted)
-        (stands-still tells seen may_leave counts o s (record s { book = b; doubt = [] })
+        (stands-still tells seen moment left_since may_leave counts o s (record s { book = b; doubt = [] })
         log F stands means.same terms book cause refl refl refl (omega arith)
-        (λ failed. absurd cc) (λ _. refl) (λ failed. absurd cc))
+        (λ failed. absurd cc) (λ _. refl) (λ failed. absurd cc)
+        (kept-still tells seen moment left_since may_leave counts o s b log [] s.book.unsure stands
+        (λ failed. absurd cc) (unsure-how tells seen moment left_since may_leave counts o s log
+        stands s.book.fault refl) run))
     settles-by next greatest servers o s b log m F address Out stands noted reached means last terms
-        settled book cause =
+        settled book cause expected run =
         let p = stands.later in let q = stands.book.later in
         let same : b.state.last ≡ s.book.state.last = ap (λ (u : State). u.last) means.same in
-        subst (λ (es : List Entry). Holds tells seen may_leave counts o
+        subst (λ (es : List Entry). Holds tells seen moment left_since may_leave counts o
         (record s { book = b; doubt = [] }) (log ++ es)) (sym noted)
-        (stands-still tells seen may_leave counts o s (record s { book = b; doubt = [] })
+        (stands-still tells seen moment left_since may_leave counts o s (record s { book = b; doubt = [] })
         log F stands means.same terms book cause refl refl refl (omega arith)
-        (λ failed. absurd cc) (λ _. refl) (λ failed. absurd cc))
+        (λ failed. absurd cc) (λ _. refl) (λ failed. absurd cc)
+        (kept-still tells seen moment left_since may_leave counts o s b log [] s.book.unsure stands
+        (λ failed. absurd cc) (unsure-how tells seen moment left_since may_leave counts o s log
+        stands s.book.fault refl) run))
     settles-by next greatest servers o s b log m F address In stands noted reached means last terms
-        settled book cause =
+        settled book cause expected run =
         let may : MayCome o s = stands.doubt means.fault in
         let t : Shard D =
         record s {
@@ -183,10 +193,12 @@ module _ {D : Type 0} where
         let a : (state_after o.book.state (log ++ s.doubt)).last ≡ b.state.last =
         ap (λ (u : State). u.last) leads.state in
         let c : moment_after o.book.state (log ++ s.doubt) ≡ s.doubt_moment = leads.moment in
-        stands-with tells seen may_leave counts o s t log s.doubt F stands leads may.no_faults terms
-        refl book cause may.in_range (omega arith) settled refl
+        stands-with tells seen moment left_since may_leave counts o s t log s.doubt F stands leads
+        may.no_faults terms refl book cause may.in_range (omega arith) settled refl
+        (kept-with tells seen moment left_since may_leave counts o s b log s.doubt s.book.unsure
+        stands may.records may.no_faults settled run)
     settles-by next greatest servers o s b log m F address
-        (Fresh r) stands noted reached means last terms settled book cause =
+        (Fresh r) stands noted reached means last terms settled book cause expected run =
         let a : Address = s.book.terms.external.address in
         let q : Record = renumber_at r.moment a in
         let t : Shard D = record (shard_by (Some q) (Fresh r) s) { book = b; doubt = [] } in
@@ -199,33 +211,37 @@ module _ {D : Type 0} where
         (log ++ server_entry s.base r ∷ server_entry (max s.base r.moment) q ∷ []) =
         leads-anew next servers o s t log a r stands.leads stands.book.started stands.book.address
         (begins-how r means.begins.begins) bound (omega arith) means.new refl refl in
-        subst (λ (n : Option Record). Holds tells seen may_leave counts o
+        subst (λ (n : Option Record). Holds tells seen moment left_since may_leave counts o
         (record (shard_by n (Fresh r) s) { book = b; doubt = [] })
         (log ++ (shard_by n (Fresh r) s).added)) (sym means.named)
-        (stands-with tells seen may_leave counts o s t log
+        (stands-with tells seen moment left_since may_leave counts o s t log
         (server_entry s.base r ∷ server_entry (max s.base r.moment) q ∷ [])
-        F stands leads refl terms refl book cause bound (omega arith) settled refl)
+        F stands leads refl terms refl book cause bound (omega arith) settled refl
+        (kept-with tells seen moment left_since may_leave counts o s b log
+        (server_entry s.base r ∷ server_entry (max s.base r.moment) q ∷ []) (r ∷ q ∷ []) stands
+        refl refl settled (λ told. absurd (expected told))))
 
     -- a settled shard
     pub settles-shard : NextIsLegal → LastIsGreatest → ServersComeNext →
         (o : Opening D) (s : Shard D) (b : BookView D) (log : List Entry) (m : ℕ) (F : Type 0)
         (settled : Settled) →
-        StandsFor tells seen may_leave counts o s log → s.added ≡ [] → s.moment ≤ m →
+        StandsFor tells seen moment left_since may_leave counts o s log → s.added ≡ [] → s.moment ≤ m →
         Settles tells moment left_since may_leave m s.book b settled →
         IsBook tells seen may_leave b →
         PairHasCause counts s.book.journal.pair b.journal.pair F →
-        Holds tells seen may_leave counts o (settled_shard settled (with_book s b))
+        Holds tells seen moment left_since may_leave counts o (settled_shard settled (with_book s b))
         (log ++ (settled_shard settled (with_book s b)).added)
     settles-shard next greatest servers o s b log m F settled stands noted reached settles book
         cause =
         by settled.journal
         (settles-by next greatest servers o s b log m F settled.address settled.journal stands
-        noted reached settles.means settles.last settles.terms settles.fault book cause)
+        noted reached settles.means settles.last settles.terms settles.fault book cause
+        settles.expected settles.moments)
       where
-        by : (standing : Standing) → Holds tells seen may_leave counts o
+        by : (standing : Standing) → Holds tells seen moment left_since may_leave counts o
             (record (shard_by settled.address standing s) { book = b; doubt = [] })
             (log ++ (shard_by settled.address standing s).added) →
-            Holds tells seen may_leave counts o
+            Holds tells seen moment left_since may_leave counts o
             (record (shard_by settled.address standing (with_book s b)) { doubt = [] })
             (log ++ (shard_by settled.address standing (with_book s b)).added)
         by Clean h = h
@@ -233,10 +249,10 @@ module _ {D : Type 0} where
         by Out h = h
         by (Fresh r) h = at settled.address h
           where
-            at : (n : Option Record) → Holds tells seen may_leave counts o
+            at : (n : Option Record) → Holds tells seen moment left_since may_leave counts o
                 (record (shard_by n (Fresh r) s) { book = b; doubt = [] })
                 (log ++ (shard_by n (Fresh r) s).added) →
-                Holds tells seen may_leave counts o
+                Holds tells seen moment left_since may_leave counts o
                 (record (shard_by n (Fresh r) (with_book s b)) { doubt = [] })
                 (log ++ (shard_by n (Fresh r) (with_book s b)).added)
             at None h = h
@@ -246,10 +262,10 @@ module _ {D : Type 0} where
     pub refuses-settling : NextIsLegal → FaultsComeNext →
         (o : Opening D) (s : Shard D) (b : BookView D) (log : List Entry) (fault : JournalFault)
         (F : Type 0) →
-        StandsFor tells seen may_leave counts o s log →
+        StandsFor tells seen moment left_since may_leave counts o s log →
         KeepsDoubt tells moment left_since may_leave s.book b → IsBook tells seen may_leave b →
         PairHasCause counts s.book.journal.pair b.journal.pair F → (fault ≡ Disk → F) →
-        Holds tells seen may_leave counts o
+        Holds tells seen moment left_since may_leave counts o
         (record s { book = b; added = faults_of s.moment s.base fault })
         (log ++ faults_of s.moment s.base fault)
     refuses-settling next faults o s b log fault F stands keeps book cause fails = by fault fails
@@ -272,18 +288,28 @@ module _ {D : Type 0} where
             stands.sure (λ failed. none (ap (λ (c : BookView D). c.fault) keeps.same ∙ failed))
 
         by : (f : JournalFault) → (f ≡ Disk → F) →
-            Holds tells seen may_leave counts o
+            Holds tells seen moment left_since may_leave counts o
             (record s { book = b; added = faults_of s.moment s.base f })
             (log ++ faults_of s.moment s.base f)
-        by Disk f = stands-fault tells seen may_leave counts next faults o s
+        by Disk f = stands-fault tells seen moment left_since may_leave counts next faults o s
             (record s { book = b; added = fault_at s.moment s.base ∷ [] }) log F (f refl) stands
             (ap (λ (c : BookView D). c.state) keeps.same)
             (ap (λ (c : BookView D). c.terms) keeps.same) book cause refl refl refl later
             (doubt (fault_at s.moment s.base ∷ [])) sure
-        by Memory f = stands-still tells seen may_leave counts o s
+            (kept-refused tells seen moment left_since may_leave counts o s b log s.doubt
+            s.book.unsure stands (doubt-legal tells seen moment left_since may_leave counts next
+            faults o s log stands s.book.fault refl)
+            (unsure-by tells seen moment left_since may_leave counts o s log stands s.book.fault
+            refl) keeps.moments)
+        by Memory f = stands-still tells seen moment left_since may_leave counts o s
             (record s { book = b; added = [] }) log F stands
             (ap (λ (c : BookView D). c.state) keeps.same)
             (ap (λ (c : BookView D). c.terms) keeps.same) book cause refl refl refl later
             (doubt []) sure
             (λ failed. stands.failed
             (sym (ap (λ (c : BookView D). c.fault) keeps.same) ∙ failed))
+            (kept-still tells seen moment left_since may_leave counts o s b log s.doubt
+            s.book.unsure stands (λ failed. stands.kept.now
+            (sym (ap (λ (c : BookView D). c.fault) keeps.same) ∙ failed))
+            (unsure-how tells seen moment left_since may_leave counts o s log stands s.book.fault
+            refl) keeps.moments)

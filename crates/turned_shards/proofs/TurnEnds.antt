@@ -10,6 +10,7 @@ use Rattle.pcp_base.specs.declared.records.Record.{Record}
 use Rattle.pcp_base.specs.Apply.{apply_all}
 use Rattle.pcp_base.specs.States.{State}
 use Rattle.lease_disk.specs.Pairs.{HoldsNow}
+use Rattle.lease_disk.proofs.PairLemmas.{pair_started}
 use Rattle.journal_sides.specs.declared.errors.JournalFault.{JournalFault}
 use Rattle.journal_sides.specs.declared.errors.JournalFault.TheVariants.{Disk, Memory}
 use Rattle.journal_sides.specs.Journals.{StandsFor as StandsForState, StandsForWithOrWithout}
@@ -19,10 +20,13 @@ use Rattle.lease_histories.specs.Legal.{records_of, state_after}
 use Rattle.lease_histories.specs.Laws.{NothingIsLegal}
 use Rattle.turned_shards.specs.declared.openings.Opening.{Opening}
 use Rattle.turned_shards.specs.declared.shards.Shard.{Shard}
+use Rattle.turned_shards.specs.Crashes.{StandsAlong}
 use Rattle.turned_shards.specs.Inside.{fresh_shard}
 use Rattle.turned_shards.specs.Shards.{StandsFor, served_by}
 use Rattle.turned_shards.specs.Turnings.{MayBegin, StandsStill, first_lane, first_writer}
 use Rattle.turned_shards.specs.Turnings.{opening_of}
+use Rattle.turned_shards.proofs.CrashLemmas.{along-whole}
+use Rattle.turned_shards.proofs.Standing.{unsure-by}
 
 -- the address at a place
 pub named-by : (o : Option External) (x : External) (a : Address) →
@@ -33,7 +37,8 @@ named-by (Some y) x a h at =
     let is : y.address ≡ a = cc in
     sym is ∙ ap (λ (z : External). z.address) same
 
-module _ {D : Type 0} (tells : Type 0) (seen : D → List ℕ) (may_leave : D → List ℕ → Type 0)
+module _ {D : Type 0} (tells : Type 0) (seen : D → List ℕ) (moment : D → ℕ)
+    (left_since : D → ℕ → List ℕ → Type 0) (may_leave : D → List ℕ → Type 0)
     (counts : D → ℕ) where
   -- nothing was published yet, and there is no record
   no-records : (w : WriterKnowledge) (waiting : List Record) → w.published ≡ [] → w.pending ≡ [] →
@@ -42,6 +47,14 @@ module _ {D : Type 0} (tells : Type 0) (seen : D → List ℕ) (may_leave : D �
       ap (λ (rs : List Record). (rs ++ w.pending) ++ waiting) published
       ∙ ap (λ (rs : List Record). rs ++ waiting) pending ∙ none
 
+  or-without : (u v : State) (rs : List Record) (x y : List ℕ) → u ≡ v → rs ≡ [] →
+      StandsForWithOrWithout u rs x y → StandsForState v x y
+  or-without u v rs x y same none (inl stands) =
+      subst (λ (w : State). StandsForState w x y) same stands
+  or-without u v rs x y same none (inr stands) =
+      subst (λ (w : State). StandsForState w x y) same
+      (subst (λ (ks : List Record). StandsForState (apply_all u ks) x y) none stands)
+
   -- a book that was just opened stands for a history without entries
   pub stands-new : NothingIsLegal →
       (config : Config) (place : ℕ) (address : Address) (book : BookView D)
@@ -49,7 +62,7 @@ module _ {D : Type 0} (tells : Type 0) (seen : D → List ℕ) (may_leave : D �
       address ≡ book.terms.external.address →
       MayBegin tells seen may_leave config place book → writer ≡ first_writer lane book →
       lane ≡ first_lane writer book → s.unpushed.items ≡ [] →
-      StandsFor tells seen may_leave counts (opening_of config place book lane)
+      StandsFor tells seen moment left_since may_leave counts (opening_of config place book lane)
       (fresh_shard address book writer s) []
   stands-new nothing config place address book writer lane s named may writer_is lane_is waiting =
       let o : Opening D = opening_of config place book lane in
@@ -87,23 +100,22 @@ module _ {D : Type 0} (tells : Type 0) (seen : D → List ℕ) (may_leave : D �
           noted = [];
           unnoted = waiting;
         };
+        kept = record {
+          doubts = [];
+          one_each = refl;
+          now = λ failed. absurd (cc (failed, none));
+          moments = λ told. pair_started moment left_since may_leave book.journal.pair
+              (StandsAlong (served_by o) book.state [] [])
+              (λ x y left_a left_b. along-whole (served_by o) book.state [] [] x y
+              (or-without book.state book.state book.unsure x y refl
+              (may.is.sure (λ failed. absurd (cc (failed, none))))
+              (may.is.images told x y left_a left_b)));
+        };
       }
-
-  -- what is in doubt, by its records
-  unsure-by : (o : Opening D) (s : Shard D) (log : List Entry) →
-      StandsFor tells seen may_leave counts o s log → (f : Option JournalFault) → s.book.fault ≡ f →
-      records_of s.doubt ≡ s.book.unsure
-  unsure-by o s log stands (Some Disk) h = (stands.doubt h).records
-  unsure-by o s log stands (Some Memory) h =
-      let other : s.book.fault ≢ Some Disk = λ failed. absurd (cc (h, failed)) in
-      ap records_of (stands.sure other) ∙ sym (stands.book.sure other)
-  unsure-by o s log stands None h =
-      let other : s.book.fault ≢ Some Disk = λ failed. absurd (cc (h, failed)) in
-      ap records_of (stands.sure other) ∙ sym (stands.book.sure other)
 
   -- what a crash leaves
   pub images-of : (o : Opening D) (s : Shard D) (log : List Entry) →
-      StandsFor tells seen may_leave counts o s log → tells →
+      StandsFor tells seen moment left_since may_leave counts o s log → tells →
       HoldsNow may_leave
       (StandsForWithOrWithout (state_after o.book.state log) (records_of s.doubt))
       s.book.journal.pair
@@ -112,23 +124,16 @@ module _ {D : Type 0} (tells : Type 0) (seen : D → List ℕ) (may_leave : D �
       s.book.journal.pair) (sym stands.leads.state)
       (subst (λ (rs : List Record). HoldsNow may_leave
       (StandsForWithOrWithout s.book.state rs) s.book.journal.pair)
-      (sym (unsure-by o s log stands s.book.fault refl)) (stands.book.images told))
+      (sym (unsure-by tells seen moment left_since may_leave counts o s log stands s.book.fault
+      refl)) (stands.book.images told))
 
   -- nothing is in doubt behind a history without entries
-  none-unsure : (o : Opening D) (s : Shard D) → StandsFor tells seen may_leave counts o s [] →
+  none-unsure : (o : Opening D) (s : Shard D) → StandsFor tells seen moment left_since may_leave counts o s [] →
       s.book.unsure ≡ []
   none-unsure o s stands = stands.book.sure (λ failed. absurd (cc (stands.failed failed)))
 
-  or-without : (u v : State) (rs : List Record) (x y : List ℕ) → u ≡ v → rs ≡ [] →
-      StandsForWithOrWithout u rs x y → StandsForState v x y
-  or-without u v rs x y same none (inl stands) =
-      subst (λ (w : State). StandsForState w x y) same stands
-  or-without u v rs x y same none (inr stands) =
-      subst (λ (w : State). StandsForState w x y) same
-      (subst (λ (ks : List Record). StandsForState (apply_all u ks) x y) none stands)
-
   -- what stands for a history without entries has the state that was opened
-  pub still-of : (o : Opening D) (s : Shard D) → StandsFor tells seen may_leave counts o s [] →
+  pub still-of : (o : Opening D) (s : Shard D) → StandsFor tells seen moment left_since may_leave counts o s [] →
       StandsStill tells may_leave counts o.book s.book
   still-of o s stands = record {
     state = sym stands.leads.state;

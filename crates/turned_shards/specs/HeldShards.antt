@@ -7,10 +7,11 @@ use Rattle.turned_shards.specs.declared.shards.Shard.{Shard}
 use Rattle.turned_shards.specs.Shards.{StandsFor}
 
 -- the pass has noted all that it added
-pub record IsHeldBy {D : Type 0} (tells : Type 0) (seen : D → List ℕ)
+pub record IsHeldBy {D : Type 0} (tells : Type 0) (seen : D → List ℕ) (moment : D → ℕ)
+    (left_since : D → ℕ → List ℕ → Type 0)
     (may_leave : D → List ℕ → Type 0) (faults : D → ℕ) (turn : TurnName (Opening D))
     (held : Shard D) (pass : PassKnowledge Entry) : Type 0 where
   pub turn_is : pass.turn ≡ turn.id
   pub out : pass.out ≡ true
-  pub stands : StandsFor tells seen may_leave faults turn.key held pass.seen
+  pub stands : StandsFor tells seen moment left_since may_leave faults turn.key held pass.seen
   pub noted : held.added ≡ []

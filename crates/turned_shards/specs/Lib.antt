@@ -1,4 +1,5 @@
 pub mod BatchEntries
+pub mod Crashes
 pub mod FaultCounts
 pub mod HeldShards
 pub mod Inside

@@ -12,6 +12,7 @@ use Rattle.lease_histories.specs.Legal.{IsLegal, IsOpening, base_after, moment_a
 use Rattle.lease_histories.specs.Legal.{state_after}
 use Rattle.turned_shards.specs.declared.openings.Opening.{Opening}
 use Rattle.turned_shards.specs.declared.shards.Shard.{Shard}
+use Rattle.turned_shards.specs.Crashes.{IsKeptSince}
 use Rattle.turned_shards.specs.FaultCounts.{HaveRisenBy, ends_in_fault, fault_count}
 
 module _ {D : Type 0} where
@@ -59,8 +60,10 @@ module _ {D : Type 0} where
   -- The shard stands for the history, from what the opening found. Its book is on the terms of its
   -- external address and has the state to which the history leads; entries are in doubt exactly
   -- where the book's last refused call answered `Disk`, right behind the entry that tells this; and
-  -- the history tells no more faults than the counts of the pair rose since the opening.
-  pub record StandsFor (tells : Type 0) (seen : D → List ℕ) (may_leave : D → List ℕ → Type 0)
+  -- the history tells no more faults than the counts of the pair rose since the opening. A crash
+  -- at any moment since then leaves the state after some first entries, or that with what was in doubt.
+  pub record StandsFor (tells : Type 0) (seen : D → List ℕ) (moment : D → ℕ)
+      (left_since : D → ℕ → List ℕ → Type 0) (may_leave : D → List ℕ → Type 0)
       (faults : D → ℕ) (o : Opening D) (s : Shard D) (log : List Entry) : Type 0 where
     pub opening : IsOpening (served_by o) o.book.state
     pub terms : s.book.terms ≡ terms_of (served_by o).external o.config
@@ -74,6 +77,7 @@ module _ {D : Type 0} where
     pub failed : s.book.fault ≡ Some Disk → ends_in_fault log ≡ true
     pub risen : HaveRisenBy faults o.book.journal.pair s.book.journal.pair (fault_count log)
     pub indexed : HasIndexed o s log
+    pub kept : IsKeptSince tells moment left_since may_leave (served_by o) o.book s.book s.doubt log
 
   -- what outlives a note: all but the entries added
   abbrev pub noted_shard : Shard D → Shard D

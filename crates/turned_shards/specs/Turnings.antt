@@ -57,7 +57,8 @@ module _ {D : Type 0} where
 
   -- The pass has seen the whole history, for which the shard stood whose pair this is, and has
   -- noted no more. A crash leaves the state to which it leads, or that with all entries in doubt.
-  pub record EndsOne (tells : Type 0) (seen : D → List ℕ) (may_leave : D → List ℕ → Type 0)
+  pub record EndsOne (tells : Type 0) (seen : D → List ℕ) (moment : D → ℕ)
+      (left_since : D → ℕ → List ℕ → Type 0) (may_leave : D → List ℕ → Type 0)
       (faults : D → ℕ) (o : Opening D) (old new : HousePass D) (pair : DiskPair D) : Type 0 where
     pub others : List Entry
     pub shard : new.shard ≡ old.shard
@@ -66,7 +67,7 @@ module _ {D : Type 0} where
     pub mine : new.history.mine ≡ old.history.mine
     pub settled : new.history.settled ≡ old.history.settled
     pub kept : Shard D
-    pub stands : StandsFor tells seen may_leave faults o kept new.history.seen
+    pub stands : StandsFor tells seen moment left_since may_leave faults o kept new.history.seen
     pub pair_is : pair ≡ kept.book.journal.pair
     pub legal : IsLegal (served_by o) o.book.state new.history.seen
     pub images : tells → HoldsNow may_leave (StandsForWithOrWithout

@@ -13,7 +13,7 @@ mod shards;
 mod turning;
 mod waiting;
 
-pub use laws::{passes_share_histories, published_records_were_noted};
+pub use laws::{journals_have_what_is_noted, passes_share_histories, published_records_were_noted};
 pub use openings::Opening;
 pub use passes::{HousePass, give_up};
 pub use publishing::{publish_held, publish_rest};

@@ -55,8 +55,8 @@ pub fn publish_held<D: LeaseDisk + Drop, R: Wait>(
     _pass: &Pass<Shard<D>>,
     held: &mut Held<Shard<D>>,
 ) -> Result<Told, BookFault>
-    requires { IsHeldBy D.tells D.seen D.may_leave D.faults _turn.now held.old _pass.now }
-    ensures held { IsHeldBy D.tells D.seen D.may_leave D.faults _turn.now held.new _pass.now }
+    requires { IsHeldBy D.tells D.seen D.moment D.left_since D.may_leave D.faults _turn.now held.old _pass.now }
+    ensures held { IsHeldBy D.tells D.seen D.moment D.left_since D.may_leave D.faults _turn.now held.new _pass.now }
     ensures same { IsWithLane held.old held.new }
     ensures told { IfOk result (λ told. told ≡ told_of _turn.now.key _pass.now.seen) }
     ensures memory { IfErr result (λ fault. fault ≡ Faults.Memory) }
@@ -77,8 +77,8 @@ pub fn publish_rest<D: LeaseDisk + Drop, R: Wait>(
     pass: &Pass<Shard<D>>,
     held: &mut Held<Shard<D>>,
 ) -> Result<(), BookFault>
-    requires { IsHeldBy D.tells D.seen D.may_leave D.faults turn.now held.old pass.now }
-    ensures held { IsHeldBy D.tells D.seen D.may_leave D.faults turn.now held.new pass.now }
+    requires { IsHeldBy D.tells D.seen D.moment D.left_since D.may_leave D.faults turn.now held.old pass.now }
+    ensures held { IsHeldBy D.tells D.seen D.moment D.left_since D.may_leave D.faults turn.now held.new pass.now }
     ensures same { IsWithLane held.old held.new }
     ensures memory { IfErr result (λ fault. fault ≡ Faults.Memory) }
 {

@@ -51,7 +51,7 @@ impl<D: LeaseDisk> Kept for Shard<D> {
 
     type Lasting = Shard<D>;
 
-    ghost stands = { StandsFor D.tells D.seen D.may_leave D.faults };
+    ghost stands = { StandsFor D.tells D.seen D.moment D.left_since D.may_leave D.faults };
 
     ghost added = { λ s. s.added };
 
@@ -122,8 +122,8 @@ impl<D: LeaseDisk + Drop> Shard<D> {
     pub fn settle(&mut self, alloc: Global, now: Moment) -> Result<(), BookFault>
         requires { self.old.added ≡ [] }
         ensures stands { (o : Opening D) (log : List Entry) →
-            StandsFor D.tells D.seen D.may_leave D.faults o self.old log →
-            StandsFor D.tells D.seen D.may_leave D.faults o self.new (log ++ self.new.added) }
+            StandsFor D.tells D.seen D.moment D.left_since D.may_leave D.faults o self.old log →
+            StandsFor D.tells D.seen D.moment D.left_since D.may_leave D.faults o self.new (log ++ self.new.added) }
         ensures settled { OnOk result
             (SettlesShard D.tells D.moment D.left_since D.may_leave now self.old self.new) }
         ensures refused { IfErr result
@@ -246,14 +246,14 @@ impl<D: LeaseDisk + Drop> Shard<D> {
         requires settled { self.old.book.fault ≡ None }
         requires noted { self.old.added ≡ [] }
         ensures stands { (o : Opening D) (log : List Entry) → IsBatchOf o config.now batch.now →
-            StandsFor D.tells D.seen D.may_leave D.faults o self.old log →
-            StandsFor D.tells D.seen D.may_leave D.faults o self.new (log ++ self.new.added) }
+            StandsFor D.tells D.seen D.moment D.left_since D.may_leave D.faults o self.old log →
+            StandsFor D.tells D.seen D.moment D.left_since D.may_leave D.faults o self.new (log ++ self.new.added) }
         ensures answered { (o : Opening D) (log : List Entry) → IsBatchOf o config.now batch.now →
-            StandsFor D.tells D.seen D.may_leave D.faults o self.old log →
+            StandsFor D.tells D.seen D.moment D.left_since D.may_leave D.faults o self.old log →
             IfOk result (λ replies. AnswersBatch config.now now base batch.now self.old self.new
             replies.items) }
         ensures refused { (o : Opening D) (log : List Entry) → IsBatchOf o config.now batch.now →
-            StandsFor D.tells D.seen D.may_leave D.faults o self.old log →
+            StandsFor D.tells D.seen D.moment D.left_since D.may_leave D.faults o self.old log →
             IfErr result (RefusesBatch config.now now base batch.now self.old self.new) }
         ensures cause { PairHasCause D.faults self.old.book.journal.pair self.new.book.journal.pair
             (result ≡ Err Disk) }
@@ -328,13 +328,13 @@ impl<D: LeaseDisk + Drop> Shard<D> {
         requires settled { self.old.book.fault ≡ None }
         requires noted { self.old.added ≡ [] }
         ensures stands { (o : Opening D) (log : List Entry) →
-            StandsFor D.tells D.seen D.may_leave D.faults o self.old log →
-            StandsFor D.tells D.seen D.may_leave D.faults o self.new (log ++ self.new.added) }
+            StandsFor D.tells D.seen D.moment D.left_since D.may_leave D.faults o self.old log →
+            StandsFor D.tells D.seen D.moment D.left_since D.may_leave D.faults o self.new (log ++ self.new.added) }
         ensures lost { (o : Opening D) (log : List Entry) →
-            StandsFor D.tells D.seen D.may_leave D.faults o self.old log →
+            StandsFor D.tells D.seen D.moment D.left_since D.may_leave D.faults o self.old log →
             IfOk result (AddsLoss now base self.old self.new) }
         ensures refused { (o : Opening D) (log : List Entry) →
-            StandsFor D.tells D.seen D.may_leave D.faults o self.old log →
+            StandsFor D.tells D.seen D.moment D.left_since D.may_leave D.faults o self.old log →
             IfErr result (LeavesInDoubt (loss_entries now base self.old) self.old self.new) }
         ensures cause { PairHasCause D.faults self.old.book.journal.pair self.new.book.journal.pair
             (result ≡ Err Disk) }

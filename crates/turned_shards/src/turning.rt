@@ -178,7 +178,7 @@ pub fn end_one<D: LeaseDisk + Drop, R: Wait>(
 ) -> DiskPair<D>
     requires turn { pass.old.history.turn ≡ turn.id }
     requires home { pass.old.history.out ≡ false }
-    ensures { EndsOne D.tells D.seen D.may_leave D.faults turn.key pass.old pass.new result }
+    ensures { EndsOne D.tells D.seen D.moment D.left_since D.may_leave D.faults turn.key pass.old pass.new result }
 {
     let held = turn.take(rt, &mut pass.history);
     leave(rt, turn);

@@ -12,7 +12,7 @@ pub loop-init : goal.loop-init
 loop-init g c =
     let d = g.D.LeaseDisk in
     record {
-      so = none-ended d.tells d.seen d.may_leave d.faults c.args.turns.items c.args.passes.now.items
+      so = none-ended d.tells d.seen d.moment d.left_since d.may_leave d.faults c.args.turns.items c.args.passes.now.items
           c.args.spare.items;
       left = omega arith;
       room = c.requires.room;
@@ -24,7 +24,7 @@ end_at-pair-requires-clause-home g c = λ pass has.
     let t_is : c.pop.result ≡ Some c.unwrap-turn.result = search rules in
     let fewer = c.pop.new.self.items in
     let place_is : c.len-place.result ≡ length fewer = search rules in
-    still-home d.tells d.seen d.may_leave d.faults c.args.turns.items c.loop.turns.items fewer
+    still-home d.tells d.seen d.moment d.left_since d.may_leave d.faults c.args.turns.items c.loop.turns.items fewer
     c.args.passes.now.items c.loop.passes.items c.args.spare.items c.loop.pairs.items
     c.unwrap-turn.result pass
     (popped c.loop.turns.items fewer c.pop.result c.unwrap-turn.result c.pop.ensures.items t_is)
@@ -41,14 +41,14 @@ loop-preserved g c =
     c.pop.ensures.items t_is in
     let changes =
     subst (λ (n : ℕ). ChangesAt n c.loop.passes.items c.end_at-pair.new.passes.items
-    (λ p q. EndsOne d.tells d.seen d.may_leave d.faults c.unwrap-turn.result.key p q
+    (λ p q. EndsOne d.tells d.seen d.moment d.left_since d.may_leave d.faults c.unwrap-turn.result.key p q
     c.end_at-pair.result)) place_is c.end_at-pair.ensures in
     let longer : length c.loop.turns.items ≡ length (fewer ++ c.unwrap-turn.result ∷ []) =
     ap length left_is in
     let one = length-append fewer (c.unwrap-turn.result ∷ []) in
     let put = ap length c.put_first.ensures.items in
     record {
-      so = one-ended d.tells d.seen d.may_leave d.faults c.args.turns.items c.loop.turns.items fewer
+      so = one-ended d.tells d.seen d.moment d.left_since d.may_leave d.faults c.args.turns.items c.loop.turns.items fewer
           c.args.passes.now.items c.loop.passes.items c.end_at-pair.new.passes.items
           c.args.spare.items c.loop.pairs.items c.put_first.new.pairs.items
           c.unwrap-turn.result c.end_at-pair.result left_is c.loop.invariant.so changes
@@ -65,6 +65,6 @@ returns g c =
     (let a = c.loop.invariant.left in let b = c.loop-test.false in
     let e : c.len-end.result ≡ length c.args.turns.items = search rules in
     omega (arith, a, b, e)) in
-    all-ended d.tells d.seen d.may_leave d.faults c.args.turns.items c.loop.turns.items
+    all-ended d.tells d.seen d.moment d.left_since d.may_leave d.faults c.args.turns.items c.loop.turns.items
     c.args.passes.now.items c.loop.passes.items c.args.spare.items c.loop.pairs.items
     (none-left c.loop.turns.items none) c.loop.invariant.so

@@ -9,9 +9,9 @@ pub returns-clause-settled : goal.returns-clause-settled
 returns-clause-settled g c =
     let d = g.D.LeaseDisk in
     let told : c.is_err.result ≡ is_err c.settle-told.result = search rules in
-    let here : StandsFor d.tells d.seen d.may_leave d.faults c.args.turn.now.key c.value.result.now
+    let here : StandsFor d.tells d.seen d.moment d.left_since d.may_leave d.faults c.args.turn.now.key c.value.result.now
     c.args.pass.now.history.seen =
-    subst (λ (s : Shard g.row.D.Denot). StandsFor d.tells d.seen d.may_leave d.faults
+    subst (λ (s : Shard g.row.D.Denot). StandsFor d.tells d.seen d.moment d.left_since d.may_leave d.faults
     c.args.turn.now.key s c.args.pass.now.history.seen)
     (sym c.value.ensures.value) c.requires.held.stands in
     settled-by d.tells d.seen d.moment d.left_since d.may_leave d.faults c.args.turn.now.key

@@ -9,13 +9,13 @@ publish-requires g c =
     let d = g.D.LeaseDisk in
     subst (λ (x : Shard g.row.D.Denot). MayPush x.writer x.unpushed.items)
     (sym c.value.ensures.value)
-    (may-push d.tells d.seen d.may_leave d.faults c.states_stand.ensures c.args._turn.now.key
+    (may-push d.tells d.seen d.moment d.left_since d.may_leave d.faults c.states_stand.ensures c.args._turn.now.key
     c.args.held.now c.args._pass.now.seen c.requires.stands)
 
 pub returns-in-Ok-clause-held : goal.returns-in-Ok-clause-held
 returns-in-Ok-clause-held g c =
     let d = g.D.LeaseDisk in
-    held-shown d.tells d.seen d.may_leave d.faults c.args._turn.now c.args._pass.now c.args.held.now
+    held-shown d.tells d.seen d.moment d.left_since d.may_leave d.faults c.args._turn.now c.args._pass.now c.args.held.now
     c.publish.new.self c.requires
     (subst (λ (x : Shard g.row.D.Denot). IsWithLane x c.publish.new.self)
     c.value.ensures.value c.publish.ensures.same)
@@ -25,7 +25,7 @@ returns-in-Ok-clause-held g c =
 pub returns-in-Err-clause-held : goal.returns-in-Err-clause-held
 returns-in-Err-clause-held g c =
     let d = g.D.LeaseDisk in
-    held-shown d.tells d.seen d.may_leave d.faults c.args._turn.now c.args._pass.now c.args.held.now
+    held-shown d.tells d.seen d.moment d.left_since d.may_leave d.faults c.args._turn.now c.args._pass.now c.args.held.now
     c.publish.new.self c.requires
     (subst (λ (x : Shard g.row.D.Denot). IsWithLane x c.publish.new.self)
     c.value.ensures.value c.publish.ensures.same)

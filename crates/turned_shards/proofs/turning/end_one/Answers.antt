@@ -28,5 +28,5 @@ returns g c =
       images = λ told. subst
           (HoldsNow d.may_leave
           (StandsForWithOrWithout (state_after o.book.state log) (records_of s.doubt))) (sym pair)
-          (images-of d.tells d.seen d.may_leave d.faults o s log took.value told);
+          (images-of d.tells d.seen d.moment d.left_since d.may_leave d.faults o s log took.value told);
     }

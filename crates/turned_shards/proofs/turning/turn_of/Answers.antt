@@ -18,10 +18,10 @@ new-requires-clause-stands g c =
     let lane = c.in-Ok.made.1 in
     let named = named-by (slice_get config.externals place)
     book.terms.external address c.address_at-address.ensures c.requires.there in
-    let stands = stands-new d.tells d.seen d.may_leave d.faults c.histories_grow.ensures.nothing
+    let stands = stands-new d.tells d.seen d.moment d.left_since d.may_leave d.faults c.histories_grow.ensures.nothing
     config place address book writer lane c.of-shard.result named c.requires
     c.in-Ok.ensures.writer c.in-Ok.ensures.lane c.of-shard.ensures.unpushed in
-    subst (λ (o : Opening g.row.D.Denot). StandsFor d.tells d.seen d.may_leave d.faults o
+    subst (λ (o : Opening g.row.D.Denot). StandsFor d.tells d.seen d.moment d.left_since d.may_leave d.faults o
     c.of-shard.result []) (sym c.in-Ok-parts_of.ensures.opening)
-    (subst (λ (s : Shard g.row.D.Denot). StandsFor d.tells d.seen d.may_leave d.faults
+    (subst (λ (s : Shard g.row.D.Denot). StandsFor d.tells d.seen d.moment d.left_since d.may_leave d.faults
     (opening_of config place book lane) s []) (sym c.of-shard.ensures.shard) stands)

@@ -31,8 +31,8 @@ returns-in_err-answers-clause-stands g c o log is stands =
     let s0 = c.args.self.now in
     let s = c.make_room.new.self in
     let moved = c.make_room.ensures.moved in
-    let ready : StandsFor d.tells d.seen d.may_leave d.faults o s log =
-    stands-moved d.tells d.seen d.may_leave d.faults o s0 s log stands moved in
+    let ready : StandsFor d.tells d.seen d.moment d.left_since d.may_leave d.faults o s log =
+    stands-moved d.tells d.seen d.moment d.left_since d.may_leave d.faults o s0 s log stands moved in
     let settled : s.book.fault ≡ None = ap (λ (x : Shard g.row.D.Denot). x.book.fault) moved.same
     ∙ c.requires.settled in
     let t = c.ask.new.self in
@@ -81,8 +81,8 @@ returns-in_err-replies-clause-stands g c o log is stands =
     let s0 = c.args.self.now in
     let s = c.make_room.new.self in
     let moved = c.make_room.ensures.moved in
-    let ready : StandsFor d.tells d.seen d.may_leave d.faults o s log =
-    stands-moved d.tells d.seen d.may_leave d.faults o s0 s log stands moved in
+    let ready : StandsFor d.tells d.seen d.moment d.left_since d.may_leave d.faults o s log =
+    stands-moved d.tells d.seen d.moment d.left_since d.may_leave d.faults o s0 s log stands moved in
     let settled : s.book.fault ≡ None = ap (λ (x : Shard g.row.D.Denot). x.book.fault) moved.same
     ∙ c.requires.settled in
     let t = c.ask.new.self in
@@ -125,8 +125,8 @@ returns-clause-stands g c o log is stands =
     let s0 = c.args.self.now in
     let s = c.make_room.new.self in
     let moved = c.make_room.ensures.moved in
-    let ready : StandsFor d.tells d.seen d.may_leave d.faults o s log =
-    stands-moved d.tells d.seen d.may_leave d.faults o s0 s log stands moved in
+    let ready : StandsFor d.tells d.seen d.moment d.left_since d.may_leave d.faults o s log =
+    stands-moved d.tells d.seen d.moment d.left_since d.may_leave d.faults o s0 s log stands moved in
     let settled : s.book.fault ≡ None = ap (λ (x : Shard g.row.D.Denot). x.book.fault) moved.same
     ∙ c.requires.settled in
     let t = c.ask.new.self in
@@ -169,8 +169,8 @@ returns-clause-answered g c o log is stands =
     let s0 = c.args.self.now in
     let s = c.make_room.new.self in
     let moved = c.make_room.ensures.moved in
-    let ready : StandsFor d.tells d.seen d.may_leave d.faults o s log =
-    stands-moved d.tells d.seen d.may_leave d.faults o s0 s log stands moved in
+    let ready : StandsFor d.tells d.seen d.moment d.left_since d.may_leave d.faults o s log =
+    stands-moved d.tells d.seen d.moment d.left_since d.may_leave d.faults o s0 s log stands moved in
     let settled : s.book.fault ≡ None = ap (λ (x : Shard g.row.D.Denot). x.book.fault) moved.same
     ∙ c.requires.settled in
     let t = c.ask.new.self in

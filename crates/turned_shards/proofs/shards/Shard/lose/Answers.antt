@@ -18,8 +18,8 @@ returns-in-Ok-clause-stands g c o log stands =
     let s0 = c.args.self.now in
     let s = c.make_room.new.self in
     let moved = c.make_room.ensures.moved in
-    let ready : StandsFor d.tells d.seen d.may_leave d.faults o s log =
-    stands-moved d.tells d.seen d.may_leave d.faults o s0 s log stands moved in
+    let ready : StandsFor d.tells d.seen d.moment d.left_since d.may_leave d.faults o s log =
+    stands-moved d.tells d.seen d.moment d.left_since d.may_leave d.faults o s0 s log stands moved in
     let settled : s.book.fault ≡ None = ap (λ (x : Shard g.row.D.Denot). x.book.fault) moved.same
     ∙ c.requires.settled in
     let m = c.later-m.result in
@@ -41,9 +41,9 @@ returns-in-Ok-clause-stands g c o log stands =
     let holds = keeps-shard d.tells d.seen d.moment d.left_since d.may_leave d.faults o s b log es m
     (max base m) m _ _ ready may keeps (omega arith)
     c.in-Ok.ensures.book c.in-Ok.ensures.cause in
-    subst (λ (x : Shard g.row.D.Denot). StandsFor d.tells d.seen d.may_leave d.faults o
+    subst (λ (x : Shard g.row.D.Denot). StandsFor d.tells d.seen d.moment d.left_since d.may_leave d.faults o
     (record x { unpushed = w }) (log ++ x.added)) (sym same)
-    (stands-adding d.tells d.seen d.may_leave d.faults o s t
+    (stands-adding d.tells d.seen d.moment d.left_since d.may_leave d.faults o s t
     (record t { unpushed = w }) log es ready holds refl refl
     (c.await_one.ensures.items
     ∙ ap (λ (x : Shard g.row.D.Denot). x.unpushed.items
@@ -55,8 +55,8 @@ returns-in-Err-clause-stands g c o log stands =
     let s0 = c.args.self.now in
     let s = c.make_room.new.self in
     let moved = c.make_room.ensures.moved in
-    let ready : StandsFor d.tells d.seen d.may_leave d.faults o s log =
-    stands-moved d.tells d.seen d.may_leave d.faults o s0 s log stands moved in
+    let ready : StandsFor d.tells d.seen d.moment d.left_since d.may_leave d.faults o s log =
+    stands-moved d.tells d.seen d.moment d.left_since d.may_leave d.faults o s0 s log stands moved in
     let settled : s.book.fault ≡ None = ap (λ (x : Shard g.row.D.Denot). x.book.fault) moved.same
     ∙ c.requires.settled in
     let m = c.later-m.result in
@@ -79,5 +79,5 @@ returns-in-Err-clause-stands g c o log stands =
     c.entries_come_next.ensures.faults o s b log es m
     (max base m) _ fault _ ready may doubts c.in-Err.ensures.book c.in-Err.ensures.cause
     (λ e. search rules) in
-    rw same (fault-adds d.tells d.seen d.may_leave d.faults o s t log fault ready holds refl refl
+    rw same (fault-adds d.tells d.seen d.moment d.left_since d.may_leave d.faults o s t log fault ready holds refl refl
     refl)

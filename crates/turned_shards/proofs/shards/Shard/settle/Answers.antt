@@ -37,8 +37,8 @@ returns-in-Ok-clause-stands g c o log stands =
     let settled = c.in-Ok.settled in
     let unsure = c.in_ok-unsure.unsure in
     let moved = c.get_ready.ensures.moved in
-    let ready : StandsFor d.tells d.seen d.may_leave d.faults o s log =
-    stands-moved d.tells d.seen d.may_leave d.faults o s0 s log stands moved in
+    let ready : StandsFor d.tells d.seen d.moment d.left_since d.may_leave d.faults o s log =
+    stands-moved d.tells d.seen d.moment d.left_since d.may_leave d.faults o s0 s log stands moved in
     let none : s.added ≡ [] = ap (λ (x : Shard g.row.D.Denot). x.added) moved.same ∙ c.requires in
     let m : c.later-m.result ≡ max c.args.now s.moment = c.later-m.ensures.value in
     let t : Shard g.row.D.Denot = settled_shard settled (record s { book = b }) in
@@ -60,9 +60,9 @@ returns-in-Ok-clause-stands g c o log stands =
     ∙ ap (λ v. v.items ++ records_found unsure.items settled.address settled.journal)
     (settled-unpushed settled (record s { book = b }))
     ∙ ap (λ (l : List Record). s.unpushed.items ++ l) found in
-    subst (λ (x : Shard g.row.D.Denot). StandsFor d.tells d.seen d.may_leave d.faults o
+    subst (λ (x : Shard g.row.D.Denot). StandsFor d.tells d.seen d.moment d.left_since d.may_leave d.faults o
     (record x { unpushed = w }) (log ++ x.added)) (sym same)
-    (stands-adding d.tells d.seen d.may_leave d.faults o s t
+    (stands-adding d.tells d.seen d.moment d.left_since d.may_leave d.faults o s t
     (record t { unpushed = w }) log t.added ready holds refl
     (settled-writer settled (record s { book = b })) waiting refl)
 
@@ -87,11 +87,11 @@ returns-in-Err-clause-stands g c o log stands =
     let b = c.settle.new.self in
     let moved = c.get_ready.ensures.moved in
     let fault = c.in-Err.fault in
-    let ready : StandsFor d.tells d.seen d.may_leave d.faults o s log =
-    stands-moved d.tells d.seen d.may_leave d.faults o s0 s log stands moved in
+    let ready : StandsFor d.tells d.seen d.moment d.left_since d.may_leave d.faults o s log =
+    stands-moved d.tells d.seen d.moment d.left_since d.may_leave d.faults o s0 s log stands moved in
     let t : Shard g.row.D.Denot = record s { book = b; added = faults_of s.moment s.base fault } in
     rw c.add_fault.ensures
-    (fault-adds d.tells d.seen d.may_leave d.faults o s t log fault ready
+    (fault-adds d.tells d.seen d.moment d.left_since d.may_leave d.faults o s t log fault ready
     (refuses-settling d.tells d.seen d.moment d.left_since d.may_leave d.faults
     c.histories_grow.ensures.next c.entries_come_next.ensures.faults
     o s b log fault _ ready c.in-Err.ensures.refused c.in-Err.ensures.book c.in-Err.ensures.cause

@@ -8,6 +8,6 @@ pub returns-clause-stands : goal.returns-clause-stands
 returns-clause-stands g c o log stands =
     let d = g.D.LeaseDisk in
     let s = c.args.self.now in
-    subst (λ (es : List Entry). StandsFor d.tells d.seen d.may_leave d.faults o
+    subst (λ (es : List Entry). StandsFor d.tells d.seen d.moment d.left_since d.may_leave d.faults o
     (record s { added = es }) log) (sym c.clear.ensures)
-    (stands-noted d.tells d.seen d.may_leave d.faults o s log stands)
+    (stands-noted d.tells d.seen d.moment d.left_since d.may_leave d.faults o s log stands)

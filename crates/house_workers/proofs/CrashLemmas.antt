@@ -1,0 +1,243 @@
+-- What a crash leaves of the journals of a house that was served.
+use Rattle.std.proofs.Common.{◌≡◌, ◌∙◌, ℕ, zero, suc, ◌+◌, ◌<◌, List, [], ◌∷◌, ◌++◌, length, get_or}
+use Rattle.std.proofs.Common.{Some, refl, sym, ap, subst, arith}
+use Rattle.std.specs.List.{AllZip, slice_get}
+use Rattle.std.proofs.Common.{◌⊎◌, inl, inr}
+use Rattle.std.proofs.lemmas.List.{append-nil}
+use Rattle.std.proofs.lemmas.Option.{slice_get-get_or, slice_get_within}
+use Rattle.pcp_base.specs.Apply.{apply_all}
+use Rattle.pcp_base.specs.States.{State}
+use Rattle.pcp_base.proofs.Members.{Contains-from_IsIn, IsIn-from_Contains}
+use Rattle.journal_sides.specs.Journals.{StandsFor as StandsForState}
+use Rattle.shard_book.specs.Addresses.{renumbering}
+use Rattle.lease_histories.specs.Entries.{Served}
+use Rattle.lease_histories.specs.Legal.{state_after}
+use Rattle.lease_histories.specs.PlainHouses.{PlainHouse, PlainShard}
+use Rattle.lease_house.specs.CrashLaws.{CrashesAreFound, IsFoundIn}
+use Rattle.house_workers.specs.Laws.{CrashesAreRecovered}
+use Rattle.pcp_base.specs.declared.configs.Config.{Config}
+use Rattle.pcp_base.specs.declared.configs.External.{External}
+use Rattle.pcp_base.specs.declared.datagrams.Entry.{Entry}
+use Rattle.lease_disk.specs.declared.disks.DiskPair.{DiskPair}
+use Rattle.lease_disk.specs.Pairs.{PairLeavesOnly}
+use Rattle.lane_index.specs.Lanes.{LaneKnowledge}
+use Rattle.shard_book.specs.Books.{BookView}
+use Rattle.shard_book.specs.Openings.{OpensBook}
+use Rattle.turn_lock.specs.Passes.{TurnName}
+use Rattle.lease_house.specs.SoloOpenings.{OpensAll, OpensOne}
+use Rattle.job_workers.specs.Works.{Lost, Refused, Replied, WorkCall, WorkResult}
+use Rattle.turned_shards.specs.declared.openings.Opening.{Opening}
+use Rattle.turned_shards.specs.declared.passes.HousePass.{HousePass}
+use Rattle.turned_shards.specs.Crashes.{StandsAlong, StandsBehind}
+use Rattle.turned_shards.specs.Shards.{served_by}
+use Rattle.turned_shards.specs.Turnings.{EndsOne, opening_of}
+use Rattle.shared_house.specs.declared.beginning.Begun.{Begun}
+use Rattle.shared_house.specs.Beginnings.{BeginAll, Begins}
+use Rattle.shared_house.specs.Endings.{EndsAll}
+use Rattle.house_workers.specs.Crashes.{IsRecovered, KeepsAcknowledged, KeepsServed}
+use Rattle.house_workers.specs.OwnEntries.{NotesInOrder, answered_by, answered_in, own_in}
+use Rattle.house_workers.proofs.NoteLemmas.{entries_later, zip_append}
+
+-- ---- entries of answered batches
+
+record Parts {A B : Type 0} (R : A → B → Type 0) (ps : List A) (xs ys : List B) : Type 0 where
+  one : List A
+  two : List A
+  first : AllZip R one xs
+  second : AllZip R two ys
+
+parts : {A B : Type 0} (R : A → B → Type 0) (ps : List A) (xs ys : List B) → AllZip R ps (xs ++ ys) →
+    Parts R ps xs ys
+parts R ps [] ys all = record { one = []; two = ps; first = tt; second = all }
+parts R [] (x ∷ xs) ys all = absurd all
+parts R (p ∷ ps) (x ∷ xs) ys all =
+    let rest = parts R ps xs ys all.1 in
+    record { one = p ∷ rest.one; two = rest.two; first = (all.0, rest.first); second = rest.second }
+
+record Placed {A B : Type 0} (R : A → B → Type 0) (xs : List B) : Type 0 where
+  at : List A
+  there : AllZip R at xs
+
+answered_of : (R : ℕ → Entry → Type 0) (result : WorkResult) (own more : List Entry) (ps qs : List ℕ) →
+    AllZip R ps own → AllZip R qs more → Placed R (answered_by result own ++ more)
+answered_of R (Replied handed) own more ps qs h k =
+    record { at = ps ++ qs; there = zip_append R ps qs own more h k }
+answered_of R Lost own more ps qs h k = record { at = qs; there = k }
+answered_of R (Refused fault) own more ps qs h k = record { at = qs; there = k }
+
+answered_places : (R : ℕ → Entry → Type 0) (calls : List WorkCall) (ps : List ℕ) →
+    AllZip R ps (own_in calls) → Placed R (answered_in calls)
+answered_places R [] ps all = record { at = []; there = tt }
+answered_places R (c ∷ cs) ps all =
+    let both = parts R ps c.own (own_in cs) all in
+    let rest = answered_places R cs both.two both.second in
+    answered_of R c.result c.own (answered_in cs) both.one rest.at both.first rest.there
+
+module _ {D : Type 0} (tells : Type 0) (seen : D → List ℕ) (moment : D → ℕ)
+    (left_since : D → ℕ → List ℕ → Type 0) (may_leave : D → List ℕ → Type 0) (faults : D → ℕ)
+  where
+    pub acknowledged : (o : Opening D) (calls : List WorkCall) (old new ended : HousePass D) (pair : DiskPair D)
+        → NotesInOrder old.history new.history (own_in calls)
+        → EndsOne tells seen moment left_since may_leave faults o new ended pair
+        → KeepsAcknowledged tells may_leave o calls ended.history.seen pair
+    acknowledged o calls old new ended pair noted ends =
+        let later = entries_later new.history.seen ended.history.seen noted.places (own_in calls)
+        (ends.others, sym ends.knows) noted.entries in
+        let placed = answered_places (λ place e. slice_get ended.history.seen place ≡ Some e) calls
+        noted.places later in
+        record {
+          places = placed.at;
+          there = placed.there;
+          doubt = ends.kept.doubt;
+          images = ends.images;
+        }
+
+    -- ---- from the opening to the end
+
+    open_at : (config : Config) (m : ℕ) (xs : List External) (ps : List (DiskPair D)) (bs : List (BookView D))
+        (spare : List (DiskPair D)) (i : ℕ) (x : External) (p : DiskPair D)
+        → OpensAll tells seen moment left_since may_leave faults config m xs ps bs spare
+        → slice_get xs i ≡ Some x → slice_get ps i ≡ Some p
+        → (b : BookView D) × (slice_get bs i ≡ Some b)
+        × OpensOne tells seen moment left_since may_leave faults config m x p b
+    open_at config m [] ps bs spare i x p all at there = absurd cc
+    open_at config m (y ∷ xs) [] bs spare i x p all at there = absurd all
+    open_at config m (y ∷ xs) (q ∷ ps) [] spare i x p all at there = absurd all
+    open_at config m (y ∷ xs) (q ∷ ps) (b ∷ bs) spare zero x p all at there =
+        let same : y ≡ x = cc in
+        let is : q ≡ p = cc in (
+          b,
+          refl,
+          subst (λ (z : External). OpensOne tells seen moment left_since may_leave faults config m z p b) same
+              (subst (λ (r : DiskPair D). OpensOne tells seen moment left_since may_leave faults config m y r b) is all.0),
+        )
+    open_at config m (y ∷ xs) (q ∷ ps) (b ∷ bs) spare (suc i) x p all at there =
+        open_at config m xs ps bs spare i x p all.1 at there
+
+    -- the turn of a book
+    begun_at : (config : Config) (k : ℕ) (bs : List (BookView D)) (ts : List (TurnName (Opening D)))
+        (ps : List (HousePass D)) (ls : List LaneKnowledge) (i : ℕ) (b : BookView D)
+        → BeginAll config k bs ts ps ls → slice_get bs i ≡ Some b
+        → (t : TurnName (Opening D)) × (slice_get ts i ≡ Some t) × (t.key.book ≡ b)
+    begun_at config k [] ts ps ls i b all there = absurd cc
+    begun_at config k (w ∷ bs) [] ps ls i b all there = absurd all
+    begun_at config k (w ∷ bs) (t ∷ ts) [] ls i b all there = absurd all
+    begun_at config k (w ∷ bs) (t ∷ ts) (p ∷ ps) [] i b all there = absurd all
+    begun_at config k (w ∷ bs) (t ∷ ts) (p ∷ ps) (l ∷ ls) zero b all there =
+        let same : w ≡ b = cc in (t, refl, ap (λ (o : Opening D). o.book) all.0.key ∙ same)
+    begun_at config k (w ∷ bs) (t ∷ ts) (p ∷ ps) (l ∷ ls) (suc i) b all there =
+        begun_at config (k + 1) bs ts ps ls i b all.1 there
+
+    first_of : {X : Type 0} (xs ys : List X) (i : ℕ) (x : X) → i < length xs → slice_get (xs ++ ys) i ≡ Some x
+        → slice_get xs i ≡ Some x
+    first_of [] ys i x small there = absurd (omega arith)
+    first_of (y ∷ xs) ys zero x small there = there
+    first_of (y ∷ xs) ys (suc i) x small there = first_of xs ys i x (omega arith) there
+
+    pub kept_at : (config : Config) (m : ℕ) (before pairs : List (DiskPair D)) (begun : Begun D)
+        (then ended : List (HousePass D)) (place : ℕ) (x : External) (p now : DiskPair D) (last : HousePass D)
+        → Begins tells seen moment left_since may_leave faults config m before begun
+        → EndsAll tells seen moment left_since may_leave faults begun.house.turns then ended begun.house.spare pairs
+        → slice_get config.externals place ≡ Some x → slice_get before place ≡ Some p
+        → slice_get pairs place ≡ Some now → slice_get ended place ≡ Some last
+        → KeepsServed tells seen moment left_since may_leave m x last.history.seen p now
+    kept_at config m before pairs begun then ended place x p now last begins ends at there back came =
+        let opened = open_at config m config.externals before begins.books begun.house.spare place x p
+        begins.opened at there in
+        let turn = begun_at config 0 begins.books begun.house.turns begun.passes.items begun.lanes.items place
+        opened.0 begins.begins.each opened.1 in
+        let inside = slice_get_within begun.house.turns place turn.0 turn.1 in
+        let within = slice_get_within ended place last came in
+        let count = ends.count in
+        let passes = ends.count_passes in
+        let small : place < length ends.ended = omega (arith, inside, count) in
+        let few : place < length then = omega (arith, within, passes) in
+        let pair : slice_get ends.ended place ≡ Some now =
+        first_of ends.ended begun.house.spare place now small
+        (subst (λ (l : List (DiskPair D)). slice_get l place ≡ Some now) ends.back back) in
+        let one = ends.each place turn.0 (get_or then place last) last now turn.1
+        (slice_get-get_or then place last few) came pair in
+        let o : Opening D = turn.0.key in
+        record {
+          opening = o;
+          opens = λ told. subst (λ (b : BookView D). OpensBook seen moment left_since may_leave m x.address p
+              b.journal.pair) (sym turn.2) (opened.2.moments told);
+          doubts = one.stands.kept.doubts;
+          serves = λ told. subst (λ (q : DiskPair D). PairLeavesOnly moment left_since may_leave
+              o.book.journal.pair q
+              (StandsAlong (served_by o) o.book.state one.stands.kept.doubts last.history.seen))
+              (sym one.pair_is) (one.stands.kept.moments told);
+        }
+
+    -- ---- the next opening
+
+    -- a house with this state alone
+    abbrev alone : Config → External → State → PlainHouse
+    alone config x s =
+        record { config = config; shards = record { external = x; state = s; last = 0 } ∷ [] }
+
+    found_alone : (config : Config) (y x : External) (s now : State) (m : ℕ)
+        → IsFoundIn 0 (alone config y s ∷ []) m x now
+        → now ≡ apply_all s (renumbering m x.address s)
+    found_alone config y x s now m found =
+        elim (IsIn-from_Contains (alone config y s ∷ []) found.house found.among) [
+          | inl same ↦ (
+              let there : slice_get (alone config y s).shards 0 ≡ Some found.shard =
+              subst (λ (h : PlainHouse). slice_get h.shards 0 ≡ Some found.shard) (sym same) found.there in
+              let is : record { external = y; state = s; last = 0 } ≡ found.shard = cc in
+              found.now_is
+              ∙ ap (λ (p : PlainShard). apply_all p.state (renumbering m x.address p.state)) (sym is)
+              )
+          | inr none ↦ absurd none
+        ]
+
+    found_with : CrashesAreFound D tells seen moment left_since may_leave faults → (config : Config) (m : ℕ)
+        (x : External) (s : State) (pair : DiskPair D) (book : BookView D) → tells
+        → StandsForState s (seen pair.a) (seen pair.b)
+        → OpensOne tells seen moment left_since may_leave faults config m x pair book
+        → book.state ≡ apply_all s (renumbering m x.address s)
+    found_with found config m x s pair book told stands opens =
+        found_alone config x x s book.state m
+        (found 0 (alone config x s ∷ []) config m x pair book told
+        (record {
+          house = alone config x s;
+          shard = record { external = x; state = s; last = 0 };
+          among = Contains-from_IsIn (alone config x s ∷ []) (alone config x s) (inl refl);
+          there = refl;
+          stands = stands;
+        }) opens)
+
+    recovered_by : CrashesAreFound D tells seen moment left_since may_leave faults → (served : Served)
+        (opening : State) (doubts : List (List Entry)) (log first more : List Entry) (config : Config) (m : ℕ)
+        (x : External) (pair : DiskPair D) (book : BookView D) → tells → log ≡ first ++ more
+        → StandsBehind served opening doubts first (seen pair.a) (seen pair.b)
+        → OpensOne tells seen moment left_since may_leave faults config m x pair book
+        → IsRecovered served opening doubts log m x.address book.state
+    recovered_by found served opening doubts log first more config m x pair book told log_is (inl stands) opens =
+        record {
+          first = first;
+          more = more;
+          log_is = log_is;
+          behind = [];
+          in_doubt = inl refl;
+          now_is = subst (λ (l : List Entry). book.state
+              ≡ apply_all (state_after opening l) (renumbering m x.address (state_after opening l)))
+              (sym (append-nil first))
+              (found_with found config m x (state_after opening first) pair book told stands opens);
+        }
+    recovered_by found served opening doubts log first more config m x pair book told log_is
+        (inr (doubt, is, stands)) opens =
+        record {
+          first = first;
+          more = more;
+          log_is = log_is;
+          behind = doubt;
+          in_doubt = inr is;
+          now_is = found_with found config m x (state_after opening (first ++ doubt)) pair book told stands opens;
+        }
+
+    pub recovered : CrashesAreFound D tells seen moment left_since may_leave faults
+        → CrashesAreRecovered D tells seen moment left_since may_leave faults
+    recovered found served opening doubts log config m x pair book told along opens =
+        recovered_by found served opening doubts log along.first along.more config m x pair book told along.log_is
+        along.stands opens

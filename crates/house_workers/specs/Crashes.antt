@@ -1,0 +1,56 @@
+-- What a crash leaves of the journals of a house that was served (our own).
+use Rattle.std.specs.Prelude.{◌≡◌, ◌⊎◌, ℕ, List, [], ◌++◌, Some}
+use Rattle.std.specs.List.{AllZip, slice_get}
+use Rattle.pcp_base.specs.declared.addresses.Address.{Address}
+use Rattle.pcp_base.specs.declared.configs.External.{External}
+use Rattle.pcp_base.specs.declared.datagrams.Entry.{Entry}
+use Rattle.pcp_base.specs.Apply.{apply_all}
+use Rattle.pcp_base.specs.States.{State}
+use Rattle.lease_disk.specs.declared.disks.DiskPair.{DiskPair}
+use Rattle.lease_disk.specs.Pairs.{HoldsNow, PairLeavesOnly}
+use Rattle.journal_sides.specs.Journals.{StandsForWithOrWithout}
+use Rattle.shard_book.specs.Addresses.{renumbering}
+use Rattle.shard_book.specs.Openings.{OpensBook}
+use Rattle.job_workers.specs.Works.{WorkCall}
+use Rattle.lease_histories.specs.Entries.{Served}
+use Rattle.lease_histories.specs.Legal.{records_of, state_after}
+use Rattle.turned_shards.specs.declared.openings.Opening.{Opening}
+use Rattle.turned_shards.specs.Crashes.{IsInDoubt, StandsAlong}
+use Rattle.turned_shards.specs.Shards.{served_by}
+use Rattle.house_workers.specs.OwnEntries.{answered_in}
+
+-- The entries of all answered batches stand in the history, and each two images of the pair stand for
+-- the state to which the history leads, or for that with all that is in doubt.
+pub record KeepsAcknowledged {D : Type 0} (tells : Type 0) (may_leave : D → List ℕ → Type 0)
+    (o : Opening D) (calls : List WorkCall) (history : List Entry) (pair : DiskPair D)
+    : Type 0 where
+  pub places : List ℕ
+  pub there : AllZip (λ place e. slice_get history place ≡ Some e) places (answered_in calls)
+  pub doubt : List Entry
+  pub images : tells → HoldsNow may_leave
+      (StandsForWithOrWithout (state_after o.book.state history) (records_of doubt)) pair
+
+-- From a call's start on each two images of a pair are what an opening at m leaves; from the opening on
+-- they stand for the state after some first entries of the history, or for that and what was in doubt
+-- behind these.
+pub record KeepsServed {D : Type 0} (tells : Type 0) (seen : D → List ℕ) (moment : D → ℕ)
+    (left_since : D → ℕ → List ℕ → Type 0) (may_leave : D → List ℕ → Type 0) (m : ℕ)
+    (x : External) (history : List Entry) (before now : DiskPair D) : Type 0 where
+  pub opening : Opening D
+  pub opens : tells → OpensBook seen moment left_since may_leave m x.address before
+      opening.book.journal.pair
+  pub doubts : List (List Entry)
+  pub serves : tells → PairLeavesOnly moment left_since may_leave opening.book.journal.pair now
+      (StandsAlong (served_by opening) opening.book.state doubts history)
+
+-- A book that is opened at m over sides that a crash has left has the state after some first entries, or
+-- after these and what was in doubt behind them, and then perhaps a Renumber.
+pub record IsRecovered (x : Served) (opening : State) (doubts : List (List Entry)) (log : List Entry)
+    (m : ℕ) (address : Address) (now : State) : Type 0 where
+  pub first : List Entry
+  pub more : List Entry
+  pub log_is : log ≡ first ++ more
+  pub behind : List Entry
+  pub in_doubt : (behind ≡ []) ⊎ IsInDoubt x opening doubts first behind
+  pub now_is : now ≡ apply_all (state_after opening (first ++ behind))
+      (renumbering m address (state_after opening (first ++ behind)))
