@@ -1,3 +1,4 @@
+pub mod Arrivals
 pub mod Asks
 pub mod CallLogs
 pub mod Controls

@@ -1,6 +1,9 @@
 //! What the links over UDP sockets share: how they wait, what a read of a socket gives, how a send never
 //! waits, and the addresses of peers.
-ghost use Rattle.std.specs.Prelude.{◌≡◌, ◌≤◌, length, IfSome, IfOk};
+ghost use Rattle.std.specs.Prelude.{◌≡◌, ◌≤◌, nat_eq, length, IfSome, IfOk};
+ghost use Rattle.std.specs.List.{starts_with};
+ghost use Rattle.pcp_base.specs.AddressTexts.{v4_front};
+ghost use Rattle.pcp_io.specs.Arrivals.{IsSender};
 
 use libc::net as c;
 use pcp_base::Address;
@@ -118,9 +121,14 @@ pub(crate) fn sends(
 
 /// The address of the sender, an IPv4 one in its IPv4-mapped form (RFC 6887, section 5). None where an
 /// IPv6 packet has such an address itself: anyone can write that, and it is nobody's.
-pub(crate) fn sender_of(ip: IpAddr) -> Option<Address> {
+pub(crate) fn sender_of(ip: IpAddr) -> Option<Address>
+    ensures { IsSender ip result }
+{
     match ip {
-        IpAddr::V4(v4) => Some(Address(v4.to_ipv6_mapped().octets())),
+        IpAddr::V4(v4) => {
+            let [a, b, c, d] = v4.octets();
+            Some(Address::v4(a, b, c, d))
+        }
         IpAddr::V6(v6) => {
             let address = Address(v6.octets());
             if is_v4(&address) { None } else { Some(address) }
@@ -129,7 +137,9 @@ pub(crate) fn sender_of(ip: IpAddr) -> Option<Address> {
 }
 
 /// Whether a peer is reached by IPv4.
-fn is_v4(peer: &Address) -> bool {
+fn is_v4(peer: &Address) -> bool
+    ensures { result ≡ starts_with nat_eq peer.now.0 v4_front }
+{
     peer.0
         .starts_with(&[0, 0, 0, 0, 0, 0, 0, 0, 0, 0, 255, 255])
 }
