@@ -1,5 +1,5 @@
 -- The times that a clock gives, where it tells them (our own). All are in milliseconds.
-use Rattle.std.specs.Prelude.{◌≡◌, ℕ, ◌-◌, List, [], ◌∷◌, length, Option, Some, None, unwrap_or}
+use Rattle.std.specs.Prelude.{◌≡◌, ℕ, ◌-◌, ◌≤◌, List, [], ◌∷◌, length, Option, Some, None, unwrap_or}
 use Rattle.std.specs.List.{slice_get}
 
 pub record Times : Type 0 where
@@ -36,3 +36,12 @@ last_time times = unwrap_or (slice_get times (length times - 1)) 0
 -- a clock that repeats the last of its times
 abbrev pub stepping : List ℕ → Times
 stepping times = record { coming = times; rest = last_time times }
+
+-- none of the times is below the one before it, nor is the one that it gives for ever
+abbrev pub NeverFall : List ℕ → ℕ → Type 0
+NeverFall [] rest = Unit {0}
+NeverFall (t ∷ ts) rest = (t ≤ next_in ts rest) × NeverFall ts rest
+
+-- a clock in memory whose times never fall
+abbrev pub NeverFalls : Times → Type 0
+NeverFalls t = NeverFall t.coming t.rest

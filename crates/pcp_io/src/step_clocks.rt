@@ -58,9 +58,9 @@ fn last_of(times: &[u64]) -> u64
 }
 
 impl Clock for StepClock {
-    ghost use Rattle.std.specs.Prelude.{◌≡◌, ◌<◌, Some};
+    ghost use Rattle.std.specs.Prelude.{◌≡◌, ◌<◌, ◌≤◌, Some};
     ghost use Rattle.pcp_io.specs.declared.clocks.TheConstants.{END_OF_TIME_MS};
-    ghost use Rattle.pcp_io.specs.Times.{time_now, times_later};
+    ghost use Rattle.pcp_io.specs.Times.{NeverFalls, time_now, times_later};
 
     ghost times = { λ s. Some s };
 
@@ -68,6 +68,8 @@ impl Clock for StepClock {
         ensures range { result < END_OF_TIME_MS }
         ensures time { result ≡ time_now self.old }
         ensures later { self.new ≡ times_later self.old }
+        ensures never_falls { NeverFalls self.old →
+            (result ≤ time_now self.new) × NeverFalls self.new }
     {
         if self.at == self.times.len() {
             return self.last;
