@@ -15,6 +15,7 @@ use crate::layout::{FIRST_ROOM, HISTORY, NEW_ROOM, SERVING, TICKET, VALUE};
 use crate::plays::{Draw, Give, Learn, Look, Naming, NoteOwn, NoteSettling, Noting, SplitAndMeet};
 use crate::views::{TurnRule, TurnView};
 use atomic_table::{Closed, Refused, Seat, Table};
+use libc::types::timespec;
 use std::alloc::{AllocError, AllocFailed, Global};
 use std::marker::{Brand, Model};
 use std::sync::Wait;
@@ -327,14 +328,36 @@ fn new_room_of(room: u64) -> u64
     }
 }
 
-// Spins, longer from round to round; from the eighth on it yields the processor instead.
+/// How long a wait for the turn sleeps at a time, in nanoseconds.
+const NAP: i64 = 50_000;
+
+// Spins, longer from round to round; from the eighth on it yields the processor, and from the 64th on it
+// sleeps, since whoever has the turn waits for a disk then.
 fn pause(rounds: u32) -> u32 {
-    if rounds > 6 {
-        thread::yield_now();
-        return rounds;
-    }
-    for _ in 0..1u32 << rounds {
-        hint::spin_loop();
+    match rounds {
+        0..=6 => {
+            for _ in 0..1u32 << rounds {
+                hint::spin_loop();
+            }
+        }
+        7..=63 => thread::yield_now(),
+        _ => {
+            nap();
+            return rounds;
+        }
     }
     rounds + 1
+}
+
+// A signal may end it early: then the turn is looked at early.
+fn nap() {
+    let asked = timespec {
+        tv_sec: 0,
+        tv_nsec: NAP,
+    };
+    let mut left = timespec {
+        tv_sec: 0,
+        tv_nsec: 0,
+    };
+    let _status = libc::nanosleep(&asked, &mut left);
 }
