@@ -1,6 +1,7 @@
 pub mod AddressLemmas
 pub mod Anys
 pub mod ApplyLaws
+pub mod ColonLemmas
 pub mod Decimals
 pub mod EndFacts
 pub mod EndLemmas

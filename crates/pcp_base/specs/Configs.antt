@@ -1,7 +1,7 @@
 -- Configurations that a server may have (our own).
 use Rattle.std.specs.Prelude.{◌≡◌, ◌≢◌, ℕ, ◌+◌, ◌<◌, ◌≤◌, ◌⊎◌, ◌||◌, Bool, true, false, List, [], ◌∷◌, length, replicate}
 use Rattle.std.specs.List.{AllByRecursion}
-use Rattle.pcp_base.specs.declared.configs.TheConstants.{MOST_EXTERNALS, MOST_SUBSCRIBERS, MOST_THIRD_PARTIES, MOST_QUOTA, LONGEST_LIFETIME}
+use Rattle.pcp_base.specs.declared.configs.TheConstants.{MOST_DOORS, MOST_EXTERNALS, MOST_SUBSCRIBERS, MOST_THIRD_PARTIES, MOST_QUOTA, LONGEST_LIFETIME}
 use Rattle.pcp_base.specs.declared.addresses.Address.{Address}
 use Rattle.pcp_base.specs.declared.addresses.Prefix.{Prefix}
 use Rattle.pcp_base.specs.declared.configs.External.{External}
@@ -57,6 +57,6 @@ pub record IsConfig (c : Config) : Type 0 where
   pub subscriber_count : length c.subscribers ≤ MOST_SUBSCRIBERS
   pub subscribers : AllByRecursion (λ s. (s.prefix.bits ≤ 128)
       × (s.external < length c.externals)) c.subscribers
-  pub listen_count : length c.listen ≤ 16
+  pub listen_count : length c.listen ≤ MOST_DOORS
   pub listen : AllByRecursion IsListenAddress c.listen
   pub listen_different : EachTwo AreApart c.listen

@@ -4,7 +4,7 @@ ghost use Rattle.std.specs.List.{starts_with};
 ghost use Rattle.std.specs.Cmp.{on_per, partial_equiv_from_equiv};
 ghost use Rattle.std.specs.Cmp.Lexicographic.{nat_list_eq_equiv};
 ghost use Rattle.pcp_base.specs.Pairing.{holds, leading, v4_octets};
-ghost use Rattle.pcp_base.specs.AddressTexts.{v4_front, IsDottedText, IsLongText, IsAddressText, IsPrefixText, address_text};
+ghost use Rattle.pcp_base.specs.AddressTexts.{v4_front, IsDottedText, IsLongText, IsColonText, IsWideText, IsAddressText, IsPrefixText, address_text};
 ghost use Rattle.pcp_base.specs.declared.addresses.Address.{Address};
 ghost use Rattle.pcp_base.specs.declared.addresses.Prefix.{Prefix};
 
@@ -13,7 +13,7 @@ use crate::numbers::read_number;
 use hex::FromHex;
 use octet_order::same_octets;
 use std::alloc::{AllocError, Global};
-use std::net::Ipv4Addr;
+use std::net::{Ipv4Addr, Ipv6Addr};
 use thiserror::Error;
 
 /// An IPv6 address, or an IPv4 address as `::ffff:a.b.c.d` (RFC 6887, section 5).
@@ -67,7 +67,9 @@ impl Address {
     }
 
     /// The address that the text writes: four decimal numbers of at most 255, without leading zeros and
-    /// with dots between them, or exactly 32 hexadecimal digits of either case. A text writes at most one.
+    /// with dots between them, or exactly 32 hexadecimal digits of either case, or a usual text of IPv6
+    /// (RFC 4291, section 2.2), as `2001:db8::1`; `::ffff:192.0.2.1` is the IPv4 address `192.0.2.1`. A
+    /// text writes at most one.
     pub fn read(text: &[u8]) -> Result<Address, NotAddress>
         ensures text { IfOk result (IsAddressText text.now) }
         ensures only { IfOk result (λ a. (b : Address) → IsAddressText text.now b → b ≡ a) }
@@ -76,7 +78,7 @@ impl Address {
         if let Some(address) = Address::read_dotted(text) {
             return Ok(address);
         }
-        Address::read_long(text).ok_or(NotAddress)
+        Address::read_wide(text).ok_or(NotAddress)
     }
 
     fn read_dotted(text: &[u8]) -> Option<Address>
@@ -93,6 +95,16 @@ impl Address {
         Some(Address::v4(a, b, c, d))
     }
 
+    fn read_wide(text: &[u8]) -> Option<Address>
+        ensures text { IfSome result (IsWideText text.now) }
+        ensures none { IfNone result ((a : Address) → ¬ (IsWideText text.now a)) }
+    {
+        if let Some(address) = Address::read_long(text) {
+            return Some(address);
+        }
+        Address::read_colon(text)
+    }
+
     fn read_long(text: &[u8]) -> Option<Address>
         ensures text { IfSome result (IsLongText text.now) }
         ensures none { IfNone result ((a : Address) → ¬ (IsLongText text.now a)) }
@@ -101,6 +113,19 @@ impl Address {
             Ok(octets) => Some(Address(octets)),
             Err(_) => None,
         }
+    }
+
+    fn read_colon(text: &[u8]) -> Option<Address>
+        ensures text { IfSome result (IsColonText text.now) }
+        ensures none { IfNone result ((a : Address) → ¬ (IsColonText text.now a)) }
+    {
+        let Ok(plain) = std::str::from_utf8(text) else {
+            return None;
+        };
+        let Ok(colon) = plain.parse::<Ipv6Addr>() else {
+            return None;
+        };
+        Some(Address(colon.octets()))
     }
 
     /// Appends the text of the address: dotted where it is an IPv4 address, else 32 lower-case
@@ -152,8 +177,8 @@ fn is_v4(octets: &[u8; 16]) -> bool
 
 impl Prefix {
     /// The prefix that the text writes: an address, `/` and a decimal number, which is at most 32 after a
-    /// dotted address, where it counts as 96 more, and at most 128 after a long one. A text writes at
-    /// most one.
+    /// dotted address, where it counts as 96 more, and at most 128 after any other text, also after one
+    /// such as `::ffff:192.0.2.1`. A text writes at most one.
     pub fn read(text: &[u8]) -> Result<Prefix, NotPrefix>
         ensures text { IfOk result (IsPrefixText text.now) }
         ensures only { IfOk result (λ p. (q : Prefix) → IsPrefixText text.now q → q ≡ p) }
@@ -165,7 +190,7 @@ impl Prefix {
         let Some(bits) = read_number(back, 128) else {
             return Err(NotPrefix);
         };
-        match (Address::read_dotted(front), Address::read_long(front)) {
+        match (Address::read_dotted(front), Address::read_wide(front)) {
             (Some(address), _) if bits <= 32 => Ok(Prefix {
                 bits: 96 + bits as u8,
                 address,
