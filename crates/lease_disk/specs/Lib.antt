@@ -1,6 +1,7 @@
 pub mod Changes
 pub mod Contents
 pub mod DiskInMemory
+pub mod FileCounts
 pub mod ImageLaws
 pub mod Images
 pub mod Moments

@@ -1,5 +1,5 @@
 //! A disk over a file. It tells nothing of its octets.
-ghost use Rattle.std.specs.Prelude.{◌≡◌, ◌+◌, ◌^◌, ◌≤◌, IfOk, OnOk, OnErr, length};
+ghost use Rattle.std.specs.Prelude.{◌≡◌, ◌+◌, ◌^◌, ◌≤◌, true, false, IfOk, IsOk, IsErr, OnOk, OnErr, length};
 
 use crate::disks::LeaseDisk;
 use crate::memory::MOST_OCTETS;
@@ -22,26 +22,27 @@ use std::rt::Files;
 #[derive(Drop)]
 pub struct FileDisk<F: Files + Drop> {
     side: SideFile<F>,
+    // whether a sync failed
+    lost: bool,
     faults: u64,
 }
 
 impl<F: Files + Drop> Model for FileDisk<F> {
-    ghost use Rattle.std.specs.Prelude.{ℕ};
+    ghost use Rattle.lease_disk.specs.FileCounts.{FileCounts};
 
-    // How many faults it has counted.
-    ghost Value = { ℕ };
+    ghost Value = { FileCounts };
 
-    ghost view = { λ d. d.faults };
+    ghost view = { λ d. record { faults = d.faults; lost = d.lost } };
 }
 
 impl<F: Files + Drop> FileDisk<F> {
-    ghost use Rattle.std.specs.Prelude.{◌≡◌};
+    ghost use Rattle.std.specs.Prelude.{◌≡◌, true, false};
     ghost use Rattle.pcp_io.specs.CallLogs.{one_more};
 
     /// A disk over the file of this path that has counted no fault. While the file can't be opened
     /// or made, each call tries again and fails.
     pub fn new(files: F, path: String) -> FileDisk<F>
-        ensures { result ≡ 0 }
+        ensures { result ≡ record { faults = 0; lost = false } }
     {
         FileDisk {
             side: SideFile {
@@ -50,9 +51,10 @@ impl<F: Files + Drop> FileDisk<F> {
                 kept: None,
                 written: None,
                 was_missing: false,
-                lost: false,
+                sync_failed: false,
                 last: None,
             },
+            lost: false,
             faults: 0,
         }
     }
@@ -69,8 +71,10 @@ impl<F: Files + Drop> FileDisk<F> {
 
     /// Counts a fault, and keeps why.
     fn fail(&mut self, error: io::Error) -> Failed
-        ensures { self.new ≡ one_more self.old }
+        ensures counted { self.new.faults ≡ one_more self.old.faults }
+        ensures lost { self.old.lost ≡ true → self.new.lost ≡ true }
     {
+        self.lost = self.lost || self.side.sync_failed;
         self.faults = self.faults.saturating_add(1);
         self.side.last = Some(error);
         Failed
@@ -82,9 +86,12 @@ where
     F::File: FileExt + Keepable,
 {
     ghost use Rattle.std.specs.Prelude.{[], OnOk};
+    ghost use Rattle.lease_disk.specs.FileCounts.{StaysLost};
     ghost use Rattle.pcp_io.specs.CallLogs.{one_more};
 
     ghost tells = { ⊥ };
+
+    ghost lost = { λ d. d.lost };
 
     ghost seen = { λ _. [] };
 
@@ -94,7 +101,7 @@ where
 
     ghost left_since = { λ _ _ _. ⊥ };
 
-    ghost faults = { λ d. d };
+    ghost faults = { λ d. d.faults };
 
     ghost seen_now = { λ _ told. told };
 
@@ -107,7 +114,7 @@ where
     fn len(&mut self) -> Result<u64, Failed>
         ensures most { IfOk result (λ size. size ≤ 2 ^ 62) }
         ensures same { OnOk result (self.new ≡ self.old) }
-        ensures counted { OnErr result (self.new ≡ one_more self.old) }
+        ensures counted { OnErr result (self.new.faults ≡ one_more self.old.faults) }
     {
         match self.side.len() {
             Ok(size) => Ok(size),
@@ -118,7 +125,7 @@ where
     fn read_at(&mut self, place: u64, piece: &mut [u8]) -> Result<usize, Failed>
         ensures bound { IfOk result (λ n. n ≤ length piece.new) }
         ensures same { OnOk result (self.new ≡ self.old) }
-        ensures counted { OnErr result (self.new ≡ one_more self.old) }
+        ensures counted { OnErr result (self.new.faults ≡ one_more self.old.faults) }
     {
         match self.side.read_at(place, piece) {
             Ok(count) => Ok(count),
@@ -128,9 +135,13 @@ where
 
     fn write_at(&mut self, place: u64, piece: &[u8]) -> Result<(), Failed>
         ensures most { OnOk result (place + length piece.now ≤ 2 ^ 62) }
+        ensures stays_lost { StaysLost self.old self.new result }
         ensures same { OnOk result (self.new ≡ self.old) }
-        ensures counted { OnErr result (self.new ≡ one_more self.old) }
+        ensures counted { OnErr result (self.new.faults ≡ one_more self.old.faults) }
     {
+        if self.lost {
+            return Err(self.fail(io::Error::from(ErrorKind::Other)));
+        }
         match self.side.write_at(place, piece) {
             Ok(()) => Ok(()),
             Err(error) => Err(self.fail(error)),
@@ -138,9 +149,13 @@ where
     }
 
     fn cut(&mut self, length: u64) -> Result<(), Failed>
+        ensures stays_lost { StaysLost self.old self.new result }
         ensures same { OnOk result (self.new ≡ self.old) }
-        ensures counted { OnErr result (self.new ≡ one_more self.old) }
+        ensures counted { OnErr result (self.new.faults ≡ one_more self.old.faults) }
     {
+        if self.lost {
+            return Err(self.fail(io::Error::from(ErrorKind::Other)));
+        }
         match self.side.cut(length) {
             Ok(()) => Ok(()),
             Err(error) => Err(self.fail(error)),
@@ -149,12 +164,20 @@ where
 
     fn sync(&mut self) -> Result<(), Failed>
         ensures same { OnOk result (self.new ≡ self.old) }
-        ensures counted { OnErr result (self.new ≡ one_more self.old) }
+        ensures counted { OnErr result (self.new.faults ≡ one_more self.old.faults) }
+        ensures stays_lost { StaysLost self.old self.new result }
     {
+        if self.lost {
+            return Err(self.fail(io::Error::from(ErrorKind::Other)));
+        }
         match self.side.sync() {
             Ok(()) => Ok(()),
             Err(error) => Err(self.fail(error)),
         }
+    }
+
+    fn is_lost(&self) -> bool {
+        self.lost
     }
 }
 
@@ -185,7 +208,7 @@ struct SideFile<F: Files + Drop> {
     was_missing: bool,
     // Whether a sync of the file or of its folder failed. The system may then have lost what was
     // written before it, and reports success for the next sync all the same.
-    lost: bool,
+    sync_failed: bool,
     // why the last call that failed did
     last: Option<io::Error>,
 }
@@ -208,9 +231,6 @@ where
 
     /// The file as it is written.
     fn writer(&mut self) -> io::Result<&mut F::File> {
-        if self.lost {
-            return Err(io::Error::from(ErrorKind::Other));
-        }
         let file = match self.written.take() {
             Some(file) => file,
             None => self.open_to_write()?,
@@ -223,7 +243,7 @@ where
         let is_there = self.reader()?.is_some();
         let file = open_to_write(&self.files, self.path.as_str(), is_there)?;
         let done = sync_folder(&self.files, self.path.as_str());
-        self.lost = done.is_err();
+        self.sync_failed = done.is_err();
         done?;
         Ok(file)
     }
@@ -269,7 +289,7 @@ where
 
     fn sync(&mut self) -> io::Result<()> {
         let done = self.writer()?.sync_all();
-        self.lost = done.is_err();
+        self.sync_failed = done.is_err();
         done
     }
 }

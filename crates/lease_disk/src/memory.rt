@@ -156,7 +156,7 @@ impl MemoryDisk {
 }
 
 impl LeaseDisk for MemoryDisk {
-    ghost use Rattle.std.specs.Prelude.{◌≡◌, ◌↔◌, ◌⊎◌, ◌∷◌, ◌^◌, ◌≤◌, drop, length, min, IsErr, IfOk, OnOk, OnErr};
+    ghost use Rattle.std.specs.Prelude.{◌≡◌, ◌↔◌, ◌⊎◌, ◌∷◌, ◌^◌, ◌≤◌, false, drop, length, min, IsErr, IfOk, OnOk, OnErr};
     ghost use Rattle.lease_disk.specs.Contents.{ReadsFrom};
     ghost use Rattle.pcp_io.specs.CallLogs.{IsNamed, with_call, with_fault, with_starved};
     ghost use Rattle.lease_disk.specs.DiskInMemory.{IsDiskWriteRefused};
@@ -180,6 +180,8 @@ impl LeaseDisk for MemoryDisk {
     ghost seen_now = { λ d _. image-now d.steps };
 
     ghost counts_now = { λ d t image le now. image-counts d.steps t image now };
+
+    ghost lost = { λ _. false };
 
     ghost since_earlier = { λ d. image-earlier d.steps };
 
@@ -288,6 +290,12 @@ impl LeaseDisk for MemoryDisk {
             Ok(()) => Ok(()),
             Err(_) => Err(self.calls.starve()),
         }
+    }
+
+    fn is_lost(&self) -> bool
+        ensures { result ≡ false }
+    {
+        false
     }
 }
 

@@ -71,9 +71,11 @@ pub(crate) struct HeldDisk<'a> {
 }
 
 impl<'a> LeaseDisk for HeldDisk<'a> {
-    ghost use Rattle.std.specs.Prelude.{[]};
+    ghost use Rattle.std.specs.Prelude.{[], false};
 
     ghost tells = { ⊥ };
+
+    ghost lost = { λ _. false };
 
     ghost seen = { λ _. [] };
 
@@ -112,6 +114,10 @@ impl<'a> LeaseDisk for HeldDisk<'a> {
     fn sync(&mut self) -> Result<(), Failed> {
         self.flags.hold();
         self.disk.sync()
+    }
+
+    fn is_lost(&self) -> bool {
+        false
     }
 }
 
