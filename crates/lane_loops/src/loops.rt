@@ -20,9 +20,10 @@ pub enum Turn {
     Over,
 }
 
-/// One ask, and its answer.
+/// One ask, and its answer. The link is told whether the work is over.
 fn do_turn<R: Wait, L: LaneLink, T: Clock>(
     rt: &R,
+    over: bool,
     lane: &mut Lane,
     link: &mut L,
     clock: &mut T,
@@ -43,7 +44,7 @@ fn do_turn<R: Wait, L: LaneLink, T: Clock>(
           times = T.times clock.new;
         }) }
 {
-    let Ok(ask) = link.ask() else {
+    let Ok(ask) = link.ask(over) else {
         return Turn::Over;
     };
     match ask {
@@ -91,7 +92,7 @@ pub fn run_lane<R: Wait, L: LaneLink, T: Clock>(
 {
     for _ in rt.forever() {
         let over = ended.load(Ordering::SeqCst);
-        match do_turn(rt, lane, link, clock) {
+        match do_turn(rt, over, lane, link, clock) {
             Turn::Answered => {}
             Turn::Quiet => {
                 if over {
