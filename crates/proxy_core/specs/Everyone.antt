@@ -4,6 +4,7 @@ use Rattle.std.specs.Prelude.{[], ◌∷◌, replicate}
 use Rattle.pcp_base.specs.declared.addresses.Address.{Address}
 use Rattle.pcp_base.specs.declared.addresses.Prefix.{Prefix}
 use Rattle.pcp_base.specs.declared.configs.Config.{Config}
+use Rattle.pcp_base.specs.declared.configs.Orders.TheVariants.{Both}
 
 abbrev pub no_address : Address
 no_address = record { 0 = replicate 16 0 }
@@ -20,4 +21,6 @@ everyone = record {
   third_party = every_address ∷ [];
   externals = (record { address = no_address; low = 1; high = 1 }) ∷ [];
   subscribers = (record { prefix = every_address; external = 0 }) ∷ [];
+  listen = [];
+  orders = Both;
 }

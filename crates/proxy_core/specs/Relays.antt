@@ -69,6 +69,7 @@ answer_at None now d answer = Nothing
 answer_at (Some heard) now d answer = Reply (record {
   peer = d.peer;
   port = d.port;
+  door = d.door;
   octets = reply_text d.octets [] answer (told_epoch heard now);
 })
 
@@ -81,6 +82,7 @@ abbrev pub waiting_of : Datagram → List Item → ℕ → Waiting
 waiting_of d items now = record {
   client = d.peer;
   port = d.port;
+  door = d.door;
   request = d.octets;
   added = is_none (third_of items);
   since_ms = now;
@@ -115,12 +117,21 @@ on_client relay d now = judged (at relay now) d (verdict_of everyone d.peer d.oc
 
 -- an ANNOUNCE response goes on to all clients (RFC 6887, section 14.1)
 abbrev pub announced : Datagram → Datagram
-announced d =
-    record { peer = record { 0 = v4_octets 224 0 0 1 }; port = CLIENTS_PORT; octets = d.octets }
+announced d = record {
+  peer = record { 0 = v4_octets 224 0 0 1 };
+  port = CLIENTS_PORT;
+  door = 0;
+  octets = d.octets;
+}
 
--- what a client that waits is told
+-- what a client that waits is told, by the door of its request
 abbrev pub reply_to : Response → Waiting → Datagram
-reply_to r w = record { peer = w.client; port = w.port; octets = down_text w.request w.added r }
+reply_to r w = record {
+  peer = w.client;
+  port = w.port;
+  door = w.door;
+  octets = down_text w.request w.added r;
+}
 
 -- a reply for MAP or PEER ends the request that waits for it
 abbrev pub matched : Relay → Datagram → Response → Option WaitingKey → Step (Option Datagram)

@@ -60,6 +60,7 @@ pub record StandsForPair (start : Relay) (events : List Event) (d sent : Datagra
   pub told : sent ≡ record {
     peer = request.peer;
     port = request.port;
+    door = request.door;
     octets = down_text request.octets (is_none (third_of items)) response;
   }
 

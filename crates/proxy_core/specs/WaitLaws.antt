@@ -18,7 +18,8 @@ use Rattle.proxy_core.specs.Up.{up_key}
 
 -- the datagram that waits
 abbrev pub datagram_of : Waiting → Datagram
-datagram_of w = record { peer = w.client; port = w.port; octets = w.request }
+datagram_of w =
+    record { peer = w.client; port = w.port; door = w.door; octets = w.request }
 
 -- It was judged with these options, and waits under the key of its reply: with the nonce that this
 -- key makes, for the client or for the third party that it named.

@@ -44,6 +44,7 @@ pub(crate) fn announced(alloc: Global, datagram: &Datagram) -> Result<Datagram, 
     Ok(Datagram {
         peer: Address::v4(224, 0, 0, 1),
         port: CLIENTS_PORT,
+        door: 0,
         octets: Octets::of(datagram.octets.items().to_vec(alloc)?),
     })
 }
@@ -63,6 +64,7 @@ pub(crate) fn reply_to(
     Ok(Datagram {
         peer: waiting.client,
         port: waiting.port,
+        door: waiting.door,
         octets: Octets::of(text),
     })
 }

@@ -4,7 +4,8 @@ ghost use Rattle.pcp_base.specs.Pairing.{holds};
 ghost use Rattle.proxy_core.specs.Everyone.{every_address, everyone};
 
 use pcp_base::{
-    Address, Config, External, Externals, Memory, Prefix, Prefixes, Subscriber, Subscribers,
+    Address, Addresses, Config, External, Externals, Memory, Orders, Prefix, Prefixes, Subscriber,
+    Subscribers,
 };
 use std::alloc::Global;
 
@@ -35,6 +36,8 @@ pub(crate) fn everyone(alloc: Global) -> Result<Config, Memory>
         third_party: Prefixes::of(vec![in alloc; EVERY_ADDRESS]?),
         externals: Externals::of(vec![in alloc; external]?),
         subscribers: Subscribers::of(vec![in alloc; subscriber]?),
+        listen: Addresses::of(Vec::new(alloc)),
+        orders: Orders::Both,
     })
 }
 

@@ -232,6 +232,7 @@ fn own_answer(
     Ok(ProxyOut::Reply(Datagram {
         peer: datagram.peer,
         port: datagram.port,
+        door: datagram.door,
         octets: Octets::of(text),
     }))
 }
@@ -312,6 +313,7 @@ fn waiting_of(
     Ok(Waiting {
         client: datagram.peer,
         port: datagram.port,
+        door: datagram.door,
         request: Octets::of(datagram.octets.items().to_vec(alloc)?),
         added: third_in(items.items()).is_none(),
         since_ms: now_ms,

@@ -22,6 +22,8 @@ pub struct Waiting {
     pub client: Address,
     /// The client's UDP port.
     pub port: u16,
+    /// The door by which the request came, and by which its reply leaves.
+    pub door: u8,
     /// The request as the client sent it.
     pub request: Octets,
     /// Whether the relay added THIRD_PARTY to it.
