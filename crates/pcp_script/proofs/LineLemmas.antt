@@ -113,6 +113,7 @@ pub record PacketParts (w a b c d : List ℕ) (m : ℕ) (from : Datagram) : Type
   pub moment : IsMomentField a m
   pub peer : IsAddressText b from.peer
   pub port : IsPortField c from.port
+  pub door : from.door ≡ 0
   pub octets : IsHexField d from.octets
 
 pub IsPacket-parts : (w a b c d : List ℕ) (m : ℕ) (from : Datagram) → IsPacket (w ∷ a ∷ b ∷ c ∷ d ∷ []) m from → PacketParts w a b c d m from
@@ -128,12 +129,13 @@ IsPacket-parts w a b c d m from h =
       moment = subst (λ (t : List ℕ). IsMomentField t m) two h.moment_is;
       peer = subst (λ (t : List ℕ). IsAddressText t from.peer) three h.peer_is;
       port = subst (λ (t : List ℕ). IsPortField t from.port) four h.port_is;
+      door = h.door_is;
       octets = subst (λ (t : List ℕ). IsHexField t from.octets) five h.octets_are;
     }
 
 pub IsPacket-from : (w a b c d : List ℕ) (m : ℕ) (from : Datagram) → PacketParts w a b c d m from → IsPacket (w ∷ a ∷ b ∷ c ∷ d ∷ []) m from
 IsPacket-from w a b c d m from h =
-    record { moment_text = a; peer_text = b; port_text = c; hex_text = d; fields_are = ap (λ f. f ∷ a ∷ b ∷ c ∷ d ∷ []) h.word; moment_is = h.moment; peer_is = h.peer; port_is = h.port; octets_are = h.octets }
+    record { moment_text = a; peer_text = b; port_text = c; hex_text = d; fields_are = ap (λ f. f ∷ a ∷ b ∷ c ∷ d ∷ []) h.word; moment_is = h.moment; peer_is = h.peer; port_is = h.port; door_is = h.door; octets_are = h.octets }
 
 pub StandsFor-packet : (externals : List External) (w a b c d : List ℕ) (line : Line) → StandsFor externals (w ∷ a ∷ b ∷ c ∷ d ∷ []) line
     → (m : ℕ) × (from : Datagram) × IsPacket (w ∷ a ∷ b ∷ c ∷ d ∷ []) m from

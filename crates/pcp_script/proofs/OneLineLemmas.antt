@@ -81,7 +81,8 @@ packet-unique fields m n from other h k =
     let peer = IsAddressText-unique h.peer_text from.peer other.peer h.peer_is same.peer in
     let port = port-unique h.port_text from.port other.port h.port_is same.port in
     let octets = octets-unique h.hex_text from.octets other.octets h.octets_are same.octets in
-    λ i. Packet (moment i) (record { peer = peer i; port = port i; octets = octets i })
+    let door = h.door_is ∙ sym same.door in
+    λ i. Packet (moment i) (record { peer = peer i; port = port i; door = door i; octets = octets i })
 
 look-unique : (externals : List External) (fields : List (List ℕ)) (m m' s s' : ℕ) (p p' : Protocol) (n n' : ℕ) (r r' : Address) (q q' : ℕ) → EachTwo (λ x y. x.address ≢ y.address) externals
     → IsLook externals fields m s p n r q → IsLook externals fields m' s' p' n' r' q' → Look m s p n r q ≡ Look m' s' p' n' r' q'

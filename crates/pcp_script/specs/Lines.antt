@@ -12,7 +12,7 @@ use Rattle.pcp_script.specs.declared.lines.TheConstants.{LONGEST_LINE}
 use Rattle.pcp_script.specs.declared.lines.Line.{Line}
 use Rattle.pcp_script.specs.declared.lines.Line.TheVariants.{Skip, Packet, Look, Lose, Owners}
 
--- packet MOMENT ADDRESS PORT HEX
+-- packet MOMENT ADDRESS PORT HEX, a datagram that comes by door 0
 pub record IsPacket (fields : List (List ℕ)) (moment : ℕ) (from : Datagram) : Type 0 where
   pub moment_text : List ℕ
   pub peer_text : List ℕ
@@ -22,6 +22,7 @@ pub record IsPacket (fields : List (List ℕ)) (moment : ℕ) (from : Datagram) 
   pub moment_is : IsMomentField moment_text moment
   pub peer_is : IsAddressText peer_text from.peer
   pub port_is : IsPortField port_text from.port
+  pub door_is : from.door ≡ 0
   pub octets_are : IsHexField hex_text from.octets
 
 -- look MOMENT EXTERNAL PROTOCOL PORT REMOTE REMOTEPORT

@@ -57,6 +57,7 @@ load_request first second third =
     record {
       peer = peer;
       port = LOAD_PORT;
+      door = 0;
       octets = load_head peer (load_lifetime third) ++ load_nonce host port ++ load_ports port (load_protocol second);
     }
 

@@ -14,7 +14,7 @@ abbrev pub hex_field : List ℕ → List ℕ
 hex_field [] = codes "-"
 hex_field (x ∷ xs) = encode_lower (x ∷ xs)
 
--- reply ADDRESS PORT HEX
+-- reply ADDRESS PORT HEX; no door, since a script's datagrams come and go by door 0 alone
 abbrev pub reply_line : Datagram → List ℕ
 reply_line to =
     codes "reply " ++ address_text to.peer ++ codes " " ++ decimal to.port ++ codes " "

@@ -232,7 +232,15 @@ fn read_packet(alloc: Global, fields: PacketFields<'_>) -> Result<(Moment, Datag
         return Err(LineRefused::NotLine);
     };
     let octets = read_octets(alloc, fields.hex)?;
-    Ok((moment, Datagram { peer, port, octets }))
+    Ok((
+        moment,
+        Datagram {
+            peer,
+            port,
+            door: 0,
+            octets,
+        },
+    ))
 }
 
 /// What is asked about an external port.

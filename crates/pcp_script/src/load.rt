@@ -110,6 +110,7 @@ fn request_of(mut octets: Vec<u8>, draw: Draw) -> Datagram
     Datagram {
         peer: Address::v4(a, b, c, d),
         port: LOAD_PORT,
+        door: 0,
         octets: Octets::of(octets),
     }
 }
