@@ -68,7 +68,7 @@ packet_entry house now from =
 
 -- who sends nothing
 abbrev pub nobody : Datagram
-nobody = record { peer = record { 0 = replicate 16 0 }; port = 0; octets = [] }
+nobody = record { peer = record { 0 = replicate 16 0 }; port = 0; door = 0; octets = [] }
 
 -- the entry of a loss: it tells a base no less than its moment
 abbrev pub loss_of : PlainHouse → ℕ → Entry
