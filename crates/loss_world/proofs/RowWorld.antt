@@ -6,6 +6,7 @@ use Rattle.std.proofs.Common.{◌≡◌, ℕ, zero, suc, ◌<◌, true, false, L
 use Rattle.pcp_base.specs.declared.addresses.Address.{Address}
 use Rattle.pcp_base.specs.declared.asks.Ask.{Ask}
 use Rattle.pcp_base.specs.declared.asks.Ask.TheVariants as Asks
+use Rattle.pcp_base.specs.declared.configs.Orders.TheVariants as Orders
 use Rattle.pcp_base.specs.declared.leases.Protocol.TheVariants as Protocols
 use Rattle.pcp_base.specs.Configs.{IsConfig}
 use Rattle.pcp_base.specs.Reached.{IsReached}
@@ -54,6 +55,8 @@ beginning_by quota = record {
     third_party = [];
     externals = (record { address = host 9; low = 5000; high = 5000 }) ∷ [];
     subscribers = (record { prefix = record { bits = 0; address = host 0 }; external = 0 }) ∷ [];
+    listen = [];
+    orders = Orders.Both;
   };
   openings = (record empty_state { base = 1000; address = Some (host 9); last = 1000; started = true }) ∷ [];
   relays = [];
@@ -148,6 +151,9 @@ config-is = record {
   external_addresses = (tt, tt);
   subscriber_count = omega arith;
   subscribers = ((omega arith, omega arith), tt);
+  listen_count = omega arith;
+  listen = tt;
+  listen_different = tt;
 }
 
 pub is-beginning : IsBeginning (beginning_by 1)

@@ -223,7 +223,7 @@ up-packet b w r (Outs.Reply sent) f g x e =
     (nothing-told (IsTraced b w.history w.renumberings sent.peer) sent.octets (f sent refl))
 up-packet b w r (Outs.Up octets) f g x e =
     let none = g octets refl in
-    let out : Datagram = record { peer = r.relay.server; port = 5351; octets = octets } in
+    let out : Datagram = record { peer = r.relay.server; port = 5351; door = 0; octets = octets } in
     let same : relayed w r.relay None out ≡ x = cc in
     subst (IsToldPacket b w.history w.renumberings) same (λ y c read success lasts has. absurd cc)
 

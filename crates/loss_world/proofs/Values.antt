@@ -267,7 +267,7 @@ up-value w r (Outs.Reply sent) own is x e =
     let same : relayed w r.relay r.origin sent ≡ x = cc in
     subst PacketIsMessage same (is, own)
 up-value w r (Outs.Up octets) own is x e =
-    let out : Datagram = record { peer = r.relay.server; port = 5351; octets = octets } in
+    let out : Datagram = record { peer = r.relay.server; port = 5351; door = 0; octets = octets } in
     let same : relayed w r.relay None out ≡ x = cc in
     subst PacketIsMessage same (is, own)
 
@@ -360,7 +360,7 @@ asked-packet w c (Some octets) own f x e =
     let sent : Packet = record {
       sender = c.client.own;
       port = c.port;
-      out = record { peer = c.client.server; port = 5351; octets = octets };
+      out = record { peer = c.client.server; port = 5351; door = 0; octets = octets };
       sent = w.clock;
       origin = None;
     } in

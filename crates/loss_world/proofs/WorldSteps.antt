@@ -117,7 +117,7 @@ sent-up w r (Outs.Reply sent) h own up x e =
     let same : relayed w r.relay r.origin sent ≡ x = cc in
     subst (IsPacket w.clock w.losses) same (own-told w r sent h (own sent refl))
 sent-up w r (Outs.Up octets) h own up x e =
-    let same : relayed w r.relay None (record { peer = r.relay.server; port = 5351; octets = octets }) ≡ x = cc in
+    let same : relayed w r.relay None (record { peer = r.relay.server; port = 5351; door = 0; octets = octets }) ≡ x = cc in
     subst (IsPacket w.clock w.losses) same (record { sent = omega arith; origin = tt; told = up octets refl })
 
 -- a relay whose time went on, and that heard what it had heard
@@ -279,7 +279,7 @@ to-client w k word (Some c) (Some p) h f g =
 asks : (w : World) (c : ClientHost) (octets : Option (List ℕ)) → ((text : List ℕ) → octets ≡ Some text → response_of text ≡ None) → (x : Packet) → asked w c octets ≡ Some x → IsPacket w.clock w.losses x
 asks w c None none x e = absurd cc
 asks w c (Some octets) none x e =
-    let same : (record { sender = c.client.own; port = c.port; out = record { peer = c.client.server; port = 5351; octets = octets }; sent = w.clock; origin = None }) ≡ x = cc in
+    let same : (record { sender = c.client.own; port = c.port; out = record { peer = c.client.server; port = 5351; door = 0; octets = octets }; sent = w.clock; origin = None }) ≡ x = cc in
     subst (IsPacket w.clock w.losses) same (record { sent = omega arith; origin = tt; told = none octets refl })
 
 client-ticks : (w : World) (k word : ℕ) (c : Option ClientHost) → IsWorld w → ((x : ClientHost) → c ≡ Some x → IsClientHost w.clock w.losses x) → IsWorld (client_ticks w k word c)

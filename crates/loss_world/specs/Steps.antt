@@ -26,6 +26,10 @@ second w = seconds w.clock
 abbrev pub servers_port : ℕ
 servers_port = 5351
 
+-- what a host asks a server, by its one door
+abbrev pub to_servers : Address → List ℕ → Datagram
+to_servers server octets = record { peer = server; port = servers_port; door = 0; octets = octets }
+
 -- whether a packet is for the host of an address
 abbrev pub is_reached : Packet → Address → Bool
 is_reached p own = same_address p.out.peer own
@@ -48,7 +52,7 @@ told_now w losses epoch out = record {
 }
 
 abbrev pub reply_to : Datagram → Entry → Datagram
-reply_to d e = record { peer = d.peer; port = d.port; octets = e.reply }
+reply_to d e = record { peer = d.peer; port = d.port; door = d.door; octets = e.reply }
 
 abbrev pub answered : World → Datagram → Option Entry → World
 answered w d None = w
@@ -83,7 +87,7 @@ abbrev pub sent_by : World → RelayHost → ProxyOut → Option Packet
 sent_by w host Outs.Nothing = None
 sent_by w host (Outs.Reply out) = Some (relayed w host.relay host.origin out)
 sent_by w host (Outs.Up octets) =
-    Some (relayed w host.relay None (record { peer = host.relay.server; port = servers_port; octets = octets }))
+    Some (relayed w host.relay None (to_servers host.relay.server octets))
 
 -- the origin of the epoch heard last, behind a datagram that may be a response
 abbrev pub origin_after : Option Response → Option Origin → Option Origin → Option Origin
@@ -141,7 +145,7 @@ asked w host None = None
 asked w host (Some octets) = Some (record {
   sender = host.client.own;
   port = host.port;
-  out = record { peer = host.client.server; port = servers_port; octets = octets };
+  out = to_servers host.client.server octets;
   sent = w.clock;
   origin = None;
 })
