@@ -78,9 +78,9 @@ IsOfPlace count fault = (place : ℕ) → fault ≡ Disk place → place < count
 
 -- ---- updates
 
--- what is sent to a client
+-- what is sent to a client, by door 0
 abbrev pub update_to : Address → List ℕ → Datagram
-update_to address octets = record { peer = address; port = CLIENT_PORT; octets = octets }
+update_to address octets = record { peer = address; port = CLIENT_PORT; door = 0; octets = octets }
 
 -- those of the leases of an external address that are live at its last record: MAP, then PEER leases
 abbrev pub shard_updates : ℕ → PlainShard → List Datagram

@@ -11,7 +11,8 @@ use crate::faults::{HouseFault, Unbegun};
 use lease_disk::{DiskPair, LeaseDisk};
 use lease_journal::JournalFault;
 use pcp_base::{
-    Config, External, Externals, Memory, Moment, Prefix, Prefixes, Subscriber, Subscribers,
+    Addresses, Config, External, Externals, ListenAddress, Memory, Moment, Octets, Prefix,
+    Prefixes, Subscriber, Subscribers,
 };
 use shard_book::{Book, Found};
 use std::alloc::Global;
@@ -26,6 +27,28 @@ pub fn fault_at(place: u32, fault: JournalFault) -> HouseFault
     }
 }
 
+/// The same address at which a server listens.
+fn copy_of_address(alloc: Global, listen: &ListenAddress) -> Result<ListenAddress, Memory>
+    ensures { IfOk result (λ copy. copy ≡ listen.now) }
+{
+    let link: Vec<u8> = Vec::from_slice(alloc, listen.link.items())?;
+    Ok(ListenAddress {
+        address: listen.address,
+        link: Octets::of(link),
+    })
+}
+
+/// The same addresses at which a server listens.
+fn copies_of(alloc: Global, listen: &[ListenAddress]) -> Result<Vec<ListenAddress>, Memory>
+    ensures { IfOk result (λ copies. copies.items ≡ listen.now) }
+{
+    let mut copies = Vec::new(alloc);
+    for address in listen {
+        copies.push(copy_of_address(alloc, address)?)?;
+    }
+    Ok(copies)
+}
+
 /// The same configuration.
 pub fn copy_of(alloc: Global, config: &Config) -> Result<Config, Memory>
     ensures { IfOk result (λ copy. copy ≡ config.now) }
@@ -33,6 +56,7 @@ pub fn copy_of(alloc: Global, config: &Config) -> Result<Config, Memory>
     let third_party: Vec<Prefix> = Vec::from_slice(alloc, config.third_party.items())?;
     let externals: Vec<External> = Vec::from_slice(alloc, config.externals.items())?;
     let subscribers: Vec<Subscriber> = Vec::from_slice(alloc, config.subscribers.items())?;
+    let listen = copies_of(alloc, config.listen.items())?;
     Ok(Config {
         quota: config.quota,
         lifetime_min: config.lifetime_min,
@@ -40,6 +64,8 @@ pub fn copy_of(alloc: Global, config: &Config) -> Result<Config, Memory>
         third_party: Prefixes::of(third_party),
         externals: Externals::of(externals),
         subscribers: Subscribers::of(subscribers),
+        listen: Addresses::of(listen),
+        orders: config.orders,
     })
 }
 

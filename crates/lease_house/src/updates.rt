@@ -15,13 +15,14 @@ use std::alloc::Global;
 /// The UDP port of a client to which a server sends without being asked (RFC 6887, section 14).
 pub const CLIENT_PORT: u16 = 5_350;
 
-/// What a client is sent.
+/// What a client is sent, by door 0.
 fn update_to(address: Address, octets: Vec<u8>) -> Datagram
     ensures { result ≡ update_to address octets.items }
 {
     Datagram {
         peer: address,
         port: CLIENT_PORT,
+        door: 0,
         octets: Octets::of(octets),
     }
 }
