@@ -27,8 +27,8 @@ fate_offered config item shard job old new is o = offered config item shard job 
 pub fate_starved : (config : Config) (d : Datagram) (old new : List Port) → StarvesAt old new → HasFate config (Items.Packet d) old new
 fate_starved config d old new h = (Starved, (tt, h))
 
-pub fate_ignored : (config : Config) (address : Address) (ports : List Port) → place_of_external config address ≡ None → HasFate config (Items.Lose address) ports ports
-fate_ignored config address ports none = (Ignored, (none, refl))
+pub fate_ignored : (config : Config) (order : ℕ) (address : Address) (ports : List Port) → place_of_external config address ≡ None → HasFate config (Items.Lose order address) ports ports
+fate_ignored config order address ports none = (Ignored, (none, refl))
 
 at_or_behind : (b : Bool) (i n k : ℕ) (later : Option ℕ) → cond b (Some i) later ≡ Some n → (later ≡ Some n → n < (i + 1) + k) → n < i + suc k
 at_or_behind true i n k later e behind = let same : i ≡ n = cc in omega (arith, same)

@@ -1,8 +1,8 @@
 -- What is announced (our own).
 use Rattle.std.specs.Prelude.{◌≡◌, ℕ, List, [], map, Option, if◌then◌else◌}
-use Rattle.pcp_base.specs.declared.addresses.Address.{Address}
 use Rattle.pcp_base.specs.declared.datagrams.Datagram.{Datagram}
 use Rattle.pcp_io.specs.Times.{Times, IsTimeNow}
+use Rattle.pcp_announce.specs.declared.doors.Group.{Group}
 use Rattle.pcp_announce.specs.Schedules.{Schedule, after_due, after_seen, announcement, is_due}
 use Rattle.job_workers.specs.HouseCalls.{HouseCalls, IsTold}
 use Rattle.job_workers.specs.Sends.{Handed, HandsAll, to_all}
@@ -17,12 +17,12 @@ pub record AnnounceState (P : Type 0) : Type 0 where
   pub times : Option Times
 
 -- what is due of a schedule
-abbrev pub due_to : List Address → ℕ → Schedule → ℕ → List Datagram
+abbrev pub due_to : List Group → ℕ → Schedule → ℕ → List Datagram
 due_to groups port s time = if is_due s time then to_all groups port (announcement s time) else []
 
 -- The epoch word is asked and the clock is read once; the announcer sees that base and is asked
--- once. Where an announcement is due it goes to all groups, in order.
-pub record Announces {P : Type 0} (house : HouseCalls P) (groups : List Address) (port : ℕ)
+-- once. Where an announcement is due it goes to all groups by their doors, in order.
+pub record Announces {P : Type 0} (house : HouseCalls P) (groups : List Group) (port : ℕ)
     (old new : AnnounceState P) : Type 0 where
   pub base : ℕ
   pub told : IsTold house old.pass new.pass base

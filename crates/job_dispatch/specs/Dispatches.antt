@@ -35,19 +35,22 @@ pub data Fate : Type 0 where
 -- the job that an item is, and its shard
 abbrev pub IsJobOf : Config → InboxItem → ℕ → Job → Type 0
 IsJobOf config (Items.Packet d) shard job = (job ≡ Jobs.Packet d) × (shard ≡ route_of config d)
-IsJobOf config (Items.Lose address) shard job =
+IsJobOf config (Items.Lose order address) shard job =
     (job ≡ Jobs.Lose) × (place_of_external config address ≡ Some shard)
+IsJobOf config (Items.Status order) shard job = ⊥
 IsJobOf config Items.Quiet shard job = ⊥
 
--- it is no job: a quiet, or a loss of an address that isn't external
+-- it is no job: a quiet, a status, or a loss of an address that isn't external
 abbrev pub IsNoJob : Config → InboxItem → Type 0
 IsNoJob config (Items.Packet d) = ⊥
-IsNoJob config (Items.Lose address) = place_of_external config address ≡ None
+IsNoJob config (Items.Lose order address) = place_of_external config address ≡ None
+IsNoJob config (Items.Status order) = Unit {0}
 IsNoJob config Items.Quiet = Unit {0}
 
 abbrev pub IsPacket : InboxItem → Type 0
 IsPacket (Items.Packet d) = Unit {0}
-IsPacket (Items.Lose address) = ⊥
+IsPacket (Items.Lose order address) = ⊥
+IsPacket (Items.Status order) = ⊥
 IsPacket Items.Quiet = ⊥
 
 -- ---- the ends and rows of all shards

@@ -1,23 +1,27 @@
 //! Announcements of the epoch to all hosts (RFC 6887, section 14.1).
-ghost use Rattle.std.specs.Prelude.{[], ◌∷◌};
-ghost use Rattle.job_dispatch.specs.declared.ports.TheConstants.{ALL_HOSTS_V4, ALL_HOSTS_V6, ANNOUNCEMENT_PORT};
+ghost use Rattle.pcp_base.specs.Configs.{IsConfig};
+ghost use Rattle.pcp_announce.specs.Doors.{groups};
+ghost use Rattle.job_dispatch.specs.declared.ports.TheConstants.{ANNOUNCEMENT_PORT};
 ghost use Rattle.job_dispatch.specs.Announcing.{Announces};
 
-use crate::ports::{ALL_HOSTS_V4, ALL_HOSTS_V6, ANNOUNCEMENT_PORT};
-use job_workers::{JobHouse, send_to_both};
+use crate::ports::ANNOUNCEMENT_PORT;
+use job_workers::{JobHouse, send_to_groups};
 use pcp_announce::Announcer;
+use pcp_base::Config;
 use pcp_io::{Clock, Outbox};
 
-/// Asks the epoch word, and announces the epoch where that is due.
+/// Asks the epoch word, and announces the epoch by all doors where that is due.
 pub fn announce<O: Outbox, T: Clock, P, H: JobHouse<P>>(
     house: &H,
+    config: &Config,
     pass: &mut P,
     announcer: &mut Announcer,
     out: &mut O,
     clock: &mut T,
 )
-    requires { (H.calls house.now).is_pass pass.old }
-    ensures { Announces (H.calls house.now) (ALL_HOSTS_V4 ∷ ALL_HOSTS_V6 ∷ []) ANNOUNCEMENT_PORT
+    requires config { IsConfig config.now }
+    requires pass { (H.calls house.now).is_pass pass.old }
+    ensures { Announces (H.calls house.now) (groups config.now) ANNOUNCEMENT_PORT
         (record {
           pass = pass.old;
           schedule = announcer.old;
@@ -41,5 +45,5 @@ pub fn announce<O: Outbox, T: Clock, P, H: JobHouse<P>>(
     if !is_due {
         return;
     }
-    send_to_both(out, ALL_HOSTS_V4, ALL_HOSTS_V6, ANNOUNCEMENT_PORT, &head);
+    send_to_groups(out, config, ANNOUNCEMENT_PORT, &head);
 }

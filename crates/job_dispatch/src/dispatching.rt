@@ -1,9 +1,8 @@
 //! The dispatcher's loop.
-ghost use Rattle.std.specs.Prelude.{◌≡◌, ◌≤◌, [], ◌∷◌, length, IfSome};
+ghost use Rattle.std.specs.Prelude.{◌≡◌, ◌≤◌, length, IfSome};
 ghost use Rattle.pcp_base.specs.Configs.{IsConfig};
 ghost use Rattle.pcp_io.specs.declared.inboxes.TheConstants.{LONGEST_DATAGRAM};
 ghost use Rattle.pcp_io.specs.Takes.{filled, item_of};
-ghost use Rattle.job_dispatch.specs.declared.ports.TheConstants.{ALL_HOSTS_V4, ALL_HOSTS_V6, ANNOUNCEMENT_PORT};
 ghost use Rattle.job_dispatch.specs.Dispatches.{ArePorts, HasFate};
 ghost use Rattle.job_dispatch.specs.Dispatching.{IsItemTurn, RunsDispatcher};
 
@@ -35,14 +34,22 @@ fn dispatch_item<R: Wait>(
         (λ item. HasFate config.now item ports.old ports.new) }
 {
     match incoming {
-        Incoming::Packet { peer, port, length } => {
-            let Ok(datagram) = datagram_from(alloc, peer, port, &piece[..length]) else {
+        Incoming::Packet {
+            peer,
+            port,
+            door,
+            length,
+        } => {
+            let Ok(datagram) = datagram_from(alloc, peer, port, door, &piece[..length]) else {
                 count_starved(ports);
                 return;
             };
             dispatch_packet(rt, alloc, config, queues, ports, datagram);
         }
-        Incoming::Lose(address) => dispatch_loss(rt, config, queues, ports, &address),
+        Incoming::Lose(order, address) => {
+            dispatch_loss(rt, config, queues, ports, order, &address);
+        }
+        Incoming::Status(_) => {}
         Incoming::Quiet => {}
         Incoming::Stop => {}
     }
@@ -68,8 +75,7 @@ fn do_item<R: Wait, I: Inbox, O: Outbox, T: Clock, P, H: JobHouse<P>>(
     requires ports { ArePorts config.now queues.now ports.old }
     requires all { length ports.old ≡ length config.now.externals }
     requires piece { LONGEST_DATAGRAM ≤ length piece.old }
-    ensures { IsItemTurn (H.calls house.now) config.now (ALL_HOSTS_V4 ∷ ALL_HOSTS_V6 ∷ [])
-        ANNOUNCEMENT_PORT
+    ensures { IsItemTurn (H.calls house.now) config.now
         (record {
           ports = ports.old;
           announcing = record {
@@ -100,7 +106,7 @@ fn do_item<R: Wait, I: Inbox, O: Outbox, T: Clock, P, H: JobHouse<P>>(
     if incoming == Incoming::Stop {
         return Ok(false);
     }
-    announce(house, pass, announcer, out, clock);
+    announce(house, config, pass, announcer, out, clock);
     dispatch_item(rt, alloc, config, queues, ports, incoming, piece);
     Ok(true)
 }
@@ -125,8 +131,7 @@ pub fn dispatch<R: Wait, I: Inbox, O: Outbox, T: Clock, P, H: JobHouse<P>>(
     requires ports { ArePorts config.now queues.now ports.old }
     requires all { length ports.old ≡ length config.now.externals }
     requires piece { LONGEST_DATAGRAM ≤ length piece.old }
-    ensures { RunsDispatcher (H.calls house.now) config.now (ALL_HOSTS_V4 ∷ ALL_HOSTS_V6 ∷ [])
-        ANNOUNCEMENT_PORT
+    ensures { RunsDispatcher (H.calls house.now) config.now
         (record {
           ports = ports.old;
           announcing = record {

@@ -8,4 +8,4 @@ mod ports;
 
 pub use announcements::announce;
 pub use dispatching::dispatch;
-pub use ports::{ALL_HOSTS_V4, ALL_HOSTS_V6, ANNOUNCEMENT_PORT, Port};
+pub use ports::{ANNOUNCEMENT_PORT, Port};

@@ -25,12 +25,6 @@ pub struct Port {
     pub unparker: Unparker,
 }
 
-/// 224.0.0.1 (RFC 6887, section 14.1).
-pub const ALL_HOSTS_V4: Address = Address([0, 0, 0, 0, 0, 0, 0, 0, 0, 0, 0xff, 0xff, 224, 0, 0, 1]);
-
-/// ff02::1 (RFC 6887, section 14.1).
-pub const ALL_HOSTS_V6: Address = Address([0xff, 2, 0, 0, 0, 0, 0, 0, 0, 0, 0, 0, 0, 0, 0, 1]);
-
 /// Puts a job into its queue, or counts that it was dropped at a full one, and wakes the worker.
 fn offer<R: Wait>(rt: &R, queue: &JobQueue, port: &mut Port, job: Job)
     requires queue { port.old.putter.queue ≡ queue.now }
@@ -59,19 +53,21 @@ fn external_place(config: &Config, address: &Address) -> Option<usize>
         .position(|external| external.address == *address)
 }
 
-/// A datagram from this peer.
+/// A datagram that came by this door from this peer.
 pub fn datagram_from(
     alloc: Global,
     peer: Address,
     port: u16,
+    door: u8,
     octets: &[u8],
 ) -> Result<Datagram, Memory>
     ensures { IfOk result
-        (λ d. d ≡ record { peer = peer; port = port; octets = octets.now }) }
+        (λ d. d ≡ record { peer = peer; port = port; door = door; octets = octets.now }) }
 {
     Ok(Datagram {
         peer,
         port,
+        door,
         octets: Octets::of(octets.to_vec(alloc)?),
     })
 }
@@ -137,17 +133,18 @@ pub fn dispatch_packet<R: Wait>(
     );
 }
 
-/// What becomes of a loss.
+/// What becomes of a loss by the order of this number.
 pub fn dispatch_loss<R: Wait>(
     rt: &R,
     config: &Config,
     queues: &[JobQueue],
     ports: &mut [Port],
+    order: u32,
     address: &Address,
 )
     requires ports { ArePorts config.now queues.now ports.old }
     requires all { length ports.old ≡ length config.now.externals }
-    ensures { HasFate config.now (InboxItem.Lose address.now) ports.old ports.new }
+    ensures { HasFate config.now (InboxItem.Lose order address.now) ports.old ports.new }
 {
     let Some(shard) = external_place(config, address) else {
         return;

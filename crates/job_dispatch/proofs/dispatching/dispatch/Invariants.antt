@@ -1,12 +1,10 @@
-use Rattle.std.proofs.Common.{[], ◌∷◌}
-use Rattle.job_dispatch.specs.declared.ports.TheConstants.{ALL_HOSTS_V4, ALL_HOSTS_V6, ANNOUNCEMENT_PORT}
 use Rattle.job_dispatch.proofs.DispatchingLemmas.{HasDispatched}
 use Rattle.job_dispatch.proofs.dispatching.dispatch.Given as goal
 
 abbrev pub invariant-loop : goal.invariant-loop
 invariant-loop g l =
     (goal.iterator-loop g).can_next l.iterator' × (goal.iterator-loop g).is_finite l.iterator'
-    × HasDispatched (g.H.JobHouse.calls l.house) l.config l.queues (ALL_HOSTS_V4 ∷ ALL_HOSTS_V6 ∷ []) ANNOUNCEMENT_PORT
+    × HasDispatched (g.H.JobHouse.calls l.house) l.config l.queues
     (record {
       ports = l.fn.ports;
       announcing = record {

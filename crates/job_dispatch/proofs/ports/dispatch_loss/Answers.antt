@@ -12,5 +12,5 @@ offer_at-requires-clause-shard g c =
 
 pub returns : goal.returns
 returns g c =
-    let is : IsJobOf c.args.config.now (Items.Lose c.args.address.now) c.in-Some.shard Jobs.Lose = (refl, sym c.external_place.ensures ∙ c.in-Some.is) in
-    fate_offered c.args.config.now (Items.Lose c.args.address.now) c.in-Some.shard Jobs.Lose _ _ is c.offer_at.ensures
+    let is : IsJobOf c.args.config.now (Items.Lose c.args.order c.args.address.now) c.in-Some.shard Jobs.Lose = (refl, sym c.external_place.ensures ∙ c.in-Some.is) in
+    fate_offered c.args.config.now (Items.Lose c.args.order c.args.address.now) c.in-Some.shard Jobs.Lose _ _ is c.offer_at.ensures
