@@ -13,7 +13,6 @@ use Rattle.pcp_base.specs.Configs.{prefix}
 use Rattle.pcp_base.specs.Pairing.{holds, v4_octets}
 use Rattle.pcp_announce.specs.declared.doors.Door.{Door}
 use Rattle.pcp_announce.specs.declared.doors.Group.{Group}
-use Rattle.pcp_announce.specs.declared.doors.TheConstants.{ALL_HOSTS_V4, ALL_HOSTS_V6, ORDER_DOOR}
 
 -- whether it is the address of an IPv4 host (RFC 6887, section 5)
 abbrev pub is_v4 : Address → Bool
@@ -30,9 +29,9 @@ abbrev pub is_own_host : Address → Bool
 is_own_host a = bytes_eq a.0 (v4_octets 127 0 0 1)
 
 -- the number of the door at this place of `listen`: where orders come from 127.0.0.1, an entry of that
--- address is the door of orders
+-- address is the door of orders, 255
 abbrev pub door_number : Orders → ℕ → Address → ℕ
-door_number Both place a = if is_own_host a then ORDER_DOOR else place
+door_number Both place a = if is_own_host a then 255 else place
 door_number Folder place a = place
 
 -- the doors of these entries, the first of which stands at this place
@@ -56,13 +55,21 @@ doors_of orders (x ∷ xs) = doors_from orders 0 (x ∷ xs)
 abbrev pub doors : Config → List Door
 doors config = doors_of config.orders config.listen
 
+-- 224.0.0.1, all hosts of a link (RFC 1112, section 4)
+abbrev pub all_hosts_v4 : Address
+all_hosts_v4 = record { 0 = v4_octets 224 0 0 1 }
+
+-- ff02::1, all hosts of a link (RFC 4291, section 2.7.1)
+abbrev pub all_hosts_v6 : Address
+all_hosts_v6 = record { 0 = 255 ∷ 2 ∷ replicate 13 0 ++ 1 ∷ [] }
+
 -- the hosts to which a door announces: those of its family on its link, and none by the loopback
 abbrev pub group_of : Door → Option Group
 group_of door =
     if is_loopback door.address then None
     else Some (record {
       door = door.number;
-      hosts = if is_v4 door.address then ALL_HOSTS_V4 else ALL_HOSTS_V6;
+      hosts = if is_v4 door.address then all_hosts_v4 else all_hosts_v6;
     })
 
 -- by which doors what is announced goes to which hosts, in order
