@@ -111,7 +111,8 @@ impl<D: LeaseDisk + Drop> SoloHouse<D> {
     }
 
     /// What clients are told of the external addresses that the opening found renumbered: an update
-    /// for each lease that was live at the Renumber. It is to be called before `serve` and `lose`.
+    /// for each lease that was live at the Renumber, by door 0. It is to be called before `serve` and
+    /// `lose`.
     pub fn updates(&self, alloc: Global) -> Result<Vec<Datagram>, Memory>
         requires settled { AllByRecursion (λ b. b.fault ≡ None) self.now.books }
         ensures { IfOk result (λ updates. updates.items ≡ updates_of self.now) }
