@@ -58,9 +58,14 @@ entries_along terms s m base (a ∷ asked) =
     entry_of terms.external.address m base a (decide terms s m a.request.ask)
     ∷ entries_along terms (with_kept s (decide terms s m a.request.ask).kept) m base asked
 
--- the reply of an entry, to its sender
+-- the reply of an entry, to its sender by the door of the request
 abbrev pub reply_in : Entry → Datagram
-reply_in e = record { peer = e.from.peer; port = e.from.port; octets = e.reply }
+reply_in e = record {
+  peer = e.from.peer;
+  port = e.from.port;
+  door = e.from.door;
+  octets = e.reply;
+}
 
 -- ---- what the server itself does
 

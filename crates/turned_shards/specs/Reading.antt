@@ -35,11 +35,12 @@ pub record IsReadBy (config : Config) (batch : List Datagram) (asked : List Aske
   pub formed : AllByRecursion IsWellFormedAsk requests.asks.items
   pub are : AllByRecursion (IsAskedOf config) asked
 
--- the reply to a request that an external address answered so, to its sender
+-- the reply to a request that an external address answered so, to its sender by its door
 abbrev pub reply_to : Address → Asked → Answered → Datagram
 reply_to address a x = record {
   peer = a.from.peer;
   port = a.from.port;
+  door = a.from.door;
   octets = reply_text_of a.from.octets address a.request.items x.answer
       (epoch_of x.moment x.base);
 }

@@ -77,7 +77,7 @@ pub(crate) fn read_batch(
     Ok(requests)
 }
 
-/// The reply of an external address to the request that came from this place of a batch.
+/// The reply of an external address to the request that came from this place of a batch, by its door.
 fn reply_at(
     alloc: Global,
     address: &Address,
@@ -104,6 +104,7 @@ fn reply_at(
     Ok(Datagram {
         peer: from.peer,
         port: from.port,
+        door: from.door,
         octets,
     })
 }

@@ -17,9 +17,9 @@ reply_of-requires c =
     subst (λ (l : List ℕ). 2 ≤ length l)
     (sym (c.items-request.ensures ∙ ap (λ (x : Datagram). x.octets) same)) is.long
 
--- what is sent back to the sender of a datagram
+-- what is sent back to the sender of a datagram, by its door
 abbrev back : Datagram → List ℕ → Datagram
-back from octets = record { peer = from.peer; port = from.port; octets = octets }
+back from octets = record { peer = from.peer; port = from.port; door = from.door; octets = octets }
 
 pub returns : goal.returns
 returns c = λ a is.
