@@ -42,7 +42,7 @@ pub struct Begun<D: LeaseDisk> {
     pub passes: Vec<HousePass<D>>,
     /// The lane of each external address, in order.
     pub lanes: Vec<Lane>,
-    /// What clients of renumbered external addresses are told (RFC 6887, section 14.2).
+    /// What clients of renumbered external addresses are told (RFC 6887, section 14.2), by door 0.
     pub updates: Vec<Datagram>,
     /// The index of the external address of each update.
     pub update_shards: Vec<u32>,

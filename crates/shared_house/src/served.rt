@@ -3,8 +3,8 @@
 use lane_index::Told;
 use pcp_base::Datagram;
 
-/// The replies to a batch, each to its sender, and what the lane of its external address may learn:
-/// all records that are published.
+/// The replies to a batch, each to its sender by the door of its request, and what the lane of its
+/// external address may learn: all records that are published.
 #[derive(Drop)]
 pub struct Served {
     pub replies: Vec<Datagram>,
