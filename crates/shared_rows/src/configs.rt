@@ -3,7 +3,8 @@ ghost use Rattle.std.specs.Prelude.{◌≡◌, ◌≤◌, length, IfOk};
 ghost use Rattle.pcp_base.specs.Configs.{IsConfig, IsExternal};
 
 use pcp_base::{
-    Address, Config, External, Externals, Memory, Moment, Prefix, Prefixes, Subscriber, Subscribers,
+    Address, Addresses, Config, External, Externals, Memory, Moment, Orders, Prefix, Prefixes,
+    Subscriber, Subscribers,
 };
 use std::alloc::Global;
 
@@ -47,6 +48,8 @@ pub(crate) fn one_address(alloc: Global) -> Result<Config, Memory>
         third_party: Prefixes::of(Vec::new(alloc)),
         externals: Externals::of(Vec::from_array(alloc, [external(1)])?),
         subscribers: Subscribers::of(Vec::from_array(alloc, [hosts(0, 0)])?),
+        listen: Addresses::of(Vec::new(alloc)),
+        orders: Orders::Both,
     })
 }
 
@@ -66,5 +69,7 @@ pub(crate) fn two_addresses(alloc: Global) -> Result<Config, Memory>
         third_party: Prefixes::of(Vec::new(alloc)),
         externals: Externals::of(Vec::from_array(alloc, [first, second])?),
         subscribers: Subscribers::of(Vec::from_array(alloc, [hosts(0, 0), hosts(128, 1)])?),
+        listen: Addresses::of(Vec::new(alloc)),
+        orders: Orders::Both,
     })
 }

@@ -36,9 +36,10 @@ fn grant_two<D: LeaseDisk + Drop, R: Wait>(
     requires pass { IsPassOf house.now pass.old }
     ensures { Follows house.now pass.old pass.new }
 {
-    let first = grant(rt, alloc, house, config, pass, host(5_000), 1_010);
-    let second = grant(rt, alloc, house, config, pass, host(6_000), 1_020);
-    (is_granted(&first), is_granted(&second))
+    let (low, high) = (host(5_000), host(6_000));
+    let first = grant(rt, alloc, house, config, pass, low, 1_010);
+    let second = grant(rt, alloc, house, config, pass, high, 1_020);
+    (is_granted(&first, low), is_granted(&second, high))
 }
 
 // The same with the first of the passes.

@@ -28,7 +28,12 @@ static MAP: [u8; 60] = [
     0x00, 0x00, 0x00, 0x00, 0x00, 0x00, 0xff, 0xff, 0x00, 0x00, 0x00, 0x00,
 ];
 
-/// The request of this host for its port.
+/// The door by which this host asks, one of four.
+fn door_of(host: Host) -> u8 {
+    host.last % 4
+}
+
+/// The request of this host for its port, by its door.
 fn request(alloc: Global, host: Host) -> Result<Datagram, Memory> {
     let port = host.port.to_be_bytes();
     let mut octets = MAP;
@@ -39,6 +44,7 @@ fn request(alloc: Global, host: Host) -> Result<Datagram, Memory> {
     Ok(Datagram {
         peer: Address::v4(10, host.second, 0, host.last),
         port: 40_000,
+        door: door_of(host),
         octets: Octets::of(Vec::from_array(alloc, octets)?),
     })
 }
@@ -72,15 +78,22 @@ pub(crate) fn grant<D: LeaseDisk + Drop, R: Wait>(
     Some(house.serve(rt, alloc, pass, slice::from_ref(&request), moment(now)))
 }
 
-/// Whether the one reply to a request is a success.
-pub(crate) fn is_granted(told: &Option<Result<Served, HouseFault>>) -> bool {
+/// Whether a reply goes to this host by the door of its request.
+fn goes_to(reply: &Datagram, host: Host) -> bool {
+    reply.peer == Address::v4(10, host.second, 0, host.last)
+        && reply.port == 40_000
+        && reply.door == door_of(host)
+}
+
+/// Whether the one reply to a request of this host goes to it, and is a success.
+pub(crate) fn is_granted(told: &Option<Result<Served, HouseFault>>, host: Host) -> bool {
     let Some(Ok(served)) = told else {
         return false;
     };
     match served.replies.as_slice() {
         [reply] => {
             let octets = reply.octets.items();
-            octets.len() == 60 && octets[3] == 0
+            goes_to(reply, host) && octets.len() == 60 && octets[3] == 0
         }
         _ => false,
     }

@@ -39,7 +39,7 @@ fn serve_held<D: LeaseDisk + Drop, R: Wait>(
     flags.holds.store(true, Ordering::SeqCst);
     let told = grant(rt, alloc, house, config, pass, host, 1_020);
     flags.served.store(true, Ordering::SeqCst);
-    is_granted(&told)
+    is_granted(&told, host)
 }
 
 // Looks up once a sync waits. Whether the first lease's owner is found.

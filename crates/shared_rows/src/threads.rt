@@ -39,7 +39,7 @@ fn serve_many<R: Wait>(
             port: 5_000 + i % 50,
         };
         let told = grant(rt, alloc, house, config, pass, host, 1_010);
-        count = count.saturating_add(u32::from(is_granted(&told)));
+        count = count.saturating_add(u32::from(is_granted(&told, host)));
     }
     count
 }
