@@ -28,6 +28,9 @@ allowed = record {
   external_addresses = (tt, tt);
   subscriber_count = omega arith;
   subscribers = tt;
+  listen_count = omega arith;
+  listen = tt;
+  listen_different = tt;
 }
 
 only-one : (o p q : Owner) → IsIn p (o ∷ []) → IsIn q (o ∷ []) → p ≡ q

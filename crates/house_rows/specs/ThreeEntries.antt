@@ -4,6 +4,7 @@ use Rattle.std.specs.Prelude.{ℕ, List, [], ◌∷◌, ◌++◌, replicate, tru
 use Rattle.pcp_base.specs.declared.addresses.Address.{Address}
 use Rattle.pcp_base.specs.declared.configs.Config.{Config}
 use Rattle.pcp_base.specs.declared.configs.External.{External}
+use Rattle.pcp_base.specs.declared.configs.Orders.TheVariants.{Both}
 use Rattle.pcp_base.specs.declared.datagrams.Entry.{Entry}
 use Rattle.pcp_base.specs.declared.leases.MapLease.{MapLease}
 use Rattle.pcp_base.specs.declared.leases.Protocol.TheVariants.{Udp}
@@ -27,6 +28,8 @@ served_config = record {
   third_party = [];
   externals = outside ∷ [];
   subscribers = [];
+  listen = [];
+  orders = Both;
 }
 
 abbrev pub served : Served

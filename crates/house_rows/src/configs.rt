@@ -6,7 +6,8 @@ ghost use Rattle.house_lines.specs.Rests.{IsAtRest};
 use lease_disk::{DiskPair, LeaseDisk};
 use lease_house::{SoloHouse, opened_houses_begin};
 use pcp_base::{
-    Address, Config, External, Externals, Memory, Moment, Prefix, Prefixes, Subscriber, Subscribers,
+    Address, Addresses, Config, External, Externals, Memory, Moment, Orders, Prefix, Prefixes,
+    Subscriber, Subscribers,
 };
 use std::alloc::Global;
 
@@ -38,6 +39,8 @@ fn one_address(alloc: Global) -> Result<Config, Memory>
         third_party: Prefixes::of(Vec::new(alloc)),
         externals: Externals::of(Vec::from_array(alloc, [external])?),
         subscribers: Subscribers::of(Vec::from_array(alloc, [subscriber])?),
+        listen: Addresses::of(Vec::new(alloc)),
+        orders: Orders::Both,
     })
 }
 

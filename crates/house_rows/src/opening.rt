@@ -6,7 +6,10 @@ use crate::configs::moment;
 use crate::disks::{NEVER, pair, three, two, written};
 use lease_disk::{DiskPair, LeaseDisk, MemoryDisk};
 use lease_house::{HouseFault, SoloHouse, opened_houses_begin};
-use pcp_base::{Address, Config, Datagram, External, Externals, Memory, Prefixes, Subscribers};
+use pcp_base::{
+    Address, Addresses, Config, Datagram, External, Externals, Memory, Orders, Prefixes,
+    Subscribers,
+};
 use std::alloc::Global;
 use std::test::Fail;
 
@@ -87,6 +90,8 @@ fn config(alloc: Global, last: u8) -> Result<Config, Fail>
         third_party: Prefixes::of(Vec::new(alloc)),
         externals: Externals::of(Vec::from_array(alloc, [first, second])?),
         subscribers: Subscribers::of(Vec::new(alloc)),
+        listen: Addresses::of(Vec::new(alloc)),
+        orders: Orders::Both,
     })
 }
 
@@ -191,6 +196,7 @@ fn updates<D: LeaseDisk + Drop>(
 fn is_update(update: &Datagram, octets: &[u8]) -> bool {
     update.peer == Address::v4(10, 0, 0, 5)
         && update.port == 5_350
+        && update.door == 0
         && update.octets.items() == octets
 }
 

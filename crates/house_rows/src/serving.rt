@@ -83,6 +83,7 @@ fn datagram(alloc: Global, request: &str) -> Result<Datagram, Fail> {
     Ok(Datagram {
         peer: Address::v4(10, 0, 0, 5),
         port: 40_000,
+        door: 0,
         octets: Octets::of(hex::decode(alloc, request.as_bytes())?),
     })
 }
