@@ -6,7 +6,7 @@ use Rattle.std.proofs.Common.{◌≡◌, ℕ, zero, suc, ◌<◌, true, false, L
 use Rattle.pcp_base.specs.declared.addresses.Address.{Address}
 use Rattle.pcp_base.specs.declared.asks.Ask.{Ask}
 use Rattle.pcp_base.specs.declared.asks.Ask.TheVariants as Asks
-use Rattle.pcp_base.specs.declared.configs.Orders.TheVariants as Orders
+use Rattle.pcp_base.specs.declared.configs.Orders.TheVariants.{Both}
 use Rattle.pcp_base.specs.declared.leases.Protocol.TheVariants as Protocols
 use Rattle.pcp_base.specs.Configs.{IsConfig}
 use Rattle.pcp_base.specs.Reached.{IsReached}
@@ -56,7 +56,7 @@ beginning_by quota = record {
     externals = (record { address = host 9; low = 5000; high = 5000 }) ∷ [];
     subscribers = (record { prefix = record { bits = 0; address = host 0 }; external = 0 }) ∷ [];
     listen = [];
-    orders = Orders.Both;
+    orders = Both;
   };
   openings = (record empty_state { base = 1000; address = Some (host 9); last = 1000; started = true }) ∷ [];
   relays = [];
