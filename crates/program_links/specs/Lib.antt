@@ -1,1 +1,3 @@
+pub mod Ears
 pub mod Links
+pub mod Refusals

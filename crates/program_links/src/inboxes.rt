@@ -1,31 +1,210 @@
-//! What comes to a client's command.
-ghost use Rattle.std.specs.Prelude.{◌≤◌, length};
+//! What comes by several doors.
+ghost use Rattle.std.specs.Prelude.{◌≡◌, ◌≤◌, None, IfOk, length};
+ghost use Rattle.pcp_io.specs.Faults.{HasCause};
+ghost use Rattle.pcp_io.specs.Takes.{Takes};
 ghost use Rattle.pcp_io.specs.declared.inboxes.TheConstants.{LONGEST_DATAGRAM};
+ghost use Rattle.program_links.specs.Ears.{all_faults};
 
+use crate::sockets::same_socket;
+use libc::net as c;
+use libc::types::pollfd;
 use pcp_base::Failed;
-use pcp_io::{Inbox, Incoming, LONGEST_DATAGRAM, UdpInbox};
+use pcp_io::{Inbox, Incoming, LONGEST_DATAGRAM, ORDER_DOOR, UdpInbox};
+use std::alloc::{AllocError, Global};
+use std::net::UdpSocket;
+use std::os::fd::AsRawFd;
 
-/// What comes to one socket, and, where nothing does in its waiting time, to a second one.
+/// How long is waited for a datagram, in milliseconds.
+const WAITING_MS: i32 = 100;
+
+/// How many datagrams come by one door at most before all are looked at.
+const MOST_TAKES: u32 = 16;
+
+/// A door at which datagrams come. Its socket is held twice, so that several can be waited for at once.
 #[derive(Drop)]
-pub struct TwoInboxes {
-    /// asked first
-    pub first: UdpInbox,
-    /// asked where nothing came to the first one
-    pub second: UdpInbox,
+pub struct Ear {
+    door: u8,
+    inbox: UdpInbox,
+    socket: Option<UdpSocket>,
 }
 
-impl Inbox for TwoInboxes {
-    ghost use Rattle.std.specs.Prelude.{◌+◌, None};
+impl Ear {
+    /// The ear of this door and its socket. Without one, each take fails.
+    pub fn of(door: u8, socket: Option<UdpSocket>) -> Ear {
+        match same_socket(&socket) {
+            Some(same) if same.set_nonblocking(true).is_ok() => Ear {
+                door,
+                inbox: UdpInbox::of(door, socket),
+                socket: Some(same),
+            },
+            _ => Ear {
+                door,
+                inbox: UdpInbox::of(door, None),
+                socket: None,
+            },
+        }
+    }
+
+    /// What the system is asked of it. Without a socket it is passed over.
+    fn asked(&self) -> pollfd {
+        let fd = match &self.socket {
+            Some(socket) => socket.as_raw_fd(),
+            None => -1,
+        };
+        pollfd {
+            fd,
+            events: c::POLLIN,
+            revents: 0,
+        }
+    }
+}
+
+/// What comes by several doors. A take waits for at most 100 milliseconds, for all of them at once. The
+/// door of orders, where it stands first, is asked first at each wait, unless it was the last one; the
+/// others come in turn. After 16 datagrams of one door all are waited for. A fault of a door is one of
+/// the inbox.
+#[derive(Drop)]
+pub struct DoorsInbox {
+    ears: Vec<Ear>,
+    // what the system is asked of each ear
+    asked: Vec<pollfd>,
+    // the place of an ear that has no socket
+    deaf: Option<usize>,
+    // the place of the ear of the last take
+    last: usize,
+    // the place of the ear whose turn was last
+    turn: usize,
+    // how many datagrams may come from the last ear before all are looked at
+    more: u32,
+}
+
+impl DoorsInbox {
+    /// The inbox of these ears. Where one has no socket, each take fails. The one error is want of memory.
+    pub fn of(alloc: Global, ears: Vec<Ear>) -> Result<DoorsInbox, AllocError> {
+        let mut asked = Vec::new(alloc);
+        for ear in &ears {
+            asked.push(ear.asked())?;
+        }
+        let deaf = ears.iter().position(|ear| ear.socket.is_none());
+        Ok(DoorsInbox {
+            ears,
+            asked,
+            deaf,
+            last: 0,
+            turn: 0,
+            more: 0,
+        })
+    }
+
+    /// The door of the last take; that of orders where there is none.
+    pub(crate) fn last_door(&self) -> u8 {
+        match self.ears.get(self.last) {
+            Some(ear) => ear.door,
+            None => ORDER_DOOR,
+        }
+    }
+
+    /// Whether the next datagram may come from the last ear without a wait. It is counted.
+    fn goes_on(&mut self) -> bool
+        ensures { self.new.ears ≡ self.old.ears }
+    {
+        let goes_on = self.more > 0;
+        self.more = self.more.saturating_sub(1);
+        goes_on
+    }
+
+    /// Waits until something comes, and tells the place of an ear at which it came; none where nothing
+    /// came in the waiting time.
+    fn wait(&mut self) -> Option<usize>
+        ensures { self.new.ears ≡ self.old.ears }
+    {
+        let place = self.ready();
+        if let Some(place) = place {
+            self.more = MOST_TAKES - 1;
+            self.last = place;
+        }
+        place
+    }
+
+    /// The place of the ear that is to be asked; none where nothing came in the waiting time.
+    fn ready(&mut self) -> Option<usize>
+        ensures { self.new.ears ≡ self.old.ears }
+    {
+        if self.deaf.is_some() {
+            return self.deaf;
+        }
+        let count = c::poll(&mut self.asked, WAITING_MS);
+        if count >= 0 && self.is_ordered() {
+            return Some(0);
+        }
+        let next = if count < 0 {
+            place_behind(&self.asked, self.turn, |_asked| true)
+        } else {
+            place_behind(&self.asked, self.turn, |asked| asked.revents != 0)
+        };
+        self.turn = next?;
+        next
+    }
+
+    /// Whether something came at the door of orders, and not at the wait before.
+    fn is_ordered(&self) -> bool {
+        let (Some(ear), Some(asked)) = (self.ears.first(), self.asked.first()) else {
+            return false;
+        };
+        ear.door == ORDER_DOOR && asked.revents != 0 && self.last != 0
+    }
+
+    /// Takes what is there at the ear of this place.
+    fn take_at(&mut self, place: usize, room: &mut [u8]) -> Result<Incoming, Failed>
+        requires { LONGEST_DATAGRAM ≤ length room.old }
+        ensures takes { IfOk result (Takes None None room.new) }
+        ensures cause { HasCause (all_faults self.old.ears.items) (all_faults self.new.ears.items) result }
+    {
+        match self.ears.get_mut(place) {
+            Some(ear) => ear.inbox.take(room),
+            None => Ok(Incoming::Quiet),
+        }
+    }
+}
+
+/// The first place behind this one at which something came, those up to it coming last.
+fn place_behind<F: Fn(&pollfd) -> bool>(asked: &[pollfd], place: usize, came: F) -> Option<usize> {
+    let mut first = None;
+    for (at, one) in asked.iter().enumerate() {
+        if !came(one) {
+            continue;
+        }
+        if at > place {
+            return Some(at);
+        }
+        if first.is_none() {
+            first = Some(at);
+        }
+    }
+    first
+}
+
+impl Inbox for DoorsInbox {
+    ghost use Rattle.std.specs.Prelude.{None};
+    ghost use Rattle.program_links.specs.Ears.{all_faults};
 
     ghost left = { λ _. None };
 
-    ghost faults = { λ b. b.first + b.second };
+    ghost faults = { λ b. all_faults b.ears.items };
 
     fn take(&mut self, room: &mut [u8]) -> Result<Incoming, Failed> {
-        let incoming = self.first.take(room)?;
-        if incoming != Incoming::Quiet {
-            return Ok(incoming);
+        if self.goes_on() {
+            let incoming = self.take_at(self.last, room)?;
+            if incoming != Incoming::Quiet {
+                return Ok(incoming);
+            }
         }
-        self.second.take(room)
+        let Some(place) = self.wait() else {
+            return Ok(Incoming::Quiet);
+        };
+        self.take_at(place, room)
     }
+
+    // Who orders by a datagram hears nothing.
+    fn answered(&mut self, _order: u32, _text: &[u8]) {}
 }

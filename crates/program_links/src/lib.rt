@@ -1,14 +1,19 @@
 //! The sockets of the program's commands, and the inboxes, outboxes, lanes and clocks over them.
 #![tactic(auto)]
 
+mod doors;
+mod ears;
+mod host_links;
 mod inboxes;
+mod outboxes;
 mod relay_inboxes;
 mod server_links;
 mod sockets;
 
-pub use crate::inboxes::TwoInboxes;
+pub use crate::doors::LinksFault;
+pub use crate::ears::client_inbox;
+pub use crate::inboxes::DoorsInbox;
+pub use crate::outboxes::DoorsOutbox;
 pub use crate::relay_inboxes::RelayInbox;
-pub use crate::server_links::{ServerLinks, clocks_of, links_of};
-pub use crate::sockets::{
-    CLIENT_PORT, bound_at, bound_to_all, ip_of, same_socket, socket_at, socket_of_all,
-};
+pub use crate::server_links::{ServerLinks, clocks_of, links_of, no_links};
+pub use crate::sockets::{CLIENT_PORT, ip_of, same_socket, socket_at};

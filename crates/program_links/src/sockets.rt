@@ -1,44 +1,29 @@
-//! The sockets of the commands that use the network.
-ghost use Rattle.std.specs.Prelude.{◌≡◌, IfOk, IfSome, length};
+//! The sockets of the commands that use the network. Each is of one family.
+ghost use Rattle.std.specs.Prelude.{◌≡◌, ◌≤◌, ℤ, pos};
 
-use pcp_base::{Address, Memory};
-use pcp_io::{UdpLane, UdpOutbox};
+use libc::net as c;
+use os::FromRawFd;
+use pcp_base::Address;
 use std::io;
-use std::net::{IpAddr, Ipv4Addr, Ipv6Addr, UdpSocket};
+use std::net::{IpAddr, Ipv4Addr, Ipv6Addr, SocketAddr, UdpSocket};
+use std::os::fd::AsRawFd;
 
 /// The port at which clients hear announcements and updates (RFC 6887, section 19.1).
 pub const CLIENT_PORT: u16 = 5350;
 
-/// A socket of this address and port, or why the system gives none.
-pub fn bound_at(rt: &HostRuntime, ip: IpAddr, port: u16) -> io::Result<UdpSocket> {
-    UdpSocket::bind(rt, (ip, port))
+/// 127.0.0.1 with this port.
+pub fn loopback_at(port: u16) -> SocketAddr {
+    SocketAddr::new(IpAddr::V4(Ipv4Addr::LOCALHOST), port)
 }
 
-/// A socket of this port at all addresses of this host: IPv6 and IPv4 at once where the host has IPv6.
-/// Else why there is none of IPv4.
-pub fn bound_to_all(rt: &HostRuntime, port: u16) -> io::Result<UdpSocket> {
-    match bound_at(rt, IpAddr::V6(Ipv6Addr::UNSPECIFIED), port) {
-        Ok(socket) => Ok(socket),
-        Err(_) => bound_at(rt, IpAddr::V4(Ipv4Addr::UNSPECIFIED), port),
-    }
+/// All IPv4 addresses of this host with this port.
+pub(crate) fn all_v4_at(port: u16) -> SocketAddr {
+    SocketAddr::new(IpAddr::V4(Ipv4Addr::UNSPECIFIED), port)
 }
 
-/// The same socket once more; none where the system gives none.
-pub fn same_socket(socket: &Option<UdpSocket>) -> Option<UdpSocket> {
-    match socket {
-        Some(socket) => socket.try_clone().ok(),
-        None => None,
-    }
-}
-
-/// A socket of this address and port; none where the system gives none.
-pub fn socket_at(rt: &HostRuntime, ip: IpAddr, port: u16) -> Option<UdpSocket> {
-    bound_at(rt, ip, port).ok()
-}
-
-/// A socket of this port at all addresses of this host; none where the system gives none.
-pub fn socket_of_all(rt: &HostRuntime, port: u16) -> Option<UdpSocket> {
-    bound_to_all(rt, port).ok()
+/// All IPv6 addresses of this host with this port.
+pub(crate) fn all_v6_at(port: u16) -> SocketAddr {
+    SocketAddr::new(IpAddr::V6(Ipv6Addr::UNSPECIFIED), port)
 }
 
 /// The address as sockets take it.
@@ -50,47 +35,107 @@ pub fn ip_of(address: Address) -> IpAddr {
     }
 }
 
-/// So many outboxes that send by this socket; none where the system doesn't give as many.
-pub(crate) fn outboxes_by(
-    rt: &HostRuntime,
-    socket: &UdpSocket,
-    count: usize,
-) -> Result<Option<Vec<UdpOutbox>>, Memory>
-    ensures { IfOk result (λ found. IfSome found (λ outs. length outs.items ≡ count)) }
-{
-    let mut outs = Vec::new(rt.alloc());
-    for _place in 0..count {
-        let Ok(same) = socket.try_clone() else {
-            return Ok(None);
-        };
-        outs.push(UdpOutbox::of(Some(same)))?;
-    }
-    Ok(Some(outs))
+/// A socket of this address and port that nobody else has, or why the system gives none. One of IPv6
+/// takes nothing of IPv4.
+pub fn socket_at(at: SocketAddr) -> io::Result<UdpSocket> {
+    let socket = new_socket(at)?;
+    bind(&socket, at)?;
+    Ok(socket)
 }
 
-/// The links of so many lanes, at this port of the loopback and those above it; none where one is taken.
-pub(crate) fn lanes_from(
-    rt: &HostRuntime,
-    port: u16,
-    count: usize,
-) -> Result<Option<Vec<UdpLane>>, Memory>
-    ensures { IfOk result (λ found. IfSome found (λ lanes. length lanes.items ≡ count)) }
-{
-    let mut lanes = Vec::new(rt.alloc());
-    for place in 0..count {
-        let Some(socket) = lane_socket(rt, port, place) else {
-            return Ok(None);
-        };
-        lanes.push(UdpLane::of(Some(socket)))?;
-    }
-    Ok(Some(lanes))
+/// The same, which others of this user may have too, until [`keep`] ends that.
+pub(crate) fn shared_socket_at(at: SocketAddr) -> io::Result<UdpSocket> {
+    let socket = new_socket(at)?;
+    set_shared(&socket, true)?;
+    bind(&socket, at)?;
+    Ok(socket)
 }
 
-/// The socket of the lane at this place.
-fn lane_socket(rt: &HostRuntime, port: u16, place: usize) -> Option<UdpSocket> {
-    let Ok(place) = u16::try_from(place) else {
-        return None;
+/// From now on nobody else gets the address and port of this socket. Those who have them keep them.
+pub(crate) fn keep(socket: &UdpSocket) -> io::Result<()> {
+    set_shared(socket, false)
+}
+
+/// The same socket once more; none where the system gives none.
+pub fn same_socket(socket: &Option<UdpSocket>) -> Option<UdpSocket> {
+    match socket {
+        Some(socket) => socket.try_clone().ok(),
+        None => None,
+    }
+}
+
+/// A socket of the family of this address, of IPv6 alone where it is of that.
+fn new_socket(at: SocketAddr) -> io::Result<UdpSocket> {
+    let kind = c::SOCK_DGRAM | c::SOCK_CLOEXEC;
+    let fd = match at {
+        SocketAddr::V4(_) => unsafe { c::socket(c::AF_INET, kind, 0) },
+        SocketAddr::V6(_) => unsafe { c::socket(c::AF_INET6, kind, 0) },
     };
-    let port = port.checked_add(place)?;
-    socket_at(rt, IpAddr::V4(Ipv4Addr::LOCALHOST), port)
+    if fd < 0 {
+        return Err(last_error());
+    }
+    let socket = unsafe { UdpSocket::from_raw_fd(fd) };
+    if at.is_ipv6() {
+        set_v6_alone(&socket)?;
+    }
+    Ok(socket)
+}
+
+/// The error of the system's last call.
+fn last_error() -> io::Error {
+    io::Error::from_raw_os_error(os::errno())
+}
+
+/// What the system answered to a call.
+fn ended(status: i32) -> io::Result<()> {
+    if status < 0 { Err(last_error()) } else { Ok(()) }
+}
+
+/// An option's value.
+fn switch(on: bool) -> [u8; 16] {
+    let mut value = [0u8; 16];
+    value[..4].copy_from_slice(&i32::from(on).to_ne_bytes());
+    value
+}
+
+/// The socket takes nothing of IPv4.
+fn set_v6_alone(socket: &UdpSocket) -> io::Result<()> {
+    let fd = socket.as_raw_fd();
+    let on = switch(true);
+    ended(unsafe { c::setsockopt(fd, c::IPPROTO_IPV6, c::IPV6_V6ONLY, &on, 4) })
+}
+
+/// Whether others of this user may be bound where the socket is.
+fn set_shared(socket: &UdpSocket, shared: bool) -> io::Result<()> {
+    let fd = socket.as_raw_fd();
+    let value = switch(shared);
+    ended(unsafe { c::setsockopt(fd, c::SOL_SOCKET, c::SO_REUSEPORT, &value, 4) })
+}
+
+/// Gives the socket its address and port.
+fn bind(socket: &UdpSocket, at: SocketAddr) -> io::Result<()> {
+    let (place, length) = place_of(at);
+    let fd = socket.as_raw_fd();
+    ended(unsafe { c::bind(fd, &place, length) })
+}
+
+/// An address and port in the system's form, and how many octets that has.
+fn place_of(at: SocketAddr) -> ([u8; 128], u32)
+    ensures { result.1 ≤ 128 }
+{
+    let mut place = [0u8; 128];
+    place[2..4].copy_from_slice(&at.port().to_be_bytes());
+    match at {
+        SocketAddr::V4(at) => {
+            place[..2].copy_from_slice(&(c::AF_INET as u16).to_ne_bytes());
+            place[4..8].copy_from_slice(&at.ip().octets());
+            (place, 16)
+        }
+        SocketAddr::V6(at) => {
+            place[..2].copy_from_slice(&(c::AF_INET6 as u16).to_ne_bytes());
+            place[8..24].copy_from_slice(&at.ip().octets());
+            place[24..28].copy_from_slice(&at.scope_id().to_ne_bytes());
+            (place, 28)
+        }
+    }
 }
