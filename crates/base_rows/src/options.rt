@@ -1,8 +1,8 @@
 //! That verdicts and replies mean these octets, and that calls succeed with ample memory.
 use crate::rows::none_other;
 use pcp_base::{
-    Address, Answer, Code, Config, Externals, Memory, PortSet, Prefix, Prefixes, Subscriber,
-    Subscribers,
+    Address, Addresses, Answer, Code, Config, Externals, Memory, Orders, PortSet, Prefix, Prefixes,
+    Subscriber, Subscribers,
 };
 use pcp_codec::{Framed, read_request};
 use pcp_options::{Verdict, judge, read_options, write_reply};
@@ -75,6 +75,8 @@ fn config(alloc: Global, third_party: Vec<Prefix>) -> Result<Config, AllocError>
         third_party: Prefixes::of(third_party),
         externals: Externals::of(Vec::new(alloc)),
         subscribers: Subscribers::of(vec![in alloc; row]?),
+        listen: Addresses::of(Vec::new(alloc)),
+        orders: Orders::Both,
     })
 }
 

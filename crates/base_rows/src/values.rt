@@ -1,8 +1,9 @@
 //! What moments, codes, leases and pairs mean, and that calls succeed with ample memory.
 use crate::rows::none_other;
 use pcp_base::{
-    Address, Change, Code, Config, Endpoint, Externals, Filter, Filters, MapLease, Memory, Moment,
-    Nonce, PeerLease, Prefix, Prefixes, Protocol, Record, Subscriber, Subscribers, epoch, pair,
+    Address, Addresses, Change, Code, Config, Endpoint, Externals, Filter, Filters, MapLease,
+    Memory, Moment, Nonce, Orders, PeerLease, Prefix, Prefixes, Protocol, Record, Subscriber,
+    Subscribers, epoch, pair,
 };
 use std::alloc::{AllocError, Global};
 
@@ -119,6 +120,8 @@ fn pairs_by_the_first_row(rt: HostRuntime) -> Result<(), Memory> {
         third_party: Prefixes::of(Vec::new(alloc)),
         externals: Externals::of(Vec::new(alloc)),
         subscribers: Subscribers::of(subscribers(alloc)?),
+        listen: Addresses::of(Vec::new(alloc)),
+        orders: Orders::Both,
     };
     let near = pair(&config, &Address::v4(10, 1, 255, 7));
     let wide = pair(&config, &Address::v4(10, 2, 0, 7));

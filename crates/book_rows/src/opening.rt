@@ -5,7 +5,9 @@ ghost use Rattle.pcp_base.specs.Configs.{IsConfig, IsExternal};
 
 use indexed_store::IndexedStore;
 use lease_disk::{DiskPair, LeaseDisk};
-use pcp_base::{Address, Config, External, Externals, Moment, Prefixes, Subscribers};
+use pcp_base::{
+    Address, Addresses, Config, External, Externals, Moment, Orders, Prefixes, Subscribers,
+};
 use shard_book::{Book, Found, LeaseBook, Unopened};
 use std::alloc::Global;
 use std::test::Fail;
@@ -43,6 +45,8 @@ fn config(alloc: Global, external: &External) -> Result<Config, Fail>
         third_party: Prefixes::of(Vec::new(alloc)),
         externals: Externals::of(externals),
         subscribers: Subscribers::of(Vec::new(alloc)),
+        listen: Addresses::of(Vec::new(alloc)),
+        orders: Orders::Both,
     })
 }
 

@@ -6,7 +6,9 @@ ghost use Rattle.lease_store.specs.LeaseTerms.{AreTerms};
 
 use lease_core::{Core, LeaseCore};
 use lease_store::Terms;
-use pcp_base::{Address, Config, External, Externals, MOST_QUOTA, Prefixes, Subscribers};
+use pcp_base::{
+    Address, Addresses, Config, External, Externals, MOST_QUOTA, Orders, Prefixes, Subscribers,
+};
 use plain_store::PlainStore;
 use std::alloc::Global;
 use std::test::Fail;
@@ -45,6 +47,8 @@ fn config(alloc: Global, external: &External, quota: u32) -> Result<Config, Fail
         third_party: Prefixes::of(Vec::new(alloc)),
         externals: Externals::of(Vec::from_array(alloc, [*external])?),
         subscribers: Subscribers::of(Vec::new(alloc)),
+        listen: Addresses::of(Vec::new(alloc)),
+        orders: Orders::Both,
     })
 }
 

@@ -2,8 +2,8 @@
 //! ample memory.
 use super::*;
 use pcp_base::{
-    Address, Answer, Ask, Code, Config, External, Externals, Prefix, Prefixes, Protocol, Refusal,
-    Subscriber, Subscribers,
+    Address, Addresses, Answer, Ask, Code, Config, External, Externals, Orders, Prefix, Prefixes,
+    Protocol, Refusal, Subscriber, Subscribers,
 };
 use std::alloc::{AllocError, Global};
 use std::test::Fail;
@@ -58,6 +58,8 @@ fn config(alloc: Global) -> Result<Config, AllocError> {
         third_party: Prefixes::of(Vec::new(alloc)),
         externals: Externals::of(vec![in alloc; external]?),
         subscribers: Subscribers::of(vec![in alloc; row]?),
+        listen: Addresses::of(Vec::new(alloc)),
+        orders: Orders::Both,
     })
 }
 

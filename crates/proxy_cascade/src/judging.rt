@@ -3,7 +3,8 @@ ghost use Rattle.std.specs.Prelude.{◌≡◌, IfOk};
 ghost use Rattle.proxy_cascade.specs.Cascades.{for_itself};
 
 use pcp_base::{
-    Address, Config, External, Externals, Memory, Prefix, Prefixes, Subscriber, Subscribers,
+    Address, Addresses, Config, External, Externals, Memory, Orders, Prefix, Prefixes, Subscriber,
+    Subscribers,
 };
 use std::alloc::Global;
 
@@ -30,5 +31,7 @@ pub(crate) fn for_itself(alloc: Global) -> Result<Config, Memory>
         third_party: Prefixes::of(Vec::new(alloc)),
         externals: Externals::of(vec![in alloc; external]?),
         subscribers: Subscribers::of(vec![in alloc; subscriber]?),
+        listen: Addresses::of(Vec::new(alloc)),
+        orders: Orders::Both,
     })
 }

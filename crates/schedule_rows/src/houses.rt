@@ -5,7 +5,8 @@ ghost use Rattle.pcp_base.specs.Configs.{IsConfig};
 use lease_disk::{DiskPair, LeaseDisk, MemoryDisk};
 use lease_house::SoloHouse;
 use pcp_base::{
-    Address, Config, External, Externals, Memory, Moment, Prefix, Prefixes, Subscriber, Subscribers,
+    Address, Addresses, Config, External, Externals, Memory, Moment, Orders, Prefix, Prefixes,
+    Subscriber, Subscribers,
 };
 use std::alloc::Global;
 
@@ -41,6 +42,8 @@ fn config(alloc: Global, relay: Address) -> Result<Config, Memory>
         third_party: Prefixes::of(Vec::from_array(alloc, [asking])?),
         externals: Externals::of(Vec::from_array(alloc, [external])?),
         subscribers: Subscribers::of(Vec::from_array(alloc, [subscriber])?),
+        listen: Addresses::of(Vec::new(alloc)),
+        orders: Orders::Both,
     })
 }
 

@@ -1,7 +1,9 @@
 //! Datagrams that are judged, and no more.
 
 use crate::timing::Timed;
-use pcp_base::{Address, Ask, Config, Externals, Prefix, Prefixes, Subscriber, Subscribers};
+use pcp_base::{
+    Address, Addresses, Ask, Config, Externals, Orders, Prefix, Prefixes, Subscriber, Subscribers,
+};
 use pcp_options::{Verdict, judge};
 use std::alloc::Global;
 use std::time::CpuClock;
@@ -30,6 +32,8 @@ pub(crate) fn served(alloc: Global) -> anyhow::Result<Config> {
         third_party: Prefixes::of(Vec::new(alloc)),
         externals: Externals::of(Vec::new(alloc)),
         subscribers: Subscribers::of(subscribers),
+        listen: Addresses::of(Vec::new(alloc)),
+        orders: Orders::Both,
     })
 }
 

@@ -13,8 +13,8 @@ use anyhow::{Context, bail};
 use lease_core::{Core, LeaseCore, decisions_fit};
 use lease_store::LeaseStore;
 use pcp_base::{
-    Address, Answer, Ask, Change, Config, External, Externals, Memory, Moment, Prefixes, Record,
-    Replay, Subscribers, states_are_sound,
+    Address, Addresses, Answer, Ask, Change, Config, External, Externals, Memory, Moment, Orders,
+    Prefixes, Record, Replay, Subscribers, states_are_sound,
 };
 use std::alloc::Global;
 use std::time::CpuClock;
@@ -45,6 +45,8 @@ fn config(alloc: Global, external: &External, quota: u32) -> anyhow::Result<Conf
         third_party: Prefixes::of(Vec::new(alloc)),
         externals: Externals::of(externals),
         subscribers: Subscribers::of(Vec::new(alloc)),
+        listen: Addresses::of(Vec::new(alloc)),
+        orders: Orders::Both,
     })
 }
 

@@ -2,7 +2,9 @@
 ghost use Rattle.std.specs.Prelude.{◌≡◌, IfOk};
 ghost use Rattle.pcp_base.specs.Configs.{IsConfig, IsExternal};
 
-use pcp_base::{Address, Config, External, Externals, Moment, Prefixes, Subscribers};
+use pcp_base::{
+    Address, Addresses, Config, External, Externals, Moment, Orders, Prefixes, Subscribers,
+};
 use std::alloc::Global;
 use std::test::Fail;
 
@@ -36,5 +38,7 @@ pub(crate) fn config(alloc: Global, external: &External) -> Result<Config, Fail>
         third_party: Prefixes::of(Vec::new(alloc)),
         externals: Externals::of(externals),
         subscribers: Subscribers::of(Vec::new(alloc)),
+        listen: Addresses::of(Vec::new(alloc)),
+        orders: Orders::Both,
     })
 }

@@ -1,7 +1,7 @@
 //! What lines of scripts mean and put out, and that calls succeed with ample memory.
 use pcp_base::{
-    Address, Config, Datagram, Endpoint, External, Externals, Memory, Octets, Owner, OwnerList,
-    Prefixes, Protocol, Subscribers,
+    Address, Addresses, Config, Datagram, Endpoint, External, Externals, Memory, Octets, Orders,
+    Owner, OwnerList, Prefixes, Protocol, Subscribers,
 };
 use pcp_script::{Line, LineRefused, LineResult, Load, read_line, write_result};
 use std::alloc::{AllocError, Global};
@@ -82,6 +82,8 @@ pub(crate) fn config(alloc: Global) -> Result<Config, AllocError> {
         third_party: Prefixes::of(Vec::new(alloc)),
         externals: Externals::of(externals),
         subscribers: Subscribers::of(Vec::new(alloc)),
+        listen: Addresses::of(Vec::new(alloc)),
+        orders: Orders::Both,
     })
 }
 
