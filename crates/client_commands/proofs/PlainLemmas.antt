@@ -3,6 +3,7 @@ use Rattle.std.proofs.Common.{◌≡◌, ◌≢◌, ℕ, ◌<◌, ◌^◌, List,
 use Rattle.std.specs.List.{AllPass}
 use Rattle.std.specs.Prelude.{Bool, IfSome, is_some}
 use Rattle.std.proofs.lemmas.List.Elements.{All-contains, All-from_recursion, All-head, All-nil, All-tail}
+use Rattle.std.specs.Net.Grammar.{IsColonHex}
 use Rattle.std.specs.Net.Text.{dotted_text}
 use Rattle.hex.specs.Hex.{is_hex_digit}
 use Rattle.hex.proofs.HexLemmas.{decode_of-ok, decode_sized-ok, decode_sized-twice}
@@ -17,6 +18,7 @@ use Rattle.clap.specs.Takes.{is_given}
 use Rattle.clap.specs.Walk.{Row, Rule, Text, arg_by_id, arg_by_long, first_of}
 use Rattle.pcp_base.specs.AddressTexts.{IsAddressText, IsLongText}
 use Rattle.pcp_base.specs.declared.addresses.Address.{Address}
+use Rattle.pcp_base.proofs.ColonLemmas.{IsColonOctet, All-colon_hex}
 use Rattle.pcp_base.specs.declared.leases.Protocol.{Protocol}
 use Rattle.pcp_base.specs.declared.leases.Protocol.TheVariants.{Tcp, Udp}
 use Rattle.client_commands.specs.declared.commands.ClientCommand.{ClientCommand}
@@ -78,6 +80,15 @@ bare_pairs text a long rest e =
     let first : false ≡ true = digits 0 45 (omega arith) in
     absurd (cc (first))
 
+not_hyphen : ¬ (IsColonOctet 45)
+not_hyphen (inl h) = omega (arith, h)
+not_hyphen (inr (inl h)) = omega (arith, h)
+not_hyphen (inr (inr (inl h))) = omega (arith, h)
+not_hyphen (inr (inr (inr h))) = omega (arith, h)
+
+bare_colon : (text groups : Text) → IsColonHex text groups → HasNoHyphen text
+bare_colon text groups is rest e = not_hyphen (subst (All IsColonOctet) e (All-colon_hex text groups is) 0 45 (omega arith))
+
 address_value : (given : Option Text) (a : Address) → IsAddressAt given a → IfSome given IsValue
 address_value None a is = absurd is
 address_value (Some text) a is = is_value text (either is)
@@ -86,7 +97,8 @@ address_value (Some text) a is = is_value text (either is)
     either (inl dotted) =
         let d = dotted.1 in
         begins_bare text (subst BeginsWell (sym d.spelled) (begins_dotted d.a d.b d.c d.d d.fit.0))
-    either (inr long) = bare_pairs text a long
+    either (inr (inl long)) = bare_pairs text a long
+    either (inr (inr colon)) = bare_colon text colon.0 colon.1
 
 number_value : (range : NumberRange) (given : Option Text) (n : ℕ) → range.high < 2 ^ 64 → IsNumberAt range given n → IfSome given IsValue
 number_value range None n bound is = tt

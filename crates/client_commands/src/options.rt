@@ -86,7 +86,7 @@ fn with_target<'a>(alloc: Global, command: Command<'a>) -> Result<Command<'a>, A
         command,
         "server",
         "ADDRESS",
-        "Address of the server, dotted or 32 hexadecimal digits",
+        "Address of the server, such as 192.0.2.1 or 2001:db8::1",
     )?;
     let command = with_needed(
         alloc,

@@ -10,6 +10,7 @@ use Rattle.hex.specs.Hex.{decode_sized, is_hex_digit}
 use Rattle.hex.proofs.HexLemmas.{IsOk-decode_sized}
 use Rattle.pcp_base.specs.AddressTexts.{IsAddressText}
 use Rattle.pcp_base.specs.declared.addresses.Address.{Address}
+use Rattle.pcp_base.proofs.ColonLemmas.{IsColonHex-utf8}
 
 dot : IsAscii (codes ".")
 dot = IsAscii-cons 46 [] (omega arith) IsAscii-nil
@@ -34,4 +35,5 @@ long text a h =
 
 pub IsUtf8-address : (text : List ℕ) (a : Address) → IsAddressText text a → IsUtf8 text
 IsUtf8-address text a (inl h) = IsUtf8-from_ascii text (dotted text h.0 h.1)
-IsUtf8-address text a (inr h) = IsUtf8-from_ascii text (long text a h)
+IsUtf8-address text a (inr (inl h)) = IsUtf8-from_ascii text (long text a h)
+IsUtf8-address text a (inr (inr h)) = IsColonHex-utf8 text h.0 h.1

@@ -13,6 +13,7 @@ use Rattle.pcp_base.specs.declared.addresses.Address.{Address}
 use Rattle.pcp_base.specs.declared.configs.External.{External}
 use Rattle.pcp_base.specs.declared.leases.Protocol.{Protocol}
 use Rattle.pcp_base.specs.declared.leases.Protocol.TheVariants.{Tcp, Udp}
+use Rattle.pcp_base.proofs.ColonLemmas.{IsColonOctet, All-colon_hex}
 use Rattle.pcp_base.proofs.Members.{All-append}
 use Rattle.pcp_script.specs.Fields.{IsMomentField, IsPortField, IsProtocolField, IsHexField, IsExternalField}
 use Rattle.pcp_script.specs.Words.{IsWord}
@@ -52,9 +53,16 @@ digits-of_hex-word text octets h = All-recursive (λ c. is_hex_digit c ≡ true)
 long-word : (text octets : List ℕ) → decode_sized text 16 ≡ Ok octets → IsWord text
 long-word text octets h = digits-of_hex-word text octets (sym (decode_sized-twice text 16 (decode_sized-ok text 16 octets h)) ∙ h)
 
+colon-no_space : (c : ℕ) → IsColonOctet c → c ≢ 32
+colon-no_space c (inl h) e = omega (arith, h, e)
+colon-no_space c (inr (inl h)) e = omega (arith, h, e)
+colon-no_space c (inr (inr (inl h))) e = omega (arith, h, e)
+colon-no_space c (inr (inr (inr h))) e = omega (arith, h, e)
+
 pub address-word : (text : List ℕ) (a : Address) → IsAddressText text a → IsWord text
 address-word text a (inl h) = dotted-word text h.0 h.1
-address-word text a (inr h) = long-word text a.0 h
+address-word text a (inr (inl h)) = long-word text a.0 h
+address-word text a (inr (inr h)) = All-recursive IsColonOctet (λ c. ¬ (c ≡ 32)) text colon-no_space (All-colon_hex text h.0 h.1)
 
 pub moment-word : (text : List ℕ) (moment : ℕ) → IsMomentField text moment → IsWord text
 moment-word text moment h = rw h.0 (decimal-word moment (omega (arith, h.1)))

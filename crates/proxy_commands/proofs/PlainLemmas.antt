@@ -3,6 +3,7 @@ use Rattle.std.proofs.Common.{◌≡◌, ◌≢◌, ℕ, ◌<◌, ◌^◌, List,
 use Rattle.std.specs.List.{AllPass}
 use Rattle.std.specs.Prelude.{Bool, IfSome, Ok, is_some}
 use Rattle.std.proofs.lemmas.List.Elements.{All-contains, All-from_recursion, All-head, All-nil, All-tail}
+use Rattle.std.specs.Net.Grammar.{IsColonHex}
 use Rattle.std.specs.Net.Text.{dotted_text}
 use Rattle.hex.specs.Hex.{decode_sized, is_hex_digit}
 use Rattle.hex.proofs.HexLemmas.{decode_of-ok, decode_sized-ok, decode_sized-twice}
@@ -17,6 +18,7 @@ use Rattle.clap.specs.Takes.{is_given}
 use Rattle.clap.specs.Walk.{Row, Rule, Text, arg_by_id, arg_by_long}
 use Rattle.pcp_base.specs.AddressTexts.{IsAddressText}
 use Rattle.pcp_base.specs.declared.addresses.Address.{Address}
+use Rattle.pcp_base.proofs.ColonLemmas.{IsColonOctet, All-colon_hex}
 use Rattle.client_commands.specs.Commands.{port_range, value_in}
 use Rattle.client_commands.specs.PlainWords.{AreGiven, Given, IsOneOf, flag, option, value_given}
 use Rattle.client_commands.specs.Values.{IsAddressAt, IsNumberAt}
@@ -75,6 +77,15 @@ begins_dotted a b c d fits =
     let dot = codes "." in
     begins_more _ (decimal d) (begins_more _ dot (begins_more _ (decimal c) (begins_more _ dot (begins_more _ (decimal b) (begins_more _ dot (begins_number a (omega (arith, fits))))))))
 
+not_hyphen : ¬ (IsColonOctet 45)
+not_hyphen (inl h) = omega (arith, h)
+not_hyphen (inr (inl h)) = omega (arith, h)
+not_hyphen (inr (inr (inl h))) = omega (arith, h)
+not_hyphen (inr (inr (inr h))) = omega (arith, h)
+
+bare_colon : (text groups : Text) → IsColonHex text groups → HasNoHyphen text
+bare_colon text groups is rest e = not_hyphen (subst (All IsColonOctet) e (All-colon_hex text groups is) 0 45 (omega arith))
+
 address_value : (given : Option Text) (a : Address) → IsAddressAt given a → IfSome given IsValue
 address_value None a is = absurd is
 address_value (Some text) a is = is_value text (either is)
@@ -83,7 +94,8 @@ address_value (Some text) a is = is_value text (either is)
     either (inl dotted) =
         let d = dotted.1 in
         begins_bare text (subst BeginsWell (sym d.spelled) (begins_dotted d.a d.b d.c d.d d.fit.0))
-    either (inr long) = bare_pairs 16 text a.0 long
+    either (inr (inl long)) = bare_pairs 16 text a.0 long
+    either (inr (inr colon)) = bare_colon text colon.0 colon.1
 
 key_value : (given : Option Text) (key : List ℕ) → IsKeyAt given key → IfSome given IsValue
 key_value None key is = absurd is

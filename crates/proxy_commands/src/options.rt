@@ -49,7 +49,7 @@ fn with_addresses<'a>(alloc: Global, command: Command<'a>) -> Result<Command<'a>
         command,
         "server",
         "ADDRESS",
-        "Address of the upstream server, dotted or 32 hexadecimal digits",
+        "Address of the upstream server, such as 192.0.2.1 or 2001:db8::1",
     )?;
     let command = with_needed(
         alloc,

@@ -31,7 +31,7 @@ impl fmt::Display for Form {
             Form::Path => f.write_str("a path"),
             Form::Number(least, most) => write!(f, "a whole number from {least} to {most}"),
             Form::Protocol => f.write_str("6 or 17"),
-            Form::Address => f.write_str("an address such as 10.0.0.5, or 32 hexadecimal digits"),
+            Form::Address => f.write_str("an address such as 10.0.0.5 or 2001:db8::5"),
             Form::External => f.write_str("an external address of the configuration"),
             Form::Hex(most) => write!(f, "-, or hexadecimal digits, two an octet, at most {most}"),
         }

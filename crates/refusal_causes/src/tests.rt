@@ -64,7 +64,7 @@ static LINES: [(&str, &str); 18] = [
     ),
     (
         "packet 0 10.0.0 40000 -",
-        "ADDRESS: expected an address such as 10.0.0.5, or 32 hexadecimal digits",
+        "ADDRESS: expected an address such as 10.0.0.5 or 2001:db8::5",
     ),
     (
         "packet 0 10.0.0.5 65536 -",
@@ -88,7 +88,7 @@ static LINES: [(&str, &str); 18] = [
     ),
     (
         "look 0 192.0.2.1 6 9 10.0.0.256 0",
-        "REMOTE: expected an address such as 10.0.0.5, or 32 hexadecimal digits",
+        "REMOTE: expected an address such as 10.0.0.5 or 2001:db8::5",
     ),
     (
         "look 0 192.0.2.1 6 9 10.0.0.5 -",
