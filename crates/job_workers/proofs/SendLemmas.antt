@@ -1,13 +1,17 @@
 -- Replies that are handed on one after the other.
-use Rattle.std.proofs.Common.{◌≡◌, ℕ, ◌+◌, ◌<◌, ◌≤◌, Bool, true, false, not, List, [], ◌∷◌, ◌++◌, length, map, filter, take, get_or, Option, None, Some, refl, sym, ap, ◌∙◌, subst, inl, inr, append_assoc, arith, length-append, suc, if◌then◌else◌}
+use Rattle.std.proofs.Common.{◌≡◌, ℕ, ◌+◌, ◌<◌, ◌≤◌, Bool, true, false, not, List, [], ◌∷◌, ◌++◌, length, map, filter, take, get_or, slice_get, Option, None, Some, option_to_list, refl, sym, ap, ◌∙◌, subst, inl, inr, append_assoc, arith, length-append, suc, if◌then◌else◌}
 use Rattle.std.proofs.lemmas.List.{length-map, length-take, take_more}
 use Rattle.std.proofs.lemmas.List.{append-nil, map-append}
-use Rattle.std.proofs.lemmas.List.Elements.{filter-append}
-use Rattle.pcp_base.specs.declared.addresses.Address.{Address}
+use Rattle.std.proofs.lemmas.List.Elements.{filter-append, filter_map-append}
+use Rattle.std.proofs.lemmas.Option.{get_or_from_slice_get, slice_get_within}
+use Rattle.std.specs.List.{cons_option, filter_map}
 use Rattle.pcp_base.specs.declared.datagrams.Datagram.{Datagram}
+use Rattle.pcp_announce.specs.declared.doors.Door.{Door}
+use Rattle.pcp_announce.specs.declared.doors.Group.{Group}
+use Rattle.pcp_announce.specs.Doors.{group_of}
 use Rattle.pcp_io.specs.Sends.{sent_with}
 use Rattle.job_workers.specs.declared.tallies.Sends.{Sends}
-use Rattle.job_workers.specs.Sends.{Handed, HandsAll, HandsOn, HandsOne, HasRisenBy, TellsAll, sent_count, taken_of, unsent_count}
+use Rattle.job_workers.specs.Sends.{Handed, HandsAll, HandsOn, HandsOne, HasRisenBy, TellsAll, sent_count, taken_of, to_all, to_group, unsent_count}
 
 pub sent_with-append : (before : Option (List Datagram)) (xs ys : List Datagram) → sent_with (sent_with before xs) ys ≡ sent_with before (xs ++ ys)
 sent_with-append None xs ys = refl
@@ -116,15 +120,37 @@ pub counts_one-if : (s : Sends) (b : Bool) → (if b then record s { sent = s.se
 counts_one-if s true = refl
 counts_one-if s false = refl
 
--- one peer after the other
-pub tells_both : (a b : Address) (port : ℕ) (octets : List ℕ) (p q : Bool) (s t u : Option (List Datagram)) (f g h : ℕ)
-    → HandsOne (record { peer = a; port = port; octets = octets }) p s t f g → HandsOne (record { peer = b; port = port; octets = octets }) q t u g h
-    → TellsAll (a ∷ b ∷ []) port octets s u f h
-tells_both a b port octets p q s t u f g h first second =
-    let one : List Handed = record { reply = record { peer = a; port = port; octets = octets }; sent = p } ∷ [] in
-    let two : List Handed = record { reply = record { peer = b; port = port; octets = octets }; sent = q } ∷ [] in
-    record {
-      handed = record { reply = record { peer = a; port = port; octets = octets }; sent = p } ∷ two;
-      told = refl;
-      sends = HandsAll-append one two s t u f g h first second;
-    }
+-- to one group
+pub tells-one : (g : Option Group) (group : Group) (port : ℕ) (octets : List ℕ) (b : Bool) (a c : Option (List Datagram)) (f h : ℕ) → g ≡ Some group
+    → HandsOne (to_group port octets group) b a c f h → TellsAll (option_to_list g) port octets a c f h
+tells-one g group port octets b a c f h some one =
+    rw some record { handed = record { reply = to_group port octets group; sent = b } ∷ []; told = refl; sends = one }
+
+tells-append : (xs ys : List Group) (port : ℕ) (octets : List ℕ) (a b c : Option (List Datagram)) (f g h : ℕ)
+    → TellsAll xs port octets a b f g → TellsAll ys port octets b c g h → TellsAll (xs ++ ys) port octets a c f h
+tells-append xs ys port octets a b c f g h p q = record {
+  handed = p.handed ++ q.handed;
+  told = map-append (λ (x : Handed). x.reply) p.handed q.handed ∙ ap (λ ds. ds ++ map (λ (x : Handed). x.reply) q.handed) p.told
+      ∙ ap (λ ds. to_all xs port octets ++ ds) q.told ∙ sym (map-append (to_group port octets) xs ys);
+  sends = HandsAll-append p.handed q.handed a b c f g h p.sends q.sends;
+}
+
+one_group : (g : Option Group) → cons_option g [] ≡ option_to_list g
+one_group None = refl
+one_group (Some g) = refl
+
+-- the group of the next door comes behind those of the doors before it
+groups-more : (ds : List Door) (i : ℕ) (d : Door) → slice_get ds i ≡ Some d
+    → filter_map group_of (take (i + 1) ds) ≡ filter_map group_of (take i ds) ++ option_to_list (group_of d)
+groups-more ds i d at =
+    let next : take (i + 1) ds ≡ take i ds ++ d ∷ [] =
+    take_more ds i d (slice_get_within ds i d at) ∙ ap (λ (x : Door). take i ds ++ x ∷ []) (get_or_from_slice_get ds i d d at) in
+    ap (filter_map group_of) next ∙ filter_map-append group_of (take i ds) (d ∷ []) ∙ ap (λ gs. filter_map group_of (take i ds) ++ gs) (one_group (group_of d))
+
+-- one door more
+pub tells-more : (ds : List Door) (i : ℕ) (d : Door) (port : ℕ) (octets : List ℕ) (a b c : Option (List Datagram)) (f g h : ℕ)
+    → slice_get ds i ≡ Some d → TellsAll (filter_map group_of (take i ds)) port octets a b f g
+    → TellsAll (option_to_list (group_of d)) port octets b c g h → TellsAll (filter_map group_of (take (i + 1) ds)) port octets a c f h
+tells-more ds i d port octets a b c f g h at p q =
+    subst (λ (gs : List Group). TellsAll gs port octets a c f h) (sym (groups-more ds i d at))
+    (tells-append (filter_map group_of (take i ds)) (option_to_list (group_of d)) port octets a b c f g h p q)

@@ -1,7 +1,7 @@
 -- Replies that are handed to an outbox (our own).
 use Rattle.std.specs.Prelude.{◌≡◌, ℕ, ◌+◌, ◌-◌, ◌^◌, ◌≤◌, ◌⊎◌, Bool, not, List, [], ◌∷◌, length, map, filter, Option}
-use Rattle.pcp_base.specs.declared.addresses.Address.{Address}
 use Rattle.pcp_base.specs.declared.datagrams.Datagram.{Datagram}
+use Rattle.pcp_announce.specs.declared.doors.Group.{Group}
 use Rattle.pcp_io.specs.Sends.{sent_with}
 use Rattle.job_workers.specs.declared.tallies.Sends.{Sends}
 
@@ -46,14 +46,18 @@ pub record HandsOn (replies : List Datagram) (sends : Sends) (before now : Optio
   pub sent : sends.sent ≡ sent_count handed
   pub failed : sends.failed ≡ unsent_count handed
 
--- the same octets to all of these peers, in order
-abbrev pub to_all : List Address → ℕ → List ℕ → List Datagram
-to_all peers port octets =
-    map (λ peer. record { peer = peer; port = port; octets = octets }) peers
+-- octets to this port of all hosts of a group, by its door
+abbrev pub to_group : ℕ → List ℕ → Group → Datagram
+to_group port octets group =
+    record { peer = group.hosts; port = port; door = group.door; octets = octets }
 
--- these octets were handed on to all of these peers, in order
-pub record TellsAll (peers : List Address) (port : ℕ) (octets : List ℕ)
+-- the same octets to all of these groups, in order
+abbrev pub to_all : List Group → ℕ → List ℕ → List Datagram
+to_all groups port octets = map (to_group port octets) groups
+
+-- these octets were handed on to all of these groups, in order
+pub record TellsAll (groups : List Group) (port : ℕ) (octets : List ℕ)
     (before now : Option (List Datagram)) (faults_before faults_now : ℕ) : Type 0 where
   pub handed : List Handed
-  pub told : map (λ h. h.reply) handed ≡ to_all peers port octets
+  pub told : map (λ h. h.reply) handed ≡ to_all groups port octets
   pub sends : HandsAll handed before now faults_before faults_now

@@ -12,7 +12,7 @@ mod workers;
 
 pub use finishing::finish;
 pub use houses::JobHouse;
-pub use sends::{send_all, send_to_both};
+pub use sends::{send_all, send_one, send_to_groups};
 pub use tallies::{Sends, Tally, TallyRow};
 pub use work_loop::{work, work_off};
 pub use worker_threads::run_workers;

@@ -1,18 +1,29 @@
 //! Datagrams to an outbox.
-ghost use Rattle.std.specs.Prelude.{◌≡◌, ◌+◌, ◌-◌, ◌^◌, ◌<◌, ◌∷◌, [], if◌then◌else◌};
+ghost use Rattle.std.specs.Prelude.{◌≡◌, ◌+◌, ◌-◌, ◌^◌, ◌<◌, option_to_list, if◌then◌else◌};
+ghost use Rattle.pcp_base.specs.Configs.{IsConfig};
+ghost use Rattle.pcp_announce.specs.Doors.{group_of, groups};
 ghost use Rattle.job_workers.specs.Sends.{HandsOn, HandsOne, TellsAll};
 
 use crate::tallies::Sends;
-use pcp_base::{Address, Datagram};
+use pcp_announce::{Door, door_at, door_count, group_of};
+use pcp_base::{Address, Config, Datagram};
 use pcp_io::Outbox;
 
-/// Sends one reply, and says whether the outbox took it.
-fn send_one<O: Outbox>(out: &mut O, reply: &Datagram) -> bool
+/// Sends octets to a peer by this door, and says whether the outbox took them.
+pub fn send_one<O: Outbox>(out: &mut O, door: u8, peer: Address, port: u16, octets: &[u8]) -> bool
+    ensures { HandsOne (record { peer = peer; port = port; door = door; octets = octets.now }) result
+        (O.sent out.old) (O.sent out.new) (O.faults out.old) (O.faults out.new) }
+{
+    out.send(door, peer, port, octets).is_ok()
+}
+
+/// Sends a reply by its door, and says whether the outbox took it.
+fn send_reply<O: Outbox>(out: &mut O, reply: &Datagram) -> bool
     ensures { HandsOne reply.now result
         (O.sent out.old) (O.sent out.new) (O.faults out.old) (O.faults out.new) }
 {
-    out.send(reply.peer, reply.port, reply.octets.items())
-        .is_ok()
+    let octets = reply.octets.items();
+    send_one(out, reply.door, reply.peer, reply.port, octets)
 }
 
 /// One send more.
@@ -33,7 +44,7 @@ fn after_one(sends: Sends, sent: bool) -> Sends
     }
 }
 
-/// Sends all replies in order, each once. One whose send fails is lost.
+/// Sends all replies in order, each once and by its door. One whose send fails is lost.
 pub fn send_all<O: Outbox>(out: &mut O, replies: &[Datagram]) -> Sends
     ensures { HandsOn replies.now result
         (O.sent out.old) (O.sent out.new) (O.faults out.old) (O.faults out.new) }
@@ -41,31 +52,33 @@ pub fn send_all<O: Outbox>(out: &mut O, replies: &[Datagram]) -> Sends
     let mut sends = Sends { sent: 0, failed: 0 };
     let count = replies.len();
     for i in 0..count {
-        let sent = send_one(out, &replies[i]);
+        let sent = send_reply(out, &replies[i]);
         sends = after_one(sends, sent);
     }
     sends
 }
 
-/// Sends octets to a peer, and says whether the outbox took them.
-fn send_to<O: Outbox>(out: &mut O, peer: Address, port: u16, octets: &[u8]) -> bool
-    ensures { HandsOne (record { peer = peer; port = port; octets = octets.now }) result
+/// Sends octets by this door, where it announces.
+fn send_by<O: Outbox>(out: &mut O, door: &Door, port: u16, octets: &[u8])
+    ensures { TellsAll (option_to_list (group_of door.now)) port octets.now
         (O.sent out.old) (O.sent out.new) (O.faults out.old) (O.faults out.new) }
 {
-    out.send(peer, port, octets).is_ok()
+    let Some(group) = group_of(door) else {
+        return;
+    };
+    let _sent = send_one(out, group.door, group.hosts, port, octets);
 }
 
-/// Sends the same octets to this port of two peers, one after the other.
-pub fn send_to_both<O: Outbox>(
-    out: &mut O,
-    first: Address,
-    second: Address,
-    port: u16,
-    octets: &[u8],
-)
-    ensures { TellsAll (first ∷ second ∷ []) port octets.now
+/// Sends the same octets to this port of all hosts to whom the server's doors announce, by each of these
+/// doors, in order.
+pub fn send_to_groups<O: Outbox>(out: &mut O, config: &Config, port: u16, octets: &[u8])
+    requires { IsConfig config.now }
+    ensures { TellsAll (groups config.now) port octets.now
         (O.sent out.old) (O.sent out.new) (O.faults out.old) (O.faults out.new) }
 {
-    let _told_first = send_to(out, first, port, octets);
-    let _told_second = send_to(out, second, port, octets);
+    let count = door_count(config);
+    for place in 0..count {
+        let door = door_at(config, place);
+        send_by(out, &door, port, octets);
+    }
 }

@@ -10,5 +10,5 @@ after_one-sends-requires g c =
 
 pub loop-i-preserved : goal.loop-i-preserved
 loop-i-preserved g c =
-    HandsOn-more c.args.replies.now c.loop-i.i c.index-replies-i.result c.send_one-sent.result c.loop-i.sends c.after_one-sends.result _ _ _ _ _ _
-    c.loop-i.invariant (search rules) c.index-replies-i.is c.send_one-sent.ensures (c.after_one-sends.ensures ∙ counts_one-if c.loop-i.sends c.send_one-sent.result)
+    HandsOn-more c.args.replies.now c.loop-i.i c.index-replies-i.result c.send_reply-sent.result c.loop-i.sends c.after_one-sends.result _ _ _ _ _ _
+    c.loop-i.invariant (search rules) c.index-replies-i.is c.send_reply-sent.ensures (c.after_one-sends.ensures ∙ counts_one-if c.loop-i.sends c.send_reply-sent.result)
