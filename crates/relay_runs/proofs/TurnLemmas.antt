@@ -7,7 +7,7 @@ use Rattle.pcp_base.specs.declared.datagrams.Datagram.{Datagram}
 use Rattle.pcp_base.specs.Tables.{same_address}
 use Rattle.pcp_base.specs.declared.errors.Memory.{Memory}
 use Rattle.pcp_io.specs.declared.inboxes.InboxItem.{InboxItem}
-use Rattle.pcp_io.specs.declared.inboxes.InboxItem.TheVariants.{Packet, Lose, Quiet}
+use Rattle.pcp_io.specs.declared.inboxes.InboxItem.TheVariants.{Packet, Lose, Status, Quiet}
 use Rattle.pcp_io.specs.declared.inboxes.Incoming.{Incoming}
 use Rattle.pcp_io.specs.declared.inboxes.Incoming.TheVariants as Incomings
 use Rattle.pcp_io.specs.Faults.{HasRisen}
@@ -79,13 +79,14 @@ risen-after before mid now later (inr b) = inr b
 
 pub starves : (incoming : Incoming) (room : List ℕ) (now : ℕ) (a b : Links) → incoming ≢ Incomings.Stop → IsNextItem a.left b.left (item_of incoming room)
     → IsTimeNow a.times b.times now → a.faults ≤ b.faults → IfSome (item_of incoming room) IsPacket → b.outs ≡ a.outs → Starves a b
-starves (Incomings.Packet peer port k) room now a b on given time later packet outs = record {
-  turn = record { item = Packet (record { peer = peer; port = port; octets = take k room }); time = now };
+starves (Incomings.Packet peer port door k) room now a b on given time later packet outs = record {
+  turn = record { item = Packet (record { peer = peer; port = port; door = door; octets = take k room }); time = now };
   takes = record { given = given; time = time; later = later };
   packet = tt;
   outs = outs;
 }
-starves (Incomings.Lose address) room now a b on given time later packet outs = absurd packet
+starves (Incomings.Lose order address) room now a b on given time later packet outs = absurd packet
+starves (Incomings.Status order) room now a b on given time later packet outs = absurd packet
 starves Incomings.Quiet room now a b on given time later packet outs = absurd packet
 starves Incomings.Stop room now a b on given time later packet outs = absurd (on refl)
 
@@ -229,9 +230,10 @@ module _ {S : Type 0} (m : Machine S) where
       → IsNextItem a.left b.left (item_of incoming room) → IsTimeNow a.times b.times now → a.faults ≤ b.faults → s ≡ m.on_tick r now → IsOk result
       → IfSome (item_of incoming room) (λ item. OnOk result (Does m server (event_of server item now) s t a.outs b.outs)) → IsTurn m server r t None a b
   goes_on server r s t incoming room now (Err e) a b on given time later tick ok does = absurd cc
-  goes_on server r s t (Incomings.Packet peer port k) room now (Ok u) a b on given time later tick ok does =
-      did_item server r s t now a b (Packet (record { peer = peer; port = port; octets = take k room })) given time later tick does
-  goes_on server r s t (Incomings.Lose address) room now (Ok u) a b on given time later tick ok does = did_item server r s t now a b (Lose address) given time later tick does
+  goes_on server r s t (Incomings.Packet peer port door k) room now (Ok u) a b on given time later tick ok does =
+      did_item server r s t now a b (Packet (record { peer = peer; port = port; door = door; octets = take k room })) given time later tick does
+  goes_on server r s t (Incomings.Lose order address) room now (Ok u) a b on given time later tick ok does = did_item server r s t now a b (Lose order address) given time later tick does
+  goes_on server r s t (Incomings.Status order) room now (Ok u) a b on given time later tick ok does = did_item server r s t now a b (Status order) given time later tick does
   goes_on server r s t Incomings.Quiet room now (Ok u) a b on given time later tick ok does = did_item server r s t now a b Quiet given time later tick does
   goes_on server r s t Incomings.Stop room now (Ok u) a b on given time later tick ok does = absurd (on refl)
 

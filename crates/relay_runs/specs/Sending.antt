@@ -19,7 +19,7 @@ abbrev pub up_by : Address → ProxyOut → List Datagram
 up_by server Nothing = []
 up_by server (Reply d) = []
 up_by server (Up octets) =
-    record { peer = server; port = SERVER_PORT; octets = octets } ∷ []
+    record { peer = server; port = SERVER_PORT; door = 0; octets = octets } ∷ []
 
 module _ {S : Type 0} (m : Machine S) where
   -- what goes down for an event, and what goes up

@@ -4,7 +4,7 @@ use Rattle.pcp_base.specs.declared.addresses.Address.{Address}
 use Rattle.pcp_base.specs.declared.datagrams.Datagram.{Datagram}
 use Rattle.pcp_base.specs.Tables.{same_address}
 use Rattle.pcp_io.specs.declared.inboxes.InboxItem.{InboxItem}
-use Rattle.pcp_io.specs.declared.inboxes.InboxItem.TheVariants.{Packet, Lose, Quiet}
+use Rattle.pcp_io.specs.declared.inboxes.InboxItem.TheVariants.{Packet, Lose, Status, Quiet}
 use Rattle.proxy_core.specs.Runs.{Event}
 use Rattle.proxy_core.specs.Runs.Event.{Client, Server, Tick}
 
@@ -20,7 +20,8 @@ packet_event server d time =
 
 abbrev pub event_of : Address → InboxItem → ℕ → List Event
 event_of server (Packet d) time = packet_event server d time ∷ []
-event_of server (Lose address) time = []
+event_of server (Lose order address) time = []
+event_of server (Status order) time = []
 event_of server Quiet time = []
 
 -- a tick, and then the item at the same time
@@ -32,5 +33,6 @@ events_of server turns = flat_map (turn_events server) turns
 
 abbrev pub IsPacket : InboxItem → Type 0
 IsPacket (Packet d) = ⊤
-IsPacket (Lose address) = ⊥
+IsPacket (Lose order address) = ⊥
+IsPacket (Status order) = ⊥
 IsPacket Quiet = ⊥

@@ -38,11 +38,13 @@ fn send_out<O: Outbox>(server: &Address, down: &mut O, up: &mut O, out: ProxyOut
 }
 
 fn to_server(server: &Address, octets: Octets) -> Datagram
-    ensures { result ≡ record { peer = server.now; port = SERVER_PORT; octets = octets } }
+    ensures { result
+        ≡ record { peer = server.now; port = SERVER_PORT; door = 0; octets = octets } }
 {
     Datagram {
         peer: *server,
         port: SERVER_PORT,
+        door: 0,
         octets,
     }
 }
@@ -81,14 +83,21 @@ fn relay_packet<M: RelayMachine, O: Outbox>(
     Ok(())
 }
 
-/// A datagram from this peer.
-fn datagram_from(alloc: Global, peer: Address, port: u16, octets: &[u8]) -> Result<Datagram, Memory>
+/// A datagram that came from this peer by this door.
+fn datagram_from(
+    alloc: Global,
+    peer: Address,
+    port: u16,
+    door: u8,
+    octets: &[u8],
+) -> Result<Datagram, Memory>
     ensures { IfOk result
-        (λ d. d ≡ record { peer = peer; port = port; octets = octets.now }) }
+        (λ d. d ≡ record { peer = peer; port = port; door = door; octets = octets.now }) }
 {
     Ok(Datagram {
         peer,
         port,
+        door,
         octets: Octets::of(octets.to_vec(alloc)?),
     })
 }
@@ -121,11 +130,17 @@ pub(crate) fn relay_item<M: RelayMachine, O: Outbox>(
     ensures err { OnErr result ((down.new ≡ down.old) × (up.new ≡ up.old)) }
 {
     match incoming {
-        Incoming::Packet { peer, port, length } => {
-            let datagram = datagram_from(alloc, peer, port, &room[..length])?;
+        Incoming::Packet {
+            peer,
+            port,
+            door,
+            length,
+        } => {
+            let datagram = datagram_from(alloc, peer, port, door, &room[..length])?;
             relay_packet(alloc, server, machine, down, up, &datagram, now_ms)
         }
-        Incoming::Lose(_address) => Ok(()),
+        Incoming::Lose(_order, _address) => Ok(()),
+        Incoming::Status(_order) => Ok(()),
         Incoming::Quiet => Ok(()),
         Incoming::Stop => Ok(()),
     }

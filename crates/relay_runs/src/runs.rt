@@ -62,7 +62,7 @@ fn do_turn<M: RelayMachine, O: Outbox, I: Inbox, T: Clock>(
 /// `from` the clock is read once, the relay ticks, and then hears the item at the same time: a
 /// packet whose peer is the server's address came from upstream, and any other from a client. What
 /// it gives for clients is sent by `down`, and its own requests by `up`, to [`SERVER_PORT`] of the
-/// server; a send that fails is a lost packet. A `Lose` is ignored.
+/// server; a send that fails is a lost packet. A `Lose` and a `Status` are ignored.
 ///
 /// `Done` after a stop; `LinkFault` where the inbox failed; `Memory` where none was found for a
 /// datagram, for which nothing was sent then.
