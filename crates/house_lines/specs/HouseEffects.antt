@@ -8,11 +8,16 @@ use Rattle.pcp_script.specs.declared.results.LineResult.TheVariants as Told
 use Rattle.script_player.specs.Houses.{LineEffects}
 use Rattle.lease_histories.specs.PlainHouses.{PlainHouse, look_in, lose_after, lost_count, owners_in, packet_after, packet_reply}
 
--- a reply goes back to where the datagram came from; a silent one has none
+-- a reply goes back to where the datagram came from, by the door at which it came; a silent one has none
 abbrev pub told_reply : Datagram → Option (List ℕ) → LineResult
 told_reply from None = Told.Silent
 told_reply from (Some octets) =
-    Told.Reply (record { peer = from.peer; port = from.port; octets = octets })
+    Told.Reply (record {
+      peer = from.peer;
+      port = from.port;
+      door = from.door;
+      octets = octets;
+    })
 
 -- the house after a line: one that looks up changes nothing
 abbrev pub line_after : PlainHouse → Line → PlainHouse

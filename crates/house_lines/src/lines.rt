@@ -34,6 +34,7 @@ fn told_reply(from: &Datagram, reply: Option<Octets>) -> LineResult
         Some(octets) => LineResult::Reply(Datagram {
             peer: from.peer,
             port: from.port,
+            door: from.door,
             octets,
         }),
         None => LineResult::Silent,
