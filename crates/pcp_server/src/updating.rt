@@ -23,6 +23,7 @@ fn line_of(alloc: Global, update: &Datagram) -> Result<Vec<u8>, Memory>
     let to = Datagram {
         peer: update.peer,
         port: update.port,
+        door: update.door,
         octets: Octets::of(octets),
     };
     let mut text = Vec::new(alloc);
