@@ -90,6 +90,7 @@ fn asked(host: &Host, octets: Octets) -> Packet {
         out: Datagram {
             peer: host.server,
             port: 5_351,
+            door: 0,
             octets,
         },
         origin: None,

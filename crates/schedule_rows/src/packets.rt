@@ -31,6 +31,7 @@ pub(crate) fn datagram(alloc: Global, peer: Address, octets: &[u8]) -> Result<Da
     Ok(Datagram {
         peer,
         port: 5_351,
+        door: 0,
         octets: Octets::of(octets.to_vec(alloc)?),
     })
 }

@@ -69,6 +69,7 @@ fn hears_client(
             let out = Datagram {
                 peer: relay.server,
                 port: 5_351,
+                door: 0,
                 octets,
             };
             Some(sent(relay, out, None))

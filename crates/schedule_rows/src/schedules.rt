@@ -103,6 +103,7 @@ fn replies(alloc: Global, world: &mut World, to: Address, octets: Octets) -> Res
         out: Datagram {
             peer: to,
             port: 5_351,
+            door: 0,
             octets,
         },
         origin: Some(Origin {

@@ -180,6 +180,7 @@ fn result_of(alloc: Global, told: &Told) -> Result<LineResult, AllocError> {
             LineResult::Reply(Datagram {
                 peer: *peer,
                 port: *port,
+                door: 0,
                 octets: Octets::of(octets),
             })
         }
@@ -272,7 +273,7 @@ fn requests_of_number_7(rt: HostRuntime) -> Result<(), Fail> {
     for (x, y, want) in &REQUESTS {
         let from = load.next(rt.alloc())?;
         assert!(rt; from.peer == Address::v4(10, 0, *x, *y));
-        assert!(rt; from.port == 40_000);
+        assert!(rt; from.port == 40_000 && from.door == 0);
         let digits = hex::encode(rt.alloc(), from.octets.items())?;
         assert!(rt; digits.as_bytes() == *want, "{digits}");
     }

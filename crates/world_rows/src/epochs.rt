@@ -30,6 +30,7 @@ fn datagram(alloc: Global, peer: Address, octets: &[u8]) -> Result<Datagram, Mem
     Ok(Datagram {
         peer,
         port: 5_351,
+        door: 0,
         octets: Octets::of(octets.to_vec(alloc)?),
     })
 }
