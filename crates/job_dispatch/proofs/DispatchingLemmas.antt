@@ -10,10 +10,8 @@ use Rattle.pcp_io.specs.declared.inboxes.Incoming.TheVariants as Incomings
 use Rattle.pcp_io.specs.declared.inboxes.InboxItem.TheVariants as Items
 use Rattle.pcp_io.specs.Takes.{IsNextItem, item_of}
 use Rattle.pcp_announce.specs.declared.doors.Group.{Group}
-use Rattle.pcp_announce.specs.Doors.{groups}
 use Rattle.job_workers.specs.HouseCalls.{HouseCalls}
 use Rattle.job_dispatch.specs.declared.ports.Port.{Port}
-use Rattle.job_dispatch.specs.declared.ports.TheConstants.{ANNOUNCEMENT_PORT}
 use Rattle.job_dispatch.specs.Announcing.{AnnounceState, Announces}
 use Rattle.job_dispatch.specs.Dispatches.{ArePorts, ChangesPort, Dispatched, Fate, Put, Full, Starved, Ignored, HasFate, IsFate, IsPort, port_full, port_starved, port_with}
 use Rattle.job_dispatch.specs.PortsAfter.{ArePortsAfter}
@@ -74,68 +72,68 @@ pass_after house groups port old new h a = a.told.stays.is h
 
 -- ---- items so far
 
-pub record HasDispatched {P : Type 0} (house : HouseCalls P) (config : Config) (queues : List TableId) (old now : DispatchState P) : Type 0 where
+pub record HasDispatched {P : Type 0} (house : HouseCalls P) (config : Config) (queues : List TableId) (groups : List Group) (port : ℕ) (old now : DispatchState P) : Type 0 where
   pub dispatched : List Dispatched
-  pub does : DoesItems house config dispatched old now
+  pub does : DoesItems house config groups port dispatched old now
   pub ports : ArePorts config queues now.ports
   pub pass : house.is_pass now.announcing.pass
 
-pub HasDispatched-none : {P : Type 0} (house : HouseCalls P) (config : Config) (queues : List TableId) (a : DispatchState P)
-    → ArePorts config queues a.ports → house.is_pass a.announcing.pass → HasDispatched house config queues a a
-HasDispatched-none house config queues a ports pass = record { dispatched = []; does = refl; ports = ports; pass = pass }
+pub HasDispatched-none : {P : Type 0} (house : HouseCalls P) (config : Config) (queues : List TableId) (groups : List Group) (port : ℕ) (a : DispatchState P)
+    → ArePorts config queues a.ports → house.is_pass a.announcing.pass → HasDispatched house config queues groups port a a
+HasDispatched-none house config queues groups port a ports pass = record { dispatched = []; does = refl; ports = ports; pass = pass }
 
-items-push : {P : Type 0} (house : HouseCalls P) (config : Config) (ds : List Dispatched) (d : Dispatched) (a b c : DispatchState P)
-    → DoesItems house config ds a b → DoesItem house config d b c → DoesItems house config (ds ++ d ∷ []) a c
-items-push {P} house config [] d a b c is does = (c, subst (λ (s : DispatchState P). DoesItem house config d s c) is does, refl)
-items-push house config (x ∷ xs) d a b c h does = (h.0, h.1, items-push house config xs d h.0 b c h.2 does)
+items-push : {P : Type 0} (house : HouseCalls P) (config : Config) (groups : List Group) (port : ℕ) (ds : List Dispatched) (d : Dispatched) (a b c : DispatchState P)
+    → DoesItems house config groups port ds a b → DoesItem house config groups port d b c → DoesItems house config groups port (ds ++ d ∷ []) a c
+items-push {P} house config groups port [] d a b c is does = (c, subst (λ (s : DispatchState P). DoesItem house config groups port d s c) is does, refl)
+items-push house config groups port (x ∷ xs) d a b c h does = (h.0, h.1, items-push house config groups port xs d h.0 b c h.2 does)
 
 -- one item more
-pub turn_on : {P : Type 0} (house : HouseCalls P) (config : Config) (queues : List TableId) (a b c : DispatchState P) (result : Result Bool Failed)
-    → HasDispatched house config queues a b → IsItemTurn house config b c result → result ≡ Ok true → HasDispatched house config queues a c
-turn_on house config queues a b c (Ok true) h turn is = record {
+pub turn_on : {P : Type 0} (house : HouseCalls P) (config : Config) (queues : List TableId) (groups : List Group) (port : ℕ) (a b c : DispatchState P) (result : Result Bool Failed)
+    → HasDispatched house config queues groups port a b → IsItemTurn house config groups port b c result → result ≡ Ok true → HasDispatched house config queues groups port a c
+turn_on house config queues groups port a b c (Ok true) h turn is = record {
   dispatched = h.dispatched ++ turn.0 ∷ [];
-  does = items-push house config h.dispatched turn.0 a b c h.does turn.1;
+  does = items-push house config groups port h.dispatched turn.0 a b c h.does turn.1;
   ports = ports_after config queues turn.0.item turn.0.fate b.ports c.ports h.ports turn.1.fate;
-  pass = pass_after house _ _ b.announcing c.announcing h.pass turn.1.announced;
+  pass = pass_after house groups port b.announcing c.announcing h.pass turn.1.announced;
 }
-turn_on house config queues a b c (Ok false) h turn is = absurd (let e : ◌≡◌ {A = Result Bool Failed} (Ok false) (Ok true) = is in cc)
-turn_on house config queues a b c (Err fault) h turn is = absurd (let e : ◌≡◌ {A = Result Bool Failed} (Err fault) (Ok true) = is in cc)
+turn_on house config queues groups port a b c (Ok false) h turn is = absurd (let e : ◌≡◌ {A = Result Bool Failed} (Ok false) (Ok true) = is in cc)
+turn_on house config queues groups port a b c (Err fault) h turn is = absurd (let e : ◌≡◌ {A = Result Bool Failed} (Err fault) (Ok true) = is in cc)
 
 -- the end
-pub ends_by_stop : {P : Type 0} (house : HouseCalls P) (config : Config) (queues : List TableId) (a b c : DispatchState P) (result : Result Bool Failed)
-    → HasDispatched house config queues a b → IsItemTurn house config b c result → result ≡ Ok false → RunsDispatcher house config a c (Ok tt)
-ends_by_stop house config queues a b c (Ok false) h turn is = record {
+pub ends_by_stop : {P : Type 0} (house : HouseCalls P) (config : Config) (queues : List TableId) (groups : List Group) (port : ℕ) (a b c : DispatchState P) (result : Result Bool Failed)
+    → HasDispatched house config queues groups port a b → IsItemTurn house config groups port b c result → result ≡ Ok false → RunsDispatcher house config groups port a c (Ok tt)
+ends_by_stop house config queues groups port a b c (Ok false) h turn is = record {
   dispatched = h.dispatched;
   last = b;
   does = h.does;
   ends = turn;
-  ports = subst (λ (ps : List Port). ArePortsAfter 0 h.dispatched a.ports ps) (sym turn.same.0) (after_items house config h.dispatched a b h.does);
+  ports = subst (λ (ps : List Port). ArePortsAfter 0 h.dispatched a.ports ps) (sym turn.same.0) (after_items house config groups port h.dispatched a b h.does);
 }
-ends_by_stop house config queues a b c (Ok true) h turn is = absurd (let e : ◌≡◌ {A = Result Bool Failed} (Ok true) (Ok false) = is in cc)
-ends_by_stop house config queues a b c (Err fault) h turn is = absurd (let e : ◌≡◌ {A = Result Bool Failed} (Err fault) (Ok false) = is in cc)
+ends_by_stop house config queues groups port a b c (Ok true) h turn is = absurd (let e : ◌≡◌ {A = Result Bool Failed} (Ok true) (Ok false) = is in cc)
+ends_by_stop house config queues groups port a b c (Err fault) h turn is = absurd (let e : ◌≡◌ {A = Result Bool Failed} (Err fault) (Ok false) = is in cc)
 
-pub ends_by_fault : {P : Type 0} (house : HouseCalls P) (config : Config) (queues : List TableId) (a b c : DispatchState P) (result : Result Bool Failed) (fault : Failed)
-    → HasDispatched house config queues a b → IsItemTurn house config b c result → result ≡ Err fault → RunsDispatcher house config a c (Err fault)
-ends_by_fault house config queues a b c (Err f) fault h turn is = record {
+pub ends_by_fault : {P : Type 0} (house : HouseCalls P) (config : Config) (queues : List TableId) (groups : List Group) (port : ℕ) (a b c : DispatchState P) (result : Result Bool Failed) (fault : Failed)
+    → HasDispatched house config queues groups port a b → IsItemTurn house config groups port b c result → result ≡ Err fault → RunsDispatcher house config groups port a c (Err fault)
+ends_by_fault house config queues groups port a b c (Err f) fault h turn is = record {
   dispatched = h.dispatched;
   last = b;
   does = h.does;
   ends = turn;
-  ports = subst (λ (ps : List Port). ArePortsAfter 0 h.dispatched a.ports ps) (sym turn.same.0) (after_items house config h.dispatched a b h.does);
+  ports = subst (λ (ps : List Port). ArePortsAfter 0 h.dispatched a.ports ps) (sym turn.same.0) (after_items house config groups port h.dispatched a b h.does);
 }
-ends_by_fault house config queues a b c (Ok true) fault h turn is = absurd (let e : ◌≡◌ {A = Result Bool Failed} (Ok true) (Err fault) = is in cc)
-ends_by_fault house config queues a b c (Ok false) fault h turn is = absurd (let e : ◌≡◌ {A = Result Bool Failed} (Ok false) (Err fault) = is in cc)
+ends_by_fault house config queues groups port a b c (Ok true) fault h turn is = absurd (let e : ◌≡◌ {A = Result Bool Failed} (Ok true) (Err fault) = is in cc)
+ends_by_fault house config queues groups port a b c (Ok false) fault h turn is = absurd (let e : ◌≡◌ {A = Result Bool Failed} (Ok false) (Err fault) = is in cc)
 
 -- an item that isn't a stop was announced and handed on
-pub item_turn : {P : Type 0} (house : HouseCalls P) (config : Config) (old new : DispatchState P) (incoming : Incoming) (room : List ℕ)
-    → IsNextItem old.left new.left (item_of incoming room) → old.faults ≤ new.faults → incoming ≢ Incomings.Stop → Announces house (groups config) ANNOUNCEMENT_PORT old.announcing new.announcing
-    → IfSome (item_of incoming room) (λ item. HasFate config item old.ports new.ports) → (d : Dispatched) × DoesItem house config d old new
-item_turn house config old new (Incomings.Packet peer at door n) room next later on announced h =
+pub item_turn : {P : Type 0} (house : HouseCalls P) (config : Config) (groups : List Group) (port : ℕ) (old new : DispatchState P) (incoming : Incoming) (room : List ℕ)
+    → IsNextItem old.left new.left (item_of incoming room) → old.faults ≤ new.faults → incoming ≢ Incomings.Stop → Announces house groups port old.announcing new.announcing
+    → IfSome (item_of incoming room) (λ item. HasFate config item old.ports new.ports) → (d : Dispatched) × DoesItem house config groups port d old new
+item_turn house config groups port old new (Incomings.Packet peer at door n) room next later on announced h =
     (record { item = Items.Packet (record { peer = peer; port = at; door = door; octets = take n room }); fate = h.0 }, record { given = next; later = later; announced = announced; fate = h.1 })
-item_turn house config old new (Incomings.Lose order address) room next later on announced h =
+item_turn house config groups port old new (Incomings.Lose order address) room next later on announced h =
     (record { item = Items.Lose order address; fate = h.0 }, record { given = next; later = later; announced = announced; fate = h.1 })
-item_turn house config old new (Incomings.Status order) room next later on announced h =
+item_turn house config groups port old new (Incomings.Status order) room next later on announced h =
     (record { item = Items.Status order; fate = h.0 }, record { given = next; later = later; announced = announced; fate = h.1 })
-item_turn house config old new Incomings.Quiet room next later on announced h =
+item_turn house config groups port old new Incomings.Quiet room next later on announced h =
     (record { item = Items.Quiet; fate = h.0 }, record { given = next; later = later; announced = announced; fate = h.1 })
-item_turn house config old new Incomings.Stop room next later on announced h = absurd (on refl)
+item_turn house config groups port old new Incomings.Stop room next later on announced h = absurd (on refl)

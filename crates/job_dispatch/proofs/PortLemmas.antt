@@ -5,6 +5,7 @@ use Rattle.std.proofs.lemmas.Bool.{eq-eqb, ne_eqb}
 use Rattle.std.proofs.lemmas.List.{append-nil}
 use Rattle.pcp_base.specs.declared.configs.Config.{Config}
 use Rattle.pcp_io.specs.declared.inboxes.InboxItem.{InboxItem}
+use Rattle.pcp_announce.specs.declared.doors.Group.{Group}
 use Rattle.job_workers.specs.HouseCalls.{HouseCalls}
 use Rattle.job_dispatch.specs.declared.ports.Port.{Port}
 use Rattle.job_queue.specs.declared.jobs.Job.{Job}
@@ -109,7 +110,7 @@ after_item config item Ignored old new f =
 -- ---- all items
 
 -- What stands in the ports after all items is what their fates say.
-pub after_items : {P : Type 0} (house : HouseCalls P) (config : Config) (ds : List Dispatched) (a b : DispatchState P) → DoesItems house config ds a b → ArePortsAfter 0 ds a.ports b.ports
-after_items house config [] a b does = subst (λ (s : DispatchState _). ArePortsAfter 0 [] a.ports s.ports) (sym does) (are_none 0 a.ports)
-after_items house config (d ∷ ds) a b does =
-    all_follow 0 d ds a.ports does.0.ports b.ports (after_item config d.item d.fate a.ports does.0.ports does.1.fate) (after_items house config ds does.0 b does.2)
+pub after_items : {P : Type 0} (house : HouseCalls P) (config : Config) (groups : List Group) (port : ℕ) (ds : List Dispatched) (a b : DispatchState P) → DoesItems house config groups port ds a b → ArePortsAfter 0 ds a.ports b.ports
+after_items house config groups port [] a b does = subst (λ (s : DispatchState _). ArePortsAfter 0 [] a.ports s.ports) (sym does) (are_none 0 a.ports)
+after_items house config groups port (d ∷ ds) a b does =
+    all_follow 0 d ds a.ports does.0.ports b.ports (after_item config d.item d.fate a.ports does.0.ports does.1.fate) (after_items house config groups port ds does.0 b does.2)

@@ -5,9 +5,8 @@ use Rattle.pcp_base.specs.declared.errors.Failed.{Failed}
 use Rattle.pcp_io.specs.declared.inboxes.InboxItem.{InboxItem}
 use Rattle.pcp_io.specs.Faults.{HasRisen}
 use Rattle.pcp_io.specs.Takes.{IsNextItem}
-use Rattle.pcp_announce.specs.Doors.{groups}
+use Rattle.pcp_announce.specs.declared.doors.Group.{Group}
 use Rattle.job_workers.specs.HouseCalls.{HouseCalls}
-use Rattle.job_dispatch.specs.declared.ports.TheConstants.{ANNOUNCEMENT_PORT}
 use Rattle.job_dispatch.specs.declared.ports.Port.{Port}
 use Rattle.job_dispatch.specs.Announcing.{AnnounceState, Announces}
 use Rattle.job_dispatch.specs.Dispatches.{Dispatched, IsFate}
@@ -36,32 +35,32 @@ module _ {P : Type 0} where
   EndsDispatcher old new (Ok done) = EndsByStop old new
   EndsDispatcher old new (Err fault) = EndsByFault old new
 
-module _ {P : Type 0} (house : HouseCalls P) (config : Config) where
-  -- The inbox gave the item, announcements were made by the doors of the configuration, and the
-  -- item has this fate. The inbox's count hasn't fallen.
-  pub record DoesItem (d : Dispatched) (old new : DispatchState P) : Type 0 where
-    pub given : IsNextItem old.left new.left (Some d.item)
-    pub later : old.faults ≤ new.faults
-    pub announced : Announces house (groups config) ANNOUNCEMENT_PORT
-        old.announcing new.announcing
-    pub fate : IsFate config d.item d.fate old.ports new.ports
+module _ {P : Type 0} (house : HouseCalls P) (config : Config) (groups : List Group) (port : ℕ)
+  where
+    -- The inbox gave the item, announcements were made, and the item has this fate. The inbox's
+    -- count hasn't fallen.
+    pub record DoesItem (d : Dispatched) (old new : DispatchState P) : Type 0 where
+      pub given : IsNextItem old.left new.left (Some d.item)
+      pub later : old.faults ≤ new.faults
+      pub announced : Announces house groups port old.announcing new.announcing
+      pub fate : IsFate config d.item d.fate old.ports new.ports
 
-  abbrev pub DoesItems : List Dispatched → DispatchState P → DispatchState P → Type 0
-  DoesItems [] old new = new ≡ old
-  DoesItems (d ∷ ds) old new =
-      (mid : DispatchState P) × DoesItem d old mid × DoesItems ds mid new
+    abbrev pub DoesItems : List Dispatched → DispatchState P → DispatchState P → Type 0
+    DoesItems [] old new = new ≡ old
+    DoesItems (d ∷ ds) old new =
+        (mid : DispatchState P) × DoesItem d old mid × DoesItems ds mid new
 
-  abbrev pub IsItemTurn : DispatchState P → DispatchState P → Result Bool Failed → Type 0
-  IsItemTurn old new (Ok true) = (d : Dispatched) × DoesItem d old new
-  IsItemTurn old new (Ok false) = EndsByStop old new
-  IsItemTurn old new (Err fault) = EndsByFault old new
+    abbrev pub IsItemTurn : DispatchState P → DispatchState P → Result Bool Failed → Type 0
+    IsItemTurn old new (Ok true) = (d : Dispatched) × DoesItem d old new
+    IsItemTurn old new (Ok false) = EndsByStop old new
+    IsItemTurn old new (Err fault) = EndsByFault old new
 
-  -- items one after the other, and how it ended: Ok only where the inbox stopped
-  pub record RunsDispatcher (old new : DispatchState P) (result : Result (Unit {0}) Failed)
-      : Type 0 where
-    pub dispatched : List Dispatched
-    pub last : DispatchState P
-    pub does : DoesItems dispatched old last
-    pub ends : EndsDispatcher last new result
-    -- so each port has put, and counted, what the fates say
-    pub ports : ArePortsAfter 0 dispatched old.ports new.ports
+    -- items one after the other, and how it ended: Ok only where the inbox stopped
+    pub record RunsDispatcher (old new : DispatchState P) (result : Result (Unit {0}) Failed)
+        : Type 0 where
+      pub dispatched : List Dispatched
+      pub last : DispatchState P
+      pub does : DoesItems dispatched old last
+      pub ends : EndsDispatcher last new result
+      -- so each port has put, and counted, what the fates say
+      pub ports : ArePortsAfter 0 dispatched old.ports new.ports

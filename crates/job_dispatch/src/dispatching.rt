@@ -3,6 +3,8 @@ ghost use Rattle.std.specs.Prelude.{◌≡◌, ◌≤◌, length, IfSome};
 ghost use Rattle.pcp_base.specs.Configs.{IsConfig};
 ghost use Rattle.pcp_io.specs.declared.inboxes.TheConstants.{LONGEST_DATAGRAM};
 ghost use Rattle.pcp_io.specs.Takes.{filled, item_of};
+ghost use Rattle.pcp_announce.specs.Doors.{groups};
+ghost use Rattle.job_dispatch.specs.declared.ports.TheConstants.{ANNOUNCEMENT_PORT};
 ghost use Rattle.job_dispatch.specs.Dispatches.{ArePorts, HasFate};
 ghost use Rattle.job_dispatch.specs.Dispatching.{IsItemTurn, RunsDispatcher};
 
@@ -75,7 +77,7 @@ fn do_item<R: Wait, I: Inbox, O: Outbox, T: Clock, P, H: JobHouse<P>>(
     requires ports { ArePorts config.now queues.now ports.old }
     requires all { length ports.old ≡ length config.now.externals }
     requires piece { LONGEST_DATAGRAM ≤ length piece.old }
-    ensures { IsItemTurn (H.calls house.now) config.now
+    ensures { IsItemTurn (H.calls house.now) config.now (groups config.now) ANNOUNCEMENT_PORT
         (record {
           ports = ports.old;
           announcing = record {
@@ -131,7 +133,7 @@ pub fn dispatch<R: Wait, I: Inbox, O: Outbox, T: Clock, P, H: JobHouse<P>>(
     requires ports { ArePorts config.now queues.now ports.old }
     requires all { length ports.old ≡ length config.now.externals }
     requires piece { LONGEST_DATAGRAM ≤ length piece.old }
-    ensures { RunsDispatcher (H.calls house.now) config.now
+    ensures { RunsDispatcher (H.calls house.now) config.now (groups config.now) ANNOUNCEMENT_PORT
         (record {
           ports = ports.old;
           announcing = record {

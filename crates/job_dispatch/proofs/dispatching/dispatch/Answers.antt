@@ -6,15 +6,15 @@ use Rattle.job_dispatch.proofs.dispatching.dispatch.Goals as goal
 pub loop-preserved : goal.loop-preserved
 loop-preserved g c =
     let is : c.do_item.result ≡ Ok true = search rules in
-    (tt, tt, turn_on _ _ _ _ _ _ c.do_item.result c.loop.invariant.2 c.do_item.ensures is)
+    (tt, tt, turn_on _ _ _ _ _ _ _ _ c.do_item.result c.loop.invariant.2 c.do_item.ensures is)
 
 pub returns-then-not-more : goal.returns-then-not-more
 returns-then-not-more g c =
     let is : c.do_item.result ≡ Ok false = search rules in
-    ends_by_stop _ _ _ _ _ _ c.do_item.result c.loop.invariant.2 c.do_item.ensures is
+    ends_by_stop _ _ _ _ _ _ _ _ c.do_item.result c.loop.invariant.2 c.do_item.ensures is
 
 pub returns-in_err-more : goal.returns-in_err-more
 returns-in_err-more g c =
     let is : ◌≡◌ {A = Result Bool Failed} c.do_item.result (Err c.in_err-more.field-0.0) = search rules in
     let told : ◌≡◌ {A = Result (Unit {0}) Failed} c.from_residual.result (Err c.in_err-more.field-0.0) = search rules in
-    rw told (ends_by_fault _ _ _ _ _ _ c.do_item.result c.in_err-more.field-0.0 c.loop.invariant.2 c.do_item.ensures is)
+    rw told (ends_by_fault _ _ _ _ _ _ _ _ c.do_item.result c.in_err-more.field-0.0 c.loop.invariant.2 c.do_item.ensures is)

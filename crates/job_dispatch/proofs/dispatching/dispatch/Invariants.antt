@@ -1,10 +1,12 @@
+use Rattle.pcp_announce.specs.Doors.{groups}
+use Rattle.job_dispatch.specs.declared.ports.TheConstants.{ANNOUNCEMENT_PORT}
 use Rattle.job_dispatch.proofs.DispatchingLemmas.{HasDispatched}
 use Rattle.job_dispatch.proofs.dispatching.dispatch.Given as goal
 
 abbrev pub invariant-loop : goal.invariant-loop
 invariant-loop g l =
     (goal.iterator-loop g).can_next l.iterator' × (goal.iterator-loop g).is_finite l.iterator'
-    × HasDispatched (g.H.JobHouse.calls l.house) l.config l.queues
+    × HasDispatched (g.H.JobHouse.calls l.house) l.config l.queues (groups l.config) ANNOUNCEMENT_PORT
     (record {
       ports = l.fn.ports;
       announcing = record {
