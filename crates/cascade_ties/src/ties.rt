@@ -28,6 +28,8 @@ pub struct Tie {
 pub struct Waiting {
     /// The client's UDP port.
     pub port: u16,
+    /// The door by which the request came, and by which its reply leaves.
+    pub door: u8,
     /// The request as the client sent it.
     pub request: Octets,
     /// The external port that it suggests, 0 for none.
