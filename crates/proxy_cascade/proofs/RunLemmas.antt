@@ -418,10 +418,10 @@ module _ (b : Beginning) (events : List Event) (d : Datagram) (now : ℕ) (sent 
     asker = sym (asks-for-itself s.request.peer s.request.octets s.asked.place s.ask s.items s.asked.judged) ∙ ap (λ (e : Endpoint). e.address) (sym s.client)
 
     -- a text for the client that waits
-    to_it : (octets text : List ℕ) → octets ≡ text → record { peer = t.tie.client.address; port = w.port; octets = octets } ≡ to_asker s.request text
+    to_it : (octets text : List ℕ) → octets ≡ text → record { peer = t.tie.client.address; port = w.port; door = w.door; octets = octets } ≡ to_asker s.request text
     to_it octets text same =
-        ap (λ (a : Address). record { peer = a; port = w.port; octets = octets }) (sym asker)
-        ∙ ap (λ (v : Waiting). record { peer = s.request.peer; port = v.port; octets = octets }) s.waits
+        ap (λ (a : Address). record { peer = a; port = w.port; door = w.door; octets = octets }) (sym asker)
+        ∙ ap (λ (v : Waiting). record { peer = s.request.peer; port = v.port; door = v.door; octets = octets }) s.waits
         ∙ ap (λ (o : List ℕ). to_asker s.request o) same
 
     lease_is : (lifetime e external : ℕ) (address : Address) → e ≡ epoch → lease_text t.tie.client t.tie.nonce lifetime e external address w.items
@@ -439,6 +439,7 @@ module _ (b : Beginning) (events : List Event) (d : Datagram) (now : ℕ) (sent 
         sent ≡ record {
           peer = t.tie.client.address;
           port = w.port;
+          door = w.door;
           octets = cond success
               (cond none (lease_text t.tie.client t.tie.nonce 0 e w.suggested w.address w.items)
               (lease_text t.tie.client t.tie.nonce (told_lifetime r.lifetime) e common.external common.address w.items))
@@ -477,12 +478,13 @@ module _ (b : Beginning) (events : List Event) (d : Datagram) (now : ℕ) (sent 
         sym sent_is ∙ ap (λ (n : ℕ). record {
           peer = record { 0 = v4_octets 224 0 0 1 };
           port = CLIENTS_PORT;
+          door = 0;
           octets = success_text 0 n Announce [];
         }) now_epoch,
       )
   sent-step s same (matched r common protocol t w read body of found waits nonce is) out =
-      let told_out : Some (record { peer = t.tie.client.address; port = w.port; octets = text_after (told_epoch (hearing here r.epoch)) r common t.tie w }) ≡ Some sent = sym (ap (λ (z : Step (Option Datagram)). z.out) is) ∙ out in
-      let sent_is : record { peer = t.tie.client.address; port = w.port; octets = text_after (told_epoch (hearing here r.epoch)) r common t.tie w } ≡ sent = cc in
+      let told_out : Some (record { peer = t.tie.client.address; port = w.port; door = w.door; octets = text_after (told_epoch (hearing here r.epoch)) r common t.tie w }) ≡ Some sent = sym (ap (λ (z : Step (Option Datagram)). z.out) is) ∙ out in
+      let sent_is : record { peer = t.tie.client.address; port = w.port; door = w.door; octets = text_after (told_epoch (hearing here r.epoch)) r common t.tie w } ≡ sent = cc in
       let now_epoch : told_epoch (hearing here r.epoch) ≡ epoch = epoch-here s r same (ap (λ (z : Step (Option Datagram)). z.cascade.base) is) (ap (λ (z : Step (Option Datagram)). z.cascade.last) is) in
       let stood : StandsBy b events t.tie t.waiting = All-IsIn (Stands b events) here.ties.each t stands-here (find-some (has_local protocol common.internal) here.ties.each t found).0 in
       let asked_it : IsAsked b events t.tie w = subst (StandsBy b events t.tie) waits stood in

@@ -70,7 +70,8 @@ up_text key own ask items local =
 -- ---- replies of the cascade's own
 
 abbrev pub to_client : Datagram → List ℕ → ProxyOut
-to_client d octets = Reply (record { peer = d.peer; port = d.port; octets = octets })
+to_client d octets =
+    Reply (record { peer = d.peer; port = d.port; door = d.door; octets = octets })
 
 abbrev pub answered : Cascade → Datagram → Answer → Step ProxyOut
 answered c d answer = record {
@@ -101,6 +102,7 @@ of_another tie now =
 abbrev pub waiting_of : Datagram → List Item → MapAsk → ℕ → Waiting
 waiting_of d items ask now = record {
   port = d.port;
+  door = d.door;
   request = d.octets;
   suggested = ask.port;
   address = ask.address;

@@ -53,6 +53,7 @@ abbrev pub announcement : ℕ → Datagram
 announcement epoch = record {
   peer = record { 0 = v4_octets 224 0 0 1 };
   port = CLIENTS_PORT;
+  door = 0;
   octets = success_text 0 epoch Announce [];
 }
 
@@ -103,13 +104,14 @@ text_after epoch r common tie w =
     if is_success r.code then lease_after epoch r common tie w
     else relayed_text w.request r.code r.lifetime epoch
 
--- a response ends the wait
+-- a response ends the wait; its reply leaves by the door of the request
 abbrev pub for_waiting : Cascade → Response → Common → Tie → Waiting → Step (Option Datagram)
 for_waiting c r common tie w = record {
   cascade = record c { ties = ties_after c.last r common tie c.ties };
   out = Some (record {
     peer = tie.client.address;
     port = w.port;
+    door = w.door;
     octets = text_after (told_epoch c) r common tie w;
   });
 }

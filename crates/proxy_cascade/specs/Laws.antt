@@ -82,10 +82,10 @@ pub record AnswersTie (b : Beginning) (events : List Event) (d : Datagram) (now 
   pub protocol : protocol_of common.protocol ≡ Some ask.endpoint.protocol
   pub nonce : common.nonce ≡ upstream_nonce b.key ask.endpoint.address ask.nonce
 
--- to the client that asked, from its own address
+-- to the client that asked, from its own address, by the door of its request
 abbrev pub to_asker : Datagram → List ℕ → Datagram
 to_asker request octets =
-    record { peer = request.peer; port = request.port; octets = octets }
+    record { peer = request.peer; port = request.port; door = request.door; octets = octets }
 
 -- a told lease: the triple of request, upstream reply and tie. The client is told its own endpoint,
 -- and the upstream external port and address
@@ -120,6 +120,7 @@ abbrev pub IsAnnouncement : ℕ → Datagram → Type 0
 IsAnnouncement epoch sent = (epoch ≡ 0) × (sent ≡ record {
   peer = record { 0 = v4_octets 224 0 0 1 };
   port = CLIENTS_PORT;
+  door = 0;
   octets = success_text 0 epoch Announce [];
 })
 

@@ -88,6 +88,7 @@ fn to_client(datagram: &Datagram, octets: Octets) -> ProxyOut
     ProxyOut::Reply(Datagram {
         peer: datagram.peer,
         port: datagram.port,
+        door: datagram.door,
         octets,
     })
 }
@@ -296,6 +297,7 @@ fn waiting_of(
 {
     Ok(Waiting {
         port: datagram.port,
+        door: datagram.door,
         request: Octets::of(datagram.octets.items().to_vec(alloc)?),
         suggested: ask.port,
         address: ask.address,

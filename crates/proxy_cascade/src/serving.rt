@@ -71,6 +71,7 @@ fn announce(alloc: Global, terms: &CascadeTerms, valid: bool) -> Result<Option<D
     Ok(Some(Datagram {
         peer: Address::v4(224, 0, 0, 1),
         port: CLIENTS_PORT,
+        door: 0,
         octets: announce_text(alloc, terms.epoch())?,
     }))
 }
@@ -158,12 +159,14 @@ fn reply_for(
     ensures { IfOk result (λ out. out ≡ record {
       peer = tie.now.client.address;
       port = waiting.now.port;
+      door = waiting.now.door;
       octets = text_after (epoch_of terms.now) response.now common.now tie.now waiting.now;
     }) }
 {
     Ok(Datagram {
         peer: tie.client.address,
         port: waiting.port,
+        door: waiting.door,
         octets: text_after(alloc, terms, response, common, tie, waiting)?,
     })
 }
