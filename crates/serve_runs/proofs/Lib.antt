@@ -1,2 +1,3 @@
+mod HandLemmas
 pub mod ServingLemmas
 pub mod UpdateLemmas

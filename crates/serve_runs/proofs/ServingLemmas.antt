@@ -1,9 +1,9 @@
 -- A house that is opened, served and told of.
 use Rattle.std.proofs.Common.{◌≡◌, ◌/◌, inl, inr, ℕ, suc, ◌+◌, List, [], ◌∷◌, ◌++◌, length, map, flat_map, replicate, Option, Result, Ok, Err, refl, sym, ap, subst, ◌∙◌}
 use Rattle.std.proofs.lemmas.List.{length-append, length-replicate, map-append}
-use Rattle.pcp_base.specs.declared.addresses.Address.{Address}
 use Rattle.pcp_base.specs.declared.configs.Config.{Config}
 use Rattle.pcp_base.specs.declared.configs.External.{External}
+use Rattle.pcp_announce.specs.declared.doors.Group.{Group}
 use Rattle.pcp_io.specs.Faults.{HasRisen}
 use Rattle.pcp_io.specs.Times.{IsTimeNow, Times}
 use Rattle.lease_disk.specs.declared.disks.DiskPair.{DiskPair}
@@ -85,7 +85,7 @@ as-many-books disks config m (x ∷ xs) (p ∷ ps) (b ∷ bs) spare opens =
 -- ---- faults
 
 -- a fault of reading is the inbox's
-pub read-fault : {W D : Type 0} (disks : DiskMeanings D) (config : Config) (groups : List Address) (port : ℕ) (begun : Begun D) (old new : Edges)
+pub read-fault : {W D : Type 0} (disks : DiskMeanings D) (config : Config) (groups : List Group) (port : ℕ) (begun : Begun D) (old new : Edges)
     (tally : Result (List TallyRow) ServeFault) (pairs : List (DiskPair D)) (out_old out_new : W) (before now : Option (List ℕ)) (status : Status)
     → ServesToEnd disks.tells disks.seen disks.moment disks.left_since disks.may_leave disks.faults config groups port begun old new tally pairs
     → IsToldTo tally out_old out_new before now status → status ≡ Statuses.ReadFault → HasRisen old.faults new.faults

@@ -1,8 +1,8 @@
 -- How a `serve` ends, and what it leaves (our own).
 use Rattle.std.specs.Prelude.{◌≡◌, ◌⊎◌, ℕ, ◌/◌, List, [], ◌∷◌, ◌++◌, map, Option, Result, Ok, Err}
 use Rattle.std.specs.Io.KnownBytes.{append_known}
-use Rattle.pcp_base.specs.declared.addresses.Address.{Address}
 use Rattle.pcp_base.specs.declared.configs.Config.{Config}
+use Rattle.pcp_announce.specs.Doors.{groups}
 use Rattle.pcp_io.specs.Times.{IsTimeNow, Times}
 use Rattle.pcp_io.specs.Writes.{WritesPart}
 use Rattle.lease_disk.specs.declared.disks.DiskPair.{DiskPair}
@@ -15,6 +15,7 @@ use Rattle.server_commands.specs.declared.statuses.Status.TheVariants as Statuse
 use Rattle.pcp_server.specs.Opened.{Accepts, IsUnread}
 use Rattle.pcp_server.specs.Outsides.{DiskMeanings}
 use Rattle.pcp_server.specs.Statuses.{unopened_as, unread_as}
+use Rattle.job_dispatch.specs.declared.ports.TheConstants.{ANNOUNCEMENT_PORT}
 use Rattle.job_workers.specs.declared.tallies.TallyRow.{TallyRow}
 use Rattle.job_workers.specs.Stations.{OutState}
 use Rattle.request_workers.specs.declared.faults.ServeFault.{ServeFault}
@@ -60,15 +61,16 @@ IsToldTo (Err ServeFaults.Memory) old new before now status =
     (status ≡ Statuses.Memory) × (new ≡ old)
 
 module _ {D : Type 0} where
-  -- The updates of a house of these books were sent, each by the outbox of its external address, and
-  -- the house was served to its end.
-  pub record SendsAndServes (disks : DiskMeanings D) (config : Config) (groups : List Address)
-      (port : ℕ) (begun : Begun D) (books : List (BookView D)) (old new : Edges)
-      (tally : Result (List TallyRow) ServeFault) (pairs : List (DiskPair D)) : Type 0 where
+  -- The updates of a house of these books were sent, each by the outbox of its external address and by
+  -- all doors by which its receiver is reached, and the house was served to its end.
+  pub record SendsAndServes (disks : DiskMeanings D) (config : Config) (begun : Begun D)
+      (books : List (BookView D)) (old new : Edges) (tally : Result (List TallyRow) ServeFault)
+      (pairs : List (DiskPair D)) : Type 0 where
     pub outs : List OutState
-    pub updates : HandsEach (map (book_updates (first_base books)) books) old.outs outs
+    pub updates : HandsEach config (map (book_updates (first_base books)) books) old.outs outs
     pub served : ServesToEnd disks.tells disks.seen disks.moment disks.left_since disks.may_leave
-        disks.faults config groups port begun (record old { outs = outs }) new tally pairs
+        disks.faults config (groups config) ANNOUNCEMENT_PORT begun
+        (record old { outs = outs }) new tally pairs
 
 module _ {W D : Type 0} where
   -- ---- where nothing is served
@@ -101,8 +103,8 @@ module _ {W D : Type 0} where
 
   -- The house was opened at the second of the dispatcher's clock, and served to its end; then the
   -- tally was told.
-  pub record EndsServed (disks : DiskMeanings D) (config : Config) (groups : List Address)
-      (port : ℕ) (before now : ServeState W D) (status : Status) : Type 0 where
+  pub record EndsServed (disks : DiskMeanings D) (config : Config)
+      (before now : ServeState W D) (status : Status) : Type 0 where
     pub start : ℕ
     pub clocks : List (Option Times)
     pub clock : GivesStart before.edges.clocks clocks start
@@ -110,22 +112,22 @@ module _ {W D : Type 0} where
     pub begins : Begins disks.tells disks.seen disks.moment disks.left_since disks.may_leave
         disks.faults config start before.pairs begun
     pub tally : Result (List TallyRow) ServeFault
-    pub serves : SendsAndServes disks config groups port begun begins.books
+    pub serves : SendsAndServes disks config begun begins.books
         (record before.edges { clocks = clocks }) now.edges tally now.pairs
     pub told : IsToldTo tally before.out now.out before.held now.held status
 
   -- how a `serve` of this configuration ended
-  abbrev pub ServesConfig : DiskMeanings D → Config → (groups : List Address) → (port : ℕ)
+  abbrev pub ServesConfig : DiskMeanings D → Config
       → (before now : ServeState W D) → Status → Type 0
-  ServesConfig disks config groups port before now status =
+  ServesConfig disks config before now status =
       EndsUnopened disks config before now status
-      ⊎ EndsServed disks config groups port before now status
+      ⊎ EndsServed disks config before now status
 
   -- how a `serve` ended
-  abbrev pub Serves : DiskMeanings D → (groups : List Address) → (port : ℕ)
+  abbrev pub Serves : DiskMeanings D
       → (source_before source_now : Option (List ℕ)) → (before now : ServeState W D) → Status
       → Type 0
-  Serves disks groups port source_before source_now before now status =
+  Serves disks source_before source_now before now status =
       EndsUnread source_before source_now before now status
       ⊎ ((config : Config) × Accepts source_before source_now config
-      × ServesConfig disks config groups port before now status)
+      × ServesConfig disks config before now status)

@@ -1,9 +1,8 @@
 //! The call that the program makes for `serve`.
-ghost use Rattle.std.specs.Prelude.{◌≡◌, ◌↔◌, ◌⊎◌, ◌+◌, ◌*◌, ◌≢◌, ◌≤◌, ℕ, [], ◌∷◌, length, map, string_bytes};
+ghost use Rattle.std.specs.Prelude.{◌≡◌, ◌↔◌, ◌⊎◌, ◌+◌, ◌*◌, ◌≢◌, ◌≤◌, ℕ, length, map, string_bytes};
 ghost use Rattle.pcp_base.specs.declared.configs.TheConstants.{MOST_EXTERNALS};
 ghost use Rattle.pcp_io.specs.Faults.{HasRisen};
 ghost use Rattle.journal_dump.specs.Dumps.{HasPairFault};
-ghost use Rattle.job_dispatch.specs.declared.ports.TheConstants.{ALL_HOSTS_V4, ALL_HOSTS_V6, ANNOUNCEMENT_PORT};
 ghost use Rattle.request_workers.specs.Parts.{links_told, outs_told};
 ghost use Rattle.server_commands.specs.declared.statuses.Status.TheVariants as Statuses;
 ghost use Rattle.serve_commands.specs.Words.{IsServeWords};
@@ -51,7 +50,6 @@ fn serve_by<
     requires clocks { length clocks.old ≡ 2 * MOST_EXTERNALS + 1 }
     ensures serve { Serves
         (disks_by D.tells D.seen D.moment D.left_since D.may_leave D.faults)
-        (ALL_HOSTS_V4 ∷ ALL_HOSTS_V6 ∷ []) ANNOUNCEMENT_PORT
         (C.left config.old) (C.left config.new)
         (record {
           out = out.old;
@@ -106,10 +104,10 @@ fn serve_by<
 /// First the words are read, then the configuration whole; then the dispatcher's clock is read once,
 /// and the journals are opened at its second, in the order of the external addresses: pair `i` of
 /// `disks` has the two sides of the journal of external address `i`. What clients of renumbered external
-/// addresses are told is sent, each by the outbox of its own. Then requests are served as
-/// [`serve_all`](house_workers::serve_all) says, with a dispatcher, a worker for each external address
-/// and a loop for each lane, until `inbox` stops; the lines of the tally come last. All pairs come back
-/// in the same order, whatever the status.
+/// addresses are told is sent, each by the outbox of its own and by all doors by which the client is
+/// reached. Then requests are served as [`serve_all`](house_workers::serve_all) says, with a dispatcher, a
+/// worker for each external address and a loop for each lane, until `inbox` stops; the lines of the tally
+/// come last. All pairs come back in the same order, whatever the status.
 ///
 /// Of the 17 outboxes, 16 lanes and 33 clocks worker `i` has outbox `i` and clock `i`, lane `i` has clock
 /// `16 + i`, and the dispatcher the last outbox and the last clock.
@@ -156,7 +154,6 @@ pub fn run_serve<
     // status.
     ensures serve { (plan : ServePlan) → IsServeWords (map string_bytes words.now) plan → Serves
         (disks_by D.tells D.seen D.moment D.left_since D.may_leave D.faults)
-        (ALL_HOSTS_V4 ∷ ALL_HOSTS_V6 ∷ []) ANNOUNCEMENT_PORT
         (C.left config.old) (C.left config.new)
         (record {
           out = out.old;

@@ -1,10 +1,9 @@
 //! A house is opened, served to its end, and its tally told.
-ghost use Rattle.std.specs.Prelude.{◌≡◌, ◌+◌, ◌*◌, ◌≢◌, ◌≤◌, ℕ, List, [], ◌∷◌, length, map};
+ghost use Rattle.std.specs.Prelude.{◌≡◌, ◌+◌, ◌*◌, ◌≢◌, ◌≤◌, ℕ, List, length, map};
 ghost use Rattle.pcp_base.specs.Configs.{IsConfig};
 ghost use Rattle.pcp_base.specs.declared.configs.TheConstants.{MOST_EXTERNALS};
 ghost use Rattle.pcp_io.specs.Faults.{HasRisen};
 ghost use Rattle.journal_dump.specs.Dumps.{HasPairFault};
-ghost use Rattle.job_dispatch.specs.declared.ports.TheConstants.{ALL_HOSTS_V4, ALL_HOSTS_V6, ANNOUNCEMENT_PORT};
 ghost use Rattle.request_workers.specs.Parts.{links_told, outs_told};
 ghost use Rattle.lease_disk.specs.declared.disks.DiskPair.{DiskPair};
 ghost use Rattle.shared_house.specs.Beginnings.{Begins};
@@ -70,7 +69,7 @@ fn serve_house<
     ensures { (m : ℕ) (pairs : List (DiskPair D)) → (b : Begins D.tells D.seen D.moment D.left_since
         D.may_leave D.faults config.now m pairs begun) → SendsAndServes
         (disks_by D.tells D.seen D.moment D.left_since D.may_leave D.faults) config.now
-        (ALL_HOSTS_V4 ∷ ALL_HOSTS_V6 ∷ []) ANNOUNCEMENT_PORT begun b.books
+        begun b.books
         (record {
           left = I.left inbox.old;
           faults = I.faults inbox.old;
@@ -87,7 +86,7 @@ fn serve_house<
         })
         result.0 result.1.items }
 {
-    send_updates(outs, 0, &begun.updates, &begun.update_shards);
+    send_updates(outs, config, 0, &begun.updates, &begun.update_shards);
     serve_all(rt, alloc, begun, config, inbox, outs, lanes, clocks, gate)
 }
 
@@ -120,7 +119,6 @@ pub(crate) fn serve_config<
     requires clocks { length clocks.old ≡ 2 * MOST_EXTERNALS + 1 }
     ensures served { ServesConfig
         (disks_by D.tells D.seen D.moment D.left_since D.may_leave D.faults) config.now
-        (ALL_HOSTS_V4 ∷ ALL_HOSTS_V6 ∷ []) ANNOUNCEMENT_PORT
         (record {
           out = out.old;
           held = W.held out.old;
