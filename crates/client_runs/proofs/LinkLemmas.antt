@@ -91,7 +91,7 @@ requests-none server a = record {
 }
 
 -- a request that was handed over
-went-sent : (server : Address) (text : List ℕ) (a b : Sending) → b.sent ≡ sent_after a.sent server SERVER_PORT text → a.faults ≤ b.faults → RequestsWent server (text ∷ []) a b
+went-sent : (server : Address) (text : List ℕ) (a b : Sending) → b.sent ≡ sent_after a.sent 0 server SERVER_PORT text → a.faults ≤ b.faults → RequestsWent server (text ∷ []) a b
 went-sent server text a b sent later = record {
   handed = record { text = text; lost = false } ∷ [];
   each = refl;
@@ -113,7 +113,7 @@ went-lost server text a b same risen later = record {
   later = later;
 }
 
-went-by : (server : Address) (text : List ℕ) (a b : Sending) → (b.sent ≡ sent_after a.sent server SERVER_PORT text) ⊎ ((b.sent ≡ a.sent) × HasRisen a.faults b.faults) → a.faults ≤ b.faults → RequestsWent server (text ∷ []) a b
+went-by : (server : Address) (text : List ℕ) (a b : Sending) → (b.sent ≡ sent_after a.sent 0 server SERVER_PORT text) ⊎ ((b.sent ≡ a.sent) × HasRisen a.faults b.faults) → a.faults ≤ b.faults → RequestsWent server (text ∷ []) a b
 went-by server text a b (inl sent) later = went-sent server text a b sent later
 went-by server text a b (inr lost) later = went-lost server text a b lost.0 lost.1 later
 

@@ -85,7 +85,8 @@ reaches_first a limit server time first new tries d d' o o' t rest =
 
 -- what a take gives
 pub is_item : (incoming : Incoming) (room : List ℕ) → ¬ (incoming ≡ Incomings.Stop) → (item : InboxItem) × (item_of incoming room ≡ Some item)
-is_item (Incomings.Packet peer port n) room on = (_, refl)
-is_item (Incomings.Lose address) room on = (_, refl)
+is_item (Incomings.Packet peer port door n) room on = (_, refl)
+is_item (Incomings.Lose order address) room on = (_, refl)
+is_item (Incomings.Status order) room on = (_, refl)
 is_item Incomings.Quiet room on = (_, refl)
 is_item Incomings.Stop room on = absurd (on refl)

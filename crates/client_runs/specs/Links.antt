@@ -32,7 +32,8 @@ pub record Handed : Type 0 where
 -- what the outbox took of it
 abbrev pub taken_of : Address → Handed → List Datagram
 taken_of server h =
-    if h.lost then [] else record { peer = server; port = SERVER_PORT; octets = h.text } ∷ []
+    if h.lost then []
+    else record { peer = server; port = SERVER_PORT; door = 0; octets = h.text } ∷ []
 
 -- the outbox: what it took, where it tells that, and its count of faults
 pub record Sending : Type 0 where

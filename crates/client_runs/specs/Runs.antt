@@ -41,12 +41,14 @@ module _ {S : Type 0} (a : Asking S) where
   -- packets are heard, and any other item says nothing
   abbrev pub after_item : S → InboxItem → ℕ → S
   after_item s (Items.Packet d) time = a.heard s d time
-  after_item s (Items.Lose address) time = s
+  after_item s (Items.Lose order address) time = s
+  after_item s (Items.Status order) time = s
   after_item s Items.Quiet time = s
 
   abbrev pub answer_in : S → InboxItem → ℕ → Option Response
   answer_in s (Items.Packet d) time = a.answer s d time
-  answer_in s (Items.Lose address) time = None
+  answer_in s (Items.Lose order address) time = None
+  answer_in s (Items.Status order) time = None
   answer_in s Items.Quiet time = None
 
   -- the request that is due in a turn

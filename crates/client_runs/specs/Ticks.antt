@@ -37,7 +37,7 @@ GivesWord old new before now word =
 
 -- a request was handed to the outbox, which took it, or failed and counted that
 pub record HandsOver (server : Address) (text : List ℕ) (old new : Sending) : Type 0 where
-  pub sent : (new.sent ≡ sent_after old.sent server SERVER_PORT text)
+  pub sent : (new.sent ≡ sent_after old.sent 0 server SERVER_PORT text)
       ⊎ ((new.sent ≡ old.sent) × HasRisen old.faults new.faults)
   pub later : old.faults ≤ new.faults
 

@@ -104,5 +104,5 @@ fn hand_over<O: Outbox>(server: Address, text: &Octets, up: &mut O)
         (record { sent = O.sent up.old; faults = O.faults up.old })
         (record { sent = O.sent up.new; faults = O.faults up.new }) }
 {
-    let _ = up.send(server, SERVER_PORT, text.items());
+    let _ = up.send(0, server, SERVER_PORT, text.items());
 }

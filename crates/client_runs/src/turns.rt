@@ -20,14 +20,21 @@ use std::alloc::Global;
 /// The most items of the inbox that are waited for.
 pub const MOST_TURNS: u32 = 200_000;
 
-/// A datagram from this peer.
-fn datagram_from(alloc: Global, peer: Address, port: u16, octets: &[u8]) -> Result<Datagram, Memory>
+/// A datagram that came from this peer by this door.
+fn datagram_from(
+    alloc: Global,
+    peer: Address,
+    port: u16,
+    door: u8,
+    octets: &[u8],
+) -> Result<Datagram, Memory>
     ensures { IfOk result
-        (λ d. d ≡ record { peer = peer; port = port; octets = octets.now }) }
+        (λ d. d ≡ record { peer = peer; port = port; door = door; octets = octets.now }) }
 {
     Ok(Datagram {
         peer,
         port,
+        door,
         octets: Octets::of(octets.to_vec(alloc)?),
     })
 }
@@ -48,11 +55,17 @@ fn hear<A: Asker>(
         (λ item. OnOk result (asker.new ≡ after_item A.asking asker.old item now_ms)) }
 {
     match incoming {
-        Incoming::Packet { peer, port, length } => {
-            let datagram = datagram_from(alloc, peer, port, &room[..length])?;
+        Incoming::Packet {
+            peer,
+            port,
+            door,
+            length,
+        } => {
+            let datagram = datagram_from(alloc, peer, port, door, &room[..length])?;
             asker.hear(alloc, &datagram, now_ms)
         }
-        Incoming::Lose(_address) => Ok(None),
+        Incoming::Lose(_order, _address) => Ok(None),
+        Incoming::Status(_order) => Ok(None),
         Incoming::Quiet => Ok(None),
         Incoming::Stop => Ok(None),
     }
