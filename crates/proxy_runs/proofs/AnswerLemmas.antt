@@ -32,12 +32,12 @@ use Rattle.relay_runs.specs.Sending.{down_by, down_for, down_for_all}
 
 abbrev IsTo : Datagram → ProxyOut → Type 0
 IsTo d Nothing = ⊤
-IsTo d (Reply r) = (r.peer ≡ d.peer) × (r.port ≡ d.port)
+IsTo d (Reply r) = (r.peer ≡ d.peer) × (r.port ≡ d.port) × (r.door ≡ d.door)
 IsTo d (Up octets) = ⊤
 
 own-to : (heard : Option Heard) (now : ℕ) (d : Datagram) (answer : Answer) → IsTo d (answer_at heard now d answer)
 own-to None now d answer = tt
-own-to (Some heard) now d answer = (refl, refl)
+own-to (Some heard) now d answer = (refl, refl, refl)
 
 forwarded-to : (relay : Relay) (d : Datagram) (items : List Item) (key : WaitingKey) (text : List ℕ) (b : Bool) →
     IsTo d (cond {A = Step ProxyOut} b

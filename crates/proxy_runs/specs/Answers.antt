@@ -9,10 +9,12 @@ use Rattle.proxy_core.specs.Runs.Event.{Client, Server, Tick}
 use Rattle.proxy_runs.specs.Proxying.{proxying}
 use Rattle.relay_runs.specs.Sending.{down_for_all}
 
--- The relay's own reply goes to the sender. For a datagram of the server goes down what it says to
--- a request that went up before, for the client that asked it, or an announcement.
+-- The relay's own reply goes to the sender, by the door of its request. For a datagram of the server
+-- goes down what it says to a request that went up before, for the client that asked it, by the
+-- door of that request, or an announcement.
 abbrev pub Answers : Relay → List Event → Event → Datagram → Type 0
-Answers start before (Client d now) sent = (sent.peer ≡ d.peer) × (sent.port ≡ d.port)
+Answers start before (Client d now) sent =
+    (sent.peer ≡ d.peer) × (sent.port ≡ d.port) × (sent.door ≡ d.door)
 Answers start before (Server d now) sent =
     StandsForPair start before d sent ⊎ IsAnnouncement start.server d sent
 Answers start before (Tick now) sent = ⊥
