@@ -58,7 +58,7 @@ fn run_begun<R: Wait, O: Outbox, I: Inbox, T: Clock>(
 /// once for each item of `from`: the cascade ticks, and then hears the item at the same time: a
 /// packet whose peer is the server's address came from upstream, and any other from a client. What
 /// it gives for clients is sent by `down`, and its own requests by `up`, to [`SERVER_PORT`] of the
-/// server; a send that fails is a lost packet. A `Lose` is ignored.
+/// server; a send that fails is a lost packet. A `Lose` and a `Status` are ignored.
 ///
 /// `Done` after a stop; `WordsRefused` where the words are no command, and nothing was called then;
 /// `LinkFault` where the inbox failed; `Memory` where none was found for the cascade, or for a
