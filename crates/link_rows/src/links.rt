@@ -19,6 +19,7 @@ fn packet(alloc: Global, count: usize) -> Result<InboxItem, AllocError> {
     Ok(InboxItem::Packet(Datagram {
         peer: HOST,
         port: 5000,
+        door: 3,
         octets: Octets::of(octets),
     }))
 }
@@ -27,25 +28,29 @@ fn items(alloc: Global) -> Result<Vec<InboxItem>, AllocError> {
     let mut items = Vec::new(alloc);
     items.push(packet(alloc, 3)?)?;
     items.push(packet(alloc, 2049)?)?;
-    items.push(InboxItem::Lose(HOST))?;
+    items.push(InboxItem::Lose(7, HOST))?;
+    items.push(InboxItem::Status(8))?;
     items.push(InboxItem::Quiet)?;
     Ok(items)
 }
 
 // What the takes of these give where the second one is to fail.
-static TAKEN: [Option<Incoming>; 7] = [
+static TAKEN: [Option<Incoming>; 8] = [
     Some(Incoming::Packet {
         peer: HOST,
         port: 5000,
+        door: 3,
         length: 3,
     }),
     None,
     Some(Incoming::Packet {
         peer: HOST,
         port: 5000,
+        door: 3,
         length: 2048,
     }),
-    Some(Incoming::Lose(HOST)),
+    Some(Incoming::Lose(7, HOST)),
+    Some(Incoming::Status(8)),
     Some(Incoming::Quiet),
     Some(Incoming::Stop),
     Some(Incoming::Stop),
@@ -80,6 +85,7 @@ fn are_taken(sent: &[Datagram]) -> bool {
     };
     first.peer == HOST
         && first.port == 5000
+        && first.door == 3
         && first.octets.items() == b"abcde".as_slice()
         && second.port == 5001
         && second.octets.items() == b"fgh".as_slice()
@@ -91,7 +97,7 @@ fn outboxes_in_memory(rt: HostRuntime) -> Result<(), Fail> {
     let mut outbox = MemoryOutbox::new(alloc, 8)?;
     outbox.fail_at(alloc, 2)?;
     for (port, octets, is_taken) in &SENDS {
-        assert!(rt; outbox.send(HOST, *port, octets).is_ok() == *is_taken);
+        assert!(rt; outbox.send(3, HOST, *port, octets).is_ok() == *is_taken);
     }
     assert!(rt; are_taken(outbox.sent()) && outbox.starved() == 0);
     Ok(())
@@ -112,11 +118,11 @@ const OWNER: Endpoint = Endpoint {
 
 // The calls of a lane whose second call is to fail.
 fn lane_goes(lane: &mut MemoryLane) -> bool {
-    lane.ask().ok() == Some(LOOK)
+    lane.ask(false).ok() == Some(LOOK)
         && lane.answer(None).is_err()
         && lane.answer(Some(OWNER)).is_ok()
-        && lane.ask().ok() == Some(LaneAsk::Quiet)
-        && lane.ask().ok() == Some(LaneAsk::Stop)
+        && lane.ask(false).ok() == Some(LaneAsk::Quiet)
+        && lane.ask(false).ok() == Some(LaneAsk::Stop)
         && lane.answer(None).is_ok()
 }
 

@@ -1,7 +1,8 @@
 //! What links over sockets give, of this host to itself.
 use pcp_base::{Address, Endpoint, Protocol};
 use pcp_io::{
-    Inbox, Incoming, LaneAsk, LaneLink, Outbox, SystemClock, UdpInbox, UdpLane, UdpOutbox,
+    Inbox, Incoming, LaneAsk, LaneLink, ORDER_DOOR, Outbox, SystemClock, UdpInbox, UdpLane,
+    UdpOutbox,
 };
 use std::net::{Net, UdpSocket};
 use std::test::Fail;
@@ -40,10 +41,10 @@ fn gives(inbox: &mut UdpInbox, wanted: Incoming) -> bool {
 // What is sent to an inbox from 127.0.0.1, and what comes of it.
 static ORDERS: [(&[u8], Incoming); 7] = [
     (b"\xffstop", Incoming::Stop),
-    (b"\xfflose 192.0.2.1", Incoming::Lose(EXTERNAL)),
+    (b"\xfflose 192.0.2.1", Incoming::Lose(0, EXTERNAL)),
     (
         b"\xfflose 00000000000000000000ffffc0000201",
-        Incoming::Lose(EXTERNAL),
+        Incoming::Lose(0, EXTERNAL),
     ),
     (b"\xfflose 192.0.2", Incoming::Quiet),
     (b"\xfflose  192.0.2.1", Incoming::Quiet),
@@ -56,7 +57,7 @@ fn orders(rt: HostRuntime) -> Result<(), Fail> {
     let server = UdpSocket::bind(&rt, "127.0.0.1:0")?;
     let port = server.local_addr()?.port();
     let host = host_to(&rt, "127.0.0.1", "127.0.0.1", port)?;
-    let mut inbox = UdpInbox::of(Some(server));
+    let mut inbox = UdpInbox::of(ORDER_DOOR, Some(server));
     for (octets, wanted) in &ORDERS {
         host.send(octets)?;
         assert!(rt; gives(&mut inbox, *wanted), "{}", octets.escape_ascii());
@@ -64,18 +65,75 @@ fn orders(rt: HostRuntime) -> Result<(), Fail> {
     Ok(())
 }
 
+// Addresses from which `ff` and `stop` are sent, the door by which they come, and how the sender is told.
+static NO_ORDERS: [(&str, u8, Address); 3] = [
+    ("127.0.0.2", ORDER_DOOR, OTHER_HOST),
+    ("127.0.0.1", 0, THIS_HOST),
+    ("127.0.0.1", 254, THIS_HOST),
+];
+
 #[test]
-fn an_order_of_another_host_is_a_datagram(rt: HostRuntime) -> Result<(), Fail> {
-    let server = UdpSocket::bind(&rt, "127.0.0.1:0")?;
-    let port = server.local_addr()?.port();
-    let other = host_to(&rt, "127.0.0.2", "127.0.0.1", port)?;
-    other.send(b"\xffstop")?;
-    let datagram = Incoming::Packet {
-        peer: OTHER_HOST,
-        port: other.local_addr()?.port(),
-        length: 5,
+fn an_order_of_another_host_or_by_another_door_is_a_datagram(rt: HostRuntime) -> Result<(), Fail> {
+    for (own, door, peer) in &NO_ORDERS {
+        let server = UdpSocket::bind(&rt, "127.0.0.1:0")?;
+        let host = host_to(&rt, own, "127.0.0.1", server.local_addr()?.port())?;
+        host.send(b"\xffstop")?;
+        let datagram = Incoming::Packet {
+            peer: *peer,
+            port: host.local_addr()?.port(),
+            door: *door,
+            length: 5,
+        };
+        assert!(rt;
+            gives(&mut UdpInbox::of(*door, Some(server)), datagram),
+            "{own} {door}"
+        );
+    }
+    Ok(())
+}
+
+// A socket of both families tells IPv4 senders in the form that an IPv6 packet may have by itself.
+#[test]
+fn a_mapped_source_is_passed_over(rt: HostRuntime) -> Result<(), Fail> {
+    let Ok(server) = UdpSocket::bind(&rt, "[::]:0") else {
+        // A host without IPv6 has no such socket.
+        return Ok(());
     };
-    assert!(rt; gives(&mut UdpInbox::of(Some(server)), datagram));
+    let port = server.local_addr()?.port();
+    let host = host_to(&rt, "127.0.0.1", "127.0.0.1", port)?;
+    let host_v6 = host_to(&rt, "::1", "::1", port)?;
+    let mut inbox = UdpInbox::of(ORDER_DOOR, Some(server));
+    for octets in [b"\xffstop".as_slice(), b"abc".as_slice()] {
+        host.send(octets)?;
+        assert!(rt;
+            gives(&mut inbox, Incoming::Quiet),
+            "{}",
+            octets.escape_ascii()
+        );
+    }
+    host_v6.send(b"abc")?;
+    let datagram = Incoming::Packet {
+        peer: THIS_HOST_V6,
+        port: host_v6.local_addr()?.port(),
+        door: ORDER_DOOR,
+        length: 3,
+    };
+    assert!(rt; gives(&mut inbox, datagram));
+    Ok(())
+}
+
+// What nobody reads is lost behind the sender, who goes on.
+#[test]
+fn sends_go_on_where_nobody_reads(rt: HostRuntime) -> Result<(), Fail> {
+    let deaf = UdpSocket::bind(&rt, "127.0.0.1:0")?;
+    let port = deaf.local_addr()?.port();
+    let mut outbox = UdpOutbox::of(UdpSocket::bind(&rt, "127.0.0.1:0").ok());
+    for count in 0..20_000 {
+        assert!(rt;
+            outbox.send(0, THIS_HOST, port, &[b'x'; 1000]).is_ok(),
+            "{count}"
+        );
+    }
     Ok(())
 }
 
@@ -83,23 +141,23 @@ fn an_order_of_another_host_is_a_datagram(rt: HostRuntime) -> Result<(), Fail> {
 fn exchanges(server: UdpSocket, host: &UdpSocket, peer: Address) -> io::Result<bool> {
     let port = host.local_addr()?.port();
     let mut outbox = UdpOutbox::of(server.try_clone().ok());
-    let mut inbox = UdpInbox::of(Some(server));
+    let mut inbox = UdpInbox::of(2, Some(server));
     host.send(&[b'x'; 2049])?;
     let cut = Incoming::Packet {
         peer,
         port,
+        door: 2,
         length: 2048,
     };
     let comes = gives(&mut inbox, cut) && gives(&mut inbox, Incoming::Quiet);
-    let goes = outbox.send(peer, port, b"abc").is_ok();
+    let goes = outbox.send(2, peer, port, b"abc").is_ok();
     let mut back = [b'.'; 8];
     Ok(comes && goes && host.recv(&mut back)? == 3 && back.starts_with(b"abc."))
 }
 
 // Hosts, by the address where the server is bound, their own, and how they are told.
-static HOSTS: [(&str, &str, Address); 3] = [
+static HOSTS: [(&str, &str, Address); 2] = [
     ("127.0.0.1", "127.0.0.1", THIS_HOST),
-    ("::", "127.0.0.1", THIS_HOST),
     ("::", "::1", THIS_HOST_V6),
 ];
 
@@ -144,7 +202,11 @@ fn asks(rt: HostRuntime) -> Result<(), Fail> {
     let mut lane = UdpLane::of(Some(server));
     for (text, ask) in &ASKS {
         host.send(text)?;
-        assert!(rt; lane.ask().ok() == Some(*ask), "{}", text.escape_ascii());
+        assert!(rt;
+            lane.ask(false).ok() == Some(*ask),
+            "{}",
+            text.escape_ascii()
+        );
     }
     Ok(())
 }
@@ -180,7 +242,7 @@ fn is_answered(
 ) -> io::Result<bool> {
     let mut back = [0; 64];
     host.send(b"look 17 1024 198.51.100.7 53")?;
-    let asked = lane.ask().ok() == Some(LOOK) && lane.answer(endpoint_of(owner)).is_ok();
+    let asked = lane.ask(false).ok() == Some(LOOK) && lane.answer(endpoint_of(owner)).is_ok();
     let length = host.recv(&mut back)?;
     Ok(asked && back.get(..length) == Some(text))
 }
@@ -212,10 +274,10 @@ fn refused<R: Net>(rt: &R) -> io::Result<UdpSocket> {
 
 #[test]
 fn lost_packets_are_no_end(rt: HostRuntime) -> Result<(), Fail> {
-    let mut inbox = UdpInbox::of(Some(refused(&rt)?));
+    let mut inbox = UdpInbox::of(0, Some(refused(&rt)?));
     let mut lane = UdpLane::of(Some(refused(&rt)?));
     assert!(rt; gives(&mut inbox, Incoming::Quiet));
-    assert!(rt; lane.ask().ok() == Some(LaneAsk::Quiet));
+    assert!(rt; lane.ask(false).ok() == Some(LaneAsk::Quiet));
     Ok(())
 }
 
@@ -223,9 +285,28 @@ fn lost_packets_are_no_end(rt: HostRuntime) -> Result<(), Fail> {
 fn links_without_sockets_fail(rt: HostRuntime) -> Result<(), Fail> {
     let mut room = [0; 2048];
     let mut lane = UdpLane::of(None);
-    assert!(rt; UdpInbox::of(None).take(&mut room).is_err());
-    assert!(rt; UdpOutbox::of(None).send(THIS_HOST, 5351, b"abc").is_err());
-    assert!(rt; lane.ask().is_err() && lane.answer(None).is_err());
+    assert!(rt; UdpInbox::of(0, None).take(&mut room).is_err());
+    assert!(rt;
+        UdpOutbox::of(None)
+            .send(0, THIS_HOST, 5351, b"abc")
+            .is_err()
+    );
+    assert!(rt; lane.ask(false).is_err() && lane.answer(None).is_err());
+    Ok(())
+}
+
+// Once the work is over a lane asks for the end, however fast it is asked.
+#[test]
+fn a_lane_ends(rt: HostRuntime) -> Result<(), Fail> {
+    let server = UdpSocket::bind(&rt, "127.0.0.1:0")?;
+    let host = host_to(&rt, "127.0.0.1", "127.0.0.1", server.local_addr()?.port())?;
+    let mut lane = UdpLane::of(Some(server));
+    for _ in 0..64 {
+        host.send(b"look 17 1024 198.51.100.7 53")?;
+        assert!(rt; lane.ask(true).ok() == Some(LOOK));
+    }
+    host.send(b"look 17 1024 198.51.100.7 53")?;
+    assert!(rt; lane.ask(true).ok() == Some(LaneAsk::Stop));
     Ok(())
 }
 

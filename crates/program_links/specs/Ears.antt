@@ -5,4 +5,4 @@ use Rattle.program_links.specs.declared.inboxes.Ear.{Ear}
 
 -- the faults of all of them
 abbrev pub all_faults : List Ear → ℕ
-all_faults ears = sum_by (λ e. e.inbox) ears
+all_faults ears = sum_by (λ e. e.inbox.faults) ears

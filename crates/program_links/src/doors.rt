@@ -103,7 +103,10 @@ fn place_at(
     let scope = link_of(rt, &door.address, name);
     let at = SocketAddrV6::new(ip, port, 0, scope.unwrap_or(0));
     if scope.is_none() && ip.is_unicast_link_local() {
-        let error = io::Error::new(ErrorKind::NotFound, "it stands on no such link, or on several");
+        let error = io::Error::new(
+            ErrorKind::NotFound,
+            "it stands on no such link, or on several",
+        );
         return Err(LinksFault::Refused(SocketAddr::V6(at), error));
     }
     Ok(SocketAddr::V6(at))

@@ -12,8 +12,8 @@ mod sockets;
 
 pub use crate::doors::LinksFault;
 pub use crate::ears::client_inbox;
-pub use crate::inboxes::DoorsInbox;
-pub use crate::outboxes::DoorsOutbox;
+pub use crate::inboxes::{DoorsInbox, Ear};
+pub use crate::outboxes::{DoorsOutbox, Mouth};
 pub use crate::relay_inboxes::RelayInbox;
 pub use crate::server_links::{ServerLinks, clocks_of, links_of, no_links};
-pub use crate::sockets::{CLIENT_PORT, ip_of, same_socket, socket_at};
+pub use crate::sockets::{CLIENT_PORT, ip_of, loopback_at, same_socket, socket_at};

@@ -88,7 +88,11 @@ fn last_error() -> io::Error {
 
 /// What the system answered to a call.
 fn ended(status: i32) -> io::Result<()> {
-    if status < 0 { Err(last_error()) } else { Ok(()) }
+    if status < 0 {
+        Err(last_error())
+    } else {
+        Ok(())
+    }
 }
 
 /// An option's value.
