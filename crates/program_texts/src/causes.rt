@@ -1,17 +1,15 @@
 //! Why words, a script or a read are at fault, for people who ask.
 use crate::places::Places;
-use pcp_base::{Config, MOST_EXTERNALS, Memory};
+use pcp_base::{Config, Memory};
 use pcp_config::read_config;
 use pcp_io::{FileSource, Source};
 use pcp_script::LONGEST_LINE;
-use program_links::{bound_at, bound_to_all};
 use refusal_causes::{line_cause, words_cause};
-use serve_commands::ServePlan;
 use std::alloc::Global;
-use std::fs;
 use std::fs::File;
 use std::io::Read;
-use std::net::{IpAddr, Ipv4Addr};
+use std::net::SocketAddr;
+use std::{fs, io};
 
 /// Why the words are no command of the server, and where commands are told.
 pub(crate) fn tell_words(
@@ -39,20 +37,18 @@ pub fn tell_tool_words(
     Ok(())
 }
 
-/// What can't be read: the configuration, the script, or a port of a server. Each is tried once more,
-/// but for a pipe.
+/// What can't be read: the configuration or the script. Each is tried once more, but for a pipe.
 pub(crate) fn unread_cause(
     rt: &HostRuntime,
     places: &Places<'_>,
-    plan: Option<ServePlan>,
 ) -> Result<Option<String>, Memory> {
     if let Some(cause) = file_cause(rt, places.config)? {
         return Ok(Some(cause));
     }
-    match plan {
-        Some(plan) => port_cause(rt, plan),
-        None => file_cause(rt, places.script),
+    if places.script.is_empty() {
+        return Ok(None);
     }
+    file_cause(rt, places.script)
 }
 
 /// Why a file can't be read; none where it can, or where it is none that may be read twice.
@@ -74,28 +70,9 @@ fn file_cause(rt: &HostRuntime, path: &str) -> Result<Option<String>, Memory> {
     Ok(Some(format!(in alloc; "{path}: {error}")?))
 }
 
-/// Why a port of a server can't be had.
-fn port_cause(rt: &HostRuntime, plan: ServePlan) -> Result<Option<String>, Memory> {
-    let alloc = rt.alloc();
-    let ServePlan { port, lane_port } = plan;
-    if let Err(error) = bound_to_all(rt, port) {
-        return Ok(Some(format!(in alloc; "port {port}: {error}")?));
-    }
-    for place in 0..MOST_EXTERNALS as u16 {
-        if let Some(cause) = lane_cause(rt, lane_port.saturating_add(place))? {
-            return Ok(Some(cause));
-        }
-    }
-    Ok(None)
-}
-
-/// Why a port of the loopback can't be had.
-fn lane_cause(rt: &HostRuntime, lane: u16) -> Result<Option<String>, Memory> {
-    let alloc = rt.alloc();
-    match bound_at(rt, IpAddr::V4(Ipv4Addr::LOCALHOST), lane) {
-        Ok(_socket) => Ok(None),
-        Err(error) => Ok(Some(format!(in alloc; "port {lane} of 127.0.0.1: {error}")?)),
-    }
+/// Why a server can't be asked at this address and port. The one error is want of memory.
+pub fn door_cause(alloc: Global, at: SocketAddr, error: io::Error) -> Result<String, Memory> {
+    Ok(format!(in alloc; "{} port {}: {error}", at.ip(), at.port())?)
 }
 
 /// Why this line of a script, numbered from 1, is none; none where the script can't be read twice.

@@ -6,7 +6,7 @@ mod kept;
 mod places;
 mod told;
 
-pub use crate::causes::tell_tool_words;
+pub use crate::causes::{door_cause, tell_tool_words};
 pub use crate::kept::KeptSource;
 pub use crate::places::{Places, journals_in, may_open, places_of};
-pub use crate::told::{beginning_of, look_at, told_of};
+pub use crate::told::{beginning_of, doors_of, look_at, told_of};

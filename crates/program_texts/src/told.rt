@@ -6,11 +6,12 @@ use lease_disk::{DiskPair, FileDisk, LeaseDisk};
 use lease_journal::Found;
 use pcp_base::{Address, Config, External, MOST_EXTERNALS, Memory};
 use pcp_config::{explain, read_config};
-use serve_commands::{ServePlan, serve_of};
+use serve_commands::ServePlan;
 use server_commands::Status;
 use std::alloc::Global;
 use std::io;
 use std::io::ErrorKind;
+use std::net::SocketAddr;
 use std::rt::Files;
 
 /// What the journals of a folder are found to be before a command opens them; none of one that can't
@@ -96,7 +97,7 @@ fn outside_cause(
     let places = places_of(words);
     match status {
         Status::ScriptRefused(line) => script_cause(rt, config, places.script, line),
-        Status::ReadFault => unread_cause(rt, &places, serve_of(words)),
+        Status::ReadFault => unread_cause(rt, &places),
         _ => Ok(None),
     }
 }
@@ -159,7 +160,7 @@ fn reason_of(error: &io::Error) -> Option<&'static str> {
     }
 }
 
-/// What an operator is told before a server begins: its ports and external addresses, and which
+/// What an operator is told before a server begins: its lanes and external addresses, and which
 /// journals were found blank or damaged. The one error is want of memory.
 pub fn beginning_of(
     alloc: Global,
@@ -168,17 +169,34 @@ pub fn beginning_of(
     found: &[Option<Found>],
 ) -> Result<Vec<String>, Memory> {
     let mut told = Vec::new(alloc);
-    tell_plan(alloc, &mut told, plan)?;
+    tell_lanes(alloc, &mut told, plan)?;
     tell_addresses(alloc, &mut told, config.externals.items())?;
     tell_states(alloc, &mut told, config.externals.items().len(), found)?;
     Ok(told)
 }
 
-/// Adds a line for the ports of a server.
-fn tell_plan(alloc: Global, told: &mut Vec<String>, plan: ServePlan) -> Result<(), Memory> {
-    let ServePlan { port, lane_port } = plan;
-    told.push(format!(in alloc; "serving at port {port}, lanes from port {lane_port} on")?)?;
+/// Adds a line for the lanes of a server.
+fn tell_lanes(alloc: Global, told: &mut Vec<String>, plan: ServePlan) -> Result<(), Memory> {
+    let lane_port = plan.lane_port;
+    told.push(format!(in alloc; "lanes at 127.0.0.1 from port {lane_port} on")?)?;
     Ok(())
+}
+
+/// What an operator is told once a server has its doors: the address and port of each, and why IPv6 isn't
+/// served, where this host has none. The one error is want of memory.
+pub fn doors_of(
+    alloc: Global,
+    places: &[SocketAddr],
+    lacking: Option<io::Error>,
+) -> Result<Vec<String>, Memory> {
+    let mut told = Vec::new(alloc);
+    for at in places {
+        told.push(format!(in alloc; "serving at {} port {}", at.ip(), at.port())?)?;
+    }
+    if let Some(error) = lacking {
+        told.push(format!(in alloc; "IPv6 isn't served: {error}")?)?;
+    }
+    Ok(told)
 }
 
 /// Adds a line for each of these external addresses.
