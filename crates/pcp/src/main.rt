@@ -10,18 +10,16 @@ mod serve;
 mod tools;
 
 use crate::relays::{may_relay, relay_over};
-use crate::serve::serve_over;
+use crate::serve::{Served, serve_over};
 use crate::tools::{ask_over, may_ask};
 use client_commands::help_of;
-use config_source::config_of;
 use lease_disk::{DiskPair, FileDisk};
 use lease_journal::Found;
 use pcp_base::Memory;
-use pcp_io::{FileSource, Sink, Source, StdSink};
+use pcp_io::{FileSource, Source, StdSink};
 use pcp_server::{Status, run_once};
 use program_texts::{
-    KeptSource, Places, beginning_of, journals_in, look_at, may_open, places_of, tell_tool_words,
-    told_of,
+    KeptSource, Places, journals_in, look_at, may_open, places_of, tell_tool_words, told_of,
 };
 use serve_commands::{ServePlan, serve_of};
 use std::alloc::Global;
@@ -51,10 +49,12 @@ there: it keeps the leases of each external address over all stops, and files
 are made in it as they are needed. START is a moment in whole seconds below 2^40.
 
 serve Answers the Port Control Protocol requests that come to UDP port PORT,
-      usually 5351, of all addresses of this host, until it is stopped by the
-      octet ff and 'stop', sent to PORT from 127.0.0.1. Whose an external port is
-      is asked at port LANEPORT of 127.0.0.1, and at those above it for the
-      further external addresses. At its end it writes a line for each of these.
+      usually 5351, of the addresses that CONFIG names as `listen`, or else of all
+      addresses of this host, until it is stopped by the octet ff and 'stop', sent
+      from 127.0.0.1 to PORT of 127.0.0.1; nothing is ordered by other addresses.
+      Whose an external port is is asked at port LANEPORT of 127.0.0.1, and at
+      those above it for the further external addresses. At its end it writes a
+      line for each of these.
 
           mkdir journals
           pcp serve examples/first.toml journals 5351 5400
@@ -82,8 +82,8 @@ map, peer, announce
 
 proxy Relays what clients ask at port 5351 of its inner address to a server, and
       the replies to them, until it is stopped by the octet ff and 'stop', sent
-      to that port, or to port 5350, from 127.0.0.1. KEY has 64 hexadecimal
-      digits that no client knows.
+      from 127.0.0.1 to port 5350 of 127.0.0.1. KEY has 64 hexadecimal digits that
+      no client knows.
 
           pcp proxy --server 192.0.2.9 --own 192.0.2.2 --inner 10.0.0.2 --key KEY
 
@@ -229,10 +229,24 @@ fn run<R: Threads + Wait + Sync>(
         [word] if word.as_str() == "--version" => Ended::with(rt, tell(rt, VERSION)),
         _ if may_ask(words) => ask(rt, words, explains),
         _ if may_relay(words) => relay(threads, rt, words, explains),
-        _ => match run_at(threads, rt, words, &places_of(words), explains) {
-            Ok(ended) => ended,
-            Err(Memory) => Ended::with(rt, Status::Memory),
-        },
+        _ => serve_or_run(threads, rt, words, explains),
+    }
+}
+
+/// Runs a command of the server.
+fn serve_or_run<R: Threads + Wait + Sync>(
+    threads: &R,
+    rt: &HostRuntime,
+    words: &[String],
+    explains: bool,
+) -> Ended {
+    let ended = match serve_of(words) {
+        Some(plan) => serve_at(threads, rt, words, plan, explains),
+        None => run_at(rt, words, &places_of(words), explains),
+    };
+    match ended {
+        Ok(ended) => ended,
+        Err(Memory) => Ended::with(rt, Status::Memory),
     }
 }
 
@@ -268,9 +282,45 @@ fn tell(rt: &HostRuntime, text: &str) -> Status {
     }
 }
 
-/// Runs a command of the server over the files at these places.
-fn run_at<R: Threads + Wait + Sync>(
+/// Serves, and tells how that ended.
+fn serve_at<R: Threads + Wait + Sync>(
     threads: &R,
+    rt: &HostRuntime,
+    words: &[String],
+    plan: ServePlan,
+    explains: bool,
+) -> Result<Ended, Memory> {
+    let places = places_of(words);
+    let path = String::from_str(rt.alloc(), places.config)?;
+    let kept = Some(Vec::new(rt.alloc()));
+    let mut config = KeptSource::of(FileSource::new(rt, path), kept);
+    let mut out = StdSink::new(rt.stdout());
+    let Served {
+        status,
+        disks,
+        cause,
+    } = serve_over(
+        threads,
+        rt,
+        words,
+        plan,
+        places.journals,
+        &mut config,
+        explains,
+        &mut out,
+    )?;
+    if !explains {
+        return Ok(Ended::with(rt, status));
+    }
+    let mut ended = explained(rt, words, status, config.kept(), &[], &disks);
+    if let Some(cause) = cause {
+        ended.told.push(cause)?;
+    }
+    Ok(ended)
+}
+
+/// Runs another command of the server over the files at these places.
+fn run_at(
     rt: &HostRuntime,
     words: &[String],
     places: &Places<'_>,
@@ -279,11 +329,11 @@ fn run_at<R: Threads + Wait + Sync>(
     let path = String::from_str(rt.alloc(), places.config)?;
     let mut config = KeptSource::of(FileSource::new(rt, path), kept_if(rt.alloc(), explains));
     if !explains {
-        let (status, _disks) = run_over(threads, rt, words, places, &mut config)?;
+        let (status, _disks) = run_over(rt, words, places, &mut config)?;
         return Ok(Ended::with(rt, status));
     }
     let found = find_journals(rt, words, places);
-    let (status, disks) = run_over(threads, rt, words, places, &mut config)?;
+    let (status, disks) = run_over(rt, words, places, &mut config)?;
     Ok(explained(rt, words, status, config.kept(), &found, &disks))
 }
 
@@ -296,48 +346,26 @@ fn kept_if(alloc: Global, explains: bool) -> Option<Vec<u8>> {
     }
 }
 
-/// What journals that a command opens were found to be, to be told at its end. An operator is told
-/// before a server begins, and not again.
+/// What journals that a command opens were found to be, to be told at its end.
 fn find_journals(rt: &HostRuntime, words: &[String], places: &Places<'_>) -> Vec<Option<Found>> {
-    if !may_open(words) {
-        return Vec::new(rt.alloc());
-    }
-    let found = look_at(rt, places.journals);
-    match serve_of(words) {
-        Some(plan) => {
-            tell_beginning(rt, plan, places, &found);
-            Vec::new(rt.alloc())
-        }
-        None => found,
+    if may_open(words) {
+        look_at(rt, places.journals)
+    } else {
+        Vec::new(rt.alloc())
     }
 }
 
-/// Runs a command of the server whose configuration this source gives.
-fn run_over<'a, R: Threads + Wait + Sync, C: Source>(
-    threads: &R,
+/// Runs a command that serves nobody over the network, whose configuration this source gives.
+fn run_over<'a, C: Source>(
     rt: &'a HostRuntime,
     words: &[String],
     places: &Places<'_>,
     config: &mut C,
 ) -> Result<(Status, Vec<DiskPair<FileDisk<&'a HostRuntime>>>), Memory> {
     let mut out = StdSink::new(rt.stdout());
-    match serve_of(words) {
-        Some(plan) => serve_over(threads, rt, words, plan, places.journals, config, &mut out),
-        None => play_over(rt, words, places, config, &mut out),
-    }
-}
-
-/// The same of a command that serves nobody over the network.
-fn play_over<'a, C: Source, W: Sink>(
-    rt: &'a HostRuntime,
-    words: &[String],
-    places: &Places<'_>,
-    config: &mut C,
-    out: &mut W,
-) -> Result<(Status, Vec<DiskPair<FileDisk<&'a HostRuntime>>>), Memory> {
     let mut script = FileSource::new(rt, String::from_str(rt.alloc(), places.script)?);
     let disks = journals_in(rt, places.journals)?;
-    Ok(run_once(rt.alloc(), words, config, &mut script, out, disks))
+    Ok(run_once(rt.alloc(), words, config, &mut script, &mut out, disks))
 }
 
 /// A command of the server ended so; what people are told of it beside that, where there is memory for
@@ -356,24 +384,5 @@ fn explained(
             told,
         },
         Err(Memory) => Ended::with(rt, status),
-    }
-}
-
-/// Tells an operator what is served, before it is. Where the configuration can't be read, nothing is
-/// told: the command then ends by that.
-fn tell_beginning(rt: &HostRuntime, plan: ServePlan, places: &Places<'_>, found: &[Option<Found>]) {
-    let alloc = rt.alloc();
-    let Ok(path) = String::from_str(alloc, places.config) else {
-        return;
-    };
-    let mut source = FileSource::new(rt, path);
-    let Ok(config) = config_of(alloc, &mut source) else {
-        return;
-    };
-    let Ok(lines) = beginning_of(alloc, plan, &config, found) else {
-        return;
-    };
-    for line in &lines {
-        let _ = eprintln!(rt; "pcp: {line}");
     }
 }

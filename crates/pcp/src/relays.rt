@@ -2,10 +2,11 @@
 use cascade_runs::run_cascade;
 use pcp_base::Memory;
 use pcp_io::{SystemClock, UdpOutbox};
-use program_links::{CLIENT_PORT, RelayInbox, ip_of, same_socket, socket_at, socket_of_all};
+use program_links::{RelayInbox, ip_of, same_socket, socket_at};
 use proxy_commands::{ProxyCommand, cascade_command_of, command_of};
 use proxy_runs::{SERVER_PORT, run_proxy};
 use std::alloc::Global;
+use std::net::SocketAddr;
 use std::sync::Wait;
 use tool_commands::ToolStatus;
 
@@ -35,7 +36,7 @@ fn terms_in(alloc: Global, words: &[String]) -> Result<Option<ProxyCommand>, Mem
 
 /// Relays as the words say. Clients ask at the port of servers of its inner address, from which they are
 /// answered; its own requests leave from its own address, to which the replies come. It listens for
-/// announcements too, unless another program does.
+/// announcements and orders too, unless another program does.
 pub(crate) fn relay_over<R: Wait>(
     waits: &R,
     rt: &HostRuntime,
@@ -45,12 +46,11 @@ pub(crate) fn relay_over<R: Wait>(
     let Some(command) = terms_in(alloc, words)? else {
         return Ok(ToolStatus::WordsRefused);
     };
-    let inner = socket_at(rt, ip_of(command.inner), SERVER_PORT);
-    let own = socket_at(rt, ip_of(command.own), 0);
-    let told = socket_of_all(rt, CLIENT_PORT);
+    let inner = socket_at(SocketAddr::new(ip_of(command.inner), SERVER_PORT)).ok();
+    let own = socket_at(SocketAddr::new(ip_of(command.own), 0)).ok();
     let mut down = UdpOutbox::of(same_socket(&inner));
     let mut up = UdpOutbox::of(same_socket(&own));
-    let mut from = RelayInbox::of(command.server, inner, own, told);
+    let mut from = RelayInbox::of(alloc, command.server, inner, own)?;
     let mut clock = SystemClock::of(rt);
     if may_cascade(words) {
         return Ok(run_cascade(
