@@ -1,4 +1,4 @@
-//! When announcements come, and what updates say.
+//! When announcements come and by which doors, and what updates say.
 use super::*;
 use pcp_base::{Address, Endpoint, Filters, MapLease, Moment, Nonce, PeerLease, Protocol};
 use std::alloc::Global;
@@ -134,4 +134,20 @@ fn updates_of_peer_leases(rt: HostRuntime) -> Result<(), Fail> {
     front[1] = 0x82;
     assert!(rt; update.starts_with(&front) && update.ends_with(&REMOTE) && update.len() == 80);
     Ok(())
+}
+
+// A door announces to the hosts of its link, and one on the loopback to nobody.
+#[test]
+fn doors_announce(rt: HostRuntime) {
+    let inside = Door {
+        number: 3,
+        address: Address::v4(10, 0, 0, 1),
+    };
+    let own = Door {
+        number: ORDER_DOOR,
+        address: Address::v4(127, 0, 0, 1),
+    };
+    let group = group_of(&inside).map(|group| (group.door, group.hosts));
+    assert!(rt; group == Some((3, ALL_HOSTS_V4)), "{group:?}");
+    assert!(rt; group_of(&own).is_none() && reaches(&own, &inside.address));
 }
