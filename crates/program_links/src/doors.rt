@@ -191,10 +191,10 @@ pub(crate) fn open_all(
     Ok(opened)
 }
 
-/// Whether this host has no IPv6, so that it isn't at all its addresses.
+/// What the system says where it has no IPv6.
+const NO_V6: [Option<i32>; 2] = [Some(libc::EAFNOSUPPORT), Some(libc::EADDRNOTAVAIL)];
+
+/// Whether this host has no IPv6, so that it isn't asked at all addresses of that.
 fn is_lacking(at: SocketAddr, error: &io::Error) -> bool {
-    match at {
-        SocketAddr::V4(_) => false,
-        SocketAddr::V6(at) => at.ip().is_unspecified() && error.kind() != ErrorKind::AddrInUse,
-    }
+    at.is_ipv6() && at.ip().is_unspecified() && NO_V6.contains(&error.raw_os_error())
 }

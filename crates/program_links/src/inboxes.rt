@@ -137,11 +137,7 @@ impl DoorsInbox {
         if count >= 0 && self.is_ordered() {
             return Some(0);
         }
-        let next = if count < 0 {
-            place_behind(&self.asked, self.turn, |_asked| true)
-        } else {
-            place_behind(&self.asked, self.turn, |asked| asked.revents != 0)
-        };
+        let next = place_behind(&self.asked, self.turn, count < 0);
         self.turn = next?;
         next
     }
@@ -167,11 +163,12 @@ impl DoorsInbox {
     }
 }
 
-/// The first place behind this one at which something came, those up to it coming last.
-fn place_behind<F: Fn(&pollfd) -> bool>(asked: &[pollfd], place: usize, came: F) -> Option<usize> {
+/// The first place behind this one at which something came, those up to it coming last; any place where
+/// the system doesn't say at which.
+fn place_behind(asked: &[pollfd], place: usize, any: bool) -> Option<usize> {
     let mut first = None;
     for (at, one) in asked.iter().enumerate() {
-        if !came(one) {
+        if one.revents == 0 && !any {
             continue;
         }
         if at > place {
