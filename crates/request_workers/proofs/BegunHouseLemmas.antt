@@ -1,9 +1,9 @@
 -- A house that has begun is served.
 use Rattle.std.proofs.Common.{◌≡◌, ◌≤◌, ℕ, Bool, List, [], ◌∷◌, length, Result, Ok, Err, sym, ap, ◌∙◌, subst, inl, inr, arith}
 use Rattle.std.proofs.lemmas.List.{length-map}
-use Rattle.pcp_base.specs.declared.addresses.Address.{Address}
 use Rattle.pcp_base.specs.declared.configs.Config.{Config}
 use Rattle.pcp_base.specs.declared.errors.Failed.{Failed}
+use Rattle.pcp_announce.specs.declared.doors.Group.{Group}
 use Rattle.pcp_io.specs.Faults.{HasRisen}
 use Rattle.job_workers.specs.declared.tallies.TallyRow.{TallyRow}
 use Rattle.job_workers.specs.HouseCalls.{HouseCalls}
@@ -16,7 +16,7 @@ use Rattle.request_workers.specs.Seats.{ArePasses}
 use Rattle.request_workers.specs.Served.{ShardRun}
 use Rattle.request_workers.proofs.PassLemmas.{passes_stay}
 
-faults_later : {P : Type 0} (house : HouseCalls P) (config : Config) (groups : List Address) (port : ℕ) (ds : List Dispatched) (a b : DispatchState P)
+faults_later : {P : Type 0} (house : HouseCalls P) (config : Config) (groups : List Group) (port : ℕ) (ds : List Dispatched) (a b : DispatchState P)
     → DoesItems house config groups port ds a b → a.faults ≤ b.faults
 faults_later {P} house config groups port [] a b h =
     let e : b.faults ≡ a.faults = ap (λ (s : DispatchState P). s.faults) h in
@@ -31,12 +31,12 @@ risen_since : (a b c : ℕ) → a ≤ b → HasRisen b c → HasRisen a c
 risen_since a b c later (inl e) = inl (omega (arith, later, e))
 risen_since a b c later (inr e) = inr e
 
-pub risen : {P : Type 0} (house : HouseCalls P) (config : Config) (groups : List Address) (port : ℕ) (a b : DispatchState P) (fault : Failed)
+pub risen : {P : Type 0} (house : HouseCalls P) (config : Config) (groups : List Group) (port : ℕ) (a b : DispatchState P) (fault : Failed)
     → RunsDispatcher house config groups port a b (Err fault) → HasRisen a.faults b.faults
 risen house config groups port a b fault h =
     risen_since a.faults h.last.faults b.faults (faults_later house config groups port h.dispatched a h.last h.does) h.ends.fault
 
-pub begun_of : {P : Type 0} (house : HouseCalls P) (config : Config) (groups : List Address) (port : ℕ) (fresh : Bool)
+pub begun_of : {P : Type 0} (house : HouseCalls P) (config : Config) (groups : List Group) (port : ℕ) (fresh : Bool)
     (old new : BegunState P) (passes : List P) (asking asked : P) (read : Result (Unit {0}) Failed) (rows : List TallyRow)
     → SplitsFirst house old.passes passes asking
     → ServesParts house config groups port fresh asking asked (record old { passes = passes }) new read rows
@@ -58,7 +58,7 @@ begun_of {P} house config groups port fresh old new passes asking asked read row
     }
 
 -- so it was until the inbox failed
-pub fails_to_read : {P : Type 0} (house : HouseCalls P) (config : Config) (groups : List Address) (port : ℕ) (fresh : Bool)
+pub fails_to_read : {P : Type 0} (house : HouseCalls P) (config : Config) (groups : List Group) (port : ℕ) (fresh : Bool)
     (old new : BegunState P) (passes : List P) (asking asked : P) (read : Result (Unit {0}) Failed) (fault : Failed) (rows : List TallyRow)
     → read ≡ Err fault
     → SplitsFirst house old.passes passes asking
@@ -75,7 +75,7 @@ fails_to_read {P} house config groups port fresh old new passes asking asked rea
     }
 
 -- so it was until the inbox stopped
-pub serves_begun : {P : Type 0} (house : HouseCalls P) (config : Config) (groups : List Address) (port : ℕ) (fresh : Bool)
+pub serves_begun : {P : Type 0} (house : HouseCalls P) (config : Config) (groups : List Group) (port : ℕ) (fresh : Bool)
     (old new : BegunState P) (passes : List P) (asking asked : P) (read : Result (Unit {0}) Failed) (rows tally : List TallyRow)
     → read ≡ Ok tt → tally ≡ rows
     → SplitsFirst house old.passes passes asking

@@ -3,9 +3,9 @@ use Rattle.std.proofs.Common.{◌≡◌, ℕ, ◌+◌, List, [], ◌∷◌, ◌+
 use Rattle.std.specs.List.{AllByRecursion}
 use Rattle.std.proofs.lemmas.List.{length-map}
 use Rattle.atomic_table.specs.Seated.{TableId}
-use Rattle.pcp_base.specs.declared.addresses.Address.{Address}
 use Rattle.pcp_base.specs.declared.configs.Config.{Config}
 use Rattle.pcp_base.specs.declared.errors.Failed.{Failed}
+use Rattle.pcp_announce.specs.declared.doors.Group.{Group}
 use Rattle.pcp_io.specs.declared.inboxes.InboxItem.{InboxItem}
 use Rattle.pcp_io.specs.Times.{Times}
 use Rattle.lane_loops.specs.LaneRuns.{LaneState}
@@ -53,7 +53,7 @@ queues-length {P} house passes qs qs' ds ds' ps ps' a b c s =
     ∙ (sym (length-map ds' (λ (d : Desk P). d.pass)) ∙ ap length (passes_of house passes qs qs' ds ds' ps ps' b s))
 
 -- the run of all threads, from the passes as they were
-pub of_runs : {P : Type 0} (house : HouseCalls P) (config : Config) (groups : List Address) (port : ℕ) (dispatcher : DispatchState P) (announcing : AnnounceState P)
+pub of_runs : {P : Type 0} (house : HouseCalls P) (config : Config) (groups : List Group) (port : ℕ) (dispatcher : DispatchState P) (announcing : AnnounceState P)
     (left : Option (List InboxItem)) (faults : ℕ) (read : Result (Unit {0}) Failed) (seated passes : List P) (outs outs' : List OutState) (times times' : List (Option Times))
     (lanes lanes' : List LaneState) (mid passes' : List P) (row_mid rows' : List TallyRow) → seated ≡ passes → mid ≡ [] → row_mid ≡ []
     → RunsAll house config groups port dispatcher announcing left faults read seated outs outs' times times' lanes lanes' mid passes' row_mid rows'

@@ -4,9 +4,9 @@ use Rattle.std.proofs.lemmas.List.{length-map, map-append}
 use Rattle.pcp_base.specs.declared.configs.TheConstants.{MOST_EXTERNALS}
 use Rattle.pcp_io.specs.declared.inboxes.InboxItem.{InboxItem}
 use Rattle.pcp_io.specs.Times.{Times}
-use Rattle.pcp_base.specs.declared.addresses.Address.{Address}
 use Rattle.pcp_base.specs.declared.configs.Config.{Config}
 use Rattle.pcp_base.specs.declared.errors.Failed.{Failed}
+use Rattle.pcp_announce.specs.declared.doors.Group.{Group}
 use Rattle.lane_index.specs.Lanes.{LaneKnowledge}
 use Rattle.lane_loops.specs.LaneRuns.{LaneState}
 use Rattle.lane_loops.specs.LaneSets.{LinkState}
@@ -111,7 +111,7 @@ parts_of f g h count passes lanes left faults outs front_outs outs1 outs2 out li
 
 -- ---- what was read of the dispatcher's outbox and clock
 
-pub serves_with : {P : Type 0} (house : HouseCalls P) (config : Config) (groups : List Address) (port : ℕ)
+pub serves_with : {P : Type 0} (house : HouseCalls P) (config : Config) (groups : List Group) (port : ℕ)
     (fresh : Bool) (asking asked : P) (out out_read out_new : OutState)
     (clock clock_read clock_new : Option Times) (left left' : Option (List InboxItem))
     (faults faults' : ℕ) (read : Result (Unit {0}) Failed) (outs outs' : List OutState)

@@ -3,9 +3,9 @@ use Rattle.std.proofs.Common.{◌≡◌, ℕ, ◌+◌, List, [], ◌∷◌, ◌+
 use Rattle.std.specs.List.{AllByRecursion}
 use Rattle.std.proofs.lemmas.List.{length-map}
 use Rattle.atomic_table.specs.Seated.{TableId}
-use Rattle.pcp_base.specs.declared.addresses.Address.{Address}
 use Rattle.pcp_base.specs.declared.configs.Config.{Config}
 use Rattle.pcp_base.specs.declared.errors.Failed.{Failed}
+use Rattle.pcp_announce.specs.declared.doors.Group.{Group}
 use Rattle.pcp_io.specs.declared.inboxes.InboxItem.{InboxItem}
 use Rattle.pcp_io.specs.Times.{Times}
 use Rattle.lane_loops.specs.LaneRuns.{LaneState}
@@ -130,7 +130,7 @@ passes_at {P} (s ∷ ss) = ap (λ (l : List P). s.desk.pass ∷ l) (passes_at ss
 
 -- ---- the whole run
 
-pub runs_all : {P O T : Type 0} (f : O → OutState) (g : T → Option Times) (house : HouseCalls P) (config : Config) (groups : List Address) (port : ℕ) (old : DispatchState P) (announcing : AnnounceState P)
+pub runs_all : {P O T : Type 0} (f : O → OutState) (g : T → Option Times) (house : HouseCalls P) (config : Config) (groups : List Group) (port : ℕ) (old : DispatchState P) (announcing : AnnounceState P)
     (items_left : Option (List InboxItem)) (inbox_faults : ℕ) (read : Result (Unit {0}) Failed) (qs : List TableId)
     (desks desks_then desks_left : List (Desk P)) (desks_end : List (Desk P)) (outs outs_left : List O) (outs_end : List OutState) (clocks clocks_left : List T) (times_end : List (Option Times))
     (lanes lanes' : List LaneState) (ports_then ports ports_end : List Port) (passes passes' : List P) (rows rows' : List TallyRow)

@@ -1,8 +1,8 @@
 -- Serving a house that has begun, from its passes to the tally (our own).
 use Rattle.std.specs.Prelude.{◌≡◌, ℕ, Bool, List, length, Result, Ok, Err}
-use Rattle.pcp_base.specs.declared.addresses.Address.{Address}
 use Rattle.pcp_base.specs.declared.configs.Config.{Config}
 use Rattle.pcp_base.specs.declared.errors.Failed.{Failed}
+use Rattle.pcp_announce.specs.declared.doors.Group.{Group}
 use Rattle.pcp_io.specs.Faults.{HasRisen}
 use Rattle.lane_loops.specs.LaneSets.{lane_states}
 use Rattle.job_workers.specs.declared.tallies.TallyRow.{TallyRow}
@@ -14,7 +14,7 @@ use Rattle.request_workers.specs.Passes.{SplitsFirst}
 use Rattle.request_workers.specs.Seats.{ArePasses}
 use Rattle.request_workers.specs.Served.{ServesAll}
 
-module _ {P : Type 0} (house : HouseCalls P) (config : Config) (groups : List Address) (port : ℕ)
+module _ {P : Type 0} (house : HouseCalls P) (config : Config) (groups : List Group) (port : ℕ)
     (fresh : Bool) where
   -- All was served, by the outboxes, links and clocks of the external addresses that there are. The
   -- others are as they were.

@@ -1,9 +1,9 @@
 -- What serving did (our own): for each external address, and for the whole run.
 use Rattle.std.specs.Prelude.{◌≡◌, ℕ, ◌+◌, Bool, List, [], ◌∷◌, ◌++◌, map, Option, Result}
 use Rattle.std.specs.List.{AllByRecursion}
-use Rattle.pcp_base.specs.declared.addresses.Address.{Address}
 use Rattle.pcp_base.specs.declared.configs.Config.{Config}
 use Rattle.pcp_base.specs.declared.errors.Failed.{Failed}
+use Rattle.pcp_announce.specs.declared.doors.Group.{Group}
 use Rattle.pcp_io.specs.declared.inboxes.InboxItem.{InboxItem}
 use Rattle.pcp_io.specs.Times.{Times, IsTimeNow}
 use Rattle.pcp_announce.specs.Schedules.{Schedule, begun}
@@ -47,7 +47,7 @@ module _ {P : Type 0} (house : HouseCalls P) where
   -- The whole run: the dispatcher handed on all items until the inbox stopped or failed; what it
   -- put for each external address was done; the loop of each lane ran. The passes and the rows were
   -- added in the order of the external addresses.
-  pub record RunsAll (config : Config) (groups : List Address) (port : ℕ)
+  pub record RunsAll (config : Config) (groups : List Group) (port : ℕ)
       (dispatcher : DispatchState P) (announcing : AnnounceState P)
       (items_left : Option (List InboxItem)) (inbox_faults : ℕ) (read : Result (Unit {0}) Failed)
       (seated : List P) (outs_old outs_new : List OutState)
@@ -83,7 +83,7 @@ module _ {P : Type 0} (house : HouseCalls P) where
     pub schedule_is : schedule ≡ begun base fresh time
 
   -- The announcer was made, and then all ran, from the given passes to these and to the tally.
-  pub record ServesAll (config : Config) (groups : List Address) (port : ℕ) (fresh : Bool)
+  pub record ServesAll (config : Config) (groups : List Group) (port : ℕ) (fresh : Bool)
       (asking asked : P) (out_old out_new : OutState) (clock_old clock_new : Option Times)
       (left_old left_new : Option (List InboxItem)) (faults_old faults_new : ℕ)
       (read : Result (Unit {0}) Failed) (outs_old outs_new : List OutState)

@@ -1,7 +1,8 @@
 //! Serving, from the passes of a house that has begun to what is told at the end.
-ghost use Rattle.std.specs.Prelude.{◌≡◌, [], ◌∷◌, length, map};
+ghost use Rattle.std.specs.Prelude.{◌≡◌, length, map};
 ghost use Rattle.pcp_base.specs.Configs.{IsConfig};
-ghost use Rattle.job_dispatch.specs.declared.ports.TheConstants.{ALL_HOSTS_V4, ALL_HOSTS_V6, ANNOUNCEMENT_PORT};
+ghost use Rattle.pcp_announce.specs.Doors.{groups};
+ghost use Rattle.job_dispatch.specs.declared.ports.TheConstants.{ANNOUNCEMENT_PORT};
 ghost use Rattle.lane_loops.specs.LaneSets.{lane_states};
 ghost use Rattle.request_workers.specs.Parts.{links_told, outs_told};
 ghost use Rattle.request_workers.specs.Rooms.{IsRoom};
@@ -76,7 +77,7 @@ pub fn serve_room<
     requires clocks { length clocks.old ≡ length config.now.externals }
     requires links { length links.old ≡ length lanes.old }
     requires lane_clocks { length lane_clocks.old ≡ length lanes.old }
-    ensures { ServesAll (H.calls house.now) config.now (ALL_HOSTS_V4 ∷ ALL_HOSTS_V6 ∷ [])
+    ensures { ServesAll (H.calls house.now) config.now (groups config.now)
         ANNOUNCEMENT_PORT fresh asking.old asking.new
         (record { sent = O.sent out.old; faults = O.faults out.old })
         (record { sent = O.sent out.new; faults = O.faults out.new })

@@ -1,8 +1,9 @@
 //! Whose outboxes, links and clocks are.
-ghost use Rattle.std.specs.Prelude.{◌≡◌, ◌+◌, ◌*◌, [], ◌∷◌, length, map};
+ghost use Rattle.std.specs.Prelude.{◌≡◌, ◌+◌, ◌*◌, length, map};
 ghost use Rattle.pcp_base.specs.Configs.{IsConfig};
 ghost use Rattle.pcp_base.specs.declared.configs.TheConstants.{MOST_EXTERNALS};
-ghost use Rattle.job_dispatch.specs.declared.ports.TheConstants.{ALL_HOSTS_V4, ALL_HOSTS_V6, ANNOUNCEMENT_PORT};
+ghost use Rattle.pcp_announce.specs.Doors.{groups};
+ghost use Rattle.job_dispatch.specs.declared.ports.TheConstants.{ANNOUNCEMENT_PORT};
 ghost use Rattle.request_workers.specs.BegunHouses.{ServesParts};
 ghost use Rattle.request_workers.specs.Parts.{links_told, outs_told};
 ghost use Rattle.request_workers.specs.Rooms.{IsRoom};
@@ -55,7 +56,7 @@ pub fn serve_parts<
     requires outs { length outs.old ≡ MOST_EXTERNALS + 1 }
     requires links { length links.old ≡ MOST_EXTERNALS }
     requires clocks { length clocks.old ≡ 2 * MOST_EXTERNALS + 1 }
-    ensures { ServesParts (H.calls house.now) config.now (ALL_HOSTS_V4 ∷ ALL_HOSTS_V6 ∷ [])
+    ensures { ServesParts (H.calls house.now) config.now (groups config.now)
         ANNOUNCEMENT_PORT fresh asking.old asking.new
         (record {
           passes = passes.old.items;

@@ -1,7 +1,8 @@
 //! All threads of a server, from the desks at which passes sit to what is left at the end.
-ghost use Rattle.std.specs.Prelude.{◌≡◌, ◌≤◌, ◌+◌, [], ◌∷◌, length, map, vec_capacity, vec_len};
+ghost use Rattle.std.specs.Prelude.{◌≡◌, ◌≤◌, ◌+◌, [], length, map, vec_capacity, vec_len};
 ghost use Rattle.pcp_base.specs.Configs.{IsConfig};
-ghost use Rattle.job_dispatch.specs.declared.ports.TheConstants.{ALL_HOSTS_V4, ALL_HOSTS_V6, ANNOUNCEMENT_PORT};
+ghost use Rattle.pcp_announce.specs.Doors.{groups};
+ghost use Rattle.job_dispatch.specs.declared.ports.TheConstants.{ANNOUNCEMENT_PORT};
 ghost use Rattle.lane_loops.specs.LaneSets.{lane_states};
 ghost use Rattle.request_workers.specs.Parts.{links_told, outs_told};
 ghost use Rattle.request_workers.specs.Seats.{AreSeated};
@@ -63,7 +64,7 @@ pub fn run_seated<
     requires pass { (H.calls house.now).is_pass pass.old }
     requires passes { vec_len passes.old + length queues.now ≤ vec_capacity passes.old }
     requires rows { vec_len rows.old + length queues.now ≤ vec_capacity rows.old }
-    ensures runs { RunsAll (H.calls house.now) config.now (ALL_HOSTS_V4 ∷ ALL_HOSTS_V6 ∷ [])
+    ensures runs { RunsAll (H.calls house.now) config.now (groups config.now)
         ANNOUNCEMENT_PORT
         (record {
           ports = ports.old.items;

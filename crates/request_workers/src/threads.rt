@@ -1,9 +1,10 @@
 //! The dispatcher, the workers and the loops of the lanes, all at once.
-ghost use Rattle.std.specs.Prelude.{◌≡◌, ◌≤◌, [], ◌∷◌, length, map};
+ghost use Rattle.std.specs.Prelude.{◌≡◌, ◌≤◌, length, map};
 ghost use Rattle.std.specs.Thread.{IsSend, IsSync};
 ghost use Rattle.pcp_base.specs.Configs.{IsConfig};
 ghost use Rattle.pcp_io.specs.declared.inboxes.TheConstants.{LONGEST_DATAGRAM};
-ghost use Rattle.job_dispatch.specs.declared.ports.TheConstants.{ALL_HOSTS_V4, ALL_HOSTS_V6, ANNOUNCEMENT_PORT};
+ghost use Rattle.pcp_announce.specs.Doors.{groups};
+ghost use Rattle.job_dispatch.specs.declared.ports.TheConstants.{ANNOUNCEMENT_PORT};
 ghost use Rattle.job_dispatch.specs.Dispatches.{ArePorts};
 ghost use Rattle.job_dispatch.specs.Dispatching.{RunsDispatcher};
 ghost use Rattle.lane_loops.specs.LaneSets.{AllRun, lane_states};
@@ -120,7 +121,7 @@ fn lead<R: Wait, I: Inbox, O: Outbox, T: Clock, P, H: JobHouse<P>>(
     requires ports { ArePorts config.now queues.now ports.old }
     requires all { length ports.old ≡ length config.now.externals }
     requires piece { LONGEST_DATAGRAM ≤ length piece.old }
-    ensures { RunsDispatcher (H.calls house.now) config.now (ALL_HOSTS_V4 ∷ ALL_HOSTS_V6 ∷ [])
+    ensures { RunsDispatcher (H.calls house.now) config.now (groups config.now)
         ANNOUNCEMENT_PORT
         (record {
           ports = ports.old;
@@ -211,7 +212,7 @@ pub fn run_threads<
         (links_told L.asks L.answers L.faults links.new)
         (map T.times lane_clocks.new)) }
     ensures dispatcher { RunsDispatcher (H.calls house.now) config.now
-        (ALL_HOSTS_V4 ∷ ALL_HOSTS_V6 ∷ [])
+        (groups config.now)
         ANNOUNCEMENT_PORT
         (record {
           ports = ports.old;
@@ -281,7 +282,7 @@ pub fn run_threads<
             × (length ports.now ≡ length config.now.externals)
             × (LONGEST_DATAGRAM ≤ length piece.now) }
         ensures { RunsDispatcher (H.calls house.entry.now) config.entry.now
-            (ALL_HOSTS_V4 ∷ ALL_HOSTS_V6 ∷ [])
+            (groups config.entry.now)
             ANNOUNCEMENT_PORT
             (record {
               ports = ports.entry.now;
