@@ -1,7 +1,10 @@
 //! Tests of the command `serve` over edges in memory: a whole run and what its journals keep, shards
-//! that don't wait for one another, and runs that end by a fault or are refused.
+//! that don't wait for one another, by which doors what is sent, and runs that end by a fault or are
+//! refused.
 #![tactic(auto)]
 
+#[cfg(test)]
+mod doors;
 #[cfg(test)]
 mod edges;
 #[cfg(test)]

@@ -27,17 +27,28 @@ static MAP: [u8; 60] = [
     0x00, 0x00, 0x00, 0x00, 0x00, 0x00, 0xff, 0xff, 0x00, 0x00, 0x00, 0x00,
 ];
 
-/// These octets from the host 10.`second`.0.5.
-fn datagram(second: u8, octets: Vec<u8>) -> Datagram {
+/// These octets from the host 10.`second`.0.5, which come by this door.
+fn datagram(second: u8, door: u8, octets: Vec<u8>) -> Datagram {
     Datagram {
         peer: Address::v4(10, second, 0, 5),
         port: 40_000,
+        door,
         octets: Octets::of(octets),
     }
 }
 
-/// Appends the request to what comes in.
+/// Appends the request, which comes by door 0, to what comes in.
 pub(crate) fn push_ask(alloc: Global, items: &mut Vec<InboxItem>, ask: Ask) -> Result<(), Memory> {
+    push_ask_by(alloc, items, ask, 0)
+}
+
+/// Appends the request, which comes by this door.
+pub(crate) fn push_ask_by(
+    alloc: Global,
+    items: &mut Vec<InboxItem>,
+    ask: Ask,
+    door: u8,
+) -> Result<(), Memory> {
     let port = ask.port.to_be_bytes();
     let mut octets = MAP;
     octets[21] = ask.second;
@@ -47,14 +58,14 @@ pub(crate) fn push_ask(alloc: Global, items: &mut Vec<InboxItem>, ask: Ask) -> R
         octets[24..36].copy_from_slice(&[0xff; 12]);
     }
     let octets = Vec::from_array(alloc, octets)?;
-    items.push(InboxItem::Packet(datagram(ask.second, octets)))?;
+    items.push(InboxItem::Packet(datagram(ask.second, door, octets)))?;
     Ok(())
 }
 
 /// Appends a datagram of one octet, which nobody answers.
 pub(crate) fn push_stub(alloc: Global, items: &mut Vec<InboxItem>) -> Result<(), Memory> {
     let octets = Vec::from_array(alloc, [2])?;
-    items.push(InboxItem::Packet(datagram(0, octets)))?;
+    items.push(InboxItem::Packet(datagram(0, 0, octets)))?;
     Ok(())
 }
 

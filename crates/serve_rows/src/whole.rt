@@ -62,7 +62,7 @@ fn first_items(alloc: Global) -> Result<Vec<InboxItem>, Memory> {
 /// A loss of the second external address.
 fn loss(alloc: Global) -> Result<Vec<InboxItem>, Memory> {
     let mut items = Vec::new(alloc);
-    items.push(InboxItem::Lose(Address::v4(192, 0, 2, 2)))?;
+    items.push(InboxItem::Lose(0, Address::v4(192, 0, 2, 2)))?;
     Ok(items)
 }
 
@@ -93,7 +93,7 @@ fn sent(alloc: Global, out: &MemoryOutbox, replies: &[&str]) -> Result<bool, Mem
     Ok(all.len() == replies.len())
 }
 
-/// Whether each announcement goes to port 5350 of 224.0.0.1, and then of ff02::1.
+/// Whether each announcement goes to port 5350 of 224.0.0.1 by door 0, and then of ff02::1 by door 1.
 fn go_to_all_hosts(sent: &[Datagram]) -> bool {
     let hosts = [
         Address::v4(224, 0, 0, 1),
@@ -104,6 +104,7 @@ fn go_to_all_hosts(sent: &[Datagram]) -> bool {
             let peers = [a.peer, b.peer, c.peer, d.peer];
             peers == [hosts[0], hosts[1], hosts[0], hosts[1]]
                 && [a.port, b.port, c.port, d.port] == [5_350; 4]
+                && [a.door, b.door, c.door, d.door] == [0, 1, 0, 1]
         }
         _ => false,
     }

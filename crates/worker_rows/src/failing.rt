@@ -69,7 +69,7 @@ fn counts(row: &TallyRow, out: &MemoryOutbox, unsent: u64) -> bool {
 }
 
 /// Whether this is the announcement to a group that comes as so many-th, from 0: one for each item and
-/// group, with the seconds since 1000 (RFC 6887, sections 7.2 and 14.1).
+/// group, by the door of its family, with the seconds since 1000 (RFC 6887, sections 7.2 and 14.1).
 fn is_announcement(datagram: &Datagram, number: u32) -> bool {
     let group = if number % 2 == 0 {
         Address::v4(224, 0, 0, 1)
@@ -85,7 +85,10 @@ fn is_announcement(datagram: &Datagram, number: u32) -> bool {
     octets[9] = seconds[1];
     octets[10] = seconds[2];
     octets[11] = seconds[3];
-    datagram.peer == group && datagram.port == 5_350 && datagram.octets.items() == octets.as_slice()
+    datagram.peer == group
+        && datagram.port == 5_350
+        && u32::from(datagram.door) == number % 2
+        && datagram.octets.items() == octets.as_slice()
 }
 
 /// Whether these are the announcements for four items, but for that of this number.

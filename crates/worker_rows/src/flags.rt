@@ -78,6 +78,10 @@ impl<'a> Inbox for HoldingInbox<'a> {
         }
         Ok(incoming)
     }
+
+    fn answered(&mut self, order: u32, text: &[u8]) {
+        self.inbox.answered(order, text);
+    }
 }
 
 /// Counts the grants that it took, and sets the flag of shard 1 where it is that one's.
@@ -95,7 +99,7 @@ impl<'a> Outbox for TellingOutbox<'a> {
 
     ghost faults = { λ _. 0 };
 
-    fn send(&mut self, _peer: Address, _port: u16, octets: &[u8]) -> Result<(), Failed> {
+    fn send(&mut self, _door: u8, _peer: Address, _port: u16, octets: &[u8]) -> Result<(), Failed> {
         if granted_by(octets).is_some() {
             self.grants = self.grants.saturating_add(1);
         }
@@ -132,7 +136,7 @@ impl<'a> LaneLink for TellingLink<'a> {
 
     ghost faults = { λ _. 0 };
 
-    fn ask(&mut self) -> Result<LaneAsk, Failed> {
+    fn ask(&mut self, _over: bool) -> Result<LaneAsk, Failed> {
         let left = self.left;
         self.left = left.saturating_sub(1);
         Ok(match left {

@@ -36,6 +36,7 @@ pub(crate) fn request(alloc: Global, ask: Ask) -> Result<Datagram, Memory> {
     Ok(Datagram {
         peer: Address::v4(10, second, host[0], host[1]),
         port: 40_000,
+        door: 0,
         octets: Octets::of(Vec::from_array(alloc, octets)?),
     })
 }
