@@ -1,9 +1,9 @@
 -- From a house that has begun to its end.
 use Rattle.std.proofs.Common.{◌≡◌, ℕ, zero, suc, ◌+◌, Bool, List, [], ◌∷◌, length, Some, Result, Ok, Err, refl, sym, ap, ◌∙◌, subst, arith}
 use Rattle.std.specs.List.{AllByRecursion, slice_get}
-use Rattle.pcp_base.specs.declared.addresses.Address.{Address}
 use Rattle.pcp_base.specs.declared.configs.Config.{Config}
 use Rattle.pcp_base.specs.declared.configs.External.{External}
+use Rattle.pcp_announce.specs.declared.doors.Group.{Group}
 use Rattle.lease_disk.specs.declared.disks.DiskPair.{DiskPair}
 use Rattle.lane_index.specs.Lanes.{LaneKnowledge}
 use Rattle.turn_lock.specs.Passes.{TurnName}
@@ -120,7 +120,7 @@ module _ {D : Type 0} (tells : Type 0) (seen : D → List ℕ) (moment : D → �
 
     -- ---- the passes that come back
 
-    pub passes_back : (house : HouseView D) (config : Config) (groups : List Address) (port : ℕ) (fresh : Bool) (old new : BegunState (HousePass D)) (result : Result (List TallyRow) ServeFault)
+    pub passes_back : (house : HouseView D) (config : Config) (groups : List Group) (port : ℕ) (fresh : Bool) (old new : BegunState (HousePass D)) (result : Result (List TallyRow) ServeFault)
         → AnswersBegun (calls_of tells seen moment left_since may_leave faults house) config groups port fresh old new result
         → ArePasses (calls_of tells seen moment left_since may_leave faults house) 0 old.passes
         → ArePasses (calls_of tells seen moment left_since may_leave faults house) 0 new.passes
@@ -129,7 +129,7 @@ module _ {D : Type 0} (tells : Type 0) (seen : D → List ℕ) (moment : D → �
     passes_back house config groups port fresh old new (Err ServeFaults.Memory) h were =
         subst (λ (s : BegunState (HousePass D)). ArePasses (calls_of tells seen moment left_since may_leave faults house) 0 s.passes) (sym h) were
 
-    pub count_back : (house : HouseView D) (config : Config) (groups : List Address) (port : ℕ) (fresh : Bool) (old new : BegunState (HousePass D)) (result : Result (List TallyRow) ServeFault)
+    pub count_back : (house : HouseView D) (config : Config) (groups : List Group) (port : ℕ) (fresh : Bool) (old new : BegunState (HousePass D)) (result : Result (List TallyRow) ServeFault)
         → AnswersBegun (calls_of tells seen moment left_since may_leave faults house) config groups port fresh old new result
         → length new.passes ≡ length old.passes
     count_back house config groups port fresh old new (Ok rows) h = h.count
@@ -162,7 +162,7 @@ module _ {D : Type 0} (tells : Type 0) (seen : D → List ℕ) (moment : D → �
 
     -- ---- the whole
 
-    pub serves_to_end : (config : Config) (groups : List Address) (port : ℕ) (begun : Begun D) (house back : HouseView D) (lanes : List LaneKnowledge) (old : Edges)
+    pub serves_to_end : (config : Config) (groups : List Group) (port : ℕ) (begun : Begun D) (house back : HouseView D) (lanes : List LaneKnowledge) (old : Edges)
         (then : BegunState (HousePass D)) (result : Result (List TallyRow) ServeFault) (ended : List (HousePass D)) (pairs : List (DiskPair D))
         → house ≡ begun.house → back ≡ house → lanes ≡ begun.lanes.items
         → AnswersBegun (calls_of tells seen moment left_since may_leave faults house) config groups port begun.fresh
@@ -217,7 +217,7 @@ module _ {D : Type 0} (tells : Type 0) (seen : D → List ℕ) (moment : D → �
 
     -- the passes with which a house that was served is ended
     pub ends_home : (config : Config) (begun : Begun D) (is : IsBegunFor tells seen moment left_since may_leave faults config begun) (house back : HouseView D)
-        (groups : List Address) (port : ℕ) (fresh : Bool) (old new : BegunState (HousePass D)) (result : Result (List TallyRow) ServeFault)
+        (groups : List Group) (port : ℕ) (fresh : Bool) (old new : BegunState (HousePass D)) (result : Result (List TallyRow) ServeFault)
         → house ≡ begun.house → back ≡ house → old.passes ≡ begun.passes.items
         → AnswersBegun (calls_of tells seen moment left_since may_leave faults house) config groups port fresh old new result
         → AreAtHome back.turns new.passes

@@ -2,9 +2,9 @@
 use Rattle.std.proofs.Common.{◌≡◌, ℕ, zero, suc, ◌+◌, ◌-◌, ◌^◌, ◌<◌, ◌≤◌, min, Bool, true, false, cond, List, [], ◌∷◌, length, fold, map, Option, Some, None, Result, refl, sym, ap, ◌∙◌, subst, length-append, arith}
 use Rattle.std.specs.List.{AllByRecursion, count_by, slice_get}
 use Rattle.std.proofs.lemmas.Bool.{eqb-true}
-use Rattle.pcp_base.specs.declared.addresses.Address.{Address}
 use Rattle.pcp_base.specs.declared.configs.Config.{Config}
 use Rattle.pcp_base.specs.declared.errors.Failed.{Failed}
+use Rattle.pcp_announce.specs.declared.doors.Group.{Group}
 use Rattle.pcp_io.specs.declared.inboxes.InboxItem.{InboxItem}
 use Rattle.job_queue.specs.declared.jobs.Job.{Job}
 use Rattle.job_queue.specs.declared.jobs.TheConstants.{MOST_JOBS}
@@ -102,7 +102,7 @@ one_more n m k l total false e here rest more =
     rest (omega (arith, same, more))
 
 -- Where an item was dropped at a full queue, that many jobs were put into it, before or by these items.
-put_where_full : {P : Type 0} (house : HouseCalls P) (config : Config) (groups : List Address) (port shard : ℕ) (ds : List Dispatched) (n k : ℕ) (a b : DispatchState P)
+put_where_full : {P : Type 0} (house : HouseCalls P) (config : Config) (groups : List Group) (port shard : ℕ) (ds : List Dispatched) (n k : ℕ) (a b : DispatchState P)
     → AtMost shard n a.ports → DoesItems house config groups port ds a b → k < fold (λ m (d : Dispatched). m + cond (is_full shard d.fate) 1 0) k ds
     → MOST_JOBS ≤ n + length (all_put_for shard ds)
 put_where_full house config groups port shard [] n k a b most does more = absurd (omega (arith, more))
@@ -144,7 +144,7 @@ rows_filled house shard ds (r ∷ rs) runs many =
     let counts = rows_count house shard ds r runs.0 in
     (row_filled (count_by (λ (d : Dispatched). is_full shard d.fate) ds) (length (all_put_for shard ds)) r.row counts.full counts.taken (many shard), rows_filled house (shard + 1) ds rs runs.1 many)
 
-pub filled_rows : {P : Type 0} (house : HouseCalls P) (config : Config) (groups : List Address) (port : ℕ) (fresh : Bool) (old new : BegunState P) (read : Result (Unit {0}) Failed) (rows : List TallyRow)
+pub filled_rows : {P : Type 0} (house : HouseCalls P) (config : Config) (groups : List Group) (port : ℕ) (fresh : Bool) (old new : BegunState P) (read : Result (Unit {0}) Failed) (rows : List TallyRow)
     → ServesBegun house config groups port fresh old new read rows → AllByRecursion IsFilled rows
 filled_rows house config groups port fresh old new read rows served =
     let all = served.served.serves in

@@ -1,11 +1,11 @@
 -- What holds of the run of an external address (our own).
 use Rattle.std.specs.Prelude.{◌≡◌, ℕ, ◌*◌, ◌<◌, ◌≤◌, List, Ok, Result, Some}
 use Rattle.std.specs.List.{AllByRecursion, slice_get, sum_by}
-use Rattle.pcp_base.specs.declared.addresses.Address.{Address}
 use Rattle.pcp_base.specs.declared.configs.Config.{Config}
 use Rattle.pcp_base.specs.declared.configs.External.{External}
 use Rattle.pcp_base.specs.declared.datagrams.Entry.{Entry}
 use Rattle.pcp_base.specs.States.{State}
+use Rattle.pcp_announce.specs.declared.doors.Group.{Group}
 use Rattle.lease_disk.specs.declared.disks.DiskPair.{DiskPair}
 use Rattle.shard_book.specs.Books.{BookView}
 use Rattle.lease_histories.specs.Entries.{Served}
@@ -91,7 +91,7 @@ module _ (D : Type 0) (tells : Type 0) (seen : D → List ℕ) (moment : D → �
 
     -- So it is with each row that serving tells at its end.
     abbrev pub FullQueuesWereFilled : Type 0
-    FullQueuesWereFilled = (config : Config) (groups : List Address) (port : ℕ) (begun : Begun D)
+    FullQueuesWereFilled = (config : Config) (groups : List Group) (port : ℕ) (begun : Begun D)
         (old new : Edges) (rows : List TallyRow) (pairs : List (DiskPair D)) →
         ServesToEnd tells seen moment left_since may_leave faults config groups port begun old new
         (Ok rows) pairs →
@@ -109,7 +109,7 @@ module _ (D : Type 0) (tells : Type 0) (seen : D → List ℕ) (moment : D → �
     -- call's start a crash leaves of the pair of each external address what is said here, along the
     -- history that its pass has seen at the end.
     abbrev pub CrashesAreAlongHistories : Type 0
-    CrashesAreAlongHistories = (config : Config) (groups : List Address) (port m : ℕ)
+    CrashesAreAlongHistories = (config : Config) (groups : List Group) (port m : ℕ)
         (before pairs : List (DiskPair D)) (begun : Begun D) (old new : Edges)
         (result : Result (List TallyRow) ServeFault) →
         Begins tells seen moment left_since may_leave faults config m before begun →

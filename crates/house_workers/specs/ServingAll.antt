@@ -1,8 +1,8 @@
 -- A house that is begun, served and ended (our own).
 use Rattle.std.specs.Prelude.{◌≡◌, ℕ, List, Option, Result}
 use Rattle.std.specs.List.{AllByRecursion}
-use Rattle.pcp_base.specs.declared.addresses.Address.{Address}
 use Rattle.pcp_base.specs.declared.configs.Config.{Config}
+use Rattle.pcp_announce.specs.declared.doors.Group.{Group}
 use Rattle.pcp_io.specs.declared.inboxes.InboxItem.{InboxItem}
 use Rattle.pcp_io.specs.Times.{Times}
 use Rattle.lease_disk.specs.declared.disks.DiskPair.{DiskPair}
@@ -42,7 +42,7 @@ module _ {D : Type 0} (tells : Type 0) (seen : D → List ℕ) (moment : D → �
 
     -- The house was served with the passes with which it began, and then it was ended with those that
     -- came back.
-    pub record ServesToEnd (config : Config) (groups : List Address) (port : ℕ) (begun : Begun D)
+    pub record ServesToEnd (config : Config) (groups : List Group) (port : ℕ) (begun : Begun D)
         (old new : Edges) (result : Result (List TallyRow) ServeFault) (pairs : List (DiskPair D))
         : Type 0 where
       pub then : BegunState (HousePass D)

@@ -1,8 +1,9 @@
 //! Serving with a house that has begun, to its end.
-ghost use Rattle.std.specs.Prelude.{◌≡◌, ◌+◌, ◌*◌, [], ◌∷◌, length, map};
+ghost use Rattle.std.specs.Prelude.{◌≡◌, ◌+◌, ◌*◌, length, map};
 ghost use Rattle.pcp_base.specs.Configs.{IsConfig};
 ghost use Rattle.pcp_base.specs.declared.configs.TheConstants.{MOST_EXTERNALS};
-ghost use Rattle.job_dispatch.specs.declared.ports.TheConstants.{ALL_HOSTS_V4, ALL_HOSTS_V6, ANNOUNCEMENT_PORT};
+ghost use Rattle.pcp_announce.specs.Doors.{groups};
+ghost use Rattle.job_dispatch.specs.declared.ports.TheConstants.{ANNOUNCEMENT_PORT};
 ghost use Rattle.request_workers.specs.Parts.{links_told, outs_told};
 ghost use Rattle.house_workers.specs.ServingAll.{IsBegunFor, ServesToEnd};
 
@@ -51,7 +52,7 @@ pub fn serve_all<
     requires lanes { length lanes.old ≡ MOST_EXTERNALS }
     requires clocks { length clocks.old ≡ 2 * MOST_EXTERNALS + 1 }
     ensures served { ServesToEnd D.tells D.seen D.moment D.left_since D.may_leave D.faults
-        config.now (ALL_HOSTS_V4 ∷ ALL_HOSTS_V6 ∷ []) ANNOUNCEMENT_PORT begun
+        config.now (groups config.now) ANNOUNCEMENT_PORT begun
         (record {
           left = I.left inbox.old;
           faults = I.faults inbox.old;
