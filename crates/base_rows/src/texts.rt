@@ -206,11 +206,18 @@ fn first_other_address(alloc: Global) -> Result<Option<usize>, Memory> {
 
 // The first address of which a text is read otherwise.
 fn first_other_text(rows: &[(Address, &[&[u8]])]) -> Option<usize> {
-    rows.iter().position(|(address, texts)| {
-        !texts
-            .iter()
-            .all(|text| Address::read(text).ok() == Some(*address))
-    })
+    for (i, (address, texts)) in rows.iter().enumerate() {
+        if !are_read_as(texts, *address) {
+            return Some(i);
+        }
+    }
+    None
+}
+
+fn are_read_as(texts: &[&[u8]], address: Address) -> bool {
+    texts
+        .iter()
+        .all(|text| Address::read(text).ok() == Some(address))
 }
 
 #[test]

@@ -4,17 +4,20 @@ use Rattle.std.specs.List.{AllByRecursion, AllZip}
 use Rattle.std.proofs.lemmas.Option.{same_Some, slice_get_within}
 use Rattle.toml.specs.Data.{Data, Members}
 use Rattle.pcp_base.specs.AddressTexts.{IsPrefixText}
-use Rattle.pcp_base.specs.Configs.{IsConfig, IsExternal}
+use Rattle.pcp_base.specs.Configs.{AreApart, IsConfig, IsExternal, IsListenAddress}
+use Rattle.pcp_base.specs.Tables.{EachTwo}
 use Rattle.pcp_base.specs.declared.addresses.Prefix.{Prefix}
-use Rattle.pcp_base.specs.declared.configs.TheConstants.{LONGEST_LIFETIME, MOST_QUOTA}
+use Rattle.pcp_base.specs.declared.configs.TheConstants.{LONGEST_LIFETIME, MOST_DOORS, MOST_QUOTA}
 use Rattle.pcp_base.specs.declared.configs.Config.{Config}
 use Rattle.pcp_base.specs.declared.configs.External.{External}
+use Rattle.pcp_base.specs.declared.configs.ListenAddress.{ListenAddress}
 use Rattle.pcp_base.specs.declared.configs.Subscriber.{Subscriber}
-use Rattle.pcp_config.specs.ConfigTables.{IsConfigTable, IsExternalTable, IsSubscriberTable}
+use Rattle.pcp_config.specs.ConfigTables.{AreListened, IsConfigTable, IsExternalTable, IsListenText, IsSubscriberTable}
 use Rattle.pcp_config.specs.ConfigTexts.{IsConfigText}
 use Rattle.pcp_config.specs.declared.TheConstants.{DEFAULT_LIFETIME_MIN, DEFAULT_QUOTA}
 use Rattle.pcp_config.specs.TomlValues.{TellsOr, IsListOf, IsNumberIn, IsTableOf, IsTextOf, list_of}
 use Rattle.pcp_config.proofs.ConfigLemmas.{IsConfigTable-unique}
+use Rattle.pcp_config.proofs.ListenLemmas.{listen_told}
 
 -- what holds of all that items tell
 zip_all : {A : Type 0} (R : Data → A → Type 0) (P : A → Type 0) → ((d : Data) (x : A) → R d x → P x) → (ds : List Data) (xs : List A) → AllZip R ds xs → AllByRecursion P xs
@@ -56,12 +59,24 @@ subscriber_told externals d s (ms, is, h) =
     let (e, at', (text, is', (x, place, writes))) = h.external in
     (prefix_told p s.prefix prefix, slice_get_within externals s.external x place)
 
+-- addresses at which a server may listen
+record MayListen (listen : List ListenAddress) : Type 0 where
+  few : length listen ≤ MOST_DOORS
+  each : AllByRecursion IsListenAddress listen
+  different : EachTwo AreApart listen
+
+may_listen : (members : Members) (listen : List ListenAddress) → AreListened members listen → MayListen listen
+may_listen ms listen (inl (at, same)) = subst MayListen (sym same) (record { few = omega arith; each = tt; different = tt })
+may_listen ms listen (inr (d, at, h)) =
+    record { few = h.few; each = list_all_told (IsTextOf IsListenText) IsListenAddress listen_told d listen h.told; different = h.different }
+
 pub IsConfig-from : (members : Members) (c : Config) → IsConfigTable members c → IsConfig c
 IsConfig-from ms c h =
     let quota = bounds_or ms (codes "quota") DEFAULT_QUOTA 1 MOST_QUOTA c.quota h.quota (omega arith) (omega arith) in
     let least = bounds_or ms (codes "lifetime_min") DEFAULT_LIFETIME_MIN 1 LONGEST_LIFETIME c.lifetime_min h.lifetime_min (omega arith) (omega arith) in
     let most = bounds_or ms (codes "lifetime_max") LONGEST_LIFETIME c.lifetime_min LONGEST_LIFETIME c.lifetime_max h.lifetime_max least.1 (omega arith) in
     let (d, at, told) = h.externals.told in
+    let listen = may_listen ms c.listen h.listen in
     record {
       quota = (omega (arith, quota.0), quota.1);
       lifetime_min = omega (arith, least.0);
@@ -75,6 +90,9 @@ IsConfig-from ms c h =
       subscriber_count = h.subscribers.few;
       subscribers = all_or ms (codes "subscriber") (IsTableOf (IsSubscriberTable c.externals))
           (λ (s : Subscriber). (s.prefix.bits ≤ 128) × (s.external < length c.externals)) (subscriber_told c.externals) c.subscribers h.subscribers.told;
+      listen_count = listen.few;
+      listen = listen.each;
+      listen_different = listen.different;
     }
 
 -- a text stands for one configuration at most

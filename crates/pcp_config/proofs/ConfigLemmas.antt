@@ -15,6 +15,7 @@ use Rattle.pcp_base.proofs.AddressLemmas.{IsAddressText-unique}
 use Rattle.pcp_config.specs.ConfigTables.{AreExternals, AreSubscribers, AreThirdParties, IsConfigTable, IsExternalTable, IsExternalText, IsSubscriberTable}
 use Rattle.pcp_config.specs.declared.TheConstants.{DEFAULT_LIFETIME_MIN, DEFAULT_QUOTA, LAST_PORT}
 use Rattle.pcp_config.specs.TomlValues.{TellsAt, TellsOr, IsListOf, IsNumberIn, IsTableOf, IsTextOf, list_of}
+use Rattle.pcp_config.proofs.ListenLemmas.{listen_unique, orders_unique}
 use Rattle.pcp_config.proofs.PrefixUnique.{IsPrefixText-unique}
 use Rattle.pcp_config.proofs.UniqueLemmas.{Agree, TellsAt-unique, TellsOr-unique, IsListOf-unique, IsNumberIn-unique, IsTableOf-unique, IsTextOf-unique}
 
@@ -131,9 +132,9 @@ subscribers_untold ms externals read none c h =
     none c.subscribers (subst (λ (xs : List External). AreSubscribers xs ms c.subscribers) same h.subscribers)
 
 same_config : (c d : Config) → c.quota ≡ d.quota → c.lifetime_min ≡ d.lifetime_min → c.lifetime_max ≡ d.lifetime_max → c.third_party ≡ d.third_party
-    → c.externals ≡ d.externals → c.subscribers ≡ d.subscribers → c ≡ d
-same_config c d q l h t e s =
-    λ i. record { quota = q i; lifetime_min = l i; lifetime_max = h i; third_party = t i; externals = e i; subscribers = s i }
+    → c.externals ≡ d.externals → c.subscribers ≡ d.subscribers → c.listen ≡ d.listen → c.orders ≡ d.orders → c ≡ d
+same_config c d q l h t e s w o =
+    λ i. record { quota = q i; lifetime_min = l i; lifetime_max = h i; third_party = t i; externals = e i; subscribers = s i; listen = w i; orders = o i }
 
 -- a table stands for one configuration at most
 pub IsConfigTable-unique : (members : Members) (c d : Config) → IsConfigTable members c → IsConfigTable members d → c ≡ d
@@ -147,3 +148,5 @@ IsConfigTable-unique ms c d h k =
     externals
     (subscribers_unique d.externals k.externals.different ms c.subscribers d.subscribers
     (subst (λ (xs : List External). AreSubscribers xs ms c.subscribers) externals h.subscribers) k.subscribers)
+    (listen_unique ms c.listen d.listen h.listen k.listen)
+    (orders_unique ms c.orders d.orders h.orders k.orders)

@@ -1,6 +1,7 @@
 pub mod AllowedLemmas
 pub mod ConfigLemmas
 pub mod ListLemmas
+pub mod ListenLemmas
 pub mod PlaceLemmas
 pub mod PrefixUnique
 pub mod TableLemmas

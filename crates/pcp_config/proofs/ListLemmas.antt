@@ -1,7 +1,7 @@
 -- Lists that the items of an array tell.
-use Rattle.std.proofs.Common.{◌≡◌, List, [], ◌∷◌, ◌++◌, ℕ, zero, suc, ◌+◌, ◌<◌, Some, None, map, take, length, get_or, refl, sym, subst, ◌∙◌, ap, arith}
-use Rattle.std.specs.List.{AllZip}
-use Rattle.std.proofs.lemmas.List.{take_more}
+use Rattle.std.proofs.Common.{◌≡◌, List, [], ◌∷◌, ◌++◌, ℕ, zero, suc, ◌+◌, ◌-◌, ◌<◌, ◌≤◌, Some, None, map, take, drop, length, get_or, refl, sym, subst, ◌∙◌, ap, arith}
+use Rattle.std.specs.List.{AllByRecursion, AllZip}
+use Rattle.std.proofs.lemmas.List.{take_all, take_more}
 use Rattle.std.proofs.lemmas.Option.{same_Some}
 use Rattle.toml.specs.Data.{Data, Items, string, integer, float, boolean, datetime, array, table, as_array}
 use Rattle.toml.specs.View.{view, items_of, items_view}
@@ -44,6 +44,21 @@ pub told_all : {A : Type 0} (Tells : Data → A → Type 0) (d : Data) (vs : Lis
     → take i vs ≡ vs → AreTold Tells (take i vs) xs → IsListOf Tells d xs
 told_all Tells d vs i xs seen all h =
     (items_view vs, array_is d _ seen, rw (list_of-items (map view vs)) (subst (λ t. AreTold Tells t xs) all h))
+
+-- the rest of a list, as a slice pattern tells it
+abbrev rest_of : {X : Type 0} → List X → List X
+rest_of xs = take (length xs - 1) (drop 1 xs)
+
+rest_is : {X : Type 0} (x : X) (xs : List X) → rest_of (x ∷ xs) ≡ xs
+rest_is x xs = take_all (length (x ∷ xs) - 1) xs (omega arith)
+
+-- a test of all items, where the first one passes
+pub all_tested : {X Q : Type 0} (P : X → Type 0) (xs : List X) (x : X) → 1 ≤ length xs → x ≡ get_or xs 0 x → P x
+    → (Q → AllByRecursion P (rest_of xs)) × (AllByRecursion P (rest_of xs) → Q) → (Q → AllByRecursion P xs) × (AllByRecursion P xs → Q)
+all_tested P [] x some is p tested = absurd (omega (arith, some))
+all_tested P (y ∷ ys) x some is p tested =
+    let same : x ≡ y = is in
+    (λ q. (subst P same p, subst (AllByRecursion P) (rest_is y ys) (tested.0 q)), λ all. tested.1 (subst (AllByRecursion P) (sym (rest_is y ys)) all.1))
 
 -- a row that tells nothing
 no_row : {A : Type 0} (Tells : Data → A → Type 0) (vs : List Value) (i : ℕ) (v : Value) (xs : List A) → i < length vs → get_or vs i v ≡ v

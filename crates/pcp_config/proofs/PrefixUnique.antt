@@ -3,9 +3,9 @@ use Rattle.std.proofs.Common.{◌≡◌, ◌≢◌, ℕ, ◌+◌, ◌<◌, ◌�
 use Rattle.std.specs.List.{AllByRecursion}
 use Rattle.std.specs.Str.Parse.{AllDigits}
 use Rattle.std.proofs.lemmas.Fmt.{decimal_injective, decimal_is_IsNumeral}
-use Rattle.pcp_base.specs.AddressTexts.{IsDottedText, IsLongText, IsPrefixText}
+use Rattle.pcp_base.specs.AddressTexts.{IsDottedText, IsWideText, IsPrefixText}
 use Rattle.pcp_base.specs.declared.addresses.Prefix.{Prefix}
-use Rattle.pcp_base.proofs.AddressLemmas.{IsDotted-not_long, IsDottedText-unique, IsLongText-unique}
+use Rattle.pcp_base.proofs.AddressLemmas.{IsDotted-not_wide, IsDottedText-unique, IsWideText-unique}
 use Rattle.pcp_base.proofs.PrefixLemmas.{same_prefix}
 
 abbrev HasNoSlash : List ℕ → Type 0
@@ -40,7 +40,7 @@ last_slash (x ∷ xs) (y ∷ ys) bs cs h k e =
 abbrev Parts : List ℕ → ℕ → Prefix → Type 0
 Parts front bits p =
     (IsDottedText front p.address × (bits ≤ 32) × (p.bits ≡ 96 + bits))
-    ⊎ (IsLongText front p.address × (bits ≤ 128) × (p.bits ≡ bits))
+    ⊎ (IsWideText front p.address × (bits ≤ 128) × (p.bits ≡ bits))
 
 bits_fit : (front : List ℕ) (bits : ℕ) (p : Prefix) → Parts front bits p → bits ≤ 128
 bits_fit front bits p (inl h) = omega (arith, h.1)
@@ -48,9 +48,9 @@ bits_fit front bits p (inr h) = h.1
 
 parts_unique : (front : List ℕ) (bits : ℕ) (p q : Prefix) → Parts front bits p → Parts front bits q → p ≡ q
 parts_unique front bits p q (inl h) (inl k) = same_prefix p q (h.2 ∙ sym k.2) (IsDottedText-unique front p.address q.address h.0 k.0)
-parts_unique front bits p q (inl h) (inr k) = absurd (IsDotted-not_long front h.0.0 q.address.0 h.0.1 k.0)
-parts_unique front bits p q (inr h) (inl k) = absurd (IsDotted-not_long front k.0.0 p.address.0 k.0.1 h.0)
-parts_unique front bits p q (inr h) (inr k) = same_prefix p q (h.2 ∙ sym k.2) (IsLongText-unique front p.address q.address h.0 k.0)
+parts_unique front bits p q (inl h) (inr k) = absurd (IsDotted-not_wide front h.0.0 q.address h.0.1 k.0)
+parts_unique front bits p q (inr h) (inl k) = absurd (IsDotted-not_wide front k.0.0 p.address k.0.1 h.0)
+parts_unique front bits p q (inr h) (inr k) = same_prefix p q (h.2 ∙ sym k.2) (IsWideText-unique front p.address q.address h.0 k.0)
 
 pub IsPrefixText-unique : (text : List ℕ) (p q : Prefix) → IsPrefixText text p → IsPrefixText text q → p ≡ q
 IsPrefixText-unique text p q (front, bits, e, h) (front', bits', e', k) =

@@ -3,6 +3,8 @@ ghost use Rattle.std.specs.Prelude.{◌≤◌, length};
 ghost use Rattle.pcp_base.specs.declared.configs.TheConstants.{MOST_EXTERNALS};
 
 use crate::faults::{Expected, Fault, Place};
+use crate::listen_texts::{around_percent, host_address, is_link_local, listen_parts};
+use crate::listening::{is_door_count, listen_in, orders_in};
 use crate::lists::{Unread, externals_in, is_count};
 use crate::tables::{EXTERNAL_KEYS, SUBSCRIBER_KEYS, index_of};
 use crate::texts::{
@@ -11,7 +13,7 @@ use crate::texts::{
 use crate::values::{address_at, is_one_of, number_at, prefix_at, prefix_of, value_at};
 use crate::{LAST_PORT, LONGEST_CONFIG};
 use pcp_base::{
-    External, LONGEST_LIFETIME, MOST_QUOTA, MOST_SUBSCRIBERS, MOST_THIRD_PARTIES, Memory,
+    Address, External, LONGEST_LIFETIME, MOST_QUOTA, MOST_SUBSCRIBERS, MOST_THIRD_PARTIES, Memory,
 };
 use std::alloc::Global;
 use toml::de::Error;
@@ -56,7 +58,7 @@ fn explain_table(alloc: Global, table: &Table) -> Result<Option<String>, Memory>
     match externals_in(alloc, table) {
         Ok(externals) => match fault_of_subscribers(&externals, table) {
             Some(fault) => told(alloc, fault),
-            None => Ok(None),
+            None => explain_listen(alloc, table),
         },
         Err(Unread::Memory) => Err(Memory),
         Err(Unread::NotConfig) => told(
@@ -64,6 +66,21 @@ fn explain_table(alloc: Global, table: &Table) -> Result<Option<String>, Memory>
             Fault {
                 place: Place::Key("external"),
                 expected: Expected::DifferentAddresses,
+            },
+        ),
+    }
+}
+
+// Of the addresses at which the server listens, each of which may be one, tells whether two are equal.
+fn explain_listen(alloc: Global, table: &Table) -> Result<Option<String>, Memory> {
+    match listen_in(alloc, table) {
+        Ok(_) => Ok(None),
+        Err(Unread::Memory) => Err(Memory),
+        Err(Unread::NotConfig) => told(
+            alloc,
+            Fault {
+                place: Place::Key("listen"),
+                expected: Expected::DifferentDoors,
             },
         ),
     }
@@ -88,7 +105,69 @@ fn fault_of_table(table: &Table) -> Option<Fault<'_>> {
     if let Some(fault) = fault_of_third_parties(table) {
         return Some(fault);
     }
+    if let Some(fault) = fault_of_doors(table) {
+        return Some(fault);
+    }
     fault_of_externals(table)
+}
+
+fn fault_of_doors(table: &Table) -> Option<Fault<'_>> {
+    if orders_in(table).is_none() {
+        return Some(Fault {
+            place: Place::Key("orders"),
+            expected: Expected::Orders,
+        });
+    }
+    fault_of_listen(table)
+}
+
+fn fault_of_listen(table: &Table) -> Option<Fault<'_>> {
+    let list = Fault {
+        place: Place::Key("listen"),
+        expected: Expected::Listen,
+    };
+    let value = value_at(table, "listen")?;
+    let Some(rows) = value.as_array() else {
+        return Some(list);
+    };
+    if !is_door_count(rows.len()) {
+        return Some(list);
+    }
+    for (index, row) in rows.iter().enumerate() {
+        if let Some(expected) = fault_of_entry(row) {
+            return Some(Fault {
+                place: Place::Row("listen", index),
+                expected,
+            });
+        }
+    }
+    None
+}
+
+fn fault_of_entry(row: &Value) -> Option<Expected> {
+    let Some(text) = row.as_str() else {
+        return Some(Expected::Address);
+    };
+    match listen_parts(text.as_bytes()) {
+        Some(_) => None,
+        None => Some(expected_of_entry(text.as_bytes())),
+    }
+}
+
+// What was expected of a text that is no entry of `listen`.
+fn expected_of_entry(text: &[u8]) -> Expected {
+    let front = match around_percent(text) {
+        Some((front, _link)) => front,
+        None => text,
+    };
+    if Address::read(front).is_err() {
+        return Expected::Address;
+    }
+    match host_address(front) {
+        None => Expected::HostAddress,
+        Some(address) if is_link_local(&address) => Expected::LinkName,
+        Some(_) => Expected::LinkLocal,
+    }
 }
 
 // The first key of the table that is none of these.

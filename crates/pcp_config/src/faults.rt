@@ -1,5 +1,6 @@
 //! A place in a configuration that is at fault, as a person reads it.
-use pcp_base::{MOST_EXTERNALS, MOST_SUBSCRIBERS, MOST_THIRD_PARTIES};
+use crate::LONGEST_LINK;
+use pcp_base::{MOST_DOORS, MOST_EXTERNALS, MOST_SUBSCRIBERS, MOST_THIRD_PARTIES};
 use std::fmt;
 
 /// What is at fault, and what was expected there.
@@ -33,6 +34,12 @@ pub(crate) enum Expected {
     Address,
     ExternalAddress,
     Subscribers,
+    Listen,
+    HostAddress,
+    LinkLocal,
+    LinkName,
+    DifferentDoors,
+    Orders,
 }
 
 impl fmt::Display for Fault<'_> {
@@ -71,10 +78,21 @@ impl fmt::Display for Expected {
             Expected::DifferentAddresses => f.write_str("expected tables with different addresses"),
             Expected::Table => f.write_str("expected a table"),
             Expected::Address => f.write_str(
-                "expected an address such as \"192.0.2.1\", or 32 hexadecimal digits",
+                "expected an address such as \"192.0.2.1\" or \"2001:db8::1\"",
             ),
             Expected::ExternalAddress => f.write_str("expected the address of an external"),
             Expected::Subscribers => write!(f, "expected at most {MOST_SUBSCRIBERS} tables"),
+            Expected::Listen => write!(f, "expected a list of 1 to {MOST_DOORS} addresses"),
+            Expected::HostAddress => f.write_str(
+                "expected the address of a host, neither all-zero nor a multicast one",
+            ),
+            Expected::LinkLocal => f.write_str("expected a link-local address before %"),
+            Expected::LinkName => write!(
+                f,
+                "expected the name of a link behind %, of at most {LONGEST_LINK} characters"
+            ),
+            Expected::DifferentDoors => f.write_str("expected different addresses"),
+            Expected::Orders => f.write_str("expected \"loopback\" or \"folder\""),
         }
     }
 }

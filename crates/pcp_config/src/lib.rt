@@ -3,6 +3,8 @@
 
 mod explanations;
 mod faults;
+mod listen_texts;
+mod listening;
 mod lists;
 mod tables;
 mod texts;
@@ -19,6 +21,9 @@ pub const DEFAULT_QUOTA: u32 = 64;
 
 /// The least lifetime where a configuration tells none, in seconds.
 pub const DEFAULT_LIFETIME_MIN: u32 = 120;
+
+/// The most octets that the name of a link may have.
+pub const LONGEST_LINK: usize = 15;
 
 // The last port.
 pub(crate) const LAST_PORT: u32 = 65_535;

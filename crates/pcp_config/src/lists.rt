@@ -30,6 +30,14 @@ pub(crate) enum Unread {
     Memory,
 }
 
+impl From<AllocError> for Unread {
+    ghost from_gives = { λ _ e. e ≡ Unread.Memory };
+
+    fn from(_error: AllocError) -> Unread {
+        Unread::Memory
+    }
+}
+
 impl<T: Drop> From<AllocFailed<T>> for Unread {
     ghost from_gives = { λ _ e. e ≡ Unread.Memory };
 

@@ -10,22 +10,25 @@ ghost use Rattle.pcp_config.specs.ConfigTexts.{IsConfigText, IsRefusedFor, IsTom
 ghost use Rattle.pcp_config.specs.declared.lists.Unread.{Unread};
 ghost use Rattle.pcp_config.specs.declared.texts.ConfigRefused.{ConfigRefused};
 
+use crate::listening::{listen_in, orders_in};
 use crate::lists::{Unread, externals_in, subscribers_in, third_parties_in};
 use crate::values::{has_only, number_or};
 use crate::{DEFAULT_LIFETIME_MIN, DEFAULT_QUOTA, LONGEST_CONFIG};
-use pcp_base::{Config, Externals, LONGEST_LIFETIME, MOST_QUOTA, Prefixes, Subscribers};
+use pcp_base::{Addresses, Config, Externals, LONGEST_LIFETIME, MOST_QUOTA, Prefixes, Subscribers};
 use std::alloc::Global;
 use thiserror::Error;
 use toml::Table;
 
 /// The keys of a configuration.
-pub(crate) const CONFIG_KEYS: [&str; 6] = [
+pub(crate) const CONFIG_KEYS: [&str; 8] = [
     "quota",
     "lifetime_min",
     "lifetime_max",
     "third_party",
     "external",
     "subscriber",
+    "listen",
+    "orders",
 ];
 
 /// Why a text is no configuration.
@@ -106,9 +109,13 @@ fn config_of(alloc: Global, table: &Table) -> Result<Config, Unread>
     let Some(lifetime_max) = lifetime_max_in(table, lifetime_min) else {
         return Err(Unread::NotConfig);
     };
+    let Some(orders) = orders_in(table) else {
+        return Err(Unread::NotConfig);
+    };
     let third_party = third_parties_in(alloc, table)?;
     let externals = externals_in(alloc, table)?;
     let subscribers = subscribers_in(alloc, &externals, table)?;
+    let listen = listen_in(alloc, table)?;
     Ok(Config {
         quota,
         lifetime_min,
@@ -116,6 +123,8 @@ fn config_of(alloc: Global, table: &Table) -> Result<Config, Unread>
         third_party: Prefixes::of(third_party),
         externals: Externals::of(externals),
         subscribers: Subscribers::of(subscribers),
+        listen: Addresses::of(listen),
+        orders,
     })
 }
 

@@ -1,6 +1,6 @@
 //! What texts of configurations stand for, as their callers see it. Which texts are refused, and what
 //! a person is told of them, is said by rows of whole commands.
-use pcp_base::{Address, Config, External, Prefix, Subscriber};
+use pcp_base::{Address, Config, External, Orders, Prefix, Subscriber};
 use pcp_config::{ConfigRefused, explain, read_config};
 use std::alloc::{AllocError, Global};
 use std::test::Fail;
@@ -170,6 +170,8 @@ static EXAMPLE: &[u8] = b"quota = 64
 lifetime_min = 120
 lifetime_max = 86400
 third_party = [\"10.0.0.1/32\"]
+listen = [\"192.0.2.9\", \"fe80::1%lan0\", \"2001:db8::1\"]
+orders = \"folder\"
 
 [[external]]
 address = \"192.0.2.1\"
@@ -211,6 +213,49 @@ static ROWS: [Subscriber; 1] = [Subscriber {
     },
     external: 1,
 }];
+
+// Addresses at which a server listens, and the names of their links.
+static DOORS: [(Address, &[u8]); 3] = [
+    (
+        Address([0, 0, 0, 0, 0, 0, 0, 0, 0, 0, 0xff, 0xff, 192, 0, 2, 9]),
+        b"",
+    ),
+    (
+        Address([0xfe, 0x80, 0, 0, 0, 0, 0, 0, 0, 0, 0, 0, 0, 0, 0, 1]),
+        b"lan0",
+    ),
+    (
+        Address([0x20, 0x01, 0x0d, 0xb8, 0, 0, 0, 0, 0, 0, 0, 0, 0, 0, 0, 1]),
+        b"",
+    ),
+];
+
+fn has_doors(config: &Config, doors: &[(Address, &[u8])]) -> bool {
+    let listen = config.listen.items();
+    listen.len() == doors.len()
+        && listen.iter().zip(doors.iter()).all(|(entry, (address, link))| {
+            entry.address == *address && entry.link.items() == *link
+        })
+}
+
+// Whether the server listens there, and takes orders so.
+fn listens(alloc: Global, text: &[u8], doors: &[(Address, &[u8])], orders: Orders) -> bool {
+    match read_config(alloc, text) {
+        Ok(config) => config.orders == orders && has_doors(&config, doors),
+        Err(_) => false,
+    }
+}
+
+#[test]
+fn doors_and_orders(rt: HostRuntime) -> Result<(), Fail> {
+    let alloc = rt.alloc();
+    assert!(rt; listens(alloc, EXAMPLE, &DOORS, Orders::Folder));
+    assert!(rt; listens(alloc, EXTERNAL, &[], Orders::Both));
+    let mut loopback = b"orders = \"loopback\"".to_vec(alloc)?;
+    loopback.extend_from_slice(EXTERNAL)?;
+    assert!(rt; listens(alloc, &loopback, &[], Orders::Both));
+    Ok(())
+}
 
 fn has_example_lists(config: &Config) -> bool {
     config.third_party.items() == HOSTS.as_slice()
