@@ -43,21 +43,25 @@ static AUTHORIZED_HEAD: [u8; 24] = [
     2, 0x81, 0, 2, 0, 0, 0x07, 0x08, 0, 0, 0, 11, 0, 0, 0, 0, 0, 0, 0, 0, 0, 0, 0, 0,
 ];
 
-fn datagram(alloc: Global, peer: Address, octets: &[u8]) -> Result<Datagram, Memory> {
+// the door by which clients ask
+const DOOR: u8 = 3;
+
+fn datagram(alloc: Global, peer: Address, door: u8, octets: &[u8]) -> Result<Datagram, Memory> {
     Ok(Datagram {
         peer,
         port: 40_000,
+        door,
         octets: Octets::of(octets.to_vec(alloc)?),
     })
 }
 
-// the request from 10.0.0.last
-fn request(alloc: Global, last: u8) -> Result<Datagram, Memory> {
+// the request from 10.0.0.last by this door
+fn request(alloc: Global, last: u8, door: u8) -> Result<Datagram, Memory> {
     let mut octets = REQUEST.to_vec(alloc)?;
     if let Some(octet) = octets.get_mut(23) {
         *octet = last;
     }
-    datagram(alloc, Address::v4(10, 0, 0, last), &octets)
+    datagram(alloc, Address::v4(10, 0, 0, last), door, &octets)
 }
 
 // this head, and what stands behind the head of a message
@@ -71,23 +75,31 @@ fn new_relay(alloc: Global) -> Result<Proxy, Memory> {
     Proxy::new(alloc, OWN, SERVER, [7; 32])
 }
 
-// What goes up of the request of 10.0.0.last; nothing is an empty text.
-fn asked_up(alloc: Global, relay: &mut Proxy, last: u8, now_ms: u64) -> Result<Octets, Memory> {
-    match relay.from_client(alloc, &request(alloc, last)?, now_ms)? {
+// What goes up of the request of 10.0.0.last by this door; nothing is an empty text.
+fn asked_up(
+    alloc: Global,
+    relay: &mut Proxy,
+    last: u8,
+    door: u8,
+    now_ms: u64,
+) -> Result<Octets, Memory> {
+    match relay.from_client(alloc, &request(alloc, last, door)?, now_ms)? {
         ProxyOut::Up(octets) => Ok(octets),
         _ => Ok(Octets::of(Vec::new(alloc))),
     }
 }
 
-fn is_to(down: &Option<Datagram>, peer: Address, port: u16, octets: &[u8]) -> bool {
+fn is_to(down: &Option<Datagram>, peer: Address, port: u16, door: u8, octets: &[u8]) -> bool {
     match down {
-        Some(d) => d.peer == peer && d.port == port && d.octets.items() == octets,
+        Some(d) => {
+            d.peer == peer && d.port == port && d.door == door && d.octets.items() == octets
+        }
         None => false,
     }
 }
 
 // Whether 10.0.0.last is told, once, the second head over its request where the server says the first one
-// over what went up, twice.
+// over what went up, twice. It asks by another door first, and is told by the one of its later request.
 fn is_answered(
     alloc: Global,
     relay: &mut Proxy,
@@ -95,13 +107,14 @@ fn is_answered(
     said: &[u8; 24],
     told: &[u8; 24],
 ) -> Result<bool, Memory> {
-    let up = asked_up(alloc, relay, last, 1_000)?;
-    let reply = datagram(alloc, SERVER, &under(alloc, said, up.items())?)?;
+    asked_up(alloc, relay, last, 4, 1_000)?;
+    let up = asked_up(alloc, relay, last, DOOR, 1_000)?;
+    let reply = datagram(alloc, SERVER, 0, &under(alloc, said, up.items())?)?;
     let first = relay.from_server(alloc, &reply, 2_000)?;
     let again = relay.from_server(alloc, &reply, 2_000)?;
     let wanted = under(alloc, told, &REQUEST)?;
     let peer = Address::v4(10, 0, 0, last);
-    Ok(is_to(&first, peer, 40_000, &wanted) && again.is_none())
+    Ok(is_to(&first, peer, 40_000, DOOR, &wanted) && again.is_none())
 }
 
 fn is_written(alloc: Global, wanted: &[u8]) -> Result<bool, Memory> {
@@ -115,7 +128,7 @@ fn texts(rt: HostRuntime) -> Result<(), Fail> {
     let alloc = rt.alloc();
     assert!(rt; upstream_nonce(&[7; 32], &Address::v4(10, 0, 0, 5), &NONCE).0 == UPSTREAM_NONCE);
     assert!(rt; is_written(alloc, &under(alloc, &AUTHORIZED_HEAD, &REQUEST)?)?);
-    let up = asked_up(alloc, &mut new_relay(alloc)?, 5, 1_000)?;
+    let up = asked_up(alloc, &mut new_relay(alloc)?, 5, DOOR, 1_000)?;
     assert!(rt; up.items() == UPSTREAM.as_slice());
     Ok(())
 }
@@ -136,10 +149,12 @@ fn pairs(rt: HostRuntime) -> Result<(), Fail> {
     Ok(())
 }
 
-// Whether the relay answers with this epoch.
+// Whether the relay answers with this epoch, by the door by which it was asked.
 fn tells_epoch(out: &ProxyOut, epoch: u8) -> bool {
     match out {
-        ProxyOut::Reply(reply) => reply.octets.items().get(11) == Some(&epoch),
+        ProxyOut::Reply(reply) => {
+            reply.door == DOOR && reply.octets.items().get(11) == Some(&epoch)
+        }
         _ => false,
     }
 }
@@ -147,13 +162,13 @@ fn tells_epoch(out: &ProxyOut, epoch: u8) -> bool {
 // It says nothing before it heard an epoch; then the announcement goes on, and two seconds later, by whole
 // seconds, the relay answers by itself.
 fn is_announced(alloc: Global, relay: &mut Proxy) -> Result<bool, Memory> {
-    let asked = datagram(alloc, Address::v4(10, 0, 0, 5), &ASKED)?;
-    let told = datagram(alloc, SERVER, &TOLD)?;
+    let asked = datagram(alloc, Address::v4(10, 0, 0, 5), DOOR, &ASKED)?;
+    let told = datagram(alloc, SERVER, 0, &TOLD)?;
     let before = relay.from_client(alloc, &asked, 0)?;
     let down = relay.from_server(alloc, &told, 1_900)?;
     let after = relay.from_client(alloc, &asked, 3_100)?;
     let everyone = Address::v4(224, 0, 0, 1);
-    Ok(is_nothing(&before) && is_to(&down, everyone, 5_350, &TOLD) && tells_epoch(&after, 12))
+    Ok(is_nothing(&before) && is_to(&down, everyone, 5_350, 0, &TOLD) && tells_epoch(&after, 12))
 }
 
 fn is_nothing(out: &ProxyOut) -> bool {
@@ -172,7 +187,7 @@ fn announcements(rt: HostRuntime) -> Result<(), Fail> {
 
 // How many requests go at these times of one that was asked at 4,000 milliseconds.
 fn dropped(alloc: Global, relay: &mut Proxy) -> Result<[u32; 3], Memory> {
-    asked_up(alloc, relay, 5, 4_000)?;
+    asked_up(alloc, relay, 5, DOOR, 4_000)?;
     let early = relay.tick(63_999);
     let due = relay.tick(64_000);
     let late = relay.tick(64_000);
