@@ -68,21 +68,25 @@ fn announced(epoch: u16) -> [u8; 24] {
     ]
 }
 
-fn datagram(alloc: Global, peer: Address, octets: &[u8]) -> Result<Datagram, Memory> {
+// the door by which clients ask
+const DOOR: u8 = 3;
+
+fn datagram(alloc: Global, peer: Address, door: u8, octets: &[u8]) -> Result<Datagram, Memory> {
     Ok(Datagram {
         peer,
         port: 40_000,
+        door,
         octets: Octets::of(octets.to_vec(alloc)?),
     })
 }
 
-// the request from 192.168.1.last
-fn request(alloc: Global, last: u8) -> Result<Datagram, Memory> {
+// the request from 192.168.1.last by this door
+fn request(alloc: Global, last: u8, door: u8) -> Result<Datagram, Memory> {
     let mut octets = REQUEST.to_vec(alloc)?;
     if let Some(octet) = octets.get_mut(23) {
         *octet = last;
     }
-    datagram(alloc, Address::v4(192, 168, 1, last), &octets)
+    datagram(alloc, Address::v4(192, 168, 1, last), door, &octets)
 }
 
 // a cascade with these two local ports, at time 0
@@ -93,8 +97,8 @@ fn new_cascade(alloc: Global, low: u16, high: u16) -> Result<Cascade, Memory>
     Cascade::new(alloc, OWN, SERVER, [7; 32], low, high, 0)
 }
 
-fn is_to(d: &Datagram, peer: Address, port: u16, octets: &[u8]) -> bool {
-    d.peer == peer && d.port == port && d.octets.items() == octets
+fn is_to(d: &Datagram, peer: Address, port: u16, door: u8, octets: &[u8]) -> bool {
+    d.peer == peer && d.port == port && d.door == door && d.octets.items() == octets
 }
 
 fn goes_up(out: &ProxyOut, octets: &[u8]) -> bool {
@@ -104,17 +108,18 @@ fn goes_up(out: &ProxyOut, octets: &[u8]) -> bool {
     }
 }
 
-// whether 192.168.1.last is told these octets
+// whether 192.168.1.last is told these octets, by the door by which it asked
 fn is_told(out: &ProxyOut, last: u8, octets: &[u8]) -> bool {
     match out {
-        ProxyOut::Reply(d) => is_to(d, Address::v4(192, 168, 1, last), 40_000, octets),
+        ProxyOut::Reply(d) => is_to(d, Address::v4(192, 168, 1, last), 40_000, DOOR, octets),
         _ => false,
     }
 }
 
-// what is given for the request from 192.168.1.last
+// What is given for the request from 192.168.1.last, which comes by another door first.
 fn asked(alloc: Global, cascade: &mut Cascade, last: u8) -> Result<ProxyOut, Memory> {
-    cascade.from_client(alloc, &request(alloc, last)?, 1_000)
+    cascade.from_client(alloc, &request(alloc, last, 4)?, 1_000)?;
+    cascade.from_client(alloc, &request(alloc, last, DOOR)?, 1_000)
 }
 
 fn is_asked_up(alloc: Global, cascade: &mut Cascade, last: u8, up: &[u8]) -> Result<bool, Memory> {
@@ -143,21 +148,23 @@ fn are_tied(alloc: Global, cascade: &mut Cascade) -> Result<bool, Memory> {
 
 // what is given for the upstream server's answer
 fn answered(alloc: Global, cascade: &mut Cascade) -> Result<Option<Datagram>, Memory> {
-    cascade.from_server(alloc, &datagram(alloc, SERVER, &UPSTREAM)?, 3_000)
+    cascade.from_server(alloc, &datagram(alloc, SERVER, 0, &UPSTREAM)?, 3_000)
 }
 
-fn is_sent(sent: &Option<Datagram>, peer: Address, port: u16, octets: &[u8]) -> bool {
+fn is_sent(sent: &Option<Datagram>, peer: Address, port: u16, door: u8, octets: &[u8]) -> bool {
     match sent {
-        Some(d) => is_to(d, peer, port, octets),
+        Some(d) => is_to(d, peer, port, door, octets),
         None => false,
     }
 }
 
-// Whether the upstream server's answer is told to the client as this, once.
+// Whether the upstream server's answer is told to the client as this, once, by the door of its later
+// request.
 fn is_answered(alloc: Global, cascade: &mut Cascade, told: &[u8]) -> Result<bool, Memory> {
     let first = answered(alloc, cascade)?;
     let again = answered(alloc, cascade)?;
-    Ok(is_sent(&first, Address::v4(192, 168, 1, 5), 40_000, told) && again.is_none())
+    let client = Address::v4(192, 168, 1, 5);
+    Ok(is_sent(&first, client, 40_000, DOOR, told) && again.is_none())
 }
 
 fn is_granted(tie: &Tie) -> bool {
@@ -194,14 +201,15 @@ fn the_upstream_port_is_told(rt: HostRuntime) -> Result<(), Fail> {
 fn announces(alloc: Global, cascade: &mut Cascade, epoch: u16, now_ms: u64) -> Result<bool, Memory>
     requires { now_ms < 1000 * 2 ^ 40 }
 {
-    let reply = datagram(alloc, SERVER, &announced(epoch))?;
+    let reply = datagram(alloc, SERVER, 0, &announced(epoch))?;
     let sent = cascade.from_server(alloc, &reply, now_ms)?;
-    Ok(is_sent(&sent, Address::v4(224, 0, 0, 1), 5_350, &announced(0)))
+    let everyone = Address::v4(224, 0, 0, 1);
+    Ok(is_sent(&sent, everyone, 5_350, 0, &announced(0)))
 }
 
 // whether 192.168.1.5 is told this epoch
 fn tells(alloc: Global, cascade: &mut Cascade, epoch: u16) -> Result<bool, Memory> {
-    let asked = datagram(alloc, Address::v4(192, 168, 1, 5), &ANNOUNCE)?;
+    let asked = datagram(alloc, Address::v4(192, 168, 1, 5), DOOR, &ANNOUNCE)?;
     let out = cascade.from_client(alloc, &asked, 112_000)?;
     Ok(is_told(&out, 5, &announced(epoch)))
 }
