@@ -10,6 +10,9 @@ pub(crate) const SERVER: Address = Address([
 /// The port of each client.
 pub(crate) const CLIENT_PORT: u16 = 40_000;
 
+/// The door by which clients ask.
+pub(crate) const CLIENT_DOOR: u8 = 3;
+
 // A MAP request for an hour, in front of the client address.
 static REQUEST_FRONT: [u8; 20] = [
     2, 1, 0, 0, 0, 0, 0x0e, 0x10, 0, 0, 0, 0, 0, 0, 0, 0, 0, 0, 0xff, 0xff,
@@ -125,11 +128,12 @@ pub(crate) fn refusal_down(alloc: Global) -> Result<Octets, Memory> {
     joined(alloc, &[&AUTHORIZED_HEAD, &NONCE, &REQUEST_END])
 }
 
-/// A datagram of 10.0.0.last.
+/// A datagram of 10.0.0.last, by the door of clients.
 pub(crate) fn from_client(last: u8, octets: Octets) -> Datagram {
     Datagram {
         peer: Address::v4(10, 0, 0, last),
         port: CLIENT_PORT,
+        door: CLIENT_DOOR,
         octets,
     }
 }
@@ -139,6 +143,7 @@ pub(crate) fn from_server(octets: Octets) -> Datagram {
     Datagram {
         peer: SERVER,
         port: 5_351,
+        door: 0,
         octets,
     }
 }

@@ -1,7 +1,7 @@
 //! Runs over links in memory.
 use crate::packets::{
-    CLIENT_PORT, SERVER, from_client, from_server, grant_down, grant_up, refusal_down, refusal_up,
-    request, request_up,
+    CLIENT_DOOR, CLIENT_PORT, SERVER, from_client, from_server, grant_down, grant_up, refusal_down,
+    refusal_up, request, request_up,
 };
 use pcp_base::{Address, Datagram, Memory, Octets};
 use pcp_io::{InboxItem, MemoryInbox, MemoryOutbox, StepClock};
@@ -41,7 +41,8 @@ fn items(alloc: Global) -> Result<Vec<InboxItem>, Memory> {
     let mut items = Vec::new(alloc);
     items.push(InboxItem::Packet(from_client(5, request(alloc, 5)?)))?;
     items.push(InboxItem::Packet(from_client(6, request(alloc, 6)?)))?;
-    items.push(InboxItem::Lose(SERVER))?;
+    items.push(InboxItem::Lose(0, SERVER))?;
+    items.push(InboxItem::Status(7))?;
     for last in [6, 5] {
         items.push(InboxItem::Packet(from_server(grant_up(alloc, last)?)))?;
         items.push(InboxItem::Packet(from_server(grant_up(alloc, last)?)))?;
@@ -79,15 +80,18 @@ fn outbox(alloc: Global) -> Result<MemoryOutbox, Memory> {
     MemoryOutbox::new(alloc, 10_000)
 }
 
-fn is_to(datagram: &Datagram, peer: Address, port: u16, octets: &Octets) -> bool {
-    datagram.peer == peer && datagram.port == port && datagram.octets.items() == octets.items()
+fn is_to(datagram: &Datagram, peer: Address, port: u16, door: u8, octets: &Octets) -> bool {
+    datagram.peer == peer
+        && datagram.port == port
+        && datagram.door == door
+        && datagram.octets.items() == octets.items()
 }
 
 // Whether what was sent are the relay's requests for these clients, in order.
 fn are_up(alloc: Global, sent: &[Datagram], clients: &[u8]) -> Result<bool, Memory> {
     for (datagram, client) in sent.iter().zip(clients) {
         let wanted = request_up(alloc, *client)?;
-        if !is_to(datagram, SERVER, SERVER_PORT, &wanted) {
+        if !is_to(datagram, SERVER, SERVER_PORT, 0, &wanted) {
             return Ok(false);
         }
     }
@@ -97,7 +101,8 @@ fn are_up(alloc: Global, sent: &[Datagram], clients: &[u8]) -> Result<bool, Memo
 // Whether what was sent are these replies to these clients, in order.
 fn are_down(sent: &[Datagram], clients: &[u8], replies: &[Octets]) -> bool {
     for ((datagram, client), reply) in sent.iter().zip(clients).zip(replies) {
-        if !is_to(datagram, Address::v4(10, 0, 0, *client), CLIENT_PORT, reply) {
+        let peer = Address::v4(10, 0, 0, *client);
+        if !is_to(datagram, peer, CLIENT_PORT, CLIENT_DOOR, reply) {
             return false;
         }
     }
@@ -156,7 +161,7 @@ fn faults_of_links(rt: HostRuntime) -> Result<(), Fail> {
     let mut up = outbox(alloc)?;
     up.fail_at(alloc, 0)?;
     let mut from = MemoryInbox::new(alloc, items(alloc)?)?;
-    from.fail_at(alloc, 4)?;
+    from.fail_at(alloc, 5)?;
     let clock = StepClock::new(alloc, Vec::new(alloc))?;
     let ran = run(&rt, alloc, &words(alloc)?, from, up, clock)?;
     assert!(rt; ran.status == ToolStatus::LinkFault);
