@@ -10,6 +10,9 @@ pub(crate) const SERVER: Address = Address([
 /// The port of each client.
 pub(crate) const CLIENT_PORT: u16 = 40_000;
 
+/// The door by which clients ask.
+pub(crate) const CLIENT_DOOR: u8 = 3;
+
 // A MAP request for an hour, in front of the last four octets of the client address.
 static REQUEST_FRONT: [u8; 20] = [
     2, 1, 0, 0, 0, 0, 0x0e, 0x10, 0, 0, 0, 0, 0, 0, 0, 0, 0, 0, 0xff, 0xff,
@@ -113,11 +116,12 @@ pub(crate) fn full_down(alloc: Global) -> Result<Octets, Memory> {
     joined(alloc, &[&FULL_HEAD, &NONCE, &UDP, &PORT, &UNSUGGESTED])
 }
 
-/// A datagram of 192.168.1.last.
+/// A datagram of 192.168.1.last, by the door of clients.
 pub(crate) fn from_client(last: u8, octets: Octets) -> Datagram {
     Datagram {
         peer: Address::v4(192, 168, 1, last),
         port: CLIENT_PORT,
+        door: CLIENT_DOOR,
         octets,
     }
 }
@@ -127,6 +131,7 @@ pub(crate) fn from_server(octets: Octets) -> Datagram {
     Datagram {
         peer: SERVER,
         port: 5_351,
+        door: 0,
         octets,
     }
 }

@@ -1,7 +1,7 @@
 //! Runs over links in memory.
 use crate::packets::{
-    CLIENT_PORT, SERVER, from_client, from_server, full_down, grant_down, grant_up, request,
-    request_up,
+    CLIENT_DOOR, CLIENT_PORT, SERVER, from_client, from_server, full_down, grant_down, grant_up,
+    request, request_up,
 };
 use cascade_runs::{SERVER_PORT, run_cascade};
 use pcp_base::{Address, Datagram, Memory, Octets};
@@ -72,15 +72,18 @@ fn run<R: Wait>(
     Ok(Ran { status, down, up })
 }
 
-fn is_to(datagram: &Datagram, peer: Address, port: u16, octets: &Octets) -> bool {
-    datagram.peer == peer && datagram.port == port && datagram.octets.items() == octets.items()
+fn is_to(datagram: &Datagram, peer: Address, port: u16, door: u8, octets: &Octets) -> bool {
+    datagram.peer == peer
+        && datagram.port == port
+        && datagram.door == door
+        && datagram.octets.items() == octets.items()
 }
 
 // Whether what was sent are the cascade's requests for these clients, in order.
 fn are_up(alloc: Global, sent: &[Datagram], clients: &[u8]) -> Result<bool, Memory> {
     for (datagram, client) in sent.iter().zip(clients) {
         let wanted = request_up(alloc, *client)?;
-        if !is_to(datagram, SERVER, SERVER_PORT, &wanted) {
+        if !is_to(datagram, SERVER, SERVER_PORT, 0, &wanted) {
             return Ok(false);
         }
     }
@@ -90,12 +93,8 @@ fn are_up(alloc: Global, sent: &[Datagram], clients: &[u8]) -> Result<bool, Memo
 // Whether what was sent are these replies to these clients, in order.
 fn are_down(sent: &[Datagram], clients: &[u8], replies: &[Octets]) -> bool {
     for ((datagram, client), reply) in sent.iter().zip(clients).zip(replies) {
-        if !is_to(
-            datagram,
-            Address::v4(192, 168, 1, *client),
-            CLIENT_PORT,
-            reply,
-        ) {
+        let peer = Address::v4(192, 168, 1, *client);
+        if !is_to(datagram, peer, CLIENT_PORT, CLIENT_DOOR, reply) {
             return false;
         }
     }
