@@ -123,6 +123,7 @@ fn item_of(alloc: Global, came: &Came) -> Result<InboxItem, Memory> {
         Came::Packet(peer, octets) => Ok(InboxItem::Packet(Datagram {
             peer: *peer,
             port: 5351,
+            door: 0,
             octets: Octets::of(octets.to_vec(alloc)?),
         })),
     }
