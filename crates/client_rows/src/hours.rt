@@ -10,6 +10,7 @@ fn from_server(octets: Vec<u8>) -> Datagram {
     Datagram {
         peer: SERVER,
         port: 5351,
+        door: 0,
         octets: Octets::of(octets),
     }
 }

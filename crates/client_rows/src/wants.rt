@@ -184,6 +184,7 @@ fn hears(
     let datagram = Datagram {
         peer,
         port: 5351,
+        door: 0,
         octets: Octets::of(octets),
     };
     Ok(client.heard(alloc, &datagram, u64::from(now), word)?)
