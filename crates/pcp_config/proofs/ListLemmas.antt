@@ -50,12 +50,14 @@ abbrev rest_of : {X : Type 0} → List X → List X
 rest_of xs = take (length xs - 1) (drop 1 xs)
 
 rest_is : {X : Type 0} (x : X) (xs : List X) → rest_of (x ∷ xs) ≡ xs
-rest_is x xs = take_all (length (x ∷ xs) - 1) xs (omega arith)
+rest_is x xs =
+    let n : length (x ∷ xs) - 1 ≡ length xs = omega arith in
+    ap (λ k. take k xs) n ∙ take_all (length xs) xs (omega arith)
 
 -- a test of all items, where the first one passes
 pub all_tested : {X Q : Type 0} (P : X → Type 0) (xs : List X) (x : X) → 1 ≤ length xs → x ≡ get_or xs 0 x → P x
     → (Q → AllByRecursion P (rest_of xs)) × (AllByRecursion P (rest_of xs) → Q) → (Q → AllByRecursion P xs) × (AllByRecursion P xs → Q)
-all_tested P [] x some is p tested = absurd (omega (arith, some))
+all_tested P [] x some is p tested = absurd (let none : 1 ≤ 0 = some in omega (arith, none))
 all_tested P (y ∷ ys) x some is p tested =
     let same : x ≡ y = is in
     (λ q. (subst P same p, subst (AllByRecursion P) (rest_is y ys) (tested.0 q)), λ all. tested.1 (subst (AllByRecursion P) (sym (rest_is y ys)) all.1))

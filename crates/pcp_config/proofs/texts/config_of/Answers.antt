@@ -14,6 +14,14 @@ pub returns-in_default-lifetime_max_in-clause-refused : goal.returns-in_default-
 returns-in_default-lifetime_max_in-clause-refused c = λ _.
     max_untold (table_view c.args.table.now) c.in-Some-lifetime_min_in.lifetime_min c.in-Some-lifetime_min_in.ensures.number c.in_default-lifetime_max_in.ensures.none
 
+pub returns-in_default-orders_in-clause-refused : goal.returns-in_default-orders_in-clause-refused
+returns-in_default-orders_in-clause-refused c = λ _ config h. c.in_default-orders_in.ensures.none config.orders h.orders
+
+pub returns-in_err-listen-clause-refused : goal.returns-in_err-listen-clause-refused
+returns-in_err-listen-clause-refused c = λ bad config h.
+    let same = (rw bad at c.from_residual-in_err-listen.ensures).1 in
+    c.in_err-listen.ensures.refused (ap Err (sym same)) config.listen h.listen
+
 pub returns-in_err-subscribers-clause-refused : goal.returns-in_err-subscribers-clause-refused
 returns-in_err-subscribers-clause-refused c = λ bad.
     let same = (rw bad at c.from_residual-in_err-subscribers.ensures).1 in
