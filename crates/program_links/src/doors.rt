@@ -3,7 +3,7 @@ ghost use Rattle.std.specs.Prelude.{◌≡◌, IfOk};
 ghost use Rattle.pcp_base.specs.Configs.{IsConfig};
 
 use crate::host_links::link_of;
-use crate::sockets::{ip_of, keep, loopback_at, shared_socket_at};
+use crate::sockets::{first_socket_at, ip_of, keep, loopback_at, shared_socket_at};
 use pcp_announce::{Door, ORDER_DOOR, door_at, door_count};
 use pcp_base::{Config, Orders};
 use std::alloc::{AllocError, AllocFailed, Global};
@@ -37,6 +37,8 @@ impl<T: Drop> From<AllocFailed<T>> for LinksFault {
 pub(crate) struct Place {
     pub(crate) number: u8,
     pub(crate) at: SocketAddr,
+    /// Whether a door before it is at all addresses of this host, so that it shares the port with that.
+    pub(crate) within: bool,
 }
 
 impl Place {
@@ -58,7 +60,7 @@ pub(crate) struct OpenDoor {
     pub(crate) refuses: UdpSocket,
 }
 
-/// Where the doors of this configuration are, that of orders first.
+/// Where the doors of this configuration are.
 pub(crate) fn places_of(
     rt: &HostRuntime,
     config: &Config,
@@ -67,22 +69,27 @@ pub(crate) fn places_of(
     requires { IsConfig config.now }
 {
     let mut places = Vec::new(rt.alloc());
-    if config.orders == Orders::Both {
+    for place in 0..door_count(config) {
+        let door = door_at(config, place);
+        places.push(Place {
+            number: door.number,
+            at: place_at(rt, config, place, &door, port)?,
+            within: false,
+        })?;
+    }
+    if config.orders == Orders::Both && !has_orders(&places) {
         places.push(Place {
             number: ORDER_DOOR,
             at: loopback_at(port),
+            within: config.listen.items().is_empty(),
         })?;
     }
-    for place in 0..door_count(config) {
-        let door = door_at(config, place);
-        if door.number != ORDER_DOOR {
-            places.push(Place {
-                number: door.number,
-                at: place_at(rt, config, place, &door, port)?,
-            })?;
-        }
-    }
     Ok(places)
+}
+
+/// Whether the door of orders is among these.
+fn has_orders(places: &[Place]) -> bool {
+    places.iter().any(|place| place.number == ORDER_DOOR)
 }
 
 /// Where the sockets of this door are bound: a link-local address with the number of its link.
@@ -114,7 +121,7 @@ fn place_at(
 
 /// Opens a door for so many who send.
 fn open_at(alloc: Global, place: Place, senders: usize) -> Result<OpenDoor, LinksFault> {
-    let first = shared_at(place)?;
+    let first = first_at(place)?;
     let speak = several_at(alloc, place, senders)?;
     let last = shared_at(place)?;
     // Of several sockets at one place the system hands datagrams to the first one by IPv6, and to the last
@@ -132,6 +139,18 @@ fn open_at(alloc: Global, place: Place, senders: usize) -> Result<OpenDoor, Link
     })
 }
 
+/// The first socket at this place.
+fn first_at(place: Place) -> Result<UdpSocket, LinksFault> {
+    if place.within {
+        return shared_at(place);
+    }
+    match first_socket_at(place.at) {
+        Ok(socket) => Ok(socket),
+        Err(error) => Err(LinksFault::Refused(place.at, error)),
+    }
+}
+
+/// A further socket at this place.
 fn shared_at(place: Place) -> Result<UdpSocket, LinksFault> {
     match shared_socket_at(place.at) {
         Ok(socket) => Ok(socket),

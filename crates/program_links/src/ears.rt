@@ -1,7 +1,8 @@
 //! What clients and relays hear, at port 5350 too.
 use crate::inboxes::{DoorsInbox, Ear};
 use crate::sockets::{
-    CLIENT_PORT, all_v4_at, all_v6_at, keep, loopback_at, shared_socket_at, socket_at,
+    CLIENT_PORT, all_v4_at, all_v6_at, first_socket_at, keep, loopback_at, shared_socket_at,
+    socket_at,
 };
 use pcp_base::Memory;
 use std::alloc::{AllocError, Global};
@@ -20,7 +21,7 @@ pub(crate) fn told_by_v6() -> Option<UdpSocket> {
 
 /// The sockets of port 5350 at all IPv4 addresses, and at 127.0.0.1 alone.
 pub(crate) fn told_and_ordered() -> io::Result<(UdpSocket, UdpSocket)> {
-    let told = shared_socket_at(all_v4_at(CLIENT_PORT))?;
+    let told = first_socket_at(all_v4_at(CLIENT_PORT))?;
     let ordered = shared_socket_at(loopback_at(CLIENT_PORT))?;
     keep(&told)?;
     keep(&ordered)?;

@@ -60,14 +60,15 @@ impl Ear {
 }
 
 /// What comes by several doors. A take waits for at most 100 milliseconds, for all of them at once. The
-/// door of orders, where it stands first, is asked first at each wait, unless it was the last one; the
-/// others come in turn. After 16 datagrams of one door all are waited for. A fault of a door is one of
+/// door of orders is asked first at each wait, unless it was the last one; the others come in turn. After 16 datagrams of one door all are waited for. A fault of a door is one of
 /// the inbox.
 #[derive(Drop)]
 pub struct DoorsInbox {
     ears: Vec<Ear>,
     // what the system is asked of each ear
     asked: Vec<pollfd>,
+    // the place of the ear of orders
+    orders: Option<usize>,
     // the place of an ear that has no socket
     deaf: Option<usize>,
     // the place of the ear of the last take
@@ -85,10 +86,12 @@ impl DoorsInbox {
         for ear in &ears {
             asked.push(ear.asked())?;
         }
+        let orders = ears.iter().position(|ear| ear.door == ORDER_DOOR);
         let deaf = ears.iter().position(|ear| ear.socket.is_none());
         Ok(DoorsInbox {
             ears,
             asked,
+            orders,
             deaf,
             last: 0,
             turn: 0,
@@ -135,7 +138,7 @@ impl DoorsInbox {
         }
         let count = c::poll(&mut self.asked, WAITING_MS);
         if count >= 0 && self.is_ordered() {
-            return Some(0);
+            return self.orders;
         }
         let next = place_behind(&self.asked, self.turn, count < 0);
         self.turn = next?;
@@ -144,10 +147,13 @@ impl DoorsInbox {
 
     /// Whether something came at the door of orders, and not at the wait before.
     fn is_ordered(&self) -> bool {
-        let (Some(ear), Some(asked)) = (self.ears.first(), self.asked.first()) else {
+        let Some(place) = self.orders else {
             return false;
         };
-        ear.door == ORDER_DOOR && asked.revents != 0 && self.last != 0
+        match self.asked.get(place) {
+            Some(asked) => asked.revents != 0 && self.last != place,
+            None => false,
+        }
     }
 
     /// Takes what is there at the ear of this place.

@@ -43,7 +43,16 @@ pub fn socket_at(at: SocketAddr) -> io::Result<UdpSocket> {
     Ok(socket)
 }
 
-/// The same, which others of this user may have too, until [`keep`] ends that.
+/// A socket of this address and port, which nobody else had, and to which others are added by
+/// [`shared_socket_at`] until [`keep`] ends that. What is shared from the first on the system gives where
+/// another program has it, too.
+pub(crate) fn first_socket_at(at: SocketAddr) -> io::Result<UdpSocket> {
+    let socket = socket_at(at)?;
+    set_shared(&socket, true)?;
+    Ok(socket)
+}
+
+/// A further socket where one is shared.
 pub(crate) fn shared_socket_at(at: SocketAddr) -> io::Result<UdpSocket> {
     let socket = new_socket(at)?;
     set_shared(&socket, true)?;
