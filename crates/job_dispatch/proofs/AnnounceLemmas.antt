@@ -27,11 +27,10 @@ none_if groups port s time true is = absurd (let e : true ≡ false = is in cc)
 pub announces_due : {P : Type 0} (house : HouseCalls P) (groups : List Group) (port : ℕ) (old new : AnnounceState P) (base time : ℕ) (s : Schedule) (octets before : List ℕ)
     → IsTold house old.pass new.pass base → IsTimeNow old.times new.times time → s ≡ after_seen old.schedule base time → new.schedule ≡ after_due s time
     → is_due s time ≡ true → octets ≡ (if is_due s time then announcement s time else before)
-    → TellsAll groups port octets old.sent new.sent old.faults new.faults → Announces house groups port old new
+    → TellsAll groups port octets old.sent new.sent old.faults new.faults → Announces house groups port time old new
 announces_due house groups port old new base time s octets before told clock seen made due head tells = record {
   base = base;
   told = told;
-  time = time;
   clock = clock;
   schedule = made ∙ ap (λ (x : Schedule). after_due x time) seen;
   handed = tells.handed;
@@ -43,11 +42,10 @@ announces_due house groups port old new base time s octets before told clock see
 -- none was
 pub announces_none : {P : Type 0} (house : HouseCalls P) (groups : List Group) (port : ℕ) (old new : AnnounceState P) (base time : ℕ) (s : Schedule)
     → IsTold house old.pass new.pass base → IsTimeNow old.times new.times time → s ≡ after_seen old.schedule base time → new.schedule ≡ after_due s time
-    → is_due s time ≡ false → new.sent ≡ old.sent → new.faults ≡ old.faults → Announces house groups port old new
+    → is_due s time ≡ false → new.sent ≡ old.sent → new.faults ≡ old.faults → Announces house groups port time old new
 announces_none house groups port old new base time s told clock seen made due same faults = record {
   base = base;
   told = told;
-  time = time;
   clock = clock;
   schedule = made ∙ ap (λ (x : Schedule). after_due x time) seen;
   handed = [];

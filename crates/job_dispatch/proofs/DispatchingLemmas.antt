@@ -1,5 +1,5 @@
 -- Items that are handed on one after the other.
-use Rattle.std.proofs.Common.{◌≡◌, ◌≢◌, ◌≤◌, ℕ, suc, zero, take, IfSome, ◌⊎◌, inl, inr, Bool, true, false, List, [], ◌∷◌, ◌++◌, length, slice_set, Some, Result, Ok, Err, refl, sym, ap, ◌∙◌, subst}
+use Rattle.std.proofs.Common.{◌≡◌, ◌≢◌, ◌≤◌, ℕ, ◌/◌, suc, zero, take, IfSome, ◌⊎◌, inl, inr, Bool, true, false, List, [], ◌∷◌, ◌++◌, length, slice_set, Some, Result, Ok, Err, refl, sym, ap, ◌∙◌, subst}
 use Rattle.std.specs.List.{slice_get}
 use Rattle.atomic_table.specs.Seated.{TableId}
 use Rattle.pcp_base.specs.declared.configs.Config.{Config}
@@ -12,9 +12,12 @@ use Rattle.pcp_io.specs.Takes.{IsNextItem, item_of}
 use Rattle.pcp_announce.specs.declared.doors.Group.{Group}
 use Rattle.job_workers.specs.HouseCalls.{HouseCalls}
 use Rattle.job_dispatch.specs.declared.ports.Port.{Port}
+use Rattle.job_dispatch.specs.declared.noise.NoiseCounts.{NoiseCounts}
 use Rattle.job_dispatch.specs.Announcing.{AnnounceState, Announces}
-use Rattle.job_dispatch.specs.Dispatches.{ArePorts, ChangesPort, Dispatched, Fate, Put, Full, Starved, Ignored, HasFate, IsFate, IsPort, port_full, port_starved, port_with}
+use Rattle.job_dispatch.specs.Dispatches.{ArePorts, ChangesPort, Dispatched, Fate, Put, Full, Noise, Starved, Ignored, HasFate, IsFate, IsPort, port_full, port_starved, port_with}
 use Rattle.job_dispatch.specs.PortsAfter.{ArePortsAfter}
+use Rattle.job_dispatch.specs.Noise.{in_second}
+use Rattle.job_dispatch.proofs.NoiseLemmas.{dropped_items}
 use Rattle.job_dispatch.proofs.PortLemmas.{after_items}
 use Rattle.job_dispatch.specs.Dispatching.{DispatchState, DoesItem, DoesItems, IsItemTurn, RunsDispatcher}
 
@@ -58,17 +61,18 @@ ports_after_change config queues old new shard port changed h c keeps =
     } in
     subst (λ (ps : List Port). ArePorts config queues ps) (sym c.new_are) all
 
-pub ports_after : (config : Config) (queues : List TableId) (item : InboxItem) (fate : Fate) (old new : List Port) → ArePorts config queues old → IsFate config item fate old new → ArePorts config queues new
-ports_after config queues item (Put shard job) old new h f =
+pub ports_after : (config : Config) (queues : List TableId) (noise : NoiseCounts) (item : InboxItem) (fate : Fate) (old new : List Port) → ArePorts config queues old → IsFate config noise item fate old new → ArePorts config queues new
+ports_after config queues noise item (Put shard job) old new h f =
     ports_after_change config queues old new shard f.1.0 (port_with f.1.0 job) h f.1.1 (record { queue_is = refl; route_is = refl })
-ports_after config queues item (Full shard job) old new h f =
+ports_after config queues noise item (Full shard job) old new h f =
     ports_after_change config queues old new shard f.1.0 (port_full f.1.0) h f.1.1 (record { queue_is = refl; route_is = refl })
-ports_after config queues item Starved old new h f =
+ports_after config queues noise item (Noise shard job) old new h f = subst (λ (ps : List Port). ArePorts config queues ps) (sym f.2) h
+ports_after config queues noise item Starved old new h f =
     ports_after_change config queues old new 0 f.1.0 (port_starved f.1.0) h f.1.1 (record { queue_is = refl; route_is = refl })
-ports_after config queues item Ignored old new h f = subst (λ (ps : List Port). ArePorts config queues ps) (sym f.1) h
+ports_after config queues noise item Ignored old new h f = subst (λ (ps : List Port). ArePorts config queues ps) (sym f.1) h
 
-pub pass_after : {P : Type 0} (house : HouseCalls P) (groups : List Group) (port : ℕ) (old new : AnnounceState P) → house.is_pass old.pass → Announces house groups port old new → house.is_pass new.pass
-pass_after house groups port old new h a = a.told.stays.is h
+pub pass_after : {P : Type 0} (house : HouseCalls P) (groups : List Group) (port time : ℕ) (old new : AnnounceState P) → house.is_pass old.pass → Announces house groups port time old new → house.is_pass new.pass
+pass_after house groups port time old new h a = a.told.stays.is h
 
 -- ---- items so far
 
@@ -93,8 +97,8 @@ pub turn_on : {P : Type 0} (house : HouseCalls P) (config : Config) (queues : Li
 turn_on house config queues groups port a b c (Ok true) h turn is = record {
   dispatched = h.dispatched ++ turn.0 ∷ [];
   does = items-push house config groups port h.dispatched turn.0 a b c h.does turn.1;
-  ports = ports_after config queues turn.0.item turn.0.fate b.ports c.ports h.ports turn.1.fate;
-  pass = pass_after house groups port b.announcing c.announcing h.pass turn.1.announced;
+  ports = ports_after config queues (in_second b.noise (turn.1.time / 1000)) turn.0.item turn.0.fate b.ports c.ports h.ports turn.1.fate;
+  pass = pass_after house groups port _ b.announcing c.announcing h.pass turn.1.announced;
 }
 turn_on house config queues groups port a b c (Ok false) h turn is = absurd (let e : ◌≡◌ {A = Result Bool Failed} (Ok false) (Ok true) = is in cc)
 turn_on house config queues groups port a b c (Err fault) h turn is = absurd (let e : ◌≡◌ {A = Result Bool Failed} (Err fault) (Ok true) = is in cc)
@@ -108,6 +112,7 @@ ends_by_stop house config queues groups port a b c (Ok false) h turn is = record
   does = h.does;
   ends = turn;
   ports = subst (λ (ps : List Port). ArePortsAfter 0 h.dispatched a.ports ps) (sym turn.same.0) (after_items house config groups port h.dispatched a b h.does);
+  dropped = ap (λ (n : NoiseCounts). n.dropped) turn.same.1 ∙ dropped_items house config groups port h.dispatched a b h.does;
 }
 ends_by_stop house config queues groups port a b c (Ok true) h turn is = absurd (let e : ◌≡◌ {A = Result Bool Failed} (Ok true) (Ok false) = is in cc)
 ends_by_stop house config queues groups port a b c (Err fault) h turn is = absurd (let e : ◌≡◌ {A = Result Bool Failed} (Err fault) (Ok false) = is in cc)
@@ -120,20 +125,30 @@ ends_by_fault house config queues groups port a b c (Err f) fault h turn is = re
   does = h.does;
   ends = turn;
   ports = subst (λ (ps : List Port). ArePortsAfter 0 h.dispatched a.ports ps) (sym turn.same.0) (after_items house config groups port h.dispatched a b h.does);
+  dropped = ap (λ (n : NoiseCounts). n.dropped) turn.same.1 ∙ dropped_items house config groups port h.dispatched a b h.does;
 }
 ends_by_fault house config queues groups port a b c (Ok true) fault h turn is = absurd (let e : ◌≡◌ {A = Result Bool Failed} (Ok true) (Err fault) = is in cc)
 ends_by_fault house config queues groups port a b c (Ok false) fault h turn is = absurd (let e : ◌≡◌ {A = Result Bool Failed} (Ok false) (Err fault) = is in cc)
 
 -- an item that isn't a stop was announced and handed on
-pub item_turn : {P : Type 0} (house : HouseCalls P) (config : Config) (groups : List Group) (port : ℕ) (old new : DispatchState P) (incoming : Incoming) (room : List ℕ)
-    → IsNextItem old.left new.left (item_of incoming room) → old.faults ≤ new.faults → incoming ≢ Incomings.Stop → Announces house groups port old.announcing new.announcing
-    → IfSome (item_of incoming room) (λ item. HasFate config item old.ports new.ports) → (d : Dispatched) × DoesItem house config groups port d old new
-item_turn house config groups port old new (Incomings.Packet peer at door n) room next later on announced h =
-    (record { item = Items.Packet (record { peer = peer; port = at; door = door; octets = take n room }); fate = h.0 }, record { given = next; later = later; announced = announced; fate = h.1 })
-item_turn house config groups port old new (Incomings.Lose order address) room next later on announced h =
-    (record { item = Items.Lose order address; fate = h.0 }, record { given = next; later = later; announced = announced; fate = h.1 })
-item_turn house config groups port old new (Incomings.Status order) room next later on announced h =
-    (record { item = Items.Status order; fate = h.0 }, record { given = next; later = later; announced = announced; fate = h.1 })
-item_turn house config groups port old new Incomings.Quiet room next later on announced h =
-    (record { item = Items.Quiet; fate = h.0 }, record { given = next; later = later; announced = announced; fate = h.1 })
-item_turn house config groups port old new Incomings.Stop room next later on announced h = absurd (on refl)
+pub item_turn : {P : Type 0} (house : HouseCalls P) (config : Config) (groups : List Group) (port : ℕ) (old new : DispatchState P) (incoming : Incoming) (room : List ℕ) (time : ℕ)
+    → IsNextItem old.left new.left (item_of incoming room) → old.faults ≤ new.faults → incoming ≢ Incomings.Stop → Announces house groups port time old.announcing new.announcing
+    → IfSome (item_of incoming room) (λ item. HasFate config item old.ports new.ports (in_second old.noise (time / 1000)) new.noise) → (d : Dispatched) × DoesItem house config groups port d old new
+item_turn house config groups port old new (Incomings.Packet peer at door n) room time next later on announced h =
+    (record { item = Items.Packet (record { peer = peer; port = at; door = door; octets = take n room }); fate = h.0 }, record { given = next; later = later; time = time; announced = announced; fate = h.1; noise = h.2 })
+item_turn house config groups port old new (Incomings.Lose order address) room time next later on announced h =
+    (record { item = Items.Lose order address; fate = h.0 }, record { given = next; later = later; time = time; announced = announced; fate = h.1; noise = h.2 })
+item_turn house config groups port old new (Incomings.Status order) room time next later on announced h =
+    (record { item = Items.Status order; fate = h.0 }, record { given = next; later = later; time = time; announced = announced; fate = h.1; noise = h.2 })
+item_turn house config groups port old new Incomings.Quiet room time next later on announced h =
+    (record { item = Items.Quiet; fate = h.0 }, record { given = next; later = later; time = time; announced = announced; fate = h.1; noise = h.2 })
+item_turn house config groups port old new Incomings.Stop room time next later on announced h = absurd (on refl)
+
+-- the same, where the second was begun before
+pub item_turn_begun : {P : Type 0} (house : HouseCalls P) (config : Config) (groups : List Group) (port : ℕ) (old new : DispatchState P) (incoming : Incoming) (room : List ℕ) (time : ℕ) (begun : NoiseCounts)
+    → begun ≡ in_second old.noise (time / 1000)
+    → IsNextItem old.left new.left (item_of incoming room) → old.faults ≤ new.faults → incoming ≢ Incomings.Stop → Announces house groups port time old.announcing new.announcing
+    → IfSome (item_of incoming room) (λ item. HasFate config item old.ports new.ports begun new.noise) → (d : Dispatched) × DoesItem house config groups port d old new
+item_turn_begun house config groups port old new incoming room time begun is next later on announced h =
+    item_turn house config groups port old new incoming room time next later on announced
+    (subst (λ (n : NoiseCounts). IfSome (item_of incoming room) (λ (item : InboxItem). HasFate config item old.ports new.ports n new.noise)) is h)

@@ -1,5 +1,5 @@
 -- Ports after all items.
-use Rattle.std.proofs.Common.{◌≡◌, ◌≢◌, ℕ, zero, suc, ◌+◌, ◌≤◌, List, [], ◌∷◌, ◌++◌, fold, map, slice_set, Option, Some, None, refl, sym, ap, ◌∙◌, subst, append_assoc, arith}
+use Rattle.std.proofs.Common.{◌≡◌, ◌≢◌, ℕ, zero, suc, ◌+◌, ◌/◌, ◌≤◌, List, [], ◌∷◌, ◌++◌, fold, map, slice_set, Option, Some, None, refl, sym, ap, ◌∙◌, subst, append_assoc, arith}
 use Rattle.std.specs.List.{slice_get}
 use Rattle.std.proofs.lemmas.Bool.{eq-eqb, ne_eqb}
 use Rattle.std.proofs.lemmas.List.{append-nil}
@@ -10,8 +10,10 @@ use Rattle.job_workers.specs.HouseCalls.{HouseCalls}
 use Rattle.job_dispatch.specs.declared.ports.Port.{Port}
 use Rattle.job_queue.specs.declared.jobs.Job.{Job}
 use Rattle.job_queue.specs.Queues.{PutterKnowledge}
-use Rattle.job_dispatch.specs.Dispatches.{ChangesPort, Dispatched, Fate, Put, Full, Starved, Ignored, IsFate, all_put_for, port_full, port_starved, port_with, put_for}
+use Rattle.job_dispatch.specs.declared.noise.NoiseCounts.{NoiseCounts}
+use Rattle.job_dispatch.specs.Dispatches.{ChangesPort, Dispatched, Fate, Put, Full, Noise, Starved, Ignored, IsFate, all_put_for, port_full, port_starved, port_with, put_for}
 use Rattle.job_dispatch.specs.Dispatching.{DispatchState, DoesItems}
+use Rattle.job_dispatch.specs.Noise.{in_second}
 use Rattle.job_dispatch.specs.PortsAfter.{ArePortsAfter, IsPortAfter, put_more, row_by_fate}
 
 -- ---- none, and one after the other
@@ -89,21 +91,24 @@ one_put p job js e = ap (λ (l : List Job). put_more p l) (sym e)
 no_put : (p : PutterKnowledge) (js : List Job) → js ≡ [] → p ≡ put_more p js
 no_put p js e = none_more p ∙ ap (λ (l : List Job). put_more p l) (sym e)
 
-pub after_item : (config : Config) (item : InboxItem) (fate : Fate) (old new : List Port) → IsFate config item fate old new → ArePortsAfter 0 (record { item = item; fate = fate } ∷ []) old new
+pub after_item : (config : Config) (noise : NoiseCounts) (item : InboxItem) (fate : Fate) (old new : List Port) → IsFate config noise item fate old new → ArePortsAfter 0 (record { item = item; fate = fate } ∷ []) old new
 unfolding Leaves
-after_item config item (Put at job) old new f =
+after_item config noise item (Put at job) old new f =
     of_change at (record { item = item; fate = Put at job }) old new f.1.0 (port_with f.1.0 job) f.1.1
     (record { putter = one_put f.1.0.putter job (all_put_for at (record { item = item; fate = Put at job } ∷ [])) (rw (eq-eqb at at refl) refl); row = refl })
     (λ n h port. record { putter = no_put port.putter (all_put_for n (record { item = item; fate = Put at job } ∷ [])) (rw (ne_eqb at n (λ e. h (sym e))) refl); row = refl })
-after_item config item (Full at job) old new f =
+after_item config noise item (Full at job) old new f =
     of_change at (record { item = item; fate = Full at job }) old new f.1.0 (port_full f.1.0) f.1.1
     (record { putter = none_more f.1.0.putter; row = rw (eq-eqb at at refl) refl })
     (λ n h port. record { putter = none_more port.putter; row = rw (ne_eqb at n (λ e. h (sym e))) refl })
-after_item config item Starved old new f =
+after_item config noise item (Noise at job) old new f =
+    subst (λ (l : List Port). ArePortsAfter 0 (record { item = item; fate = Noise at job } ∷ []) old l) (sym f.2)
+    (leaves_rest 0 (record { item = item; fate = Noise at job }) old (λ n h port. record { putter = none_more port.putter; row = refl }))
+after_item config noise item Starved old new f =
     of_change 0 (record { item = item; fate = Starved }) old new f.1.0 (port_starved f.1.0) f.1.1
     (record { putter = none_more f.1.0.putter; row = refl })
     (λ n h port. record { putter = none_more port.putter; row = rw (ne_eqb 0 n (λ e. h (sym e))) refl })
-after_item config item Ignored old new f =
+after_item config noise item Ignored old new f =
     subst (λ (l : List Port). ArePortsAfter 0 (record { item = item; fate = Ignored } ∷ []) old l) (sym f.1)
     (leaves_rest 0 (record { item = item; fate = Ignored }) old (λ n h port. record { putter = none_more port.putter; row = refl }))
 
@@ -113,4 +118,4 @@ after_item config item Ignored old new f =
 pub after_items : {P : Type 0} (house : HouseCalls P) (config : Config) (groups : List Group) (port : ℕ) (ds : List Dispatched) (a b : DispatchState P) → DoesItems house config groups port ds a b → ArePortsAfter 0 ds a.ports b.ports
 after_items house config groups port [] a b does = subst (λ (s : DispatchState _). ArePortsAfter 0 [] a.ports s.ports) (sym does) (are_none 0 a.ports)
 after_items house config groups port (d ∷ ds) a b does =
-    all_follow 0 d ds a.ports does.0.ports b.ports (after_item config d.item d.fate a.ports does.0.ports does.1.fate) (after_items house config groups port ds does.0 b does.2)
+    all_follow 0 d ds a.ports does.0.ports b.ports (after_item config (in_second a.noise (does.1.time / 1000)) d.item d.fate a.ports does.0.ports does.1.fate) (after_items house config groups port ds does.0 b does.2)

@@ -20,13 +20,12 @@ pub record AnnounceState (P : Type 0) : Type 0 where
 abbrev pub due_to : List Group → ℕ → Schedule → ℕ → List Datagram
 due_to groups port s time = if is_due s time then to_all groups port (announcement s time) else []
 
--- The epoch word is asked and the clock is read once; the announcer sees that base and is asked
+-- The epoch word is asked and the clock gives this time; the announcer sees that base and is asked
 -- once. Where an announcement is due it goes to all groups by their doors, in order.
 pub record Announces {P : Type 0} (house : HouseCalls P) (groups : List Group) (port : ℕ)
-    (old new : AnnounceState P) : Type 0 where
+    (time : ℕ) (old new : AnnounceState P) : Type 0 where
   pub base : ℕ
   pub told : IsTold house old.pass new.pass base
-  pub time : ℕ
   pub clock : IsTimeNow old.times new.times time
   pub schedule : new.schedule ≡ after_due (after_seen old.schedule base time) time
   pub handed : List Handed

@@ -1,24 +1,33 @@
 -- What the dispatcher does (our own): the items of the inbox one after the other, each to the queue
 -- of its external address, and announcements in between.
-use Rattle.std.specs.Prelude.{◌≡◌, ℕ, ◌==◌, ◌⊎◌, List, [], ◌∷◌, ◌++◌, length, filter_map, slice_set, Option, Some, None, if◌then◌else◌}
+use Rattle.std.specs.Prelude.{◌≡◌, ℕ, ◌==◌, ◌<◌, ◌⊎◌, Bool, true, false, List, [], ◌∷◌, ◌++◌, length, filter_map, slice_set, Option, Some, None, if◌then◌else◌}
 use Rattle.std.specs.List.{position_from, slice_get}
 use Rattle.atomic_table.specs.Seated.{TableId}
 use Rattle.pcp_base.specs.declared.addresses.Address.{Address}
 use Rattle.pcp_base.specs.declared.configs.Config.{Config}
+use Rattle.pcp_base.specs.declared.datagrams.Datagram.{Datagram}
 use Rattle.pcp_base.specs.Tables.{same_address}
 use Rattle.pcp_io.specs.declared.inboxes.InboxItem.{InboxItem}
 use Rattle.pcp_io.specs.declared.inboxes.InboxItem.TheVariants as Items
 use Rattle.lease_histories.specs.Routes.{route_of}
+use Rattle.job_dispatch.specs.declared.sifting.Sifted.{Sifted}
 use Rattle.job_dispatch.specs.declared.ports.Port.{Port}
 use Rattle.job_queue.specs.declared.jobs.Job.{Job}
 use Rattle.job_queue.specs.declared.jobs.Job.TheVariants as Jobs
-use Rattle.job_queue.specs.Queues.{WasFull}
+use Rattle.job_queue.specs.Queues.{WasFull, is_noise_job}
 use Rattle.job_workers.specs.Tallies.{row_full, row_starved}
+use Rattle.job_dispatch.specs.declared.noise.NoiseCounts.{NoiseCounts}
+use Rattle.job_dispatch.specs.Noise.{IsTooMuch, noise_dropped, noise_put}
 
 -- the index of the external address
 abbrev pub place_of_external : Config → Address → Option ℕ
 place_of_external config address =
     position_from (λ external. same_address external.address address) 0 config.externals
+
+-- a datagram that came by this door from this peer
+abbrev pub came : Address → ℕ → ℕ → List ℕ → Datagram
+came peer port door octets =
+    record { peer = peer; port = port; door = door; octets = octets }
 
 -- ---- what becomes of an item
 
@@ -27,6 +36,8 @@ pub data Fate : Type 0 where
   Put : ℕ → Job → Fate
   -- it was dropped, since that queue was full
   Full : ℕ → Job → Fate
+  -- it was dropped, since it is noise, of which that queue had much, or this second
+  Noise : ℕ → Job → Fate
   -- it was dropped for want of memory, before it was known where it goes
   Starved : Fate
   -- it asks nothing of a shard
@@ -65,32 +76,54 @@ port_full port = record port { row = row_full port.row }
 abbrev pub port_starved : Port → Port
 port_starved port = record port { row = row_starved port.row }
 
+-- whether a job for this shard is noise
+abbrev pub is_noise_for : Config → ℕ → Job → Bool
+is_noise_for config shard job = is_noise_job (Some (record { config = config; shard = shard })) job
+
 -- only the port of this shard changes, from the one to the other
 pub record ChangesPort (shard : ℕ) (port changed : Port) (old new : List Port) : Type 0 where
   pub there : slice_get old shard ≡ Some port
   pub new_are : new ≡ slice_set old shard changed
 
-abbrev pub IsFate : Config → InboxItem → Fate → List Port → List Port → Type 0
-IsFate config item (Put shard job) old new =
+-- what became of an item, where this noise was counted in this second
+abbrev pub IsFate : Config → NoiseCounts → InboxItem → Fate → List Port → List Port → Type 0
+IsFate config noise item (Put shard job) old new =
     IsJobOf config item shard job
     × ((port : Port) × ChangesPort shard port (port_with port job) old new)
-IsFate config item (Full shard job) old new =
+    × (is_noise_for config shard job ≡ true → noise.put < 1000)
+IsFate config noise item (Full shard job) old new =
     IsJobOf config item shard job
     × ((port : Port) × ChangesPort shard port (port_full port) old new × WasFull port.putter.put)
-IsFate config item Starved old new =
+IsFate config noise item (Noise shard job) old new =
+    IsJobOf config item shard job × (is_noise_for config shard job ≡ true) × (new ≡ old)
+    × ((port : Port) × (slice_get old shard ≡ Some port) × IsTooMuch noise port.putter)
+IsFate config noise item Starved old new =
     IsPacket item × ((port : Port) × ChangesPort 0 port (port_starved port) old new)
-IsFate config item Ignored old new = IsNoJob config item × (new ≡ old)
+IsFate config noise item Ignored old new = IsNoJob config item × (new ≡ old)
+
+-- what is counted of noise then
+abbrev pub noise_by_fate : Config → NoiseCounts → Fate → NoiseCounts
+noise_by_fate config noise (Put shard job) =
+    if is_noise_for config shard job then noise_put noise else noise
+noise_by_fate config noise (Full shard job) = noise
+noise_by_fate config noise (Noise shard job) = noise_dropped noise
+noise_by_fate config noise Starved = noise
+noise_by_fate config noise Ignored = noise
 
 -- what may become of an item, whatever the queues hold
 abbrev pub IsFateOf : Config → InboxItem → Fate → Type 0
 IsFateOf config item (Put shard job) = IsJobOf config item shard job
 IsFateOf config item (Full shard job) = IsJobOf config item shard job
+IsFateOf config item (Noise shard job) =
+    IsJobOf config item shard job × (is_noise_for config shard job ≡ true)
 IsFateOf config item Starved = IsPacket item
 IsFateOf config item Ignored = IsNoJob config item
 
--- a job was offered to its queue
-abbrev pub Offers : Job → Port → Port → Type 0
-Offers job old new = (new ≡ port_with old job) ⊎ ((new ≡ port_full old) × WasFull old.putter.put)
+-- a job was offered to its queue, and counted if it is noise
+abbrev pub Offers : Bool → Job → Port → Port → NoiseCounts → NoiseCounts → Type 0
+Offers is_noise job old new noise counted =
+    ((new ≡ port_with old job) × (counted ≡ (if is_noise then noise_put noise else noise)))
+    ⊎ ((new ≡ port_full old) × WasFull old.putter.put × (counted ≡ noise))
 
 -- the end of this queue, whose jobs are for this shard
 pub record IsPort (config : Config) (shard : ℕ) (queue : TableId) (port : Port) : Type 0 where
@@ -104,18 +137,32 @@ pub record ArePorts (config : Config) (queues : List TableId) (ports : List Port
       slice_get ports shard ≡ Some port → IsPort config shard queue port
 
 -- a job was offered to the queue of this shard
-pub record OffersAt (shard : ℕ) (job : Job) (old new : List Port) : Type 0 where
+pub record OffersAt (is_noise : Bool) (shard : ℕ) (job : Job) (old new : List Port)
+    (noise counted : NoiseCounts) : Type 0 where
   pub port : Port
   pub changed : Port
   pub changes : ChangesPort shard port changed old new
-  pub offers : Offers job port changed
+  pub offers : Offers is_noise job port changed noise counted
+
+-- what was sifted was dropped as noise and counted, or nothing changed
+pub record Sifts (sifted : Sifted) (old new : List Port) (noise counted : NoiseCounts)
+    (dropped : Bool) : Type 0 where
+  pub ports : new ≡ old
+  pub counts : counted ≡ (if dropped then noise_dropped noise else noise)
+  pub noise_is : dropped ≡ true → sifted.is_noise ≡ true
+  pub cause : dropped ≡ true →
+      (port : Port) × (slice_get old sifted.place ≡ Some port) × IsTooMuch noise port.putter
+  pub room : dropped ≡ false → sifted.is_noise ≡ true → noise.put < 1000
 
 -- a datagram was counted as dropped for want of memory
 abbrev pub StarvesAt : List Port → List Port → Type 0
 StarvesAt old new = (port : Port) × ChangesPort 0 port (port_starved port) old new
 
-abbrev pub HasFate : Config → InboxItem → List Port → List Port → Type 0
-HasFate config item old new = (fate : Fate) × IsFate config item fate old new
+-- the item has a fate, and this is counted of noise
+abbrev pub HasFate : Config → InboxItem → List Port → List Port → NoiseCounts → NoiseCounts → Type 0
+HasFate config item old new noise counted =
+    (fate : Fate) × IsFate config noise item fate old new
+    × (counted ≡ noise_by_fate config noise fate)
 
 -- ---- all items
 
@@ -127,6 +174,7 @@ pub record Dispatched : Type 0 where
 abbrev pub put_for : ℕ → Fate → Option Job
 put_for shard (Put at job) = if at == shard then Some job else None
 put_for shard (Full at job) = None
+put_for shard (Noise at job) = None
 put_for shard Starved = None
 put_for shard Ignored = None
 

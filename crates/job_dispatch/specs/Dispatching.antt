@@ -1,5 +1,5 @@
 -- The dispatcher's run (our own): items one after the other, and how it ended.
-use Rattle.std.specs.Prelude.{◌≡◌, ◌≤◌, ℕ, Bool, true, false, List, [], ◌∷◌, Option, Some, None, Result, Ok, Err}
+use Rattle.std.specs.Prelude.{◌≡◌, ◌≤◌, ℕ, ◌/◌, Bool, true, false, List, [], ◌∷◌, Option, Some, None, Result, Ok, Err}
 use Rattle.pcp_base.specs.declared.configs.Config.{Config}
 use Rattle.pcp_base.specs.declared.errors.Failed.{Failed}
 use Rattle.pcp_io.specs.declared.inboxes.InboxItem.{InboxItem}
@@ -7,14 +7,18 @@ use Rattle.pcp_io.specs.Faults.{HasRisen}
 use Rattle.pcp_io.specs.Takes.{IsNextItem}
 use Rattle.pcp_announce.specs.declared.doors.Group.{Group}
 use Rattle.job_workers.specs.HouseCalls.{HouseCalls}
+use Rattle.job_dispatch.specs.declared.noise.NoiseCounts.{NoiseCounts}
 use Rattle.job_dispatch.specs.declared.ports.Port.{Port}
 use Rattle.job_dispatch.specs.Announcing.{AnnounceState, Announces}
-use Rattle.job_dispatch.specs.Dispatches.{Dispatched, IsFate}
-use Rattle.job_dispatch.specs.PortsAfter.{ArePortsAfter}
+use Rattle.job_dispatch.specs.Dispatches.{Dispatched, IsFate, noise_by_fate}
+use Rattle.job_dispatch.specs.Noise.{in_second}
+use Rattle.job_dispatch.specs.PortsAfter.{ArePortsAfter, dropped_after}
 
--- the ends of the queues and the rows, the announcements, and of the inbox what it tells
+-- the ends of the queues and the rows, what is counted of noise, the announcements, and of the inbox
+-- what it tells
 pub record DispatchState (P : Type 0) : Type 0 where
   pub ports : List Port
+  pub noise : NoiseCounts
   pub announcing : AnnounceState P
   pub left : Option (List InboxItem)
   pub faults : ℕ
@@ -23,13 +27,14 @@ module _ {P : Type 0} where
   -- the inbox stopped
   pub record EndsByStop (old new : DispatchState P) : Type 0 where
     pub stop : IsNextItem old.left new.left None
-    pub same : (new.ports ≡ old.ports) × (new.announcing ≡ old.announcing)
+    pub same : (new.ports ≡ old.ports) × (new.noise ≡ old.noise)
+        × (new.announcing ≡ old.announcing)
 
   -- the inbox failed
   pub record EndsByFault (old new : DispatchState P) : Type 0 where
     pub fault : HasRisen old.faults new.faults
-    pub same : (new.ports ≡ old.ports) × (new.announcing ≡ old.announcing)
-        × (new.left ≡ old.left)
+    pub same : (new.ports ≡ old.ports) × (new.noise ≡ old.noise)
+        × (new.announcing ≡ old.announcing) × (new.left ≡ old.left)
 
   abbrev pub EndsDispatcher : DispatchState P → DispatchState P → Result (Unit {0}) Failed → Type 0
   EndsDispatcher old new (Ok done) = EndsByStop old new
@@ -37,13 +42,16 @@ module _ {P : Type 0} where
 
 module _ {P : Type 0} (house : HouseCalls P) (config : Config) (groups : List Group) (port : ℕ)
   where
-    -- The inbox gave the item, announcements were made, and the item has this fate. The inbox's
-    -- count hasn't fallen.
+    -- The inbox gave the item, announcements were made, and the item has this fate, by the noise
+    -- of this second of the clock. The inbox's count hasn't fallen.
     pub record DoesItem (d : Dispatched) (old new : DispatchState P) : Type 0 where
       pub given : IsNextItem old.left new.left (Some d.item)
       pub later : old.faults ≤ new.faults
-      pub announced : Announces house groups port old.announcing new.announcing
-      pub fate : IsFate config d.item d.fate old.ports new.ports
+      pub time : ℕ
+      pub announced : Announces house groups port time old.announcing new.announcing
+      pub fate : IsFate config (in_second old.noise (time / 1000)) d.item d.fate old.ports new.ports
+      pub noise : new.noise
+          ≡ noise_by_fate config (in_second old.noise (time / 1000)) d.fate
 
     abbrev pub DoesItems : List Dispatched → DispatchState P → DispatchState P → Type 0
     DoesItems [] old new = new ≡ old
@@ -64,3 +72,5 @@ module _ {P : Type 0} (house : HouseCalls P) (config : Config) (groups : List Gr
       pub ends : EndsDispatcher last new result
       -- so each port has put, and counted, what the fates say
       pub ports : ArePortsAfter 0 dispatched old.ports new.ports
+      -- and so much noise was dropped
+      pub dropped : new.noise.dropped ≡ dropped_after old.noise.dropped dispatched

@@ -1,4 +1,5 @@
 pub mod Announcing
 pub mod Dispatches
 pub mod Dispatching
+pub mod Noise
 pub mod PortsAfter

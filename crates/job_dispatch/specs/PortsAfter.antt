@@ -1,17 +1,18 @@
--- What the dispatcher has put and counted for each external address, by the fates of the items (our
--- own).
+-- What the dispatcher has put and counted for each external address, and dropped as noise, by the
+-- fates of the items (our own).
 use Rattle.std.specs.Prelude.{◌≡◌, ℕ, ◌+◌, List, [], ◌∷◌, ◌++◌, ◌==◌, fold, map, if◌then◌else◌}
 use Rattle.job_queue.specs.declared.jobs.Job.{Job}
 use Rattle.job_queue.specs.Queues.{PutterKnowledge}
 use Rattle.job_dispatch.specs.declared.ports.Port.{Port}
 use Rattle.job_workers.specs.declared.tallies.TallyRow.{TallyRow}
-use Rattle.job_workers.specs.Tallies.{no_jobs, row_full, row_starved}
-use Rattle.job_dispatch.specs.Dispatches.{Dispatched, Fate, Full, Ignored, Put, Starved, all_put_for}
+use Rattle.job_workers.specs.Tallies.{more, no_jobs, row_full, row_starved}
+use Rattle.job_dispatch.specs.Dispatches.{Dispatched, Fate, Full, Ignored, Noise, Put, Starved, all_put_for}
 
 -- what the dispatcher counts for a shard
 abbrev pub row_by_fate : ℕ → TallyRow → Fate → TallyRow
 row_by_fate shard row (Put at job) = row
 row_by_fate shard row (Full at job) = if at == shard then row_full row else row
+row_by_fate shard row (Noise at job) = row
 row_by_fate shard row Starved = if 0 == shard then row_starved row else row
 row_by_fate shard row Ignored = row
 
@@ -34,3 +35,14 @@ ArePortsAfter shard ds [] (p ∷ ps) = ⊥
 ArePortsAfter shard ds (o ∷ os) [] = ⊥
 ArePortsAfter shard ds (o ∷ os) (p ∷ ps) =
     IsPortAfter shard ds o p × ArePortsAfter (shard + 1) ds os ps
+
+-- how much noise was dropped
+abbrev pub dropped_by_fate : ℕ → Fate → ℕ
+dropped_by_fate dropped (Put at job) = dropped
+dropped_by_fate dropped (Full at job) = dropped
+dropped_by_fate dropped (Noise at job) = more dropped 1
+dropped_by_fate dropped Starved = dropped
+dropped_by_fate dropped Ignored = dropped
+
+abbrev pub dropped_after : ℕ → List Dispatched → ℕ
+dropped_after dropped ds = fold dropped_by_fate dropped (map (λ d. d.fate) ds)

@@ -10,7 +10,8 @@ use pcp_announce::Announcer;
 use pcp_base::Config;
 use pcp_io::{Clock, Outbox};
 
-/// Asks the epoch word, and announces the epoch by all doors where that is due.
+/// Asks the epoch word, and announces the epoch by all doors where that is due. It gives the time of
+/// the clock, in milliseconds.
 pub fn announce<O: Outbox, T: Clock, P, H: JobHouse<P>>(
     house: &H,
     config: &Config,
@@ -18,10 +19,10 @@ pub fn announce<O: Outbox, T: Clock, P, H: JobHouse<P>>(
     announcer: &mut Announcer,
     out: &mut O,
     clock: &mut T,
-)
+) -> u64
     requires config { IsConfig config.now }
     requires pass { (H.calls house.now).is_pass pass.old }
-    ensures { Announces (H.calls house.now) (groups config.now) ANNOUNCEMENT_PORT
+    ensures { Announces (H.calls house.now) (groups config.now) ANNOUNCEMENT_PORT result
         (record {
           pass = pass.old;
           schedule = announcer.old;
@@ -43,7 +44,8 @@ pub fn announce<O: Outbox, T: Clock, P, H: JobHouse<P>>(
     let mut head = [0; 24];
     let is_due = announcer.due(time, &mut head);
     if !is_due {
-        return;
+        return time;
     }
     send_to_groups(out, config, ANNOUNCEMENT_PORT, &head);
+    time
 }

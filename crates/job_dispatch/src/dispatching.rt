@@ -9,7 +9,8 @@ ghost use Rattle.job_dispatch.specs.Dispatches.{ArePorts, HasFate};
 ghost use Rattle.job_dispatch.specs.Dispatching.{IsItemTurn, RunsDispatcher};
 
 use crate::announcements::announce;
-use crate::ports::{Port, count_starved, datagram_from, dispatch_loss, dispatch_packet};
+use crate::noise::NoiseCounts;
+use crate::ports::{Port, dispatch_loss, dispatch_packet};
 use job_queue::JobQueue;
 use job_workers::JobHouse;
 use pcp_announce::Announcer;
@@ -25,6 +26,7 @@ fn dispatch_item<R: Wait>(
     config: &Config,
     queues: &[JobQueue],
     ports: &mut [Port],
+    noise: &mut NoiseCounts,
     incoming: Incoming,
     piece: &[u8],
 )
@@ -33,7 +35,7 @@ fn dispatch_item<R: Wait>(
     requires all { length ports.old ≡ length config.now.externals }
     requires piece { filled incoming ≤ length piece.now }
     ensures { IfSome (item_of incoming piece.now)
-        (λ item. HasFate config.now item ports.old ports.new) }
+        (λ item. HasFate config.now item ports.old ports.new noise.old noise.new) }
 {
     match incoming {
         Incoming::Packet {
@@ -42,14 +44,13 @@ fn dispatch_item<R: Wait>(
             door,
             length,
         } => {
-            let Ok(datagram) = datagram_from(alloc, peer, port, door, &piece[..length]) else {
-                count_starved(ports);
-                return;
-            };
-            dispatch_packet(rt, alloc, config, queues, ports, datagram);
+            let octets = &piece[..length];
+            dispatch_packet(
+                rt, alloc, config, queues, ports, noise, peer, port, door, octets,
+            );
         }
         Incoming::Lose(order, address) => {
-            dispatch_loss(rt, config, queues, ports, order, &address);
+            dispatch_loss(rt, config, queues, ports, noise, order, &address);
         }
         Incoming::Status(_) => {}
         Incoming::Quiet => {}
@@ -67,6 +68,7 @@ fn do_item<R: Wait, I: Inbox, O: Outbox, T: Clock, P, H: JobHouse<P>>(
     pass: &mut P,
     announcer: &mut Announcer,
     ports: &mut [Port],
+    noise: &mut NoiseCounts,
     inbox: &mut I,
     out: &mut O,
     clock: &mut T,
@@ -80,6 +82,7 @@ fn do_item<R: Wait, I: Inbox, O: Outbox, T: Clock, P, H: JobHouse<P>>(
     ensures { IsItemTurn (H.calls house.now) config.now (groups config.now) ANNOUNCEMENT_PORT
         (record {
           ports = ports.old;
+          noise = noise.old;
           announcing = record {
             pass = pass.old;
             schedule = announcer.old;
@@ -92,6 +95,7 @@ fn do_item<R: Wait, I: Inbox, O: Outbox, T: Clock, P, H: JobHouse<P>>(
         })
         (record {
           ports = ports.new;
+          noise = noise.new;
           announcing = record {
             pass = pass.new;
             schedule = announcer.new;
@@ -108,8 +112,9 @@ fn do_item<R: Wait, I: Inbox, O: Outbox, T: Clock, P, H: JobHouse<P>>(
     if incoming == Incoming::Stop {
         return Ok(false);
     }
-    announce(house, config, pass, announcer, out, clock);
-    dispatch_item(rt, alloc, config, queues, ports, incoming, piece);
+    let time = announce(house, config, pass, announcer, out, clock);
+    noise.begin(time / 1_000);
+    dispatch_item(rt, alloc, config, queues, ports, noise, incoming, piece);
     Ok(true)
 }
 
@@ -123,6 +128,7 @@ pub fn dispatch<R: Wait, I: Inbox, O: Outbox, T: Clock, P, H: JobHouse<P>>(
     pass: &mut P,
     announcer: &mut Announcer,
     ports: &mut [Port],
+    noise: &mut NoiseCounts,
     inbox: &mut I,
     out: &mut O,
     clock: &mut T,
@@ -136,6 +142,7 @@ pub fn dispatch<R: Wait, I: Inbox, O: Outbox, T: Clock, P, H: JobHouse<P>>(
     ensures { RunsDispatcher (H.calls house.now) config.now (groups config.now) ANNOUNCEMENT_PORT
         (record {
           ports = ports.old;
+          noise = noise.old;
           announcing = record {
             pass = pass.old;
             schedule = announcer.old;
@@ -148,6 +155,7 @@ pub fn dispatch<R: Wait, I: Inbox, O: Outbox, T: Clock, P, H: JobHouse<P>>(
         })
         (record {
           ports = ports.new;
+          noise = noise.new;
           announcing = record {
             pass = pass.new;
             schedule = announcer.new;
@@ -162,7 +170,8 @@ pub fn dispatch<R: Wait, I: Inbox, O: Outbox, T: Clock, P, H: JobHouse<P>>(
 {
     for _ in rt.forever() {
         let more = do_item(
-            rt, alloc, house, config, queues, pass, announcer, ports, inbox, out, clock, piece,
+            rt, alloc, house, config, queues, pass, announcer, ports, noise, inbox, out, clock,
+            piece,
         )?;
         if !more {
             return Ok(());

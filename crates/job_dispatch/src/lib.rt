@@ -4,8 +4,11 @@
 
 mod announcements;
 mod dispatching;
+mod noise;
 mod ports;
+mod sifting;
 
 pub use announcements::announce;
 pub use dispatching::dispatch;
+pub use noise::{MOST_NOISE, MOST_NOISE_A_SECOND, NoiseCounts};
 pub use ports::{ANNOUNCEMENT_PORT, Port};

@@ -1,11 +1,12 @@
 -- The rule of a queue of jobs, and what its ends know (our own).
-use Rattle.std.specs.Prelude.{◌≡◌, ℕ, Bool, true, false, List, [], ◌++◌, length, Option, Some, None}
+use Rattle.std.specs.Prelude.{◌≡◌, ℕ, ◌-◌, ◌≤◌, Bool, true, false, List, [], ◌++◌, length, map, drop, filter, Option, Some, None}
 use Rattle.std.specs.List.{AllByRecursion}
 use mathlib.Core.Option.{some}
 use mathlib.Core.List.{IsPrefix}
 use lib.ListN.{get_elem?}
 use Rattle.atomic_table.specs.Seated.{TableId}
 use Rattle.lease_histories.specs.Routes.{route_of}
+use Rattle.job_queue.specs.Noise.{is_noise}
 use Rattle.job_queue.specs.declared.jobs.Job.{Job}
 use Rattle.job_queue.specs.declared.jobs.Job.TheVariants.{Packet, Lose}
 use Rattle.job_queue.specs.declared.jobs.JobsRoute.{JobsRoute}
@@ -50,6 +51,29 @@ pub record WasFull (put : List Job) : Type 0 where
   pub items : List Job
   pub full : length items ≡ MOST_JOBS
   pub last : IsLastOf items put
+
+-- ---- noise
+
+-- a datagram that asks for nothing that may be granted
+abbrev pub is_noise_job : Option JobsRoute → Job → Bool
+is_noise_job None job = false
+is_noise_job (Some r) (Packet d) = is_noise r.config d
+is_noise_job (Some r) Lose = false
+
+-- at some moment the last of what was put, which the queue held, had so many jobs that are noise
+pub record HeldNoise (route : Option JobsRoute) (put : List Job) (count : ℕ) : Type 0 where
+  pub items : List Job
+  pub few : length items ≤ MOST_JOBS
+  pub last : IsLastOf items put
+  pub noise : length (filter (is_noise_job route) items) ≡ count
+
+-- the last so many
+abbrev pub last_of : {X : Type 0} → ℕ → List X → List X
+last_of n xs = drop (length xs - n) xs
+
+-- which of the last jobs are noise: of all, or of as many as a queue holds
+abbrev pub noise_marks : Option JobsRoute → List Job → List Bool
+noise_marks route put = last_of MOST_JOBS (map (is_noise_job route) put)
 
 -- ---- the two ends
 

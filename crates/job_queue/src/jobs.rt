@@ -3,6 +3,7 @@ ghost use Rattle.std.specs.Prelude.{◌≡◌, ◌++◌, ◌∷◌, [], true, fa
 ghost use Rattle.crossbeam_queue.specs.Passes.{view, IsPassOf};
 ghost use Rattle.job_queue.specs.Queues.{WasFull, jobs_view};
 
+use crate::marks::Marks;
 use crossbeam_queue::protocol::{Join, Lesson, Outcome, Protocol, Split};
 use crossbeam_queue::{Pass, RuledArrayQueue};
 use pcp_base::{Config, Datagram, Memory};
@@ -148,11 +149,13 @@ impl Model for JobQueue {
 #[derive(Drop)]
 pub struct Putter {
     pass: Pass<Job, JobsView>,
+    // which of the last jobs are noise
+    marks: Marks,
 }
 
 impl Model for Putter {
     ghost use Rattle.std.specs.Prelude.{◌≡◌, true, []};
-    ghost use Rattle.job_queue.specs.Queues.{PutterKnowledge};
+    ghost use Rattle.job_queue.specs.Queues.{PutterKnowledge, noise_marks};
 
     ghost Value = { PutterKnowledge };
 
@@ -162,7 +165,8 @@ impl Model for Putter {
       put = p.pass.me.0.client.put;
     } };
 
-    ghost invariant = { λ p. (p.pass.me.1 ≡ []) × (p.pass.me.0.client.puts ≡ true) };
+    ghost invariant = { λ p. (p.pass.me.1 ≡ []) × (p.pass.me.0.client.puts ≡ true)
+        × (p.marks ≡ noise_marks p.pass.me.0.client.route p.pass.me.0.client.put) };
 }
 
 /// The end that takes jobs. Once it has met the other end it knows all that were put.
@@ -189,7 +193,7 @@ impl Model for Taker {
 }
 
 impl JobQueue {
-    ghost use Rattle.job_queue.specs.Queues.{AreEnds, HasMet, IsJobFor, MayBeEmpty};
+    ghost use Rattle.job_queue.specs.Queues.{AreEnds, HasMet, HeldNoise, IsJobFor, MayBeEmpty, is_noise_job};
 
     /// An empty queue of jobs for this external address, and its two ends.
     pub fn new(
@@ -214,21 +218,45 @@ impl JobQueue {
             made.0 made.1 made.2) }
     {
         let (queue, mut pass) = RuledArrayQueue::<Job, JobsView, InOrder>::ruled(alloc, MOST_JOBS)?;
+        let marks = Marks::new(alloc)?;
         let taking = queue.another::<Ends<N>>(&mut pass);
-        Ok((JobQueue { queue }, Putter { pass }, Taker { pass: taking }))
+        Ok((
+            JobQueue { queue },
+            Putter { pass, marks },
+            Taker { pass: taking },
+        ))
     }
 
-    /// Puts a job behind the others. It comes back only where the queue held `MOST_JOBS` at a moment of
-    /// this call.
-    pub fn put<R: Wait>(&self, rt: &R, putter: &mut Putter, job: Job) -> Result<(), Job>
+    /// Puts a job behind the others, and notes whether it is noise. It comes back only where the queue
+    /// held `MOST_JOBS` at a moment of this call.
+    pub fn put<R: Wait>(
+        &self,
+        rt: &R,
+        putter: &mut Putter,
+        job: Job,
+        is_noise: bool,
+    ) -> Result<(), Job>
         requires queue { putter.old.queue ≡ self.now }
         requires job { IsJobFor putter.old.route job }
+        requires noise { is_noise ≡ is_noise_job putter.old.route job }
         ensures put { OnOk result
             (putter.new ≡ record putter.old { put = putter.old.put ++ job ∷ [] }) }
         ensures full { IfErr result (λ back.
             (back ≡ job) × (putter.new ≡ putter.old) × WasFull putter.old.put) }
     {
-        self.queue.push_as::<Puts, R>(rt, &mut putter.pass, job)
+        self.queue.push_as::<Puts, R>(rt, &mut putter.pass, job)?;
+        putter.marks.push(is_noise);
+        Ok(())
+    }
+
+    /// How many of the jobs that the queue held at a moment of this call are noise.
+    pub fn noise_held<R: Wait>(&self, rt: &R, putter: &mut Putter) -> usize
+        requires { putter.old.queue ≡ self.now }
+        ensures held { HeldNoise putter.old.route putter.old.put result }
+        ensures unchanged { putter.new ≡ putter.old }
+    {
+        let held = self.queue.len_as::<Puts, R>(rt, &mut putter.pass);
+        putter.marks.count_last(held)
     }
 
     /// Takes the first job. There is none only where the queue was empty at a moment of this call.

@@ -4,6 +4,7 @@
 
 mod batches;
 mod jobs;
+mod marks;
 
 pub use batches::{Batch, MOST_BATCH};
 pub use jobs::{Job, JobQueue, JobsRoute, JobsView, MOST_JOBS, Putter, Taker};

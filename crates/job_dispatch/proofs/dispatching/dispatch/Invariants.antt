@@ -9,6 +9,7 @@ invariant-loop g l =
     × HasDispatched (g.H.JobHouse.calls l.house) l.config l.queues (groups l.config) ANNOUNCEMENT_PORT
     (record {
       ports = l.fn.ports;
+      noise = l.fn.noise;
       announcing = record {
         pass = l.fn.pass;
         schedule = l.fn.announcer;
@@ -21,6 +22,7 @@ invariant-loop g l =
     })
     (record {
       ports = l.ports;
+      noise = l.noise;
       announcing = record {
         pass = l.pass;
         schedule = l.announcer;

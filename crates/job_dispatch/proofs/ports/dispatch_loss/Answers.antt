@@ -1,4 +1,4 @@
-use Rattle.std.proofs.Common.{refl, sym, ◌∙◌, arith}
+use Rattle.std.proofs.Common.{false, true≢false, refl, sym, ◌∙◌, arith}
 use Rattle.pcp_io.specs.declared.inboxes.InboxItem.TheVariants as Items
 use Rattle.job_queue.specs.declared.jobs.Job.TheVariants as Jobs
 use Rattle.job_dispatch.specs.Dispatches.{IsJobOf}
@@ -13,4 +13,4 @@ offer_at-requires-clause-shard g c =
 pub returns : goal.returns
 returns g c =
     let is : IsJobOf c.args.config.now (Items.Lose c.args.order c.args.address.now) c.in-Some.shard Jobs.Lose = (refl, sym c.external_place.ensures ∙ c.in-Some.is) in
-    fate_offered c.args.config.now (Items.Lose c.args.order c.args.address.now) c.in-Some.shard Jobs.Lose _ _ is c.offer_at.ensures
+    fate_offered c.args.config.now (Items.Lose c.args.order c.args.address.now) false c.in-Some.shard Jobs.Lose _ _ _ _ is refl (λ e. absurd (true≢false (sym e))) c.offer_at.ensures

@@ -1,11 +1,10 @@
-use Rattle.std.proofs.Common.{refl}
-use Rattle.pcp_io.specs.declared.inboxes.InboxItem.TheVariants as Items
-use Rattle.job_queue.specs.declared.jobs.Job.TheVariants as Jobs
-use Rattle.job_dispatch.specs.Dispatches.{IsJobOf}
-use Rattle.job_dispatch.proofs.DispatchLemmas.{fate_offered}
+use Rattle.std.proofs.Common.{◌≡◌, true, rules}
+use Rattle.job_dispatch.specs.Dispatches.{came}
+use Rattle.job_dispatch.proofs.DispatchLemmas.{fate_dropped}
 use Rattle.job_dispatch.proofs.ports.dispatch_packet.Goals as goal
 
-pub returns : goal.returns
-returns g c =
-    let is : IsJobOf c.args.config.now (Items.Packet c.args.datagram) c.in-Ok.shard (Jobs.Packet c.args.datagram) = (refl, c.in-Ok.ensures.ok) in
-    fate_offered c.args.config.now (Items.Packet c.args.datagram) c.in-Ok.shard (Jobs.Packet c.args.datagram) _ _ is c.offer_at.ensures
+pub returns-then-is_dropped : goal.returns-then-is_dropped
+returns-then-is_dropped g c =
+    let dropped : c.is_dropped.result ≡ true = search rules in
+    fate_dropped c.args.config.now (came c.args.peer c.args.port c.args.door c.args.octets.now) c.in-Ok.sifted c.args.ports.now c.is_dropped.new.ports
+    c.args.noise.now c.is_dropped.new.noise c.is_dropped.result c.in-Ok.ensures.place c.in-Ok.ensures.noise c.is_dropped.ensures dropped
