@@ -1,5 +1,5 @@
 -- A queue that was full had been filled.
-use Rattle.std.proofs.Common.{◌≡◌, ℕ, zero, suc, ◌+◌, ◌-◌, ◌^◌, ◌<◌, ◌≤◌, min, Bool, true, false, cond, List, [], ◌∷◌, length, fold, map, Option, Some, None, Result, refl, sym, ap, ◌∙◌, subst, length-append, arith}
+use Rattle.std.proofs.Common.{◌≡◌, ℕ, zero, suc, ◌+◌, ◌-◌, ◌/◌, ◌^◌, ◌<◌, ◌≤◌, min, Bool, true, false, cond, List, [], ◌∷◌, length, fold, map, Option, Some, None, Result, refl, sym, ap, ◌∙◌, subst, length-append, arith}
 use Rattle.std.specs.List.{AllByRecursion, count_by, slice_get}
 use Rattle.std.proofs.lemmas.Bool.{eqb-true}
 use Rattle.pcp_base.specs.declared.configs.Config.{Config}
@@ -11,9 +11,11 @@ use Rattle.job_queue.specs.declared.jobs.TheConstants.{MOST_JOBS}
 use Rattle.job_queue.specs.Queues.{PutterKnowledge, WasFull}
 use Rattle.job_workers.specs.declared.tallies.TallyRow.{TallyRow}
 use Rattle.job_workers.specs.HouseCalls.{HouseCalls}
+use Rattle.job_dispatch.specs.declared.noise.NoiseCounts.{NoiseCounts}
 use Rattle.job_dispatch.specs.declared.ports.Port.{Port}
-use Rattle.job_dispatch.specs.Dispatches.{Dispatched, Fate, Put, Full, Starved, Ignored, IsFate, all_put_for, put_for}
+use Rattle.job_dispatch.specs.Dispatches.{Dispatched, Fate, Put, Full, Noise, Starved, Ignored, IsFate, all_put_for, put_for}
 use Rattle.job_dispatch.specs.Dispatching.{DispatchState, DoesItems}
+use Rattle.job_dispatch.specs.Noise.{in_second}
 use Rattle.job_dispatch.specs.PortsAfter.{ArePortsAfter, IsPortAfter}
 use Rattle.job_dispatch.proofs.PortLemmas.{after_item}
 use Rattle.request_workers.specs.BegunHouses.{ServesBegun}
@@ -82,16 +84,17 @@ filled put was =
     let full = was.full in
     omega (arith, parts, full)
 
-full_here : (shard n : ℕ) (config : Config) (item : InboxItem) (fate : Fate) (old new : List Port) → AtMost shard n old → IsFate config item fate old new
+full_here : (shard n : ℕ) (config : Config) (noise : NoiseCounts) (item : InboxItem) (fate : Fate) (old new : List Port) → AtMost shard n old → IsFate config noise item fate old new
     → is_full shard fate ≡ true → MOST_JOBS ≤ n
-full_here shard n config item (Put at job) old new most f e = absurd (let x : false ≡ true = e in cc)
-full_here shard n config item (Full at job) old new most f e =
+full_here shard n config noise item (Put at job) old new most f e = absurd (let x : false ≡ true = e in cc)
+full_here shard n config noise item (Full at job) old new most f e =
     let same : at ≡ shard = eqb-true at shard e in
     let many = filled f.1.0.putter.put f.1.2 in
     let few = most f.1.0 (subst (λ i. slice_get old i ≡ Some f.1.0) same f.1.1.there) in
     omega (arith, many, few)
-full_here shard n config item Starved old new most f e = absurd (let x : false ≡ true = e in cc)
-full_here shard n config item Ignored old new most f e = absurd (let x : false ≡ true = e in cc)
+full_here shard n config noise item (Noise at job) old new most f e = absurd (let x : false ≡ true = e in cc)
+full_here shard n config noise item Starved old new most f e = absurd (let x : false ≡ true = e in cc)
+full_here shard n config noise item Ignored old new most f e = absurd (let x : false ≡ true = e in cc)
 
 one_more : (n m k l total : ℕ) (full : Bool) → l ≡ k + cond full 1 0 → (full ≡ true → MOST_JOBS ≤ n) → (l < total → MOST_JOBS ≤ n + m) → k < total → MOST_JOBS ≤ n + m
 one_more n m k l total true e here rest more =
@@ -111,12 +114,12 @@ put_where_full house config groups port shard (d ∷ ds) n k a b most does more 
     let rest : ℕ = length (all_put_for shard ds) in
     let l : ℕ = k + cond (is_full shard d.fate) 1 0 in
     let total : ℕ = fold (λ m (x : Dispatched). m + cond (is_full shard x.fate) 1 0) l ds in
-    let after = at_most_after shard n d a.ports does.0.ports most (after_item config d.item d.fate a.ports does.0.ports does.1.fate) in
+    let after = at_most_after shard n d a.ports does.0.ports most (after_item config (in_second a.noise (does.1.time / 1000)) d.item d.fate a.ports does.0.ports does.1.fate) in
     let all : length (all_put_for shard (d ∷ ds)) ≡ one + rest = put_count shard (put_for shard d.fate) d ds refl in
     let same : n + (one + rest) ≡ (n + one) + rest = omega arith in
     let got : MOST_JOBS ≤ n + (one + rest) =
     one_more n (one + rest) k l total (is_full shard d.fate) refl
-    (full_here shard n config d.item d.fate a.ports does.0.ports most does.1.fate)
+    (full_here shard n config (in_second a.noise (does.1.time / 1000)) d.item d.fate a.ports does.0.ports most does.1.fate)
     (λ h. subst (λ x. MOST_JOBS ≤ x) (sym same) (put_where_full house config groups port shard ds (n + one) l does.0 b after does.2 h)) more in
     subst (λ x. MOST_JOBS ≤ n + x) (sym all) got
 

@@ -14,6 +14,7 @@ use serve_runs::run_serve;
 use server_commands::Status;
 use std::alloc::Global;
 use std::sync::Wait;
+use std::sync::atomic::{AtomicU64, Ordering};
 use std::thread::Threads;
 
 /// How serving ended.
@@ -58,6 +59,7 @@ pub(crate) fn serve_over<'a, R: Threads + Wait + Sync, W: Sink>(
     if explains {
         tell_beginning(rt, plan, journals, &read);
     }
+    let dropped = AtomicU64::new(0);
     let mut again = again(alloc, config.kept(), &read)?;
     let (status, disks) = run_serve(
         threads,
@@ -69,9 +71,11 @@ pub(crate) fn serve_over<'a, R: Threads + Wait + Sync, W: Sink>(
         &mut links.lanes,
         &mut clocks,
         &NoGate,
+        &dropped,
         out,
         disks,
     );
+    tell_dropped(rt, dropped.load(Ordering::SeqCst));
     Ok(Served {
         status,
         disks,
@@ -134,6 +138,13 @@ fn tell_beginning(
     let found = look_at(rt, journals);
     if let Ok(lines) = beginning_of(rt.alloc(), plan, config, &found) {
         tell_lines(rt, &lines);
+    }
+}
+
+/// Tells an operator how much noise was dropped, if any.
+fn tell_dropped(rt: &HostRuntime, count: u64) {
+    if count > 0 {
+        let _ = eprintln!(rt; "pcp: dropped as noise: {count}");
     }
 }
 

@@ -10,7 +10,7 @@ use Rattle.job_workers.specs.HouseCalls.{HouseCalls}
 use Rattle.job_workers.specs.Sends.{sent_count, unsent_count}
 use Rattle.job_workers.specs.Tallies.{more, no_jobs, row_full, row_starved}
 use Rattle.job_workers.specs.Works.{DoesCall, DoesCalls, IsOfHouse, Lost, Refused, Replied, WorkCall, WorkResult, WorkState, row_by, unsent_in}
-use Rattle.job_dispatch.specs.Dispatches.{Dispatched, Fate, Full, Ignored, Put, Starved}
+use Rattle.job_dispatch.specs.Dispatches.{Dispatched, Fate, Full, Ignored, Noise, Put, Starved}
 use Rattle.job_dispatch.specs.PortsAfter.{dispatched_row, row_by_fate}
 use Rattle.request_workers.specs.Counts.{RowsCount, counted, faulted_in, is_full, is_starved, sent_in, silent_in, starved_in}
 
@@ -113,12 +113,14 @@ starved_if_full false row k e = stands k row.starved e
 full_by : (shard : ℕ) (f : Fate) (row : TallyRow) (k : ℕ) → row.full ≡ counted k → (row_by_fate shard row f).full ≡ counted (k + cond (is_full shard f) 1 0)
 full_by shard (Put at job) row k e = stands k row.full e
 full_by shard (Full at job) row k e = full_if (at == shard) row k e
+full_by shard (Noise at job) row k e = stands k row.full e
 full_by shard Starved row k e = full_if_starved (0 == shard) row k e
 full_by shard Ignored row k e = stands k row.full e
 
 starved_by : (shard : ℕ) (f : Fate) (row : TallyRow) (k : ℕ) → row.starved ≡ counted k → (row_by_fate shard row f).starved ≡ counted (k + cond (is_starved shard f) 1 0)
 starved_by shard (Put at job) row k e = stands k row.starved e
 starved_by shard (Full at job) row k e = starved_if_full (at == shard) row k e
+starved_by shard (Noise at job) row k e = stands k row.starved e
 starved_by shard Starved row k e = starved_if (0 == shard) row k e
 starved_by shard Ignored row k e = stands k row.starved e
 

@@ -1,7 +1,8 @@
 -- Seats before the threads begin, and what is left of them at the end.
-use Rattle.std.proofs.Common.{◌≡◌, ℕ, ◌+◌, List, [], ◌∷◌, ◌++◌, length, map, Option, Some, refl, sym, ap, ◌∙◌, subst, append_assoc, arith}
+use Rattle.std.proofs.Common.{◌≡◌, ℕ, ◌+◌, ◌-◌, ◌<◌, List, [], ◌∷◌, ◌++◌, length, map, Option, Some, Result, Ok, Err, IfOk, refl, sym, ap, ◌∙◌, subst, append_assoc, arith}
 use Rattle.std.proofs.lemmas.List.{append-nil}
 use Rattle.atomic_table.specs.Seated.{TableId}
+use Rattle.pcp_base.specs.declared.configs.Config.{Config}
 use Rattle.pcp_io.specs.Times.{Times}
 use Rattle.job_workers.specs.declared.tallies.TallyRow.{TallyRow}
 use Rattle.job_workers.specs.declared.workers.Desk.{Desk}
@@ -10,11 +11,28 @@ use Rattle.job_workers.specs.Stations.{OutState}
 use Rattle.job_workers.specs.Tallies.{joined_rows, no_jobs}
 use Rattle.job_dispatch.specs.declared.ports.Port.{Port}
 use Rattle.request_workers.specs.declared.seats.Seat.{Seat}
-use Rattle.request_workers.specs.Seats.{AreLeft, ArePasses, AreSeats, Ending, FinishesAll, IsEnding, IsSeat, IsSeated, Seats}
+use Rattle.request_workers.specs.Seats.{AddsSeats, AreLeft, ArePasses, AreSeats, Ending, FinishesAll, IsEnding, IsSeat, IsSeated, Seats}
 
 pub empty_of : {X : Type 0} (xs : List X) → length xs ≡ 0 → xs ≡ []
 empty_of [] e = refl
 empty_of (x ∷ xs) e = absurd (omega (arith, e))
+
+-- ---- seats
+
+seats_more : (config : Config) (shard count : ℕ) (old mid new : List Seat) (seat : Seat) → IsSeat config shard seat → mid ≡ old ++ seat ∷ [] → 0 < count
+    → AddsSeats config (shard + 1) (count - 1) mid new → AddsSeats config shard count old new
+seats_more config shard count old mid new seat is added some h = record {
+  added = seat ∷ h.added;
+  new_is = h.new_is ∙ ap (λ (l : List Seat). l ++ h.added) added ∙ append_assoc old (seat ∷ []) h.added;
+  count_is = omega (arith, h.count_is, some);
+  seats = (is, h.seats);
+}
+
+-- where the rest is added too
+pub seats_added : {T E : Type 0} (r : Result T E) (config : Config) (shard count : ℕ) (old mid new : List Seat) (seat : Seat) → IsSeat config shard seat → mid ≡ old ++ seat ∷ [] → 0 < count
+    → IfOk r (λ x. AddsSeats config (shard + 1) (count - 1) mid new) → IfOk r (λ x. AddsSeats config shard count old new)
+seats_added (Ok u) config shard count old mid new seat is added some h = seats_more config shard count old mid new seat is added some h
+seats_added (Err e) config shard count old mid new seat is added some h = tt
 
 -- ---- passes at desks
 

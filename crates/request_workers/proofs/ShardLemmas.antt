@@ -20,6 +20,7 @@ use Rattle.job_workers.specs.Stations.{AllWorked, OutState, Station, state_at, s
 use Rattle.job_workers.specs.Tallies.{joined_rows}
 use Rattle.job_workers.specs.Works.{DoesCalls, WorkCall, WorkState, Works, jobs_of}
 use Rattle.std.proofs.lemmas.Grind.{flat_map-append}
+use Rattle.job_dispatch.specs.declared.noise.NoiseCounts.{NoiseCounts}
 use Rattle.job_dispatch.specs.declared.ports.Port.{Port}
 use Rattle.job_dispatch.specs.Announcing.{AnnounceState}
 use Rattle.job_dispatch.specs.Dispatches.{Dispatched, all_put_for}
@@ -133,18 +134,19 @@ passes_at {P} (s ∷ ss) = ap (λ (l : List P). s.desk.pass ∷ l) (passes_at ss
 pub runs_all : {P O T : Type 0} (f : O → OutState) (g : T → Option Times) (house : HouseCalls P) (config : Config) (groups : List Group) (port : ℕ) (old : DispatchState P) (announcing : AnnounceState P)
     (items_left : Option (List InboxItem)) (inbox_faults : ℕ) (read : Result (Unit {0}) Failed) (qs : List TableId)
     (desks desks_then desks_left : List (Desk P)) (desks_end : List (Desk P)) (outs outs_left : List O) (outs_end : List OutState) (clocks clocks_left : List T) (times_end : List (Option Times))
-    (lanes lanes' : List LaneState) (ports_then ports ports_end : List Port) (passes passes' : List P) (rows rows' : List TallyRow)
-    → desks_then ≡ desks → desks_end ≡ desks_left → ports_then ≡ old.ports → ports_end ≡ ports
+    (lanes lanes' : List LaneState) (started noise : NoiseCounts) (ports_then ports ports_end : List Port) (passes passes' : List P) (rows rows' : List TallyRow)
+    → desks_then ≡ desks → desks_end ≡ desks_left → started ≡ old.noise → ports_then ≡ old.ports → ports_end ≡ ports
     → AreSeated house 0 qs desks old.ports → length outs ≡ length desks → length clocks ≡ length desks
-    → RunsDispatcher house config groups port (record old { ports = ports_then }) (record { ports = ports; announcing = announcing; left = items_left; faults = inbox_faults }) read
+    → RunsDispatcher house config groups port (record old { ports = ports_then; noise = started }) (record { ports = ports; noise = noise; announcing = announcing; left = items_left; faults = inbox_faults }) read
     → AllWorked house (stations desks_then (map f outs) (map g clocks)) (stations desks_left (map f outs_left) (map g clocks_left))
     → AllRun lanes lanes'
     → FinishesAll house desks_end ports_end (map f outs_left) outs_end (map g clocks_left) times_end passes passes' rows rows'
     → RunsAll house config groups port old announcing items_left inbox_faults read (map (λ (d : Desk P). d.pass) desks) (map f outs) outs_end (map g clocks) times_end lanes lanes' passes passes' rows rows'
-runs_all {P} f g house config groups port old announcing items_left inbox_faults read qs desks desks_then desks_left desks_end outs outs_left outs_end clocks clocks_left times_end lanes lanes' ports_then ports ports_end passes passes' rows rows' then_is end_is ports_were ports_is seated a b runs_then workers ran ends =
-    let end : DispatchState P = record { ports = ports; announcing = announcing; left = items_left; faults = inbox_faults } in
+runs_all {P} f g house config groups port old announcing items_left inbox_faults read qs desks desks_then desks_left desks_end outs outs_left outs_end clocks clocks_left times_end lanes lanes' started noise ports_then ports ports_end passes passes' rows rows' then_is end_is noise_was ports_were ports_is seated a b runs_then workers ran ends =
+    let end : DispatchState P = record { ports = ports; noise = noise; announcing = announcing; left = items_left; faults = inbox_faults } in
     let runs : RunsDispatcher house config groups port old end read =
-    subst (λ (l : List Port). RunsDispatcher house config groups port (record old { ports = l }) end read) ports_were runs_then in
+    subst (λ (l : List Port). RunsDispatcher house config groups port (record old { ports = l }) end read) ports_were
+    (subst (λ (n : NoiseCounts). RunsDispatcher house config groups port (record old { ports = ports_then; noise = n }) end read) noise_was runs_then) in
     let os : List OutState = map f outs in
     let ts : List (Option Times) = map g clocks in
     let ss : List (Station P) = stations desks os ts in
@@ -165,6 +167,7 @@ runs_all {P} f g house config groups port old announcing items_left inbox_faults
     subst (λ (l : List Port). ArePortsAfter 0 runs.dispatched old.ports l) (sym ports_is ∙ ends.ports_are) runs.ports in
     record {
       ports = ports;
+      noise = noise;
       runs = runs;
       shards = runs_of ss es;
       each = serves_each house 0 runs.dispatched qs ss old.ports es at_desks worked ends.each after;

@@ -5,7 +5,7 @@ use Rattle.job_workers.specs.declared.tallies.TallyRow.{TallyRow}
 use Rattle.job_workers.specs.HouseCalls.{HouseCalls}
 use Rattle.job_workers.specs.Sends.{sent_count}
 use Rattle.job_workers.specs.Works.{Lost, Refused, Replied, WorkCall, WorkResult, unsent_in}
-use Rattle.job_dispatch.specs.Dispatches.{Dispatched, Fate, Full, Ignored, Put, Starved, all_put_for}
+use Rattle.job_dispatch.specs.Dispatches.{Dispatched, Fate, Full, Ignored, Noise, Put, Starved, all_put_for}
 use Rattle.request_workers.specs.Served.{IsShardRun, ShardRun}
 
 -- so many, in a count of 64 bits, which stands still at its end
@@ -46,6 +46,7 @@ starved_in jobs (Refused Memory) = jobs
 abbrev pub is_full : ℕ → Fate → Bool
 is_full shard (Put at job) = false
 is_full shard (Full at job) = at == shard
+is_full shard (Noise at job) = false
 is_full shard Starved = false
 is_full shard Ignored = false
 
@@ -53,6 +54,7 @@ is_full shard Ignored = false
 abbrev pub is_starved : ℕ → Fate → Bool
 is_starved shard (Put at job) = false
 is_starved shard (Full at job) = false
+is_starved shard (Noise at job) = false
 is_starved shard Starved = 0 == shard
 is_starved shard Ignored = false
 

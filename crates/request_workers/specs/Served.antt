@@ -14,10 +14,12 @@ use Rattle.job_workers.specs.HouseCalls.{HouseCalls, IsTold, StaysPass}
 use Rattle.job_workers.specs.Stations.{OutState}
 use Rattle.job_workers.specs.Tallies.{joined_rows, no_jobs}
 use Rattle.job_workers.specs.Works.{WorkState, Works}
+use Rattle.job_dispatch.specs.declared.noise.NoiseCounts.{NoiseCounts}
 use Rattle.job_dispatch.specs.declared.ports.Port.{Port}
 use Rattle.job_dispatch.specs.Announcing.{AnnounceState}
 use Rattle.job_dispatch.specs.Dispatches.{Dispatched, all_put_for}
 use Rattle.job_dispatch.specs.Dispatching.{DispatchState, RunsDispatcher}
+use Rattle.job_dispatch.specs.Noise.{no_noise}
 use Rattle.job_dispatch.specs.PortsAfter.{dispatched_row}
 
 -- one external address: what its worker began and ended with, and its row of the tally
@@ -54,9 +56,11 @@ module _ {P : Type 0} (house : HouseCalls P) where
       (times_old times_new : List (Option Times)) (lanes_old lanes_new : List LaneState)
       (passes_old passes_new : List P) (rows_old rows_new : List TallyRow) : Type 0 where
     pub ports : List Port
+    pub noise : NoiseCounts
     pub runs : RunsDispatcher house config groups port dispatcher
         (record {
           ports = ports;
+          noise = noise;
           announcing = announcing;
           left = items_left;
           faults = inbox_faults;
@@ -100,6 +104,7 @@ module _ {P : Type 0} (house : HouseCalls P) where
     pub runs : RunsAll config groups port
         (record {
           ports = ports;
+          noise = no_noise;
           announcing = record {
             pass = told_to;
             schedule = schedule;

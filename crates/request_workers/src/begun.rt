@@ -19,6 +19,7 @@ use pcp_base::{Config, Failed};
 use pcp_io::{Clock, Gate, Inbox, LaneLink, Outbox};
 use std::alloc::Global;
 use std::sync::Wait;
+use std::sync::atomic::AtomicU64;
 use std::thread::Threads;
 
 /// The announcer of what the epoch word tells now.
@@ -67,6 +68,7 @@ pub fn serve_room<
     lane_clocks: &mut [T],
     clock: &mut T,
     gate: &G,
+    dropped: &AtomicU64,
 ) -> (Result<(), Failed>, Vec<TallyRow>)
     requires config { (config.now ≡ (H.calls house.now).config) × IsConfig config.now }
     requires room { IsRoom config.now (length config.now.externals) room }
@@ -118,6 +120,7 @@ pub fn serve_room<
         house,
         config,
         gate,
+        dropped,
         &queues,
         &mut desks,
         outs,

@@ -2,6 +2,7 @@
 ghost use Rattle.std.specs.Prelude.{◌≡◌, ◌≤◌, ◌+◌, [], length, map, vec_capacity, vec_len};
 ghost use Rattle.pcp_base.specs.Configs.{IsConfig};
 ghost use Rattle.pcp_announce.specs.Doors.{groups};
+ghost use Rattle.job_dispatch.specs.Noise.{no_noise};
 ghost use Rattle.job_dispatch.specs.declared.ports.TheConstants.{ANNOUNCEMENT_PORT};
 ghost use Rattle.lane_loops.specs.LaneSets.{lane_states};
 ghost use Rattle.request_workers.specs.Parts.{links_told, outs_told};
@@ -10,7 +11,7 @@ ghost use Rattle.request_workers.specs.Served.{RunsAll};
 
 use crate::endings::finish_all;
 use crate::threads::run_threads;
-use job_dispatch::Port;
+use job_dispatch::{NoiseCounts, Port};
 use job_queue::JobQueue;
 use job_workers::{Desk, JobHouse, TallyRow};
 use lane_index::Lane;
@@ -19,7 +20,7 @@ use pcp_base::{Config, Failed};
 use pcp_io::{Clock, Gate, Inbox, LONGEST_DATAGRAM, LaneLink, Outbox};
 use std::alloc::Global;
 use std::sync::Wait;
-use std::sync::atomic::AtomicBool;
+use std::sync::atomic::{AtomicBool, AtomicU64, Ordering};
 use std::thread::Threads;
 
 /// Runs all threads, and does what they left, so that all that was put is done.
@@ -38,6 +39,7 @@ pub fn run_seated<
     house: &H,
     config: &Config,
     gate: &G,
+    dropped: &AtomicU64,
     queues: &[JobQueue],
     desks: &mut Vec<Desk<P>>,
     outs: &mut [O],
@@ -68,6 +70,7 @@ pub fn run_seated<
         ANNOUNCEMENT_PORT
         (record {
           ports = ports.old.items;
+          noise = no_noise;
           announcing = record {
             pass = pass.old;
             schedule = announcer.old;
@@ -101,6 +104,7 @@ pub fn run_seated<
 {
     let ended = AtomicBool::new(false);
     let mut piece = [0; LONGEST_DATAGRAM];
+    let mut noise = NoiseCounts::new();
     let read = run_threads(
         rt,
         alloc,
@@ -118,11 +122,13 @@ pub fn run_seated<
         pass,
         announcer,
         ports,
+        &mut noise,
         inbox,
         out,
         clock,
         &mut piece,
     );
+    dropped.store(noise.dropped, Ordering::SeqCst);
     finish_all(
         rt, alloc, house, gate, queues, desks, ports, outs, clocks, passes, rows,
     );

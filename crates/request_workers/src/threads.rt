@@ -11,7 +11,7 @@ ghost use Rattle.lane_loops.specs.LaneSets.{AllRun, lane_states};
 ghost use Rattle.job_workers.specs.Stations.{AllWorked, AreStations, stations};
 ghost use Rattle.request_workers.specs.Parts.{links_told, outs_told};
 
-use job_dispatch::{Port, dispatch};
+use job_dispatch::{NoiseCounts, Port, dispatch};
 use job_queue::JobQueue;
 use job_workers::{Desk, JobHouse, run_workers};
 use lane_index::Lane;
@@ -111,6 +111,7 @@ fn lead<R: Wait, I: Inbox, O: Outbox, T: Clock, P, H: JobHouse<P>>(
     pass: &mut P,
     announcer: &mut Announcer,
     ports: &mut [Port],
+    noise: &mut NoiseCounts,
     inbox: &mut I,
     out: &mut O,
     clock: &mut T,
@@ -125,6 +126,7 @@ fn lead<R: Wait, I: Inbox, O: Outbox, T: Clock, P, H: JobHouse<P>>(
         ANNOUNCEMENT_PORT
         (record {
           ports = ports.old;
+          noise = noise.old;
           announcing = record {
             pass = pass.old;
             schedule = announcer.old;
@@ -137,6 +139,7 @@ fn lead<R: Wait, I: Inbox, O: Outbox, T: Clock, P, H: JobHouse<P>>(
         })
         (record {
           ports = ports.new;
+          noise = noise.new;
           announcing = record {
             pass = pass.new;
             schedule = announcer.new;
@@ -150,7 +153,7 @@ fn lead<R: Wait, I: Inbox, O: Outbox, T: Clock, P, H: JobHouse<P>>(
         result }
 {
     let read = dispatch(
-        rt, alloc, house, config, queues, pass, announcer, ports, inbox, out, clock, piece,
+        rt, alloc, house, config, queues, pass, announcer, ports, noise, inbox, out, clock, piece,
     );
     tell_end(ended, ports);
     read
@@ -184,6 +187,7 @@ pub fn run_threads<
     pass: &mut P,
     announcer: &mut Announcer,
     ports: &mut [Port],
+    noise: &mut NoiseCounts,
     inbox: &mut I,
     out: &mut O,
     clock: &mut T,
@@ -216,6 +220,7 @@ pub fn run_threads<
         ANNOUNCEMENT_PORT
         (record {
           ports = ports.old;
+          noise = noise.old;
           announcing = record {
             pass = pass.old;
             schedule = announcer.old;
@@ -228,6 +233,7 @@ pub fn run_threads<
         })
         (record {
           ports = ports.new;
+          noise = noise.new;
           announcing = record {
             pass = pass.new;
             schedule = announcer.new;
@@ -286,6 +292,7 @@ pub fn run_threads<
             ANNOUNCEMENT_PORT
             (record {
               ports = ports.entry.now;
+              noise = noise.entry.now;
               announcing = record {
                 pass = pass.entry.now;
                 schedule = announcer.entry.now;
@@ -298,6 +305,7 @@ pub fn run_threads<
             })
             (record {
               ports = ports.exit.now;
+              noise = noise.exit.now;
               announcing = record {
                 pass = pass.exit.now;
                 schedule = announcer.exit.now;
@@ -311,8 +319,8 @@ pub fn run_threads<
             result }
     {
         lead(
-            rt, alloc, house, config, queues, ended, pass, announcer, ports, inbox, out, clock,
-            piece,
+            rt, alloc, house, config, queues, ended, pass, announcer, ports, noise, inbox, out,
+            clock, piece,
         )
     };
     let (_, read) = join_mut(rt, &mut following, &mut leading);

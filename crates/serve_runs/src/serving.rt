@@ -26,6 +26,7 @@ use server_commands::Status;
 use shared_house::{Begun, House};
 use std::alloc::Global;
 use std::sync::Wait;
+use std::sync::atomic::AtomicU64;
 use std::thread::Threads;
 
 /// The second that the dispatcher's clock gives.
@@ -59,6 +60,7 @@ fn serve_house<
     lanes: &mut [L],
     clocks: &mut [T],
     gate: &G,
+    dropped: &AtomicU64,
 ) -> (Result<Tally, ServeFault>, Vec<DiskPair<D>>)
     requires config { IsConfig config.now }
     requires begun { IsBegunFor D.tells D.seen D.moment D.left_since D.may_leave D.faults
@@ -87,7 +89,9 @@ fn serve_house<
         result.0 result.1.items }
 {
     send_updates(outs, config, 0, &begun.updates, &begun.update_shards);
-    serve_all(rt, alloc, begun, config, inbox, outs, lanes, clocks, gate)
+    serve_all(
+        rt, alloc, begun, config, inbox, outs, lanes, clocks, gate, dropped,
+    )
 }
 
 /// Opens the house of this configuration, serves it to its end and tells the tally.
@@ -109,6 +113,7 @@ pub(crate) fn serve_config<
     lanes: &mut [L],
     clocks: &mut [T],
     gate: &G,
+    dropped: &AtomicU64,
     out: &mut W,
     disks: Vec<DiskPair<D>>,
 ) -> (Status, Vec<DiskPair<D>>)
@@ -162,7 +167,7 @@ pub(crate) fn serve_config<
     match House::begin(rt, alloc, config, disks, start) {
         Ok(begun) => {
             let (tally, disks) = serve_house(
-                rt, alloc, begun, config, inbox, outs, lanes, clocks, gate,
+                rt, alloc, begun, config, inbox, outs, lanes, clocks, gate, dropped,
             );
             (tell_tally(alloc, tally, out), disks)
         }

@@ -11,6 +11,7 @@ use request_workers::ServeFault;
 use shared_house::House;
 use std::alloc::Global;
 use std::sync::Wait;
+use std::sync::atomic::AtomicU64;
 use std::thread::Threads;
 
 /// What serving gave: its tally, and how many pairs of disks came back.
@@ -62,6 +63,7 @@ pub(crate) fn serve_blank<
         links,
         &mut clocks,
         gate,
+        &AtomicU64::new(0),
     );
     Ok(Ended {
         tally,

@@ -49,9 +49,10 @@ returns-clause-runs g c =
     let desks = desks-length _ 0 c.args.queues.now c.args.desks.now.items c.args.ports.now.items c.requires.seated in
     runs_all told g.T.Clock.times (g.H.JobHouse.calls c.args.house.now) c.args.config.now _ _ _ _ _ _ c.run_threads-read.result c.args.queues.now
     c.args.desks.now.items c.deref_mut.result.now c.run_threads-read.new.desks _ c.args.outs.now c.run_threads-read.new.outs _ c.args.clocks.now c.run_threads-read.new.clocks _
-    _ _ c.deref_mut-2.result.now c.run_threads-read.new.ports _ _ _ _ _
+    _ _ _ _ c.deref_mut-2.result.now c.run_threads-read.new.ports _ _ _ _ _
     c.deref_mut.ensures.value
     (take_front c.args.desks.now.len c.run_threads-read.new.desks _ (omega (arith, c.run_threads-read.auto.desks, c.deref_mut.ensures.len)))
+    c.new-noise.ensures
     c.deref_mut-2.ensures.value
     (take_front c.args.ports.now.len c.run_threads-read.new.ports _ (omega (arith, c.run_threads-read.auto.ports, c.deref_mut-2.ensures.len)))
     c.requires.seated (c.requires.outs ∙ sym desks) (c.requires.clocks ∙ sym desks)
