@@ -1,6 +1,6 @@
 //! Tests: what is told of words and of lines.
 use crate::{line_cause, words_cause};
-use pcp_base::{Address, Config, External, Listed, Memory};
+use pcp_base::{Address, Config, External, Listed, Memory, Orders};
 use std::alloc::Global;
 use std::test::Fail;
 
@@ -148,5 +148,7 @@ fn config_of(alloc: Global) -> Result<Config, Memory> {
         third_party: Listed::of(Vec::new(alloc)),
         externals: Listed::of(externals),
         subscribers: Listed::of(Vec::new(alloc)),
+        listen: Listed::of(Vec::new(alloc)),
+        orders: Orders::Both,
     })
 }
