@@ -19,9 +19,9 @@ empty_of (x ∷ xs) e = absurd (omega (arith, e))
 
 -- ---- seats
 
-seats_more : (config : Config) (shard count : ℕ) (old mid new : List Seat) (seat : Seat) → IsSeat config shard seat → mid ≡ old ++ seat ∷ [] → 0 < count
+one_more_seat : (config : Config) (shard count : ℕ) (old mid new : List Seat) (seat : Seat) → IsSeat config shard seat → mid ≡ old ++ seat ∷ [] → 0 < count
     → AddsSeats config (shard + 1) (count - 1) mid new → AddsSeats config shard count old new
-seats_more config shard count old mid new seat is added some h = record {
+one_more_seat config shard count old mid new seat is added some h = record {
   added = seat ∷ h.added;
   new_is = h.new_is ∙ ap (λ (l : List Seat). l ++ h.added) added ∙ append_assoc old (seat ∷ []) h.added;
   count_is = omega (arith, h.count_is, some);
@@ -31,7 +31,7 @@ seats_more config shard count old mid new seat is added some h = record {
 -- where the rest is added too
 pub seats_added : {T E : Type 0} (r : Result T E) (config : Config) (shard count : ℕ) (old mid new : List Seat) (seat : Seat) → IsSeat config shard seat → mid ≡ old ++ seat ∷ [] → 0 < count
     → IfOk r (λ x. AddsSeats config (shard + 1) (count - 1) mid new) → IfOk r (λ x. AddsSeats config shard count old new)
-seats_added (Ok u) config shard count old mid new seat is added some h = seats_more config shard count old mid new seat is added some h
+seats_added (Ok u) config shard count old mid new seat is added some h = one_more_seat config shard count old mid new seat is added some h
 seats_added (Err e) config shard count old mid new seat is added some h = tt
 
 -- ---- passes at desks
