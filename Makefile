@@ -28,5 +28,6 @@ install:
 	@cd crates/pcp && rt run -- --version
 	install -D -m 755 crates/pcp/out/pcp $(DESTDIR)$(PREFIX)/bin/pcp
 	install -D -m 644 docs/pcp.8 $(DESTDIR)$(PREFIX)/share/man/man8/pcp.8
-	install -D -m 644 examples/pcp.service $(DESTDIR)$(PREFIX)/lib/systemd/system/pcp.service
+	sed 's|/usr/local|$(PREFIX)|' examples/pcp.service >crates/pcp/out/pcp.service
+	install -D -m 644 crates/pcp/out/pcp.service $(DESTDIR)$(PREFIX)/lib/systemd/system/pcp.service
 	install -D -m 644 examples/server.toml $(DESTDIR)$(PREFIX)/share/doc/pcp/server.toml
