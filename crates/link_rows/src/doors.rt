@@ -74,8 +74,9 @@ fn no_door_waits_for_another(rt: HostRuntime) -> Result<(), Fail> {
 fn what_comes_is_told_with_its_door(rt: HostRuntime) -> Result<(), Fail> {
     let (mut inbox, ports) = inbox_of(rt.alloc(), &[3, 5, 7])?;
     let host = socket()?;
-    for (number, port) in ports.iter().enumerate() {
-        host.send_to(&[b'x'; 8][..number + 1], ("127.0.0.1", *port))?;
+    let texts = [b"x".as_slice(), b"xx".as_slice(), b"xxx".as_slice()];
+    for (octets, port) in texts.iter().zip(&ports) {
+        host.send_to(octets, ("127.0.0.1", *port))?;
     }
     // In turn, beginning behind the first one.
     for (length, told) in [(2, 5), (3, 7), (1, 3)] {
