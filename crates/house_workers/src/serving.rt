@@ -15,9 +15,9 @@ use pcp_base::Config;
 use pcp_io::{Clock, Gate, Inbox, LaneLink, Outbox};
 use request_workers::{ServeFault, serve_begun};
 use shared_house::Begun;
+use status_board::Board;
 use std::alloc::Global;
 use std::sync::Wait;
-use std::sync::atomic::AtomicU64;
 use std::thread::Threads;
 
 /// Serves with a dispatcher, a worker for each external address and a loop for each lane, until the
@@ -45,7 +45,7 @@ pub fn serve_all<
     lanes: &mut [L],
     clocks: &mut [T],
     gate: &G,
-    dropped: &AtomicU64,
+    board: &Board,
 ) -> (Result<Tally, ServeFault>, Vec<DiskPair<D>>)
     requires config { IsConfig config.now }
     requires begun { IsBegunFor D.tells D.seen D.moment D.left_since D.may_leave D.faults
@@ -95,7 +95,7 @@ pub fn serve_all<
         lanes,
         clocks,
         gate,
-        dropped,
+        board,
     );
     let pairs = house.into_house().end(rt, &mut passes);
     give_all_up(passes);

@@ -7,6 +7,7 @@ use crate::work_loop::work_off;
 use crate::workers::Desk;
 use job_queue::{JobQueue, Putter};
 use pcp_io::{Clock, Gate, Outbox};
+use status_board::Board;
 use std::alloc::Global;
 use std::sync::Wait;
 
@@ -16,6 +17,7 @@ pub fn finish<R: Wait, O: Outbox, T: Clock, G: Gate, P, H: JobHouse<P>>(
     alloc: Global,
     house: &H,
     gate: &G,
+    board: &Board,
     queue: &JobQueue,
     putter: Putter,
     desk: Desk<P>,
@@ -59,6 +61,6 @@ pub fn finish<R: Wait, O: Outbox, T: Clock, G: Gate, P, H: JobHouse<P>>(
         batch,
         parker,
     };
-    work_off(rt, alloc, house, gate, queue, &mut whole, out, clock);
+    work_off(rt, alloc, house, gate, board, queue, &mut whole, out, clock);
     whole
 }

@@ -8,6 +8,7 @@ use crate::workers::{Desk, do_round};
 use crossbeam_utils::sync::Parker;
 use job_queue::JobQueue;
 use pcp_io::{Clock, Gate, Outbox};
+use status_board::Board;
 use std::alloc::Global;
 use std::sync::Wait;
 use std::sync::atomic::{AtomicBool, Ordering};
@@ -30,6 +31,7 @@ pub fn work<R: Wait, O: Outbox, T: Clock, G: Gate, P, H: JobHouse<P>>(
     alloc: Global,
     house: &H,
     gate: &G,
+    board: &Board,
     ended: &AtomicBool,
     queue: &JobQueue,
     desk: &mut Desk<P>,
@@ -58,7 +60,7 @@ pub fn work<R: Wait, O: Outbox, T: Clock, G: Gate, P, H: JobHouse<P>>(
 {
     for _ in rt.forever() {
         let over = ended.load(Ordering::SeqCst);
-        let dry = do_round(rt, alloc, house, gate, queue, desk, out, clock);
+        let dry = do_round(rt, alloc, house, gate, board, queue, desk, out, clock);
         if is_over(rt, &desk.parker, dry, over) {
             return;
         }
@@ -72,6 +74,7 @@ pub fn work_off<R: Wait, O: Outbox, T: Clock, G: Gate, P, H: JobHouse<P>>(
     alloc: Global,
     house: &H,
     gate: &G,
+    board: &Board,
     queue: &JobQueue,
     desk: &mut Desk<P>,
     out: &mut O,
@@ -99,7 +102,7 @@ pub fn work_off<R: Wait, O: Outbox, T: Clock, G: Gate, P, H: JobHouse<P>>(
     ensures batch { desk.new.batch ≡ [] }
 {
     for _ in rt.forever() {
-        if do_round(rt, alloc, house, gate, queue, desk, out, clock) {
+        if do_round(rt, alloc, house, gate, board, queue, desk, out, clock) {
             return;
         }
     }

@@ -9,6 +9,7 @@ use crate::workers::Desk;
 use crossbeam_utils::sync::Parker;
 use job_queue::JobQueue;
 use pcp_io::{Clock, Gate, Outbox};
+use status_board::Board;
 use std::alloc::Global;
 use std::sync::Wait;
 use std::sync::atomic::AtomicBool;
@@ -20,6 +21,7 @@ fn work_first<R: Wait, O: Outbox, T: Clock, G: Gate, P, H: JobHouse<P>>(
     alloc: Global,
     house: &H,
     gate: &G,
+    board: &Board,
     ended: &AtomicBool,
     queues: &[JobQueue],
     desks: &mut [Desk<P>],
@@ -39,6 +41,7 @@ fn work_first<R: Wait, O: Outbox, T: Clock, G: Gate, P, H: JobHouse<P>>(
         alloc,
         house,
         gate,
+        board,
         ended,
         &queues[0],
         &mut desks[0],
@@ -61,6 +64,7 @@ pub fn run_workers<
     alloc: Global,
     house: &H,
     gate: &G,
+    board: &Board,
     ended: &AtomicBool,
     queues: &[JobQueue],
     desks: &mut [Desk<P>],
@@ -88,6 +92,7 @@ pub fn run_workers<
         alloc,
         house,
         gate,
+        board,
         ended,
         queue,
         desk,
@@ -115,6 +120,7 @@ fn run_both<
     alloc: Global,
     house: &H,
     gate: &G,
+    board: &Board,
     ended: &AtomicBool,
     queue: &[JobQueue],
     desk: &mut [Desk<P>],
@@ -152,7 +158,11 @@ fn run_both<
             (stations desk.exit.now
             (map (λ o. record { sent = O.sent o; faults = O.faults o }) out.exit.now)
             (map T.times clock.exit.now)) }
-    { work_first(rt, alloc, house, gate, ended, queue, desk, out, clock) };
+    {
+        work_first(
+            rt, alloc, house, gate, board, ended, queue, desk, out, clock,
+        )
+    };
     let mut rest = move ||
         requires { IsSync R.row × IsSync G.row × IsSend O.row × IsSend T.row × IsSync H.row
             × IsSend P.row × (length outs.now ≡ length desks.now)
@@ -165,6 +175,10 @@ fn run_both<
             (stations desks.exit.now
             (map (λ o. record { sent = O.sent o; faults = O.faults o }) outs.exit.now)
             (map T.times clocks.exit.now)) }
-    { run_workers(rt, alloc, house, gate, ended, queues, desks, outs, clocks) };
+    {
+        run_workers(
+            rt, alloc, house, gate, board, ended, queues, desks, outs, clocks,
+        )
+    };
     join_mut(rt, &mut one, &mut rest);
 }

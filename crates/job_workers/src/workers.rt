@@ -17,6 +17,7 @@ use job_queue::{Batch, Job, JobQueue, MOST_BATCH, Taker};
 use lane_loops::moment_of;
 use pcp_base::Datagram;
 use pcp_io::{Clock, Gate, Outbox};
+use status_board::Board;
 use std::alloc::Global;
 use std::sync::Wait;
 
@@ -151,6 +152,7 @@ fn do_batch<R: Wait, O: Outbox, T: Clock, G: Gate, P, H: JobHouse<P>>(
     alloc: Global,
     house: &H,
     gate: &G,
+    board: &Board,
     desk: &mut Desk<P>,
     out: &mut O,
     clock: &mut T,
@@ -197,6 +199,7 @@ fn do_loss<R: Wait, T: Clock, G: Gate, P, H: JobHouse<P>>(
     alloc: Global,
     house: &H,
     gate: &G,
+    board: &Board,
     desk: &mut Desk<P>,
     clock: &mut T,
     next: Next,
@@ -235,6 +238,7 @@ pub fn do_round<R: Wait, O: Outbox, T: Clock, G: Gate, P, H: JobHouse<P>>(
     alloc: Global,
     house: &H,
     gate: &G,
+    board: &Board,
     queue: &JobQueue,
     desk: &mut Desk<P>,
     out: &mut O,
@@ -263,7 +267,7 @@ pub fn do_round<R: Wait, O: Outbox, T: Clock, G: Gate, P, H: JobHouse<P>>(
 {
     let Desk { taker, batch, .. } = &mut *desk;
     let next = gather(rt, queue, taker, batch);
-    do_batch(rt, alloc, house, gate, desk, out, clock);
-    do_loss(rt, alloc, house, gate, desk, clock, next);
+    do_batch(rt, alloc, house, gate, board, desk, out, clock);
+    do_loss(rt, alloc, house, gate, board, desk, clock, next);
     next == Next::Dry
 }

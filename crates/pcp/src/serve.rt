@@ -12,9 +12,9 @@ use program_texts::{KeptSource, beginning_of, door_cause, doors_of, journals_in,
 use serve_commands::ServePlan;
 use serve_runs::run_serve;
 use server_commands::Status;
+use status_board::Board;
 use std::alloc::Global;
 use std::sync::Wait;
-use std::sync::atomic::{AtomicU64, Ordering};
 use std::thread::Threads;
 
 /// How serving ended.
@@ -59,7 +59,7 @@ pub(crate) fn serve_over<'a, R: Threads + Wait + Sync, W: Sink>(
     if explains {
         tell_beginning(rt, plan, journals, &read);
     }
-    let dropped = AtomicU64::new(0);
+    let board = Board::new(alloc, externals_in(&read))?;
     let mut again = again(alloc, config.kept(), &read)?;
     let (status, disks) = run_serve(
         threads,
@@ -71,16 +71,24 @@ pub(crate) fn serve_over<'a, R: Threads + Wait + Sync, W: Sink>(
         &mut links.lanes,
         &mut clocks,
         &NoGate,
-        &dropped,
+        &board,
         out,
         disks,
     );
-    tell_dropped(rt, dropped.load(Ordering::SeqCst));
+    tell_dropped(rt, board.dropped());
     Ok(Served {
         status,
         disks,
         cause: None,
     })
+}
+
+/// How many external addresses this configuration has; none where there is none.
+fn externals_in(read: &Result<Config, ConfigFault>) -> usize {
+    match read {
+        Ok(config) => config.externals.items().len(),
+        Err(_) => 0,
+    }
 }
 
 /// The links by this configuration; none of them where there is none, by which the server then ends.

@@ -17,9 +17,9 @@ use lane_index::Lane;
 use pcp_announce::Announcer;
 use pcp_base::{Config, Failed};
 use pcp_io::{Clock, Gate, Inbox, LaneLink, Outbox};
+use status_board::Board;
 use std::alloc::Global;
 use std::sync::Wait;
-use std::sync::atomic::AtomicU64;
 use std::thread::Threads;
 
 /// The announcer of what the epoch word tells now.
@@ -68,7 +68,7 @@ pub fn serve_room<
     lane_clocks: &mut [T],
     clock: &mut T,
     gate: &G,
-    dropped: &AtomicU64,
+    board: &Board,
 ) -> (Result<(), Failed>, Vec<TallyRow>)
     requires config { (config.now ≡ (H.calls house.now).config) × IsConfig config.now }
     requires room { IsRoom config.now (length config.now.externals) room }
@@ -120,7 +120,7 @@ pub fn serve_room<
         house,
         config,
         gate,
-        dropped,
+        board,
         &queues,
         &mut desks,
         outs,

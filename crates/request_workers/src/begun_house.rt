@@ -16,9 +16,9 @@ use job_workers::{JobHouse, Tally};
 use lane_index::Lane;
 use pcp_base::{Config, Listed};
 use pcp_io::{Clock, Gate, Inbox, LaneLink, Outbox};
+use status_board::Board;
 use std::alloc::Global;
 use std::sync::Wait;
-use std::sync::atomic::AtomicU64;
 use std::thread::Threads;
 
 /// Serves a house that has begun, with a dispatcher, a worker for each external address and a loop for
@@ -50,7 +50,7 @@ pub fn serve_begun<
     links: &mut [L],
     clocks: &mut [T],
     gate: &G,
-    dropped: &AtomicU64,
+    board: &Board,
 ) -> Result<Tally, ServeFault>
     requires config { (config.now ≡ (H.calls house.now).config) × IsConfig config.now }
     requires passes { ArePasses (H.calls house.now) 0 passes.old.items }
@@ -106,7 +106,7 @@ pub fn serve_begun<
         links,
         clocks,
         gate,
-        dropped,
+        board,
     );
     house.give_up(asking);
     match read {

@@ -8,6 +8,7 @@ use job_dispatch::Port;
 use job_queue::JobQueue;
 use job_workers::{Desk, JobHouse, TallyRow, finish};
 use pcp_io::{Clock, Gate, Outbox};
+use status_board::Board;
 use std::alloc::Global;
 use std::sync::Wait;
 
@@ -18,6 +19,7 @@ pub fn finish_all<R: Wait, O: Outbox, T: Clock, G: Gate, P, H: JobHouse<P>>(
     alloc: Global,
     house: &H,
     gate: &G,
+    board: &Board,
     queues: &[JobQueue],
     desks: &mut Vec<Desk<P>>,
     ports: &mut Vec<Port>,
@@ -49,7 +51,9 @@ pub fn finish_all<R: Wait, O: Outbox, T: Clock, G: Gate, P, H: JobHouse<P>>(
     };
     let Port { putter, row, .. } = take_first(ports);
     let desk = take_first(desks);
-    let done = finish(rt, alloc, house, gate, queue, putter, desk, out, clock);
+    let done = finish(
+        rt, alloc, house, gate, board, queue, putter, desk, out, clock,
+    );
     let Desk {
         shard: _,
         pass,
@@ -61,6 +65,6 @@ pub fn finish_all<R: Wait, O: Outbox, T: Clock, G: Gate, P, H: JobHouse<P>>(
     rows.push_reserved(worked.joined(&row));
     passes.push_reserved(pass);
     finish_all(
-        rt, alloc, house, gate, queues, desks, ports, outs, clocks, passes, rows,
+        rt, alloc, house, gate, board, queues, desks, ports, outs, clocks, passes, rows,
     );
 }

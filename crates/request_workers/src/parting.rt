@@ -15,9 +15,9 @@ use job_workers::{JobHouse, TallyRow};
 use lane_index::Lane;
 use pcp_base::{Config, Failed, MOST_EXTERNALS};
 use pcp_io::{Clock, Gate, Inbox, LaneLink, Outbox};
+use status_board::Board;
 use std::alloc::Global;
 use std::sync::Wait;
-use std::sync::atomic::AtomicU64;
 use std::thread::Threads;
 
 /// Serves with the outboxes, links and clocks of the external addresses that there are: worker `i`
@@ -47,7 +47,7 @@ pub fn serve_parts<
     links: &mut [L],
     clocks: &mut [T],
     gate: &G,
-    dropped: &AtomicU64,
+    board: &Board,
 ) -> (Result<(), Failed>, Vec<TallyRow>)
     requires config { (config.now ≡ (H.calls house.now).config) × IsConfig config.now }
     requires room { IsRoom config.now (length config.now.externals) room }
@@ -106,6 +106,6 @@ pub fn serve_parts<
         lane_clocks,
         &mut last_clocks[0],
         gate,
-        dropped,
+        board,
     )
 }

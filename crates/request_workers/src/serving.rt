@@ -18,9 +18,10 @@ use lane_index::Lane;
 use pcp_announce::Announcer;
 use pcp_base::{Config, Failed};
 use pcp_io::{Clock, Gate, Inbox, LONGEST_DATAGRAM, LaneLink, Outbox};
+use status_board::Board;
 use std::alloc::Global;
 use std::sync::Wait;
-use std::sync::atomic::{AtomicBool, AtomicU64, Ordering};
+use std::sync::atomic::AtomicBool;
 use std::thread::Threads;
 
 /// Runs all threads, and does what they left, so that all that was put is done.
@@ -39,7 +40,7 @@ pub fn run_seated<
     house: &H,
     config: &Config,
     gate: &G,
-    dropped: &AtomicU64,
+    board: &Board,
     queues: &[JobQueue],
     desks: &mut Vec<Desk<P>>,
     outs: &mut [O],
@@ -111,6 +112,7 @@ pub fn run_seated<
         house,
         config,
         gate,
+        board,
         &ended,
         queues,
         desks,
@@ -128,9 +130,9 @@ pub fn run_seated<
         clock,
         &mut piece,
     );
-    dropped.store(noise.dropped, Ordering::SeqCst);
+    board.drop_noise(noise.dropped);
     finish_all(
-        rt, alloc, house, gate, queues, desks, ports, outs, clocks, passes, rows,
+        rt, alloc, house, gate, board, queues, desks, ports, outs, clocks, passes, rows,
     );
     read
 }

@@ -19,6 +19,7 @@ use lane_loops::run_lanes;
 use pcp_announce::Announcer;
 use pcp_base::{Config, Failed};
 use pcp_io::{Clock, Gate, Inbox, LaneLink, Outbox};
+use status_board::Board;
 use std::alloc::Global;
 use std::sync::Wait;
 use std::sync::atomic::{AtomicBool, Ordering};
@@ -38,6 +39,7 @@ fn run_followers<
     alloc: Global,
     house: &H,
     gate: &G,
+    board: &Board,
     ended: &AtomicBool,
     queues: &[JobQueue],
     desks: &mut [Desk<P>],
@@ -77,7 +79,11 @@ fn run_followers<
             (stations desks.exit.now
             (outs_told O.sent O.faults outs.exit.now)
             (map T.times clocks.exit.now)) }
-    { run_workers(rt, alloc, house, gate, ended, queues, desks, outs, clocks) };
+    {
+        run_workers(
+            rt, alloc, house, gate, board, ended, queues, desks, outs, clocks,
+        )
+    };
     let mut looking = move ||
         requires { IsSync R.row × IsSend L.row × IsSend T.row
             × (length links.now ≡ length lanes.now) × (length lane_clocks.now ≡ length lanes.now) }
@@ -176,6 +182,7 @@ pub fn run_threads<
     house: &H,
     config: &Config,
     gate: &G,
+    board: &Board,
     ended: &AtomicBool,
     queues: &[JobQueue],
     desks: &mut [Desk<P>],
@@ -272,6 +279,7 @@ pub fn run_threads<
             alloc,
             house,
             gate,
+            board,
             ended,
             queues,
             desks,

@@ -10,9 +10,9 @@ use pcp_io::{
 };
 use serve_runs::run_serve;
 use server_commands::Status;
+use status_board::Board;
 use std::alloc::Global;
 use std::sync::Wait;
-use std::sync::atomic::AtomicU64;
 use std::thread::Threads;
 
 /// A command: its words with a space between each two, what it reads, which read and which write of
@@ -120,7 +120,7 @@ pub(crate) fn serve_by<
         links,
         &mut clocks,
         gate,
-        &AtomicU64::new(0),
+        &Board::new(alloc, MOST_EXTERNALS)?,
         &mut out,
         pairs,
     );

@@ -17,9 +17,9 @@ use pcp_io::{Clock, Gate, Inbox, LaneLink, Outbox, Sink, Source};
 use pcp_server::unread_as;
 use serve_commands::serve_of;
 use server_commands::Status;
+use status_board::Board;
 use std::alloc::Global;
 use std::sync::Wait;
-use std::sync::atomic::AtomicU64;
 use std::thread::Threads;
 
 /// Reads the configuration, and serves by it.
@@ -42,7 +42,7 @@ fn serve_by<
     lanes: &mut [L],
     clocks: &mut [T],
     gate: &G,
-    dropped: &AtomicU64,
+    board: &Board,
     out: &mut W,
     disks: Vec<DiskPair<D>>,
 ) -> (Status, Vec<DiskPair<D>>)
@@ -94,7 +94,7 @@ fn serve_by<
 {
     match config_of(alloc, config) {
         Ok(served) => serve_config(
-            rt, alloc, &served, inbox, outs, lanes, clocks, gate, dropped, out, disks,
+            rt, alloc, &served, inbox, outs, lanes, clocks, gate, board, out, disks,
         ),
         Err(fault) => (unread_as(fault), disks),
     }
@@ -109,8 +109,8 @@ fn serve_by<
 /// addresses are told is sent, each by the outbox of its own and by all doors by which the client is
 /// reached. Then requests are served as [`serve_all`](house_workers::serve_all) says, with a dispatcher, a
 /// worker for each external address and a loop for each lane, until `inbox` stops; the lines of the tally
-/// come last. All pairs come back in the same order, whatever the status. How many datagrams were dropped
-/// as noise is left in `dropped`, once serving has ended.
+/// come last. All pairs come back in the same order, whatever the status. What it tells of
+/// itself is left on `board`.
 ///
 /// Of the 17 outboxes, 16 lanes and 33 clocks worker `i` has outbox `i` and clock `i`, lane `i` has clock
 /// `16 + i`, and the dispatcher the last outbox and the last clock.
@@ -134,7 +134,7 @@ pub fn run_serve<
     lanes: &mut [L],
     clocks: &mut [T],
     gate: &G,
-    dropped: &AtomicU64,
+    board: &Board,
     out: &mut W,
     disks: Vec<DiskPair<D>>,
 ) -> (Status, Vec<DiskPair<D>>)
@@ -200,7 +200,7 @@ pub fn run_serve<
 {
     match serve_of(words) {
         Some(_plan) => serve_by(
-            rt, alloc, config, inbox, outs, lanes, clocks, gate, dropped, out, disks,
+            rt, alloc, config, inbox, outs, lanes, clocks, gate, board, out, disks,
         ),
         None => (Status::WordsRefused, disks),
     }

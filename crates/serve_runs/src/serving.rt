@@ -24,9 +24,9 @@ use pcp_server::unopened_as;
 use request_workers::ServeFault;
 use server_commands::Status;
 use shared_house::{Begun, House};
+use status_board::Board;
 use std::alloc::Global;
 use std::sync::Wait;
-use std::sync::atomic::AtomicU64;
 use std::thread::Threads;
 
 /// The second that the dispatcher's clock gives.
@@ -60,7 +60,7 @@ fn serve_house<
     lanes: &mut [L],
     clocks: &mut [T],
     gate: &G,
-    dropped: &AtomicU64,
+    board: &Board,
 ) -> (Result<Tally, ServeFault>, Vec<DiskPair<D>>)
     requires config { IsConfig config.now }
     requires begun { IsBegunFor D.tells D.seen D.moment D.left_since D.may_leave D.faults
@@ -90,7 +90,7 @@ fn serve_house<
 {
     send_updates(outs, config, 0, &begun.updates, &begun.update_shards);
     serve_all(
-        rt, alloc, begun, config, inbox, outs, lanes, clocks, gate, dropped,
+        rt, alloc, begun, config, inbox, outs, lanes, clocks, gate, board,
     )
 }
 
@@ -113,7 +113,7 @@ pub(crate) fn serve_config<
     lanes: &mut [L],
     clocks: &mut [T],
     gate: &G,
-    dropped: &AtomicU64,
+    board: &Board,
     out: &mut W,
     disks: Vec<DiskPair<D>>,
 ) -> (Status, Vec<DiskPair<D>>)
@@ -167,7 +167,7 @@ pub(crate) fn serve_config<
     match House::begin(rt, alloc, config, disks, start) {
         Ok(begun) => {
             let (tally, disks) = serve_house(
-                rt, alloc, begun, config, inbox, outs, lanes, clocks, gate, dropped,
+                rt, alloc, begun, config, inbox, outs, lanes, clocks, gate, board,
             );
             (tell_tally(alloc, tally, out), disks)
         }

@@ -9,9 +9,9 @@ use pcp_base::{Config, MOST_EXTERNALS, Memory, Moment};
 use pcp_io::{Gate, Inbox, LaneLink, Outbox, StepClock};
 use request_workers::ServeFault;
 use shared_house::House;
+use status_board::Board;
 use std::alloc::Global;
 use std::sync::Wait;
-use std::sync::atomic::AtomicU64;
 use std::thread::Threads;
 
 /// What serving gave: its tally, and how many pairs of disks came back.
@@ -63,7 +63,7 @@ pub(crate) fn serve_blank<
         links,
         &mut clocks,
         gate,
-        &AtomicU64::new(0),
+        &Board::new(alloc, MOST_EXTERNALS)?,
     );
     Ok(Ended {
         tally,
