@@ -4,6 +4,7 @@ pub mod EntryKinds
 pub mod Growing
 pub mod NextEntries
 pub mod Nonces
+pub mod PromiseLemmas
 pub mod RestSteps
 pub mod Rests
 pub mod SoloCalls

@@ -88,15 +88,25 @@ FaultsComeNext = (x : Served) (opening : State) (entries : List Entry) (e : Entr
 
 -- ---- owners
 
--- each state is one that fitting records made, and at each moment no external port has two owners
+-- fitting records made the state, the first a Start
 pub record Stands (s : State) : Type 0 where
   pub reached : IsReached s
   pub started : s.started ≡ true
-  pub one_owner : (m : ℕ) → OneOwner (owners (live s.table m))
 
+-- so they made the state after each entry
 abbrev pub StatesStand : Type 0
 StatesStand = (x : Served) (opening : State) (before more : List Entry) →
     IsOpening x opening → IsLegal x opening (before ++ more) → Stands (state_after opening before)
+
+-- at each moment no external port has two owners
+abbrev pub HasOneOwner : State → Type 0
+HasOneOwner s = (m : ℕ) → OneOwner (owners (live s.table m))
+
+-- so it is after each entry
+abbrev pub PortsKeepOneOwner : Type 0
+PortsKeepOneOwner = (x : Served) (opening : State) (before more : List Entry) →
+    IsOpening x opening → IsLegal x opening (before ++ more) →
+    HasOneOwner (state_after opening before)
 
 -- ---- nonces
 

@@ -4,4 +4,5 @@ pub mod HouseHistories
 pub mod Laws
 pub mod Legal
 pub mod PlainHouses
+pub mod Promises
 pub mod Routes

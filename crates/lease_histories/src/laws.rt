@@ -1,6 +1,7 @@
 //! What holds of legal histories. A proof that needs a law calls its function.
 ghost use Rattle.lease_histories.specs.DatagramAsks.{DatagramAsksAreWellFormed};
-ghost use Rattle.lease_histories.specs.Laws.{BasesDisclose, BasesRise, CallsMakeHistories, DecisionsComeNext, EpochsDisclose, FaultsComeNext, LastIsGreatest, NextIsLegal, NoncesDecide, NothingIsLegal, OpeningsDisclose, PortsRest, PortsStay, PrefixesAreLegal, ServersComeNext, StartsDisclose, StatesStand};
+ghost use Rattle.lease_histories.specs.Laws.{BasesDisclose, BasesRise, CallsMakeHistories, DecisionsComeNext, EpochsDisclose, FaultsComeNext, LastIsGreatest, NextIsLegal, NoncesDecide, NothingIsLegal, OpeningsDisclose, PortsKeepOneOwner, PortsRest, PortsStay, PrefixesAreLegal, ServersComeNext, StartsDisclose, StatesStand};
+ghost use Rattle.lease_histories.specs.Promises.{HistoriesKeepPromises, LegalHistoriesKeepPromises};
 
 use lease_core::{decisions_change_leases, decisions_fit, nonces_match};
 use natpmp_front::front_asks_are_well_formed;
@@ -34,12 +35,19 @@ pub fn entries_come_next()
     decisions_change_leases();
 }
 
-/// After every entry, and at every moment from then on, no external port has two owners.
+/// After every entry the state is one that fitting records made, the first a Start.
 pub fn states_stand()
     ensures { StatesStand }
 {
     datagram_asks_are_well_formed();
     decisions_fit();
+}
+
+/// After every entry, and at every moment from then on, no external port has two owners.
+pub fn ports_keep_one_owner()
+    ensures { PortsKeepOneOwner }
+{
+    states_stand();
     ports_have_one_owner();
 }
 
@@ -89,4 +97,22 @@ pub fn calls_make_histories()
     decisions_change_leases();
     datagram_asks_are_well_formed();
     decisions_fit();
+}
+
+/// What is promised of an external address holds of each legal history.
+pub fn legal_histories_keep_promises()
+    ensures { LegalHistoriesKeepPromises }
+{
+    states_stand();
+    ports_keep_one_owner();
+    nonces_decide();
+    ports_rest();
+    epochs_disclose();
+}
+
+/// What is promised of a house holds of each history of one on one thread.
+pub fn histories_keep_promises()
+    ensures { HistoriesKeepPromises }
+{
+    legal_histories_keep_promises();
 }

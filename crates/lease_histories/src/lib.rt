@@ -6,5 +6,6 @@ mod laws;
 
 pub use laws::{
     calls_make_histories, datagram_asks_are_well_formed, entries_come_next, epochs_disclose,
-    histories_grow, nonces_decide, ports_rest, states_stand,
+    histories_grow, histories_keep_promises, legal_histories_keep_promises, nonces_decide,
+    ports_keep_one_owner, ports_rest, states_stand,
 };

@@ -7,6 +7,5 @@ mod LoadPromises
 pub mod OpeningLemmas
 mod PairLemmas
 mod PlayLemmas
-mod PromiseLemmas
 pub mod StatusLemmas
 mod UpdateLemmas

@@ -14,6 +14,7 @@ use Rattle.pcp_script.specs.Loads.{load_head, load_host, load_lifetime, load_non
 use Rattle.lease_disk.specs.declared.disks.DiskPair.{DiskPair}
 use Rattle.lease_histories.specs.Laws.{CallsMakeHistories, IsCallValue}
 use Rattle.lease_histories.specs.PlainHouses.{PlainHouse, entries_along, house_begun, packet_after}
+use Rattle.lease_histories.specs.Promises.{HistoriesKeepPromises}
 use Rattle.lease_house.specs.SoloHouses.{HouseView}
 use Rattle.script_player.specs.Houses.{houses_along}
 use Rattle.house_lines.specs.HouseEffects.{house_effects}
@@ -24,7 +25,6 @@ use Rattle.server_commands.specs.declared.commands.LoadPlan.{LoadPlan}
 use Rattle.pcp_server.specs.Loaded.{RequestsKeepPromises, lines_of}
 use Rattle.pcp_server.specs.Opened.{Opens, openings}
 use Rattle.pcp_server.specs.Outsides.{DiskMeanings}
-use Rattle.pcp_server.specs.Promises.{HistoriesKeepPromises}
 use Rattle.pcp_server.proofs.OpeningLemmas.{are_openings}
 
 abbrev Octets : List ℕ → Type 0

@@ -10,11 +10,12 @@ use Rattle.script_player.specs.Scripts.{AreLines}
 use Rattle.script_player.specs.declared.player.PlayStatus.{PlayStatus}
 use Rattle.house_lines.specs.LineLaws.{HousesAreOfEntries, LinesMakeHistories, line_calls}
 use Rattle.lease_histories.specs.PlainHouses.{entries_along, house_begun}
+use Rattle.lease_histories.specs.Promises.{HistoriesKeepPromises}
 use Rattle.server_commands.specs.declared.statuses.Status.{Status}
 use Rattle.pcp_server.specs.Opened.{AreUnused, Opens, openings, pairs_of}
 use Rattle.pcp_server.specs.Outsides.{DiskMeanings, Input, Outside}
 use Rattle.pcp_server.specs.Played.{EndsOver, house_course, streams_found, streams_of}
-use Rattle.pcp_server.specs.Promises.{HistoriesKeepPromises, LinesKeepPromises}
+use Rattle.pcp_server.specs.Promises.{LinesKeepPromises}
 use Rattle.pcp_server.specs.Statuses.{played_as}
 use Rattle.pcp_server.proofs.OpeningLemmas.{are_openings, begun, unused}
 

@@ -1,59 +1,13 @@
--- What is promised of a server's answers (our own, after RFC 6887), of one external address and of a
--- house: every reply is the lease table's in journal order, no external port has two owners, only the
--- matching nonce renews or deletes, ports rest, and no epoch told is above the age of a lease that was
--- given up early.
-use Rattle.std.specs.Prelude.{◌≡◌, ℕ, ◌+◌, ◌<◌, ◌≤◌, List, [], ◌∷◌, ◌++◌, Some, Contains}
-use Rattle.std.specs.List.{AllByRecursion, slice_get}
+-- What is promised of lines that are played (our own).
+use Rattle.std.specs.Prelude.{List, Contains}
 use Rattle.pcp_base.specs.declared.configs.Config.{Config}
-use Rattle.pcp_base.specs.declared.configs.External.{External}
-use Rattle.pcp_base.specs.declared.datagrams.Entry.{Entry}
-use Rattle.pcp_base.specs.declared.leases.Owner.{Owner}
-use Rattle.pcp_base.specs.declared.leases.TheConstants.{REST_SECONDS}
-use Rattle.pcp_base.specs.Owners.{owners}
 use Rattle.pcp_base.specs.States.{State}
-use Rattle.pcp_base.specs.Tables.{live}
-use Rattle.lease_histories.specs.Entries.{Served}
-use Rattle.lease_histories.specs.HouseHistories.{HouseEntry, IsSoloHistory, entries_at}
-use Rattle.lease_histories.specs.Laws.{AreOpenings, ChangesByNonce, HasNoOther, IsWithinAge, OwnsUpTo, Stands}
-use Rattle.lease_histories.specs.Legal.{IsLegal, state_after}
 use Rattle.lease_histories.specs.PlainHouses.{PlainHouse, entries_along, house_begun}
+use Rattle.lease_histories.specs.Promises.{HouseKeepsPromises}
 use Rattle.pcp_script.specs.declared.lines.Line.{Line}
 use Rattle.script_player.specs.Houses.{houses_along}
 use Rattle.house_lines.specs.HouseEffects.{house_effects}
 use Rattle.house_lines.specs.LineLaws.{IsAlong, line_calls}
-
--- Of one external address that began in this state and has these entries.
-pub record KeepsPromises (x : Served) (opening : State) (entries : List Entry) : Type 0 where
-  -- every reply is the lease table's in journal order
-  pub replies : IsLegal x opening entries
-  -- after every entry, at that and every later moment, no external port has two owners
-  pub one_owner : (before more : List Entry) → entries ≡ before ++ more →
-      Stands (state_after opening before)
-  -- only a request with the nonce of a live lease renews or deletes it
-  pub nonces : (before : List Entry) (e : Entry) (more : List Entry) →
-      entries ≡ before ++ e ∷ more →
-      ChangesByNonce x.config e (state_after opening before).table
-      (state_after opening (before ++ e ∷ [])).table
-  -- until 120 seconds after the end of a lease its ports are no other endpoint's
-  pub rests : (before behind : List Entry) (t : ℕ) (o : Owner) (n : ℕ) →
-      entries ≡ before ++ behind → OwnsUpTo opening before behind t o →
-      (state_after opening entries).last ≤ n → n < t + REST_SECONDS →
-      HasNoOther (owners (live (state_after opening entries).table n)) o
-  -- The epoch told is at most the age of each lease that was given up early: from each entry on, of
-  -- those granted by the base after it. Each that a record gave up is such (`BasesRise`).
-  pub epochs : (before : List Entry) (e : Entry) (more : List Entry) (g : ℕ) →
-      entries ≡ before ++ e ∷ more → g ≤ (state_after opening (before ++ e ∷ [])).base →
-      AllByRecursion (IsWithinAge g) (e ∷ more)
-
--- Of a house on one thread: what is promised of each external address, and the base told is the
--- greatest of all so far.
-pub record HouseKeepsPromises (config : Config) (openings : List State)
-    (history : List HouseEntry) : Type 0 where
-  pub solo : IsSoloHistory config openings history
-  pub each : (place : ℕ) (x : External) (opening : State) →
-      slice_get config.externals place ≡ Some x → slice_get openings place ≡ Some opening →
-      KeepsPromises (record { config = config; place = place; external = x }) opening
-      (entries_at place history)
 
 -- Of lines that are played from these opening states on: their entries keep the promises, and each
 -- house along them, and so each state that a journal stands for, is that of some first entries.
@@ -64,9 +18,3 @@ pub record LinesKeepPromises (config : Config) (openings : List State) (lines : 
   pub journals : (house : PlainHouse) →
       Contains (houses_along house_effects (house_begun config openings) lines) house →
       IsAlong config openings lines house
-
--- so it is of each solo history
-abbrev pub HistoriesKeepPromises : Type 0
-HistoriesKeepPromises = (config : Config) (openings : List State) (history : List HouseEntry) →
-    AreOpenings config openings → IsSoloHistory config openings history →
-    HouseKeepsPromises config openings history

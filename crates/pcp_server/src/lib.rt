@@ -3,14 +3,12 @@
 #![tactic(auto)]
 
 mod dumping;
-mod laws;
 mod loading;
 mod playing;
 mod run;
 mod statuses;
 mod updating;
 
-pub use laws::histories_keep_promises;
 pub use run::run_once;
 pub use server_commands::{ConfigCause, Status};
 pub use statuses::{unopened_as, unread_as};

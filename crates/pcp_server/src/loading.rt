@@ -8,12 +8,11 @@ ghost use Rattle.server_commands.specs.declared.statuses.Status.TheVariants.{Dis
 ghost use Rattle.pcp_server.specs.Loaded.{Loads, LoadsServed};
 ghost use Rattle.pcp_server.specs.Outsides.{HaveNotFallen, disks_by};
 
-use crate::laws::histories_keep_promises;
 use crate::statuses::{loaded_as, unopened_as, unread_as};
 use config_source::config_of;
 use house_lines::{HouseLines, lines_make_histories};
 use lease_disk::{DiskPair, LeaseDisk};
-use lease_histories::calls_make_histories;
+use lease_histories::{calls_make_histories, histories_keep_promises};
 use lease_house::SoloHouse;
 use load_player::play_load;
 use pcp_base::Config;

@@ -8,12 +8,12 @@ ghost use Rattle.server_commands.specs.declared.statuses.Status.TheVariants.{Dis
 ghost use Rattle.pcp_server.specs.Outsides.{HaveNotFallen, disks_by};
 ghost use Rattle.pcp_server.specs.Played.{Plays, PlaysServed};
 
-use crate::laws::histories_keep_promises;
 use crate::statuses::{played_as, unopened_as, unread_as};
 use crate::updating::tell_updates;
 use config_source::config_of;
 use house_lines::{HouseLines, lines_make_histories};
 use lease_disk::{DiskPair, LeaseDisk};
+use lease_histories::histories_keep_promises;
 use lease_house::SoloHouse;
 use pcp_base::{Config, Moment};
 use pcp_io::{Sink, Source};

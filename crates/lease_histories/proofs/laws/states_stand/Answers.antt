@@ -1,4 +1,3 @@
-use Rattle.lease_histories.specs.Legal.{state_after}
 use Rattle.lease_histories.proofs.Growing.{prefix-legal}
 use Rattle.lease_histories.proofs.EntryKinds.{well-after}
 use Rattle.lease_histories.proofs.laws.states_stand.Goals as goal
@@ -9,5 +8,4 @@ returns c x opening before more opens legal =
     record {
       reached = well.reached;
       started = well.started;
-      one_owner = λ m. c.ports_have_one_owner.ensures (state_after opening before) m well.reached.sound;
     }

@@ -8,20 +8,20 @@ use Rattle.pcp_base.specs.States.{State}
 use Rattle.pcp_base.specs.Tables.{live}
 use Rattle.lease_histories.specs.Entries.{Served}
 use Rattle.lease_histories.specs.HouseHistories.{entries_at}
-use Rattle.lease_histories.specs.Laws.{BasesDisclose, HasNoOther, NoncesDecide, PortsRest, StatesStand}
-use Rattle.lease_histories.specs.Legal.{IsLegal, IsOpening, state_after}
-use Rattle.pcp_server.specs.Promises.{HistoriesKeepPromises, KeepsPromises}
+use Rattle.lease_histories.specs.Laws.{BasesDisclose, HasNoOther, NoncesDecide, PortsKeepOneOwner, PortsRest, StatesStand}
+use Rattle.lease_histories.specs.Legal.{IsLegal, state_after}
+use Rattle.lease_histories.specs.Promises.{HistoriesKeepPromises, LegalHistoriesKeepPromises}
 
 All-at : {X : Type 0} (P : X → Type 0) (xs : List X) (i : ℕ) (x : X) → AllByRecursion P xs → slice_get xs i ≡ Some x → P x
 All-at P [] i x all h = absurd cc
 All-at P (y ∷ xs) zero x all h = let same : y ≡ x = cc in subst P same all.0
 All-at P (y ∷ xs) (suc i) x all h = All-at P xs i x all.1 h
 
-promises-one : StatesStand → NoncesDecide → PortsRest → BasesDisclose →
-    (x : Served) (opening : State) (entries : List Entry) → IsOpening x opening → IsLegal x opening entries → KeepsPromises x opening entries
-promises-one stand decide rest disclose x opening entries is legal = record {
+pub promises-one : StatesStand → PortsKeepOneOwner → NoncesDecide → PortsRest → BasesDisclose → LegalHistoriesKeepPromises
+promises-one stand own decide rest disclose x opening entries is legal = record {
   replies = legal;
-  one_owner = λ before more e. stand x opening before more is (subst (IsLegal x opening) e legal);
+  states = λ before more e. stand x opening before more is (subst (IsLegal x opening) e legal);
+  one_owner = λ before more e. own x opening before more is (subst (IsLegal x opening) e legal);
   nonces = λ before e more so. decide x opening before e more is (subst (IsLegal x opening) so legal);
   rests = λ before behind t o n so owns last soon.
       subst (λ es. HasNoOther (owners (live (state_after opening es).table n)) o) (sym so)
@@ -30,10 +30,10 @@ promises-one stand decide rest disclose x opening entries is legal = record {
   epochs = λ before e more g so granted. disclose x opening before e more g is (subst (IsLegal x opening) so legal) granted;
 }
 
-pub promises : StatesStand → NoncesDecide → PortsRest → BasesDisclose → HistoriesKeepPromises
-promises stand decide rest disclose config openings history are solo = record {
+pub promises-each : LegalHistoriesKeepPromises → HistoriesKeepPromises
+promises-each keep config openings history are solo = record {
   solo = solo;
-  each = λ place x opening there at. promises-one stand decide rest disclose (record { config = config; place = place; external = x }) opening (entries_at place history)
+  each = λ place x opening there at. keep (record { config = config; place = place; external = x }) opening (entries_at place history)
       (record {
         config = are.config_is;
         there = there;
