@@ -13,6 +13,7 @@ use Rattle.lane_index.specs.Lanes.{LaneKnowledge, WriterKnowledge, lane_of, open
 use Rattle.lane_index.specs.Lanes.{writer_of}
 use Rattle.shard_book.specs.Books.{BookView, IsBook}
 use Rattle.lease_histories.specs.Legal.{IsLegal, records_of, state_after}
+use Rattle.lease_histories.specs.Promises.{KeepsPromises}
 use Rattle.turned_shards.specs.declared.openings.Opening.{Opening}
 use Rattle.turned_shards.specs.declared.passes.HousePass.{HousePass}
 use Rattle.turned_shards.specs.declared.shards.Shard.{Shard}
@@ -56,7 +57,8 @@ module _ {D : Type 0} where
     pub later_b : faults opened.journal.pair.b ≤ faults book.journal.pair.b
 
   -- The pass has seen the whole history, for which the shard stood whose pair this is, and has
-  -- noted no more. A crash leaves the state to which it leads, or that with all entries in doubt.
+  -- noted no more. The history keeps what is promised. A crash leaves the state to which it leads,
+  -- or that with all entries in doubt.
   pub record EndsOne (tells : Type 0) (seen : D → List ℕ) (moment : D → ℕ)
       (left_since : D → ℕ → List ℕ → Type 0) (may_leave : D → List ℕ → Type 0)
       (faults : D → ℕ) (o : Opening D) (old new : HousePass D) (pair : DiskPair D) : Type 0 where
@@ -70,5 +72,6 @@ module _ {D : Type 0} where
     pub stands : StandsFor tells seen moment left_since may_leave faults o kept new.history.seen
     pub pair_is : pair ≡ kept.book.journal.pair
     pub legal : IsLegal (served_by o) o.book.state new.history.seen
+    pub promises : KeepsPromises (served_by o) o.book.state new.history.seen
     pub images : tells → HoldsNow may_leave (StandsForWithOrWithout
         (state_after o.book.state new.history.seen) (records_of kept.doubt)) pair

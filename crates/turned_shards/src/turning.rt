@@ -12,7 +12,7 @@ use crate::shards::Shard;
 use ghost_notes::{GhostList, GhostValue};
 use lane_index::{Lane, LaneWriter, lane};
 use lease_disk::{DiskPair, LeaseDisk};
-use lease_histories::histories_grow;
+use lease_histories::{histories_grow, legal_histories_keep_promises};
 use lease_house::address_at;
 use pcp_base::{Config, Entry, External, Memory};
 use shard_book::Book;
@@ -180,6 +180,7 @@ pub fn end_one<D: LeaseDisk + Drop, R: Wait>(
     requires home { pass.old.history.out ≡ false }
     ensures { EndsOne D.tells D.seen D.moment D.left_since D.may_leave D.faults turn.key pass.old pass.new result }
 {
+    legal_histories_keep_promises();
     let held = turn.take(rt, &mut pass.history);
     leave(rt, turn);
     held.keep().close(rt)

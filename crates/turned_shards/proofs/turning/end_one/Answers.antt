@@ -2,6 +2,7 @@ use Rattle.std.proofs.Common.{◌∙◌, refl, ap, sym, subst}
 use Rattle.lease_disk.specs.Pairs.{HoldsNow}
 use Rattle.journal_sides.specs.Journals.{StandsForWithOrWithout}
 use Rattle.lease_histories.specs.Legal.{records_of, state_after}
+use Rattle.turned_shards.specs.Shards.{served_by}
 use Rattle.turned_shards.proofs.TurnEnds.{images-of}
 use Rattle.turned_shards.proofs.turning.end_one.Goals as goal
 
@@ -25,6 +26,7 @@ returns g c =
       stands = took.value;
       pair_is = pair;
       legal = took.value.leads.legal;
+      promises = c.legal_histories_keep_promises.ensures (served_by o) o.book.state log took.value.opening took.value.leads.legal;
       images = λ told. subst
           (HoldsNow d.may_leave
           (StandsForWithOrWithout (state_after o.book.state log) (records_of s.doubt))) (sym pair)
