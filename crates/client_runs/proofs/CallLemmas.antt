@@ -228,6 +228,7 @@ IsUntold Statuses.WordsRefused = Unit {0}
 IsUntold Statuses.LinkFault = Unit {0}
 IsUntold Statuses.EntropyFault = Unit {0}
 IsUntold Statuses.Silence = Unit {0}
+IsUntold Statuses.OrderRefused = Unit {0}
 IsUntold Statuses.Turns = Unit {0}
 IsUntold Statuses.Stopped = Unit {0}
 

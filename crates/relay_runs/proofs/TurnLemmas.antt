@@ -213,6 +213,7 @@ module _ {S : Type 0} (m : Machine S) where
   turn_ends Statuses.EntropyFault server start before after a b c h turn = absurd turn
   turn_ends Statuses.Silence server start before after a b c h turn = absurd turn
   turn_ends (Statuses.Refused code) server start before after a b c h turn = absurd turn
+  turn_ends Statuses.OrderRefused server start before after a b c h turn = absurd turn
   turn_ends Statuses.Turns server start before after a b c h turn = absurd turn
   turn_ends Statuses.Stopped server start before after a b c h turn = absurd turn
 

@@ -2,7 +2,7 @@
 use Rattle.std.specs.Prelude.{ℕ, List, ◌++◌, codes, decimal}
 use Rattle.pcp_base.specs.Codes.{code_number}
 use Rattle.tool_commands.specs.declared.statuses.ToolStatus.{ToolStatus}
-use Rattle.tool_commands.specs.declared.statuses.ToolStatus.TheVariants.{Done, WordsRefused, LinkFault, WriteFault, Memory, EntropyFault, Silence, Refused, Turns, Stopped}
+use Rattle.tool_commands.specs.declared.statuses.ToolStatus.TheVariants.{Done, WordsRefused, LinkFault, WriteFault, Memory, EntropyFault, Silence, Refused, OrderRefused, Turns, Stopped}
 
 abbrev pub exit_of : ToolStatus → ℕ
 exit_of Done = 0
@@ -13,6 +13,7 @@ exit_of Memory = 8
 exit_of EntropyFault = 10
 exit_of Silence = 11
 exit_of (Refused code) = 12
+exit_of OrderRefused = 12
 exit_of Turns = 13
 exit_of Stopped = 14
 
@@ -26,5 +27,6 @@ message_of Memory = codes "pcp: out of memory"
 message_of EntropyFault = codes "pcp: no random word"
 message_of Silence = codes "pcp: no answer"
 message_of (Refused code) = codes "pcp: refused with code " ++ decimal (code_number code)
+message_of OrderRefused = codes "pcp: refused"
 message_of Turns = codes "pcp: too many turns"
 message_of Stopped = codes "pcp: stopped"

@@ -24,6 +24,8 @@ pub enum ToolStatus {
     Silence,
     /// The server refused with this code.
     Refused(Code),
+    /// The server refused the order.
+    OrderRefused,
     /// So much else came that no answer was waited for any more.
     Turns,
     /// The inbox gave a stop.
@@ -44,6 +46,7 @@ impl ToolStatus {
             ToolStatus::EntropyFault => 10,
             ToolStatus::Silence => 11,
             ToolStatus::Refused(_) => 12,
+            ToolStatus::OrderRefused => 12,
             ToolStatus::Turns => 13,
             ToolStatus::Stopped => 14,
         }
@@ -67,6 +70,7 @@ impl fmt::Display for ToolStatus {
             ToolStatus::EntropyFault => f.write_str("pcp: no random word"),
             ToolStatus::Silence => f.write_str("pcp: no answer"),
             ToolStatus::Refused(code) => write!(f, "pcp: refused with code {}", code.number()),
+            ToolStatus::OrderRefused => f.write_str("pcp: refused"),
             ToolStatus::Turns => f.write_str("pcp: too many turns"),
             ToolStatus::Stopped => f.write_str("pcp: stopped"),
         }

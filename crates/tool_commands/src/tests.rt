@@ -4,7 +4,7 @@ use pcp_base::Code;
 use std::test::Fail;
 
 // Each status, its exit and its line.
-static LINES: [(ToolStatus, u8, &str); 10] = [
+static LINES: [(ToolStatus, u8, &str); 11] = [
     (ToolStatus::Done, 0, "pcp: done"),
     (ToolStatus::WordsRefused, 2, "pcp: words refused"),
     (ToolStatus::LinkFault, 5, "pcp: read failed"),
@@ -17,6 +17,7 @@ static LINES: [(ToolStatus, u8, &str); 10] = [
         12,
         "pcp: refused with code 8",
     ),
+    (ToolStatus::OrderRefused, 12, "pcp: refused"),
     (ToolStatus::Turns, 13, "pcp: too many turns"),
     (ToolStatus::Stopped, 14, "pcp: stopped"),
 ];
