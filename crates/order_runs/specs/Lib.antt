@@ -1,0 +1,3 @@
+pub mod InMemory
+pub mod OrderRuns
+pub mod Orders
