@@ -1,5 +1,5 @@
 //! What an answer to an order says.
-ghost use Rattle.std.specs.Prelude.{◌≡◌, Ok};
+ghost use Rattle.std.specs.Prelude.{◌≡◌, Ok, if◌then◌else◌};
 ghost use Rattle.pcp_io.specs.Faults.{HasRisen};
 ghost use Rattle.tool_commands.specs.declared.statuses.ToolStatus.TheVariants as Statuses;
 ghost use Rattle.order_runs.specs.OrderRuns.{EndsOrder, said_by, status_without, unrefused_by};

@@ -42,12 +42,7 @@ pub trait OrderLink {
     /// Hands this line to the server, and gives all that it answers until it closes the connection; with
     /// or without a limit to how long that may take. After each fault one was counted. After `Memory`
     /// what is left stays, and whether the server was asked isn't said.
-    fn ask(
-        &mut self,
-        alloc: Global,
-        line: &[u8],
-        without_limit: bool,
-    ) -> Result<Octets, OrderFault>
+    fn ask(&mut self, alloc: Global, line: &[u8], without_limit: bool) -> Result<Octets, OrderFault>
         ensures { Asks (record { line = line.now; without_limit = without_limit })
             (record {
               left = left self.old;

@@ -1,5 +1,6 @@
 //! A link to a server in memory.
 ghost use Rattle.std.specs.Prelude.{◌≡◌, IfSome};
+
 use crate::links::{OrderAsk, OrderFault, OrderLink};
 use pcp_base::Octets;
 use std::alloc::Global;
@@ -84,12 +85,7 @@ impl OrderLink for MemoryOrders {
 
     ghost faults = { λ s. s.faults };
 
-    fn ask(
-        &mut self,
-        alloc: Global,
-        line: &[u8],
-        without_limit: bool,
-    ) -> Result<Octets, OrderFault>
+    fn ask(&mut self, alloc: Global, line: &[u8], without_limit: bool) -> Result<Octets, OrderFault>
         ensures { Asks (record { line = line.now; without_limit = without_limit })
             (state_of self.old) (state_of self.new) result }
     {
