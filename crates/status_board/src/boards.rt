@@ -7,6 +7,9 @@ use std::sync::atomic::{AtomicBool, AtomicI64, AtomicU64, Ordering};
 /// Where there is no moment.
 const NEVER: u64 = u64::MAX;
 
+/// How long people aren't told again of one external address whose disk fails, in milliseconds.
+const TOLD_AGAIN_MS: u64 = 60_000;
+
 /// The error of a disk that has none.
 const NO_ERROR: i64 = 0;
 
@@ -35,6 +38,8 @@ pub(crate) struct ShardWords {
     // whether its last call met a fault of a disk, and when one did last
     fails: AtomicBool,
     fault_moment: AtomicU64,
+    // when people were told last that its disk fails, in milliseconds
+    told: AtomicU64,
     // of each side: its octets, and the error of its last call that failed
     octets: [AtomicU64; 2],
     errors: [AtomicI64; 2],
@@ -59,6 +64,7 @@ impl ShardWords {
             starved_before: AtomicU64::new(0),
             fails: AtomicBool::new(false),
             fault_moment: AtomicU64::new(NEVER),
+            told: AtomicU64::new(NEVER),
             octets: [AtomicU64::new(0), AtomicU64::new(0)],
             errors: [AtomicI64::new(NO_ERROR), AtomicI64::new(NO_ERROR)],
         }
@@ -131,6 +137,18 @@ impl ShardWords {
             .saturating_add(b.load(Ordering::SeqCst))
     }
 
+    /// Whether people are to be told now that its disk fails. Of several who ask at once one is to tell
+    /// them.
+    fn is_to_tell(&self, time: u64) -> bool {
+        let before = self.told.load(Ordering::SeqCst);
+        let is_due = before == NEVER || before.saturating_add(TOLD_AGAIN_MS) <= time;
+        is_due
+            && self
+                .told
+                .compare_exchange(before, time, Ordering::SeqCst, Ordering::SeqCst)
+                .is_ok()
+    }
+
     /// Which side had an error last, the even one first, and the system's number of it; none where it
     /// isn't the system's.
     pub(crate) fn error(&self) -> Option<(usize, Option<i32>)> {
@@ -154,6 +172,7 @@ pub struct Board {
     asked: AtomicU64,
     dropped: AtomicU64,
     clock_offset: AtomicI64,
+    serves: AtomicBool,
     is_lost: AtomicBool,
 }
 
@@ -169,6 +188,7 @@ impl Board {
             asked: AtomicU64::new(0),
             dropped: AtomicU64::new(0),
             clock_offset: AtomicI64::new(0),
+            serves: AtomicBool::new(false),
             is_lost: AtomicBool::new(false),
         })
     }
@@ -270,6 +290,25 @@ impl Board {
         {
             word.store(NO_ERROR, Ordering::SeqCst);
         }
+    }
+
+    /// Whether people are to be told at this time in milliseconds that a disk of this external address
+    /// fails: once it is served, and at most once a minute.
+    pub fn is_to_tell(&self, place: u32, time: u64) -> bool {
+        match self.shard(place) {
+            Some(words) => self.serves() && words.is_to_tell(time),
+            None => false,
+        }
+    }
+
+    /// Leaves that the journals are open, and it is served.
+    pub fn begin_serving(&self) {
+        self.serves.store(true, Ordering::SeqCst);
+    }
+
+    /// Whether it is served.
+    pub fn serves(&self) -> bool {
+        self.serves.load(Ordering::SeqCst)
     }
 
     /// Leaves how much noise was dropped.
