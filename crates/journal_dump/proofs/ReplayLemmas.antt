@@ -1,5 +1,5 @@
 -- What a replay holds that has read a journal.
-use Rattle.std.proofs.Common.{◌≡◌, ℕ, true, inl, inr, List}
+use Rattle.std.proofs.Common.{◌≡◌, ℕ, true, inl, inr, List, refl, ap}
 use Rattle.std.proofs.lemmas.Bool.{lt-ltb}
 use Rattle.std.specs.Prelude.{nat_lt}
 use Rattle.pcp_base.specs.declared.leases.MapLease.{MapLease}
@@ -12,7 +12,7 @@ use Rattle.pcp_base.proofs.Members.{All-weaker, filter-all}
 use Rattle.lease_journal.specs.Openings.{ViewMeans, ViewReplays}
 use Rattle.lease_journal.specs.declared.errors.Found.{Found}
 use Rattle.lease_journal.specs.declared.errors.Found.TheVariants.{Recovered, Blank, Damaged}
-use Rattle.journal_dump.specs.Readings.{IsFoundAs, IsReadingOf, reading_of}
+use Rattle.journal_dump.specs.Readings.{IsLookedUntil, IsReadingOf, reading_of}
 
 -- each lease is live at the last moment
 pub live_maps : (s : State) → IsReached s → (live s.table s.last).maps ≡ s.table.maps
@@ -34,7 +34,7 @@ view_reads a b s Recovered is = is
 view_reads a b s Blank is = is.0
 view_reads a b s Damaged is = is.0
 
-pub view_finds : (a b : List ℕ) (s : State) (found : Found) → ViewMeans a b s found → IsFoundAs a b found
-view_finds a b s Recovered is = (s, is)
-view_finds a b s Blank is = is.0
-view_finds a b s Damaged is = is.0
+pub view_looks : (a b : List ℕ) (s : State) (found : Found) → ViewMeans a b s found → IsLookedUntil a b found s.last
+view_looks a b s Recovered is = (s, (is, refl))
+view_looks a b s Blank is = (is.0, ap (λ (t : State). t.last) is.1)
+view_looks a b s Damaged is = (is.0, ap (λ (t : State). t.last) is.1)

@@ -9,4 +9,4 @@ mod terms;
 
 pub use dumps::dump;
 pub use faults::DumpFault;
-pub use looks::found_in;
+pub use looks::{Looked, looked_in};
