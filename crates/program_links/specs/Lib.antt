@@ -1,3 +1,6 @@
+pub mod Clocks
 pub mod Ears
+pub mod Lanes
 pub mod Links
+pub mod OrderLines
 pub mod Refusals

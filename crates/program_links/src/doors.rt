@@ -2,7 +2,7 @@
 ghost use Rattle.std.specs.Prelude.{◌≡◌, IfOk};
 ghost use Rattle.pcp_base.specs.Configs.{IsConfig};
 
-use crate::host_links::link_of;
+use crate::host_links::{Links, links_of};
 use crate::sockets::{first_socket_at, ip_of, keep, loopback_at, shared_socket_at};
 use pcp_announce::{Door, ORDER_DOOR, door_at, door_count};
 use pcp_base::{Config, Orders};
@@ -92,7 +92,8 @@ fn has_orders(places: &[Place]) -> bool {
     places.iter().any(|place| place.number == ORDER_DOOR)
 }
 
-/// Where the sockets of this door are bound: a link-local address with the number of its link.
+/// Where the sockets of this door are bound, an IPv6 address with the number of its link. On several links
+/// none is the one; a link-local address that stands on none can't be bound.
 fn place_at(
     rt: &HostRuntime,
     config: &Config,
@@ -107,16 +108,24 @@ fn place_at(
         Some(listen) => listen.link.items(),
         None => &[],
     };
-    let scope = link_of(rt, &door.address, name);
-    let at = SocketAddrV6::new(ip, port, 0, scope.unwrap_or(0));
-    if scope.is_none() && ip.is_unicast_link_local() {
-        let error = io::Error::new(
-            ErrorKind::NotFound,
-            "it stands on no such link, or on several",
-        );
-        return Err(LinksFault::Refused(SocketAddr::V6(at), error));
+    match links_of(rt, &door.address, name) {
+        Links::One(link) => Ok(SocketAddr::V6(SocketAddrV6::new(ip, port, 0, link))),
+        Links::None if !ip.is_unicast_link_local() => Ok(SocketAddr::V6(SocketAddrV6::new(
+            ip, port, 0, 0,
+        ))),
+        Links::None | Links::Several => Err(not_on_one_link(SocketAddr::V6(SocketAddrV6::new(
+            ip, port, 0, 0,
+        )))),
     }
-    Ok(SocketAddr::V6(at))
+}
+
+/// Why nothing is bound at an address that doesn't stand on one link.
+fn not_on_one_link(at: SocketAddr) -> LinksFault {
+    let error = io::Error::new(
+        ErrorKind::NotFound,
+        "it stands on no such link, or on several",
+    );
+    LinksFault::Refused(at, error)
 }
 
 /// Opens a door for so many who send.

@@ -26,10 +26,21 @@ fn standing_of(line: &str) -> Option<Standing<'_>> {
     })
 }
 
-/// The number of the link on which this address stands by what the lines tell: of the one with this name,
-/// or, where it is empty, of the only one. None where it stands on no such link, or on several.
-pub(crate) fn link_in(lines: &str, address: &Address, name: &[u8]) -> Option<u32> {
-    let mut found = None;
+/// On which links of this host an address stands.
+#[derive(Clone, Copy, Debug, PartialEq, Eq)]
+pub(crate) enum Links {
+    /// On none.
+    None,
+    /// On the one of this number alone.
+    One(u32),
+    /// On several.
+    Several,
+}
+
+/// On which links this address stands by what the lines tell, of those with this name, or, where it is
+/// empty, of all.
+pub(crate) fn links_in(lines: &str, address: &Address, name: &[u8]) -> Links {
+    let mut found = Links::None;
     for line in lines.split('\n') {
         let Some(standing) = standing_of(line) else {
             continue;
@@ -37,10 +48,10 @@ pub(crate) fn link_in(lines: &str, address: &Address, name: &[u8]) -> Option<u32
         if standing.address != *address || !is_named(standing.link, name) {
             continue;
         }
-        if found.is_some() {
-            return None;
+        if found != Links::None {
+            return Links::Several;
         }
-        found = Some(standing.index);
+        found = Links::One(standing.index);
     }
     found
 }
@@ -50,8 +61,10 @@ fn is_named(link: &str, name: &[u8]) -> bool {
     name.is_empty() || link.as_bytes() == name
 }
 
-/// The same of this host.
-pub(crate) fn link_of(rt: &HostRuntime, address: &Address, name: &[u8]) -> Option<u32> {
-    let lines = fs::read_to_string(rt, IPV6_ADDRESSES).ok()?;
-    link_in(&lines, address, name)
+/// The same of this host: on none where the system doesn't tell.
+pub(crate) fn links_of(rt: &HostRuntime, address: &Address, name: &[u8]) -> Links {
+    match fs::read_to_string(rt, IPV6_ADDRESSES) {
+        Ok(lines) => links_in(&lines, address, name),
+        Err(_) => Links::None,
+    }
 }

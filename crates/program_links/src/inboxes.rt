@@ -17,6 +17,9 @@ use std::os::fd::AsRawFd;
 /// How long is waited for a datagram, in milliseconds.
 const WAITING_MS: i32 = 100;
 
+/// Where the system is asked of nothing.
+pub(crate) const NO_DESCRIPTOR: i32 = -1;
+
 /// How many datagrams come by one door at most before all are looked at.
 const MOST_TAKES: u32 = 16;
 
@@ -47,26 +50,23 @@ impl Ear {
 
     /// What the system is asked of it. Without a socket it is passed over.
     fn asked(&self) -> pollfd {
-        let fd = match &self.socket {
-            Some(socket) => socket.as_raw_fd(),
-            None => -1,
-        };
-        pollfd {
-            fd,
-            events: c::POLLIN,
-            revents: 0,
+        match &self.socket {
+            Some(socket) => asked_of(socket.as_raw_fd()),
+            None => asked_of(NO_DESCRIPTOR),
         }
     }
 }
 
 /// What comes by several doors. A take waits for at most 100 milliseconds, for all of them at once. The
-/// door of orders is asked first at each wait, unless it was the last one; the others come in turn. After 16 datagrams of one door all are waited for. A fault of a door is one of
-/// the inbox.
+/// door of orders is asked first at each wait, unless it was the last one; the others come in turn. After
+/// 16 datagrams of one door all are waited for. A fault of a door is one of the inbox.
 #[derive(Drop)]
 pub struct DoorsInbox {
     ears: Vec<Ear>,
-    // what the system is asked of each ear
+    // what the system is asked of each ear, and of others behind them
     asked: Vec<pollfd>,
+    // whether the system told at the last wait where something came
+    is_told: bool,
     // the place of the ear of orders
     orders: Option<usize>,
     // the place of an ear that has no socket
@@ -82,15 +82,28 @@ pub struct DoorsInbox {
 impl DoorsInbox {
     /// The inbox of these ears. Where one has no socket, each take fails. The one error is want of memory.
     pub fn of(alloc: Global, ears: Vec<Ear>) -> Result<DoorsInbox, AllocError> {
+        DoorsInbox::beside(alloc, ears, 0)
+    }
+
+    /// The same, which may wait for so many other descriptors, too.
+    pub(crate) fn beside(
+        alloc: Global,
+        ears: Vec<Ear>,
+        others: usize,
+    ) -> Result<DoorsInbox, AllocError> {
         let mut asked = Vec::new(alloc);
         for ear in &ears {
             asked.push(ear.asked())?;
+        }
+        for _ in 0..others {
+            asked.push(asked_of(NO_DESCRIPTOR))?;
         }
         let orders = ears.iter().position(|ear| ear.door == ORDER_DOOR);
         let deaf = ears.iter().position(|ear| ear.socket.is_none());
         Ok(DoorsInbox {
             ears,
             asked,
+            is_told: false,
             orders,
             deaf,
             last: 0,
@@ -107,26 +120,46 @@ impl DoorsInbox {
         }
     }
 
-    /// Whether the next datagram may come from the last ear without a wait. It is counted.
-    fn goes_on(&mut self) -> bool
-        ensures { self.new.ears ≡ self.old.ears }
+    /// Takes what is there at the last ear, unless enough came from it.
+    pub(crate) fn take_more(&mut self, room: &mut [u8]) -> Result<Incoming, Failed>
+        requires { LONGEST_DATAGRAM ≤ length room.old }
+        ensures takes { IfOk result (Takes None None room.new) }
+        ensures cause { HasCause (all_faults self.old.ears.items) (all_faults self.new.ears.items) result }
     {
-        let goes_on = self.more > 0;
-        self.more = self.more.saturating_sub(1);
-        goes_on
+        if self.more == 0 {
+            return Ok(Incoming::Quiet);
+        }
+        self.more -= 1;
+        self.take_at(self.last, room)
     }
 
-    /// Waits until something comes, and tells the place of an ear at which it came; none where nothing
-    /// came in the waiting time.
-    fn wait(&mut self) -> Option<usize>
+    /// Waits until something comes, and for these descriptors too.
+    pub(crate) fn wait_beside(&mut self, others: &[i32])
         ensures { self.new.ears ≡ self.old.ears }
     {
-        let place = self.ready();
-        if let Some(place) = place {
-            self.more = MOST_TAKES - 1;
-            self.last = place;
+        for (asked, fd) in self
+            .asked
+            .iter_mut()
+            .skip(self.ears.len())
+            .zip(others.iter())
+        {
+            *asked = asked_of(*fd);
         }
-        place
+        self.is_told = self.deaf.is_none() && c::poll(&mut self.asked, WAITING_MS) >= 0;
+    }
+
+    /// Takes what came at an ear at the last wait.
+    pub(crate) fn take_ready(&mut self, room: &mut [u8]) -> Result<Incoming, Failed>
+        requires { LONGEST_DATAGRAM ≤ length room.old }
+        ensures takes { IfOk result (Takes None None room.new) }
+        ensures cause { HasCause (all_faults self.old.ears.items) (all_faults self.new.ears.items) result }
+    {
+        let Some(place) = self.ready() else {
+            return Ok(Incoming::Quiet);
+        };
+        self.more = MOST_TAKES - 1;
+        self.last = place;
+        self.take_at(place, room)
     }
 
     /// The place of the ear that is to be asked; none where nothing came in the waiting time.
@@ -136,11 +169,11 @@ impl DoorsInbox {
         if self.deaf.is_some() {
             return self.deaf;
         }
-        let count = c::poll(&mut self.asked, WAITING_MS);
-        if count >= 0 && self.is_ordered() {
+        if self.is_told && self.is_ordered() {
             return self.orders;
         }
-        let next = place_behind(&self.asked, self.turn, count < 0);
+        let count = self.ears.len().min(self.asked.len());
+        let next = place_behind(&self.asked[..count], self.turn, !self.is_told);
         self.turn = next?;
         next
     }
@@ -166,6 +199,15 @@ impl DoorsInbox {
             Some(ear) => ear.inbox.take(room),
             None => Ok(Incoming::Quiet),
         }
+    }
+}
+
+/// What the system is asked of a descriptor: whether something came.
+fn asked_of(fd: i32) -> pollfd {
+    pollfd {
+        fd,
+        events: c::POLLIN,
+        revents: 0,
     }
 }
 
@@ -196,16 +238,12 @@ impl Inbox for DoorsInbox {
     ghost faults = { λ b. all_faults b.ears.items };
 
     fn take(&mut self, room: &mut [u8]) -> Result<Incoming, Failed> {
-        if self.goes_on() {
-            let incoming = self.take_at(self.last, room)?;
-            if incoming != Incoming::Quiet {
-                return Ok(incoming);
-            }
+        let incoming = self.take_more(room)?;
+        if incoming != Incoming::Quiet {
+            return Ok(incoming);
         }
-        let Some(place) = self.wait() else {
-            return Ok(Incoming::Quiet);
-        };
-        self.take_at(place, room)
+        self.wait_beside(&[]);
+        self.take_ready(room)
     }
 
     // Who orders by a datagram hears nothing.

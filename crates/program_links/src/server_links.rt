@@ -1,27 +1,29 @@
-//! What `serve` is asked through, what it answers by, and its clocks.
+//! What `serve` is asked through, and what it answers by.
 ghost use Rattle.std.specs.Prelude.{◌≡◌, ◌+◌, ◌≤◌, IfOk, IfSome, length};
 ghost use Rattle.pcp_base.specs.Configs.{IsConfig};
 ghost use Rattle.pcp_base.specs.declared.configs.TheConstants.{MOST_EXTERNALS};
 
 use crate::doors::{LinksFault, OpenDoor, Opened, open_all, places_of};
 use crate::inboxes::{DoorsInbox, Ear};
+use crate::order_doors::MOST_ASKED;
 use crate::outboxes::{DoorsOutbox, Mouth};
+use crate::server_lanes::ServerLane;
 use crate::sockets::{loopback_at, socket_at};
-use pcp_base::{Config, MOST_EXTERNALS, Memory};
-use pcp_io::{SystemClock, UdpLane, UdpOutbox};
+use pcp_base::{Config, MOST_EXTERNALS, Orders};
+use pcp_io::{UdpLane, UdpOutbox};
 use std::alloc::{AllocError, Global};
 use std::io;
 use std::net::SocketAddr;
 
 /// What a server is asked through, and what it answers by.
 #[derive(Drop)]
-pub struct ServerLinks {
-    /// what clients ask, and orders of this host
-    pub inbox: DoorsInbox,
+pub struct ServerLinks<'a> {
+    /// what comes by its doors
+    pub ears: DoorsInbox,
     /// by which it answers: those of the workers, and behind them the dispatcher's
     pub outs: Vec<DoorsOutbox>,
     /// where lanes are asked, one for each external address that there may be
-    pub lanes: Vec<UdpLane>,
+    pub lanes: Vec<ServerLane<'a>>,
     /// the addresses and ports at which it is asked
     pub places: Vec<SocketAddr>,
     /// why it isn't asked by IPv6, where this host has none
@@ -31,12 +33,12 @@ pub struct ServerLinks {
 /// The links of a server with this configuration that is asked at this port, and whose lanes are asked at
 /// `lane_port` of the loopback and those above it; or which of them can't be had. All sends of one worker
 /// leave by sockets of its own, but for refusals, which share one for each door.
-pub fn links_of(
-    rt: &HostRuntime,
+pub fn links_of<'a>(
+    rt: &'a HostRuntime,
     config: &Config,
     port: u16,
     lane_port: u16,
-) -> Result<ServerLinks, LinksFault>
+) -> Result<ServerLinks<'a>, LinksFault>
     requires { IsConfig config.now }
     ensures outs { IfOk result (λ links. length links.outs.items ≡ MOST_EXTERNALS + 1) }
     ensures lanes { IfOk result (λ links. length links.lanes.items ≡ MOST_EXTERNALS) }
@@ -45,12 +47,12 @@ pub fn links_of(
     let count = config.externals.items().len();
     let places = places_of(rt, config, port)?;
     let Opened { mut doors, lacking } = open_all(alloc, &places, count.saturating_add(1))?;
-    let lanes = lanes_from(alloc, lane_port, count)?;
+    let lanes = lanes_from(rt, config.orders, lane_port, count)?;
     let outs = outs_by(alloc, &mut doors, count)?;
     let places = places_in(alloc, &doors)?;
-    let inbox = DoorsInbox::of(alloc, ears_of(alloc, doors)?)?;
+    let ears = DoorsInbox::beside(alloc, ears_of(alloc, doors)?, MOST_ASKED)?;
     Ok(ServerLinks {
-        inbox,
+        ears,
         outs,
         lanes,
         places,
@@ -59,16 +61,17 @@ pub fn links_of(
 }
 
 /// The links of a server that has none.
-pub fn no_links(alloc: Global) -> Result<ServerLinks, LinksFault>
+pub fn no_links<'a>(rt: &'a HostRuntime) -> Result<ServerLinks<'a>, LinksFault>
     ensures outs { IfOk result (λ links. length links.outs.items ≡ MOST_EXTERNALS + 1) }
     ensures lanes { IfOk result (λ links. length links.lanes.items ≡ MOST_EXTERNALS) }
 {
+    let alloc = rt.alloc();
     let mut none = Vec::new(alloc);
     let outs = outs_by(alloc, &mut none, 0)?;
     Ok(ServerLinks {
-        inbox: DoorsInbox::of(alloc, Vec::new(alloc))?,
+        ears: DoorsInbox::beside(alloc, Vec::new(alloc), MOST_ASKED)?,
         outs,
-        lanes: lanes_from(alloc, 0, 0)?,
+        lanes: lanes_from(rt, Orders::Folder, 0, 0)?,
         places: Vec::new(alloc),
         lacking: None,
     })
@@ -133,17 +136,24 @@ fn next_mouth(door: &mut OpenDoor) -> Mouth {
 }
 
 /// The links of the lanes of so many external addresses, at this port of the loopback and those above it.
-/// Those behind them are asked nothing.
-fn lanes_from(alloc: Global, port: u16, count: usize) -> Result<Vec<UdpLane>, LinksFault>
+/// Those behind them are asked nothing. They take stops where orders come by the loopback.
+fn lanes_from<'a>(
+    rt: &'a HostRuntime,
+    orders: Orders,
+    port: u16,
+    count: usize,
+) -> Result<Vec<ServerLane<'a>>, LinksFault>
     ensures { IfOk result (λ lanes. length lanes.items ≡ MOST_EXTERNALS) }
 {
-    let mut lanes = Vec::new(alloc);
+    let takes_stops = orders == Orders::Both;
+    let mut lanes = Vec::new(rt.alloc());
     for place in 0..MOST_EXTERNALS as u16 {
-        if usize::from(place) < count {
-            lanes.push(lane_at(loopback_at(port.saturating_add(place)))?)?;
+        let lane = if usize::from(place) < count {
+            lane_at(loopback_at(port.saturating_add(place)))?
         } else {
-            lanes.push(UdpLane::of(None))?;
-        }
+            UdpLane::of(None)
+        };
+        lanes.push(ServerLane::of(rt, lane, u32::from(place), takes_stops))?;
     }
     Ok(lanes)
 }
@@ -154,18 +164,4 @@ fn lane_at(at: SocketAddr) -> Result<UdpLane, LinksFault> {
         Ok(socket) => Ok(UdpLane::of(Some(socket))),
         Err(error) => Err(LinksFault::Refused(at, error)),
     }
-}
-
-/// So many clocks of the system. The one error is want of memory.
-pub fn clocks_of<'a>(
-    rt: &'a HostRuntime,
-    count: usize,
-) -> Result<Vec<SystemClock<&'a HostRuntime>>, Memory>
-    ensures { IfOk result (λ clocks. length clocks.items ≡ count) }
-{
-    let mut clocks = Vec::new(rt.alloc());
-    for _place in 0..count {
-        clocks.push(SystemClock::of(rt))?;
-    }
-    Ok(clocks)
 }

@@ -96,7 +96,7 @@ fn last_error() -> io::Error {
 }
 
 /// What the system answered to a call.
-fn ended(status: i32) -> io::Result<()> {
+pub(crate) fn ended(status: i32) -> io::Result<()> {
     if status < 0 {
         Err(last_error())
     } else {

@@ -1,6 +1,8 @@
 use Rattle.std.proofs.Common.{◌≡◌, ◌≤◌, length}
-use Rattle.program_links.proofs.server_links.clocks_of.Given as goal
+use Rattle.std.specs.Prelude.{All}
+use Rattle.program_links.proofs.clocks.clocks_of.Given as goal
 
--- one for each place so far
+-- one for each place so far, of one start
 abbrev pub invariant-loop-place : goal.invariant-loop-place
 invariant-loop-place l = (length l.clocks.items ≡ l._place) × (l._place ≤ l.count)
+    × All (λ c. c ≡ l.clock.now) l.clocks.items
