@@ -75,6 +75,11 @@ pub fn door_cause(alloc: Global, at: SocketAddr, error: io::Error) -> Result<Str
     Ok(format!(in alloc; "{} port {}: {error}", at.ip(), at.port())?)
 }
 
+/// What people are told where so many threads can't be made. The one error is want of memory.
+pub fn threads_cause(alloc: Global, count: u32) -> Result<String, Memory> {
+    Ok(format!(in alloc; "{count} threads can't be made")?)
+}
+
 /// Why this line of a script, numbered from 1, is none; none where the script can't be read twice.
 pub(crate) fn script_cause(
     rt: &HostRuntime,

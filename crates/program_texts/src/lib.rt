@@ -2,11 +2,15 @@
 #![tactic(auto)]
 
 mod causes;
+mod disk_causes;
 mod kept;
 mod places;
 mod told;
+mod told_disks;
 
-pub use crate::causes::{door_cause, tell_tool_words};
+pub use crate::causes::{door_cause, tell_tool_words, threads_cause};
+pub use crate::disk_causes::{DiskCause, pair_cause};
 pub use crate::kept::KeptSource;
 pub use crate::places::{Places, journals_in, may_open, places_of};
-pub use crate::told::{beginning_of, doors_of, look_at, told_of};
+pub use crate::told::{beginning_of, doors_of, gap_text, last_of, look_at, told_of};
+pub use crate::told_disks::{ToldDisk, told_pairs};

@@ -1,76 +1,88 @@
 //! What people are told who ask for more than a status.
 use crate::causes::{script_cause, tell_words, unread_cause};
+use crate::disk_causes::{DiskCause, pair_cause};
 use crate::places::{pair_at, places_of};
-use journal_dump::found_in;
-use lease_disk::{DiskPair, FileDisk, LeaseDisk};
+use journal_dump::{Looked, looked_in};
+use lease_disk::{DiskPair, LeaseDisk};
 use lease_journal::Found;
-use pcp_base::{Address, Config, External, MOST_EXTERNALS, Memory};
+use pcp_base::{Address, Config, External, Memory, Moment};
 use pcp_config::{explain, read_config};
+use program_links::Gap;
 use serve_commands::ServePlan;
 use server_commands::Status;
 use std::alloc::Global;
 use std::io;
-use std::io::ErrorKind;
 use std::net::SocketAddr;
-use std::rt::Files;
 
-/// What the journals of a folder are found to be before a command opens them; none of one that can't
+/// What so many journals of a folder are found to be before a command opens them; none of one that can't
 /// be read. Where no memory is found, it tells of fewer.
-pub fn look_at(rt: &HostRuntime, folder: &str) -> Vec<Option<Found>> {
-    let mut found = Vec::new(rt.alloc());
-    for place in 0..MOST_EXTERNALS {
-        let Ok(state) = look_at_place(rt, folder, place) else {
-            return found;
+pub fn look_at(rt: &HostRuntime, folder: &str, count: usize) -> Vec<Option<Looked>> {
+    let mut looks = Vec::new(rt.alloc());
+    for place in 0..count {
+        let Ok(looked) = look_at_place(rt, folder, place) else {
+            return looks;
         };
-        if found.push(state).is_err() {
-            return found;
+        if looks.push(looked).is_err() {
+            return looks;
         }
     }
-    found
+    looks
 }
 
 /// What the journal at this place is found to be; none where it can't be read. Its disks are closed
 /// again, so that the command finds its own as they were.
-fn look_at_place(rt: &HostRuntime, folder: &str, place: usize) -> Result<Option<Found>, Memory> {
+fn look_at_place(rt: &HostRuntime, folder: &str, place: usize) -> Result<Option<Looked>, Memory> {
     let mut pair = pair_at(rt, folder, place)?;
-    Ok(found_at(rt.alloc(), &mut pair))
+    Ok(looked_at(rt.alloc(), &mut pair))
 }
 
 /// What a journal is found to be. Without an octet it is blank, which takes no store to tell.
-fn found_at<D: LeaseDisk>(alloc: Global, pair: &mut DiskPair<D>) -> Option<Found> {
+fn looked_at<D: LeaseDisk>(alloc: Global, pair: &mut DiskPair<D>) -> Option<Looked> {
     match (pair.a.len(), pair.b.len()) {
-        (Ok(0), Ok(0)) => Some(Found::Blank),
-        (Ok(_), Ok(_)) => found_in(alloc, pair).ok(),
+        (Ok(0), Ok(0)) => Some(Looked {
+            found: Found::Blank,
+            last: Moment::of(0)?,
+        }),
+        (Ok(_), Ok(_)) => looked_in(alloc, pair).ok(),
         _ => None,
     }
 }
 
+/// The last moment of all these journals; none where none of them could be read.
+pub fn last_of(looks: &[Option<Looked>]) -> Option<Moment> {
+    let mut last = None;
+    for looked in looks.iter().flatten() {
+        last = last.max(Some(looked.last));
+    }
+    last
+}
+
 /// Why a command ended so, where that is known, and one line for each external address of the
 /// configuration whose journal was found blank or damaged. The one error is want of memory.
-pub fn told_of(
+pub fn told_of<D: DiskCause>(
     rt: &HostRuntime,
     words: &[String],
     status: Status,
     config: Option<&[u8]>,
-    found: &[Option<Found>],
-    disks: &[DiskPair<FileDisk<&HostRuntime>>],
+    looks: &[Option<Looked>],
+    disks: &[DiskPair<D>],
 ) -> Result<Vec<String>, Memory> {
     let mut told = Vec::new(rt.alloc());
     tell_causes(rt, &mut told, words, status, config, disks)?;
     if let Some(text) = config {
-        tell_found(rt.alloc(), &mut told, text, found)?;
+        tell_found(rt.alloc(), &mut told, text, looks)?;
     }
     Ok(told)
 }
 
 /// Adds why a command ended so, where that is known.
-fn tell_causes<F: Files + Drop>(
+fn tell_causes<D: DiskCause>(
     rt: &HostRuntime,
     told: &mut Vec<String>,
     words: &[String],
     status: Status,
     config: Option<&[u8]>,
-    disks: &[DiskPair<FileDisk<F>>],
+    disks: &[DiskPair<D>],
 ) -> Result<(), Memory> {
     if status == Status::WordsRefused {
         tell_words(rt.alloc(), told, words)?;
@@ -103,11 +115,11 @@ fn outside_cause(
 }
 
 /// Why a configuration is refused, or a disk failed.
-fn cause_of<F: Files + Drop>(
+fn cause_of<D: DiskCause>(
     alloc: Global,
     status: Status,
     config: Option<&[u8]>,
-    disks: &[DiskPair<FileDisk<F>>],
+    disks: &[DiskPair<D>],
 ) -> Result<Option<String>, Memory> {
     match status {
         Status::ConfigRefused(_) => match config {
@@ -115,48 +127,10 @@ fn cause_of<F: Files + Drop>(
             None => Ok(None),
         },
         Status::DiskFault(place) => match disks.get(place as usize) {
-            Some(pair) => cause_in(alloc, pair),
+            Some(pair) => pair_cause(alloc, pair),
             None => Ok(None),
         },
         _ => Ok(None),
-    }
-}
-
-/// Why one of two disks failed.
-fn cause_in<F: Files + Drop>(
-    alloc: Global,
-    pair: &DiskPair<FileDisk<F>>,
-) -> Result<Option<String>, Memory> {
-    match cause_on(alloc, &pair.a)? {
-        Some(cause) => Ok(Some(cause)),
-        None => cause_on(alloc, &pair.b),
-    }
-}
-
-/// The path of a disk that failed, and why it did.
-fn cause_on<F: Files + Drop>(alloc: Global, disk: &FileDisk<F>) -> Result<Option<String>, Memory> {
-    let Some(error) = disk.last_error() else {
-        return Ok(None);
-    };
-    let path = disk.path();
-    match reason_of(error) {
-        Some(reason) => Ok(Some(format!(in alloc; "{path}: {reason}")?)),
-        None => Ok(Some(format!(in alloc; "{path}: {error}")?)),
-    }
-}
-
-/// Why a disk failed where it isn't the system that says so.
-fn reason_of(error: &io::Error) -> Option<&'static str> {
-    if error.raw_os_error().is_some() {
-        return None;
-    }
-    match error.kind() {
-        ErrorKind::WouldBlock => Some("another program has it"),
-        ErrorKind::InvalidInput => Some("not a regular file with one name"),
-        ErrorKind::AlreadyExists => Some("another program made it"),
-        ErrorKind::FileTooLarge => Some("more than 2^62 octets"),
-        ErrorKind::Other => Some("a sync failed before"),
-        _ => None,
     }
 }
 
@@ -166,12 +140,12 @@ pub fn beginning_of(
     alloc: Global,
     plan: ServePlan,
     config: &Config,
-    found: &[Option<Found>],
+    looks: &[Option<Looked>],
 ) -> Result<Vec<String>, Memory> {
     let mut told = Vec::new(alloc);
     tell_lanes(alloc, &mut told, plan)?;
     tell_addresses(alloc, &mut told, config.externals.items())?;
-    tell_states(alloc, &mut told, config.externals.items().len(), found)?;
+    tell_states(alloc, &mut told, config.externals.items().len(), looks)?;
     Ok(told)
 }
 
@@ -226,12 +200,12 @@ fn tell_found(
     alloc: Global,
     told: &mut Vec<String>,
     config: &[u8],
-    found: &[Option<Found>],
+    looks: &[Option<Looked>],
 ) -> Result<(), Memory> {
     let Ok(config) = read_config(alloc, config) else {
         return Ok(());
     };
-    tell_states(alloc, told, config.externals.items().len(), found)
+    tell_states(alloc, told, config.externals.items().len(), looks)
 }
 
 /// Adds a line for each of so many external addresses whose journal was found blank or damaged.
@@ -239,10 +213,10 @@ fn tell_states(
     alloc: Global,
     told: &mut Vec<String>,
     count: usize,
-    found: &[Option<Found>],
+    looks: &[Option<Looked>],
 ) -> Result<(), Memory> {
-    for (place, found) in found.iter().enumerate() {
-        match state_of(*found) {
+    for (place, looked) in looks.iter().enumerate() {
+        match state_of(*looked) {
             Some(state) if place < count => {
                 told.push(format!(in alloc; "journal of shard {place} was {state}")?)?;
             }
@@ -253,10 +227,22 @@ fn tell_states(
 }
 
 /// What people are told of what was found; nothing where a journal was there.
-fn state_of(found: Option<Found>) -> Option<&'static str> {
-    match found {
-        Some(Found::Blank) => Some("blank"),
-        Some(Found::Damaged) => Some("damaged"),
-        Some(Found::Recovered) | None => None,
+fn state_of(looked: Option<Looked>) -> Option<&'static str> {
+    match looked?.found {
+        Found::Blank => Some("blank"),
+        Found::Damaged => Some("damaged"),
+        Found::Recovered => None,
     }
+}
+
+/// What people are told of the time of the system, where it is far from the last moment of the journals.
+/// The one error is want of memory.
+pub fn gap_text(alloc: Global, gap: Gap) -> Result<String, Memory> {
+    let (seconds, side) = match gap {
+        Gap::Behind(seconds) => (seconds, "behind"),
+        Gap::Ahead(seconds) => (seconds, "ahead of"),
+    };
+    Ok(format!(in alloc;
+        "the system's time is {seconds} seconds {side} the last moment of the journals"
+    )?)
 }
