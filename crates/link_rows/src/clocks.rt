@@ -1,5 +1,7 @@
 //! What clocks tell, that of the system among them where it fails.
-use pcp_io::{Clock, StepClock, SystemClock};
+use pcp_base::Moment;
+use pcp_io::{Clock, SteadyClock, StepClock, SystemClock};
+use program_links::{Gap, gap_of, start_of};
 use std::cell::Cell;
 use std::io::ErrorKind;
 use std::test::Fail;
@@ -75,4 +77,43 @@ const LATEST: u64 = 4_102_444_800_000;
 fn this_clock(rt: HostRuntime) {
     let now = SystemClock::of(&rt).now();
     assert!(rt; EARLIEST < now && now < LATEST, "{now}");
+}
+
+#[test]
+fn a_steady_clock_goes_on_from_its_start(rt: HostRuntime) {
+    let mut clock = SteadyClock::starting_at(EARLIEST);
+    let mut same = clock.same();
+    let first = clock.now();
+    assert!(rt; EARLIEST <= first && first < EARLIEST + 60_000, "{first}");
+    assert!(rt; first <= same.now());
+}
+
+// The time of the system and the last moment of journals in seconds, when a server starts in milliseconds,
+// and what people are told.
+static STARTS: [(u64, u64, u64, Option<Gap>); 8] = [
+    (1_000, 0, 1_000_000, None),
+    (1_000, 999, 1_000_000, None),
+    (1_000, 1_001, 1_001_000, None),
+    (1_000, 87_400, 87_400_000, None),
+    (1_000, 87_401, 87_401_000, Some(Gap::Behind(86_401))),
+    (315_361_000, 1_000, 315_361_000_000, None),
+    (
+        315_361_001,
+        1_000,
+        315_361_001_000,
+        Some(Gap::Ahead(315_360_001)),
+    ),
+    (315_361_001, 0, 315_361_001_000, None),
+];
+
+#[test]
+fn starts_of_servers(rt: HostRuntime) -> Result<(), Fail> {
+    for (system, last, start, gap) in &STARTS {
+        let (Some(now), Some(end)) = (Moment::of(*system), Moment::of(*last)) else {
+            return Err("moments".into());
+        };
+        assert!(rt; start_of(*system * 1000, end) == *start, "{system} {last}");
+        assert!(rt; gap_of(now, end) == *gap, "{system} {last}");
+    }
+    Ok(())
 }

@@ -9,4 +9,6 @@ mod doors;
 #[cfg(test)]
 mod links;
 #[cfg(test)]
+mod orders;
+#[cfg(test)]
 mod sockets;
