@@ -5,27 +5,32 @@ ghost use Rattle.std.specs.Prelude.{◌≡◌, ◌≢◌};
 ghost use Rattle.std.specs.declared.io.ErrorKind.TheVariants.{OutOfMemory};
 ghost use Rattle.server_commands.specs.declared.statuses.Status.TheVariants as Statuses;
 
+mod meetings;
 mod relays;
 mod serve;
 mod tools;
 
 use crate::relays::{may_relay, relay_over};
-use crate::serve::{Served, serve_over};
+use crate::serve::{Served, externals_in, serve_over};
 use crate::tools::{ask_over, may_ask};
 use client_commands::help_of;
+use config_source::config_of;
+use journal_dump::Looked;
 use lease_disk::{DiskPair, FileDisk};
-use lease_journal::Found;
-use pcp_base::Memory;
+use pcp_base::{MOST_EXTERNALS, Memory};
 use pcp_io::{FileSource, Source, StdSink};
 use pcp_server::{Status, run_once};
 use program_texts::{
-    KeptSource, Places, journals_in, look_at, may_open, places_of, tell_tool_words, told_of,
+    DiskCause, KeptSource, Places, journals_in, look_at, may_open, places_of, tell_tool_words,
+    told_of,
 };
 use serve_commands::{ServePlan, serve_of};
+use status_board::Board;
 use std::alloc::Global;
 use std::env;
 use std::env::VarError;
 use std::io::ErrorKind;
+use std::os::fd::IntoRawFd;
 use std::process::ExitCode;
 use std::sync::Wait;
 use std::thread::Threads;
@@ -294,26 +299,55 @@ fn serve_at<R: Threads + Wait + Sync>(
     let path = String::from_str(rt.alloc(), places.config)?;
     let kept = Some(Vec::new(rt.alloc()));
     let mut config = KeptSource::of(FileSource::new(rt, path), kept);
+    let read = config_of(rt.alloc(), &mut config);
+    let board = Board::new(rt.alloc(), externals_in(&read))?;
     let mut out = StdSink::new(rt.stdout());
-    let Served {
-        status,
-        disks,
-        cause,
-    } = serve_over(
+    let served = serve_over(
         threads,
         rt,
         words,
         plan,
         places.journals,
         &mut config,
+        &read,
+        &board,
         explains,
         &mut out,
     )?;
-    if !explains {
-        return Ok(Ended::with(rt, status));
+    ended_by(rt, words, served, config.kept(), explains)
+}
+
+/// What people are told of how serving ended, with this configuration.
+fn ended_by(
+    rt: &HostRuntime,
+    words: &[String],
+    served: Served<'_>,
+    config: Option<&[u8]>,
+    explains: bool,
+) -> Result<Ended, Memory> {
+    let Served {
+        status,
+        disks,
+        stopped,
+        told,
+        cause,
+    } = served;
+    let mut ended = if explains && told.is_empty() {
+        explained(rt, words, status, config, &[], &disks)
+    } else {
+        Ended {
+            status: EndStatus::Server(status),
+            told,
+        }
+    };
+    drop(disks);
+    if let Some(stream) = stopped {
+        // The system closes it when the program has ended.
+        let _open = stream.into_raw_fd();
     }
-    let mut ended = explained(rt, words, status, config.kept(), &[], &disks);
-    if let Some(cause) = cause {
+    if let Some(cause) = cause
+        && explains
+    {
         ended.told.push(cause)?;
     }
     Ok(ended)
@@ -347,9 +381,9 @@ fn kept_if(alloc: Global, explains: bool) -> Option<Vec<u8>> {
 }
 
 /// What journals that a command opens were found to be, to be told at its end.
-fn find_journals(rt: &HostRuntime, words: &[String], places: &Places<'_>) -> Vec<Option<Found>> {
+fn find_journals(rt: &HostRuntime, words: &[String], places: &Places<'_>) -> Vec<Option<Looked>> {
     if may_open(words) {
-        look_at(rt, places.journals)
+        look_at(rt, places.journals, MOST_EXTERNALS)
     } else {
         Vec::new(rt.alloc())
     }
@@ -370,13 +404,13 @@ fn run_over<'a, C: Source>(
 
 /// A command of the server ended so; what people are told of it beside that, where there is memory for
 /// it.
-fn explained(
+fn explained<D: DiskCause>(
     rt: &HostRuntime,
     words: &[String],
     status: Status,
     config: Option<&[u8]>,
-    found: &[Option<Found>],
-    disks: &[DiskPair<FileDisk<&HostRuntime>>],
+    found: &[Option<Looked>],
+    disks: &[DiskPair<D>],
 ) -> Ended {
     match told_of(rt, words, status, config, found, disks) {
         Ok(told) => Ended {

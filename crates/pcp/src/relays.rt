@@ -1,8 +1,8 @@
 //! The relays over the sockets of this host.
 use cascade_runs::run_cascade;
 use pcp_base::Memory;
-use pcp_io::{SystemClock, UdpOutbox};
-use program_links::{RelayInbox, ip_of, same_socket, socket_at};
+use pcp_io::UdpOutbox;
+use program_links::{RelayInbox, clock_from_now, ip_of, same_socket, socket_at};
 use proxy_commands::{ProxyCommand, cascade_command_of, command_of};
 use proxy_runs::{SERVER_PORT, run_proxy};
 use std::alloc::Global;
@@ -51,7 +51,7 @@ pub(crate) fn relay_over<R: Wait>(
     let mut down = UdpOutbox::of(same_socket(&inner));
     let mut up = UdpOutbox::of(same_socket(&own));
     let mut from = RelayInbox::of(alloc, command.server, inner, own)?;
-    let mut clock = SystemClock::of(rt);
+    let mut clock = clock_from_now(rt);
     if may_cascade(words) {
         return Ok(run_cascade(
             waits, alloc, words, &mut down, &mut up, &mut from, &mut clock,

@@ -2,8 +2,8 @@
 use client_commands::{ClientCommand, Target, command_of};
 use client_runs::run_client;
 use pcp_base::{Address, Memory};
-use pcp_io::{StdSink, SystemClock, UdpOutbox};
-use program_links::{client_inbox, ip_of, same_socket, socket_at};
+use pcp_io::{StdSink, UdpOutbox};
+use program_links::{client_inbox, clock_from_now, ip_of, same_socket, socket_at};
 use random_words::FileEntropy;
 use std::alloc::Global;
 use std::net::{SocketAddr, UdpSocket};
@@ -43,7 +43,7 @@ pub(crate) fn ask_over(rt: &HostRuntime, words: &[String]) -> Result<ToolStatus,
     let mut up = UdpOutbox::of(same_socket(&socket));
     let mut from = client_inbox(alloc, socket)?;
     let mut entropy = FileEntropy::new(rt, String::from_str(alloc, RANDOM)?);
-    let mut clock = SystemClock::of(rt);
+    let mut clock = clock_from_now(rt);
     let mut out = StdSink::new(rt.stdout());
     Ok(run_client(
         alloc,
