@@ -1,7 +1,7 @@
 # `make demo` builds the proved program, stops it in the middle of the example and plays on, and does the same with a server over UDP;
 # `make test` is the merge gate; `make rows` runs the commands of rows/ over the proved program; `make edits` tries each wrong body of edits/, or those of some
 # crates (`make edits NAMES="lease_disk pcp_codec"`), which the prover must refuse; `make help` prints the program's usage. `make install`
-# puts the proved program, its page, a unit for systemd and a configuration below DESTDIR and PREFIX.
+# puts the proved program, its page, units for systemd, and a configuration and the ports for them below DESTDIR and PREFIX.
 .PHONY: demo test rows edits help install
 
 PREFIX = /usr/local
@@ -28,6 +28,9 @@ install:
 	@cd crates/pcp && rt run -- --version
 	install -D -m 755 crates/pcp/out/pcp $(DESTDIR)$(PREFIX)/bin/pcp
 	install -D -m 644 docs/pcp.8 $(DESTDIR)$(PREFIX)/share/man/man8/pcp.8
-	sed 's|/usr/local|$(PREFIX)|' examples/pcp.service >crates/pcp/out/pcp.service
-	install -D -m 644 crates/pcp/out/pcp.service $(DESTDIR)$(PREFIX)/lib/systemd/system/pcp.service
+	for unit in pcp.service pcp@.service; do \
+	  sed 's|/usr/local|$(PREFIX)|' "examples/$$unit" >"crates/pcp/out/$$unit" && \
+	  install -D -m 644 "crates/pcp/out/$$unit" "$(DESTDIR)$(PREFIX)/lib/systemd/system/$$unit" || exit 1; \
+	done
 	install -D -m 644 examples/server.toml $(DESTDIR)$(PREFIX)/share/doc/pcp/server.toml
+	install -D -m 644 examples/site.env $(DESTDIR)$(PREFIX)/share/doc/pcp/site.env
