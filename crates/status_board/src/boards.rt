@@ -229,6 +229,14 @@ impl Board {
         }
     }
 
+    /// Leaves that the numbers of an external address that were left last answer this ask too: it had no
+    /// others.
+    pub fn keep(&self, place: u32, asked: u64) {
+        if let Some(words) = self.shard(place) {
+            words.answered.store(asked, Ordering::SeqCst);
+        }
+    }
+
     /// How often somebody asked.
     pub fn asks(&self) -> u64 {
         self.asked.load(Ordering::SeqCst)
