@@ -1,11 +1,12 @@
 //! A house of many threads, as its workers see it.
-ghost use Rattle.std.specs.Prelude.{◌≡◌, ◌≤◌, length, IfOk, IfErr, OnErr};
+ghost use Rattle.std.specs.Prelude.{◌≡◌, ◌≤◌, [], length, IfOk, IfErr, OnOk, OnErr};
 
 use job_workers::JobHouse;
 use lease_disk::LeaseDisk;
 use lease_house::HouseFault;
 use pcp_base::{Datagram, Memory, Moment};
 use shared_house::{House, HousePass, Served, give_up};
+use status_board::ShardNumbers;
 use std::alloc::Global;
 use std::marker::Model;
 use std::sync::Wait;
@@ -78,6 +79,21 @@ impl<D: LeaseDisk + Drop> JobHouse<HousePass<D>> for ServingHouse<D> {
         };
         let (count, _told) = lost;
         Ok(count)
+    }
+
+    fn count<R: Wait>(
+        &self,
+        rt: &R,
+        alloc: Global,
+        pass: &mut HousePass<D>,
+        now: Moment,
+    ) -> Result<ShardNumbers, HouseFault> {
+        let counted = match self.house.count(rt, alloc, pass, now) {
+            Ok(counted) => counted,
+            Err(fault) => return Err(fault),
+        };
+        let (numbers, _told) = counted;
+        Ok(numbers)
     }
 
     fn told(&self, pass: &mut HousePass<D>) -> Moment {

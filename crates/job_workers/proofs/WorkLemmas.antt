@@ -23,7 +23,7 @@ use Rattle.job_workers.specs.Gatherings.{Finishes, HasWorked, IsDesk, behind}
 use Rattle.job_workers.specs.HouseCalls.{AnswersBatchOf, HouseCalls, LosesAllOf, RefusesBatchOf, RefusesLossOf, StaysPass}
 use Rattle.job_workers.specs.Sends.{Handed, HandsOn, sent_count}
 use Rattle.job_workers.specs.Tallies.{row_lost, row_refused, row_replied}
-use Rattle.job_workers.specs.Works.{AnswersBatch, DoesCall, DoesCalls, LosesAll, Lost, Refused, Replied, WorkCall, WorkState, Works, jobs_of, row_by}
+use Rattle.job_workers.specs.Works.{AnswersBatch, Counts, DoesCall, DoesCalls, DoesUnheard, LosesAll, Lost, Refused, Replied, WorkCall, WorkState, Works, jobs_of, row_by}
 use Rattle.job_workers.proofs.SendLemmas.{sent_with-nil}
 
 DoesCalls-append : {P : Type 0} (house : HouseCalls P) (xs ys : List WorkCall) (a b c : WorkState P) → DoesCalls house xs a b → DoesCalls house ys b c → DoesCalls house (xs ++ ys) a c
@@ -41,6 +41,10 @@ Works-append house js ks a b c p q = record {
       ∙ sym (flat_map-append (λ (call : WorkCall). call.jobs) p.calls q.calls));
 }
 
+-- and no job more
+pub Works-more : {P : Type 0} (house : HouseCalls P) (js : List Job) (a b c : WorkState P) → Works house js a b → Works house [] b c → Works house js a c
+Works-more house js a b c p q = subst (λ (l : List Job). Works house l a c) (append-nil js) (Works-append house js [] a b c p q)
+
 -- one call
 Works-one : {P : Type 0} (house : HouseCalls P) (call : WorkCall) (a b : WorkState P) → DoesCall house call a b → Works house call.jobs a b
 Works-one house call a b does = record { calls = call ∷ []; does = (b, does, refl); jobs = sym (append-nil call.jobs) }
@@ -49,14 +53,15 @@ pub Works-batch : {P : Type 0} (house : HouseCalls P) (items batch : List Datagr
 Works-batch house items batch a b same h =
     subst (λ (js : List Job). Works house js a b) (h.jobs ∙ ap (map Jobs.Packet) same) (Works-one house h.call a b h.does)
 
-Works-lost : {P : Type 0} (house : HouseCalls P) (old new : P) (row_old row_new : TallyRow) (times_old times_new : Option Times) (sent : Option (List Datagram)) (faults : ℕ)
-    → LosesAll house old new row_old row_new times_old times_new
-    → Works house (Jobs.Lose ∷ []) (record { pass = old; row = row_old; sent = sent; faults = faults; times = times_old }) (record { pass = new; row = row_new; sent = sent; faults = faults; times = times_new })
-Works-lost {P} house old new row_old row_new times_old times_new sent faults h =
+-- a call without replies
+pub Works-unheard : {P : Type 0} (house : HouseCalls P) (wanted : List Job) (old new : P) (row_old row_new : TallyRow) (times_old times_new : Option Times) (sent : Option (List Datagram)) (faults : ℕ)
+    → length wanted ≤ MOST_BATCH → DoesUnheard house wanted old new row_old row_new times_old times_new
+    → Works house wanted (record { pass = old; row = row_old; sent = sent; faults = faults; times = times_old }) (record { pass = new; row = row_new; sent = sent; faults = faults; times = times_new })
+Works-unheard {P} house wanted old new row_old row_new times_old times_new sent faults few h =
     let a : WorkState P = record { pass = old; row = row_old; sent = sent; faults = faults; times = times_old } in
     let b : WorkState P = record { pass = new; row = row_new; sent = sent; faults = faults; times = times_new } in
     let does : DoesCall house h.call a b = record {
-      few = omega (arith, ap length h.jobs);
+      few = subst (λ (js : List Job). length js ≤ MOST_BATCH) (sym h.jobs) few;
       clock = h.clock;
       by_house = h.by_house;
       stays = h.stays;
@@ -73,7 +78,7 @@ pub Works-loss : {P : Type 0} (house : HouseCalls P) (next : Next) (old new : P)
 Works-loss {P} house next old new row_old row_new times_old times_new sent faults is h =
     let a : WorkState P = record { pass = old; row = row_old; sent = sent; faults = faults; times = times_old } in
     let b : WorkState P = record { pass = new; row = row_new; sent = sent; faults = faults; times = times_new } in
-    subst (λ (n : Next). Works house (behind n) a b) (sym is) (Works-lost house old new row_old row_new times_old times_new sent faults h)
+    subst (λ (n : Next). Works house (behind n) a b) (sym is) (Works-unheard house (Jobs.Lose ∷ []) old new row_old row_new times_old times_new sent faults (omega arith) h)
 
 -- ---- a pass stays one of its external address
 
@@ -159,6 +164,40 @@ lacks_loss house time m old new row_old row_new times_old times_new fault second
       jobs = refl;
       clock = clock;
       by_house = inr (record { jobs_are = refl; refuses = refused.refuses });
+      stays = refused.stays;
+      silent = refl;
+      sends = refl;
+      row = row;
+    }
+
+-- a call that counted, for no job
+pub counts_all : {P : Type 0} (house : HouseCalls P) (time m : ℕ) (old new : P) (row_old row_new : TallyRow) (times_old times_new : Option Times)
+    → m ≡ time / 1000 → IsTimeNow times_old times_new time → AnswersBatchOf house m [] old new [] → row_new ≡ row_replied row_old 0 0 0 0
+    → Counts house old new row_old row_new times_old times_new
+counts_all house time m old new row_old row_new times_old times_new second clock serves row =
+    let served : AnswersBatchOf house (time / 1000) [] old new [] = subst (λ n. AnswersBatchOf house n [] old new []) second serves in
+    record {
+      call = record { jobs = []; time = time; own = served.own; result = Replied [] };
+      jobs = refl;
+      clock = clock;
+      by_house = record { batch = []; jobs_are = refl; answers = served.answers };
+      stays = served.stays;
+      silent = refl;
+      sends = refl;
+      row = row;
+    }
+
+-- one that was refused
+pub lacks_count : {P : Type 0} (house : HouseCalls P) (time m : ℕ) (old new : P) (row_old row_new : TallyRow) (times_old times_new : Option Times) (fault : HouseFault)
+    → m ≡ time / 1000 → IsTimeNow times_old times_new time → RefusesBatchOf house m [] old new fault → row_new ≡ row_refused row_old 0 fault
+    → Counts house old new row_old row_new times_old times_new
+lacks_count house time m old new row_old row_new times_old times_new fault second clock refuses row =
+    let refused : RefusesBatchOf house (time / 1000) [] old new fault = subst (λ n. RefusesBatchOf house n [] old new fault) second refuses in
+    record {
+      call = record { jobs = []; time = time; own = refused.own; result = Refused fault };
+      jobs = refl;
+      clock = clock;
+      by_house = inl (record { batch = []; jobs_are = refl; refuses = refused.refuses });
       stays = refused.stays;
       silent = refl;
       sends = refl;

@@ -125,14 +125,23 @@ module _ {P : Type 0} (house : HouseCalls P) where
     pub jobs : call.jobs ≡ map Packet batch
     pub does : DoesCall call old new
 
-  -- a call for a loss, for any outbox
-  pub record LosesAll (old new : P) (row_old row_new : TallyRow)
+  -- a call for these jobs that has no replies, for any outbox
+  pub record DoesUnheard (wanted : List Job) (old new : P) (row_old row_new : TallyRow)
       (times_old times_new : Option Times) : Type 0 where
     pub call : WorkCall
-    pub jobs : call.jobs ≡ Lose ∷ []
+    pub jobs : call.jobs ≡ wanted
     pub clock : IsTimeNow times_old times_new call.time
     pub by_house : IsOfHouse (call.time / 1000) old new call.jobs call.own call.result
     pub stays : StaysPass house old new
     pub silent : taken_in call.result ≡ []
     pub sends : unsent_in call.result ≡ 0
-    pub row : row_new ≡ row_by row_old 1 call.result
+    pub row : row_new ≡ row_by row_old (length wanted) call.result
+
+  -- a call for a loss, and one that counts, for no job
+  abbrev pub LosesAll : (old new : P) → (row_old row_new : TallyRow) →
+      (times_old times_new : Option Times) → Type 0
+  LosesAll = DoesUnheard (Lose ∷ [])
+
+  abbrev pub Counts : (old new : P) → (row_old row_new : TallyRow) →
+      (times_old times_new : Option Times) → Type 0
+  Counts = DoesUnheard []

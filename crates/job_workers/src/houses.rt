@@ -1,5 +1,5 @@
 //! What workers ask of a house.
-ghost use Rattle.std.specs.Prelude.{◌≡◌, ◌≤◌, length, IfOk, IfErr, OnErr};
+ghost use Rattle.std.specs.Prelude.{◌≡◌, ◌≤◌, [], length, IfOk, IfErr, OnOk, OnErr};
 ghost use Rattle.std.specs.List.{AllByRecursion};
 ghost use Rattle.lease_histories.specs.Routes.{route_of};
 ghost use Rattle.job_queue.specs.declared.batches.TheConstants.{MOST_BATCH};
@@ -7,6 +7,7 @@ ghost use Rattle.job_workers.specs.HouseCalls.{AnswersBatchOf, HouseCalls, IsTol
 
 use lease_house::HouseFault;
 use pcp_base::{Datagram, Memory, Moment};
+use status_board::ShardNumbers;
 use std::alloc::Global;
 use std::sync::Wait;
 
@@ -46,6 +47,21 @@ pub trait JobHouse<P> {
         requires { (calls self.now).is_pass pass.old }
         ensures lost { IfOk result (λ _. LosesAllOf (calls self.now) now pass.old pass.new) }
         ensures refused { IfErr result (RefusesLossOf (calls self.now) now pass.old pass.new) };
+
+    /// Counts what the pass's external address has at this moment. For all else it does as `serve` does
+    /// with a batch without datagrams.
+    fn count<R: Wait>(
+        &self,
+        rt: &R,
+        alloc: Global,
+        pass: &mut P,
+        now: Moment,
+    ) -> Result<ShardNumbers, HouseFault>
+        requires { (calls self.now).is_pass pass.old }
+        ensures served { OnOk result
+            (AnswersBatchOf (calls self.now) now [] pass.old pass.new []) }
+        ensures refused { IfErr result
+            (RefusesBatchOf (calls self.now) now [] pass.old pass.new) };
 
     /// The greatest base that any pass raised, as the epoch word tells it.
     fn told(&self, pass: &mut P) -> Moment

@@ -4,6 +4,8 @@
 
 mod finishing;
 mod houses;
+mod outcomes;
+mod pauses;
 mod sends;
 mod tallies;
 mod work_loop;
@@ -12,8 +14,9 @@ mod workers;
 
 pub use finishing::finish;
 pub use houses::JobHouse;
+pub use outcomes::Outcome;
 pub use sends::{send_all, send_one, send_to_groups};
 pub use tallies::{Sends, Tally, TallyRow};
 pub use work_loop::{work, work_off};
 pub use worker_threads::run_workers;
-pub use workers::{Desk, Next, do_round};
+pub use workers::{Desk, Next, Round, do_round};

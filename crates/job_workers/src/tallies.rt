@@ -4,6 +4,7 @@ ghost use Rattle.job_workers.specs.Tallies.{joined_rows, more, row_full, row_los
 
 use lease_house::HouseFault;
 use pcp_base::Listed;
+use status_board::JobCounts;
 
 /// What became of the jobs of a shard. A count that stands at 2^64 - 1 stands still.
 #[derive(Clone, Copy, Debug, PartialEq, Eq, Drop)]
@@ -99,6 +100,27 @@ impl TallyRow {
         ensures { self.new ≡ row_starved self.old }
     {
         self.starved = more(self.starved, 1);
+    }
+
+    /// The counts of a worker, for the board.
+    pub fn counts(&self) -> JobCounts
+        ensures { result ≡ record {
+          taken = self.now.taken;
+          replied = self.now.replied;
+          silent = self.now.silent;
+          unsent = self.now.unsent;
+          faulted = self.now.faulted;
+          starved = self.now.starved;
+        } }
+    {
+        JobCounts {
+            taken: self.taken,
+            replied: self.replied,
+            silent: self.silent,
+            unsent: self.unsent,
+            faulted: self.faulted,
+            starved: self.starved,
+        }
     }
 
     /// The counts of a worker, and those of the dispatcher for its shard.

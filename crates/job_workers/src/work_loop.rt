@@ -4,6 +4,7 @@ ghost use Rattle.job_queue.specs.Queues.{MayBeEmpty};
 ghost use Rattle.job_workers.specs.Gatherings.{HasWorked, IsDesk};
 
 use crate::houses::JobHouse;
+use crate::pauses::Pause;
 use crate::workers::{Desk, do_round};
 use crossbeam_utils::sync::Parker;
 use job_queue::JobQueue;
@@ -25,7 +26,8 @@ fn is_over<R: Wait>(rt: &R, parker: &Parker, dry: bool, over: bool) -> bool {
     false
 }
 
-/// Works until the dispatcher has ended and the queue is empty.
+/// Works until the dispatcher has ended and the queue is empty. Behind a call in which a disk failed it
+/// waits, so that a disk that keeps failing isn't read all the time.
 pub fn work<R: Wait, O: Outbox, T: Clock, G: Gate, P, H: JobHouse<P>>(
     rt: &R,
     alloc: Global,
@@ -58,10 +60,12 @@ pub fn work<R: Wait, O: Outbox, T: Clock, G: Gate, P, H: JobHouse<P>>(
         desk.old.taker desk.new.taker }
     ensures batch { desk.new.batch ≡ [] }
 {
+    let mut pause = Pause::new();
     for _ in rt.forever() {
         let over = ended.load(Ordering::SeqCst);
-        let dry = do_round(rt, alloc, house, gate, board, queue, desk, out, clock);
-        if is_over(rt, &desk.parker, dry, over) {
+        let round = do_round(rt, alloc, house, gate, board, queue, desk, out, clock);
+        pause.behind(round.outcome, ended);
+        if is_over(rt, &desk.parker, round.dry, over) {
             return;
         }
     }
@@ -102,7 +106,8 @@ pub fn work_off<R: Wait, O: Outbox, T: Clock, G: Gate, P, H: JobHouse<P>>(
     ensures batch { desk.new.batch ≡ [] }
 {
     for _ in rt.forever() {
-        if do_round(rt, alloc, house, gate, board, queue, desk, out, clock) {
+        let round = do_round(rt, alloc, house, gate, board, queue, desk, out, clock);
+        if round.dry {
             return;
         }
     }

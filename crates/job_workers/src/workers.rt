@@ -6,18 +6,19 @@ ghost use Rattle.pcp_io.specs.declared.clocks.TheConstants.{END_OF_TIME_MS};
 ghost use Rattle.lease_histories.specs.Routes.{route_of};
 ghost use Rattle.job_queue.specs.declared.batches.TheConstants.{MOST_BATCH};
 ghost use Rattle.job_queue.specs.Queues.{IsJobFor, MayBeEmpty};
-ghost use Rattle.job_workers.specs.Works.{AnswersBatch, LosesAll, Works};
+ghost use Rattle.job_workers.specs.Works.{AnswersBatch, Counts, LosesAll, Works};
 ghost use Rattle.job_workers.specs.Gatherings.{Gathers, HasWorked, IsDesk, behind};
 
 use crate::houses::JobHouse;
+use crate::outcomes::{CallEnd, Outcome, leave_end};
 use crate::sends::send_all;
-use crate::tallies::TallyRow;
+use crate::tallies::{Sends, TallyRow};
 use crossbeam_utils::sync::Parker;
 use job_queue::{Batch, Job, JobQueue, MOST_BATCH, Taker};
 use lane_loops::moment_of;
 use pcp_base::Datagram;
 use pcp_io::{Clock, Gate, Outbox};
-use status_board::Board;
+use status_board::{Board, ShardNumbers};
 use std::alloc::Global;
 use std::sync::Wait;
 
@@ -90,7 +91,7 @@ fn answer_batch<R: Wait, O: Outbox, T: Clock, P, H: JobHouse<P>>(
     row: &mut TallyRow,
     out: &mut O,
     clock: &mut T,
-)
+) -> CallEnd
     requires pass { (H.calls house.now).is_pass pass.old }
     requires most { length batch.now ≤ MOST_BATCH }
     requires routed { AllByRecursion
@@ -118,12 +119,19 @@ fn answer_batch<R: Wait, O: Outbox, T: Clock, P, H: JobHouse<P>>(
         Ok(replies) => replies,
         Err(fault) => {
             row.count_refused(jobs as u64, fault);
-            return;
+            return CallEnd {
+                moment: now,
+                outcome: Outcome::of(fault),
+            };
         }
     };
     let sends = send_all(out, &replies);
     let silent = jobs.saturating_sub(replies.len());
     row.count_replied(jobs as u64, silent as u64, sends);
+    CallEnd {
+        moment: now,
+        outcome: Outcome::Fine,
+    }
 }
 
 /// Has all leases lost.
@@ -134,15 +142,61 @@ fn lose_all<R: Wait, T: Clock, P, H: JobHouse<P>>(
     pass: &mut P,
     row: &mut TallyRow,
     clock: &mut T,
-)
+) -> CallEnd
     requires { (H.calls house.now).is_pass pass.old }
     ensures { LosesAll (H.calls house.now) pass.old pass.new row.old row.new
         (T.times clock.old) (T.times clock.new) }
 {
     let now = moment_of(clock.now());
     match house.lose(rt, alloc, pass, now) {
-        Ok(_lost) => row.count_lost(),
-        Err(fault) => row.count_refused(1, fault),
+        Ok(_lost) => {
+            row.count_lost();
+            CallEnd {
+                moment: now,
+                outcome: Outcome::Fine,
+            }
+        }
+        Err(fault) => {
+            row.count_refused(1, fault);
+            CallEnd {
+                moment: now,
+                outcome: Outcome::of(fault),
+            }
+        }
+    }
+}
+
+/// Has the house count what the external address has. It is a call without a job.
+fn count_all<R: Wait, T: Clock, P, H: JobHouse<P>>(
+    rt: &R,
+    alloc: Global,
+    house: &H,
+    pass: &mut P,
+    row: &mut TallyRow,
+    clock: &mut T,
+) -> (CallEnd, Option<ShardNumbers>)
+    requires { (H.calls house.now).is_pass pass.old }
+    ensures { Counts (H.calls house.now) pass.old pass.new row.old row.new
+        (T.times clock.old) (T.times clock.new) }
+{
+    let now = moment_of(clock.now());
+    match house.count(rt, alloc, pass, now) {
+        Ok(numbers) => {
+            row.count_replied(0, 0, Sends { sent: 0, failed: 0 });
+            let end = CallEnd {
+                moment: now,
+                outcome: Outcome::Fine,
+            };
+            (end, Some(numbers))
+        }
+        Err(fault) => {
+            row.count_refused(0, fault);
+            let end = CallEnd {
+                moment: now,
+                outcome: Outcome::of(fault),
+            };
+            (end, None)
+        }
     }
 }
 
@@ -156,7 +210,7 @@ fn do_batch<R: Wait, O: Outbox, T: Clock, G: Gate, P, H: JobHouse<P>>(
     desk: &mut Desk<P>,
     out: &mut O,
     clock: &mut T,
-)
+) -> Outcome
     requires pass { (H.calls house.now).is_pass desk.old.pass }
     requires routed { AllByRecursion
         (λ d. route_of (H.calls house.now).config d
@@ -180,17 +234,19 @@ fn do_batch<R: Wait, O: Outbox, T: Clock, G: Gate, P, H: JobHouse<P>>(
     ensures batch { desk.new.batch ≡ [] }
 {
     if desk.batch.len() == 0 {
-        return;
+        return Outcome::Idle;
     }
     gate.pause(desk.shard);
     let Desk {
+        shard,
         pass,
         row,
         batch,
         ..
     } = desk;
-    answer_batch(rt, alloc, house, pass, batch.items(), row, out, clock);
+    let end = answer_batch(rt, alloc, house, pass, batch.items(), row, out, clock);
     batch.clear();
+    leave_end(board, *shard, row, end)
 }
 
 /// Has all leases lost, where that comes behind the batch.
@@ -203,7 +259,7 @@ fn do_loss<R: Wait, T: Clock, G: Gate, P, H: JobHouse<P>>(
     desk: &mut Desk<P>,
     clock: &mut T,
     next: Next,
-)
+) -> Outcome
     requires { (H.calls house.now).is_pass desk.old.pass }
     ensures works { (sent : Option (List Datagram)) (faults : ℕ) →
         Works (H.calls house.now) (behind next)
@@ -225,14 +281,80 @@ fn do_loss<R: Wait, T: Clock, G: Gate, P, H: JobHouse<P>>(
     ensures batch { desk.new.batch ≡ desk.old.batch }
 {
     if next != Next::Loss {
-        return;
+        return Outcome::Idle;
     }
     gate.pause(desk.shard);
-    let Desk { pass, row, .. } = desk;
-    lose_all(rt, alloc, house, pass, row, clock);
+    let Desk {
+        shard,
+        pass,
+        row,
+        ..
+    } = desk;
+    let end = lose_all(rt, alloc, house, pass, row, clock);
+    leave_end(board, *shard, row, end)
 }
 
-/// Takes jobs and does them, and says whether the queue was empty then.
+/// Counts what the external address has, where somebody asks for it, and leaves it on the board.
+fn do_count<R: Wait, T: Clock, G: Gate, P, H: JobHouse<P>>(
+    rt: &R,
+    alloc: Global,
+    house: &H,
+    gate: &G,
+    board: &Board,
+    desk: &mut Desk<P>,
+    clock: &mut T,
+) -> Outcome
+    requires { (H.calls house.now).is_pass desk.old.pass }
+    ensures works { (sent : Option (List Datagram)) (faults : ℕ) →
+        Works (H.calls house.now) []
+        (record {
+          pass = desk.old.pass;
+          row = desk.old.row;
+          sent = sent;
+          faults = faults;
+          times = T.times clock.old;
+        })
+        (record {
+          pass = desk.new.pass;
+          row = desk.new.row;
+          sent = sent;
+          faults = faults;
+          times = T.times clock.new;
+        }) }
+    ensures taker { desk.new.taker ≡ desk.old.taker }
+    ensures batch { desk.new.batch ≡ desk.old.batch }
+{
+    if !board.is_asked(desk.shard) {
+        return Outcome::Idle;
+    }
+    gate.pause(desk.shard);
+    let Desk {
+        shard,
+        pass,
+        row,
+        ..
+    } = desk;
+    // What is asked from here on isn't answered by these numbers.
+    let asked = board.asks();
+    let (end, numbers) = count_all(rt, alloc, house, pass, row, clock);
+    match numbers {
+        Some(numbers) => board.leave(*shard, asked, &numbers),
+        None => board.keep(*shard, asked),
+    }
+    leave_end(board, *shard, row, end)
+}
+
+/// What a round came to.
+#[derive(Clone, Copy, Debug)]
+pub struct Round {
+    /// whether the queue was empty then
+    pub dry: bool,
+    /// how its last call ended
+    pub outcome: Outcome,
+}
+
+/// Takes jobs and does them, and counts where somebody asks for that. It says whether the queue was
+/// empty then.
 pub fn do_round<R: Wait, O: Outbox, T: Clock, G: Gate, P, H: JobHouse<P>>(
     rt: &R,
     alloc: Global,
@@ -243,7 +365,7 @@ pub fn do_round<R: Wait, O: Outbox, T: Clock, G: Gate, P, H: JobHouse<P>>(
     desk: &mut Desk<P>,
     out: &mut O,
     clock: &mut T,
-) -> bool
+) -> Round
     requires desk { IsDesk (H.calls house.now) queue.now desk.old.pass desk.old.taker }
     requires batch { desk.old.batch ≡ [] }
     ensures works { HasWorked (H.calls house.now)
@@ -262,12 +384,16 @@ pub fn do_round<R: Wait, O: Outbox, T: Clock, G: Gate, P, H: JobHouse<P>>(
           times = T.times clock.new;
         })
         desk.old.taker desk.new.taker }
-    ensures dry { IsTrue result → MayBeEmpty desk.new.taker }
+    ensures dry { IsTrue result.dry → MayBeEmpty desk.new.taker }
     ensures batch { desk.new.batch ≡ [] }
 {
     let Desk { taker, batch, .. } = &mut *desk;
     let next = gather(rt, queue, taker, batch);
-    do_batch(rt, alloc, house, gate, board, desk, out, clock);
-    do_loss(rt, alloc, house, gate, board, desk, clock, next);
-    next == Next::Dry
+    let answered = do_batch(rt, alloc, house, gate, board, desk, out, clock);
+    let lost = do_loss(rt, alloc, house, gate, board, desk, clock, next);
+    let counted = do_count(rt, alloc, house, gate, board, desk, clock);
+    Round {
+        dry: next == Next::Dry,
+        outcome: answered.then(lost).then(counted),
+    }
 }

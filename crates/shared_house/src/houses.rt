@@ -1,12 +1,13 @@
 //! A house whose external addresses are served by any number of threads.
 
 use crate::served::Served;
-use crate::serving::{lose_behind, serve_behind};
+use crate::serving::{count_behind, lose_behind, serve_behind};
 use epoch_word::EpochWord;
 use lane_index::Told;
 use lease_disk::{DiskPair, LeaseDisk};
 use lease_house::{HouseFault, fault_at};
 use pcp_base::{Config, Datagram, Moment};
+use status_board::ShardNumbers;
 use std::alloc::Global;
 use std::marker::Model;
 use std::sync::Wait;
@@ -46,7 +47,7 @@ impl<D: LeaseDisk> Model for House<D> {
 }
 
 impl<D: LeaseDisk + Drop> House<D> {
-    ghost use Rattle.std.specs.Prelude.{◌≡◌, ◌≤◌, length, IfOk, IfErr, OnErr};
+    ghost use Rattle.std.specs.Prelude.{◌≡◌, ◌≤◌, [], length, IfOk, IfErr, OnErr};
     ghost use Rattle.std.specs.List.{AllByRecursion};
     ghost use Rattle.journal_sides.specs.declared.layout.TheConstants.{MOST_RECORDS};
     ghost use Rattle.lease_histories.specs.Routes.{route_of};
@@ -120,6 +121,35 @@ impl<D: LeaseDisk + Drop> House<D> {
         let turn = &self.turns[place as usize];
         match lose_behind(rt, alloc, turn, &self.word, pass, now) {
             Ok(lost) => Ok(lost),
+            Err(fault) => Err(fault_at(place, fault)),
+        }
+    }
+
+    /// Counts what the pass's external address has, in one turn, once it is settled: at the greater of
+    /// `now` and the moment of its last entry. It says too what its lane may learn. For all else it
+    /// does as `serve` does with a batch without datagrams.
+    pub fn count<R: Wait>(
+        &self,
+        rt: &R,
+        alloc: Global,
+        pass: &mut HousePass<D>,
+        now: Moment,
+    ) -> Result<(ShardNumbers, Told), HouseFault>
+        requires { IsPassOf self.now pass.old }
+        ensures pass { IsPassOf self.now pass.new }
+        ensures shard { pass.new.shard ≡ pass.old.shard }
+        ensures counted { (o : Opening D) → BeginsAt self.now pass.old.shard o → IfOk result
+            (λ counted. ServesHouse o D.tells D.seen D.moment D.left_since D.may_leave D.faults
+            now [] pass.old pass.new [] counted.1) }
+        ensures refused { (o : Opening D) → BeginsAt self.now pass.old.shard o → IfErr result
+            (RefusesAt o D.tells D.seen D.moment D.left_since D.may_leave D.faults
+            pass.old.shard now (λ log. batch_behind o log now pass.new.epoch.heard [])
+            (raised_behind o) pass.old pass.new) }
+    {
+        let place = pass.shard;
+        let turn = &self.turns[place as usize];
+        match count_behind(rt, alloc, &self.config, turn, &self.word, pass, now) {
+            Ok(counted) => Ok(counted),
             Err(fault) => Err(fault_at(place, fault)),
         }
     }

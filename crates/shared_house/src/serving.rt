@@ -22,8 +22,10 @@ use crate::served::Served;
 use epoch_word::EpochWord;
 use lane_index::Told;
 use lease_disk::LeaseDisk;
+use lease_journal::JournalFault;
 use pcp_base::{Config, Datagram, Moment};
 use shard_book::BookFault;
+use status_board::ShardNumbers;
 use std::alloc::Global;
 use std::sync::Wait;
 use turn_lock::{Held, Pass, Turn};
@@ -325,6 +327,49 @@ fn settle_and_lose<D: LeaseDisk + Drop, R: Wait>(
     }
 }
 
+/// Settles the held shard, and counts what it has. All records are published.
+fn settle_and_count<D: LeaseDisk + Drop, R: Wait>(
+    rt: &R,
+    alloc: Global,
+    config: &Config,
+    turn: &Turn<Shard<D>>,
+    word: &EpochWord,
+    pass: &mut HousePass<D>,
+    held: &mut Held<Shard<D>>,
+    now: Moment,
+) -> Result<(ShardNumbers, Told), BookFault>
+    requires config { IsConfig config.now }
+    requires batch { IsBatchOf turn.now.key config.now [] }
+    requires held { IsHeldBy D.tells D.seen D.moment D.left_since D.may_leave D.faults turn.now held.old
+        pass.old.history }
+    requires word { pass.old.epoch.word ≡ word.now }
+    ensures held { IsHeldBy D.tells D.seen D.moment D.left_since D.may_leave D.faults turn.now held.new
+        pass.new.history }
+    ensures shard { pass.new.shard ≡ pass.old.shard }
+    ensures word { pass.new.epoch.word ≡ pass.old.epoch.word }
+    ensures counted { OnOk result (ServesHeld D.tells D.seen D.moment D.left_since
+        D.may_leave D.faults turn.now.key now [] pass.old pass.new []) }
+    ensures published { IfOk result
+        (λ counted. counted.1 ≡ told_of turn.now.key pass.new.history.seen) }
+    ensures refused { IfErr result (FailsHeld D.tells D.seen D.moment D.left_since D.may_leave
+        D.faults turn.now.key now
+        (λ log. batch_behind turn.now.key log now pass.new.epoch.heard [])
+        (raised_behind turn.now.key)
+        pass.old pass.new) }
+{
+    match settle_and_publish(rt, alloc, turn, word, pass, held, now) {
+        Ok(()) => {}
+        Err(fault) => return Err(fault),
+    }
+    let Ok(numbers) = held.value().numbers(alloc, config, now) else {
+        return Err(JournalFault::Memory);
+    };
+    match answer_and_publish(rt, alloc, config, turn, word, pass, held, &[], now) {
+        Ok(served) => Ok((numbers, served.told)),
+        Err(fault) => Err(fault),
+    }
+}
+
 /// Answers a batch in one turn.
 pub(crate) fn serve_behind<D: LeaseDisk + Drop, R: Wait>(
     rt: &R,
@@ -378,6 +423,35 @@ pub(crate) fn lose_behind<D: LeaseDisk + Drop, R: Wait>(
 {
     let mut held = turn.take(rt, &mut pass.history);
     let told = settle_and_lose(rt, alloc, turn, word, pass, &mut held, now);
+    turn.give(&mut pass.history, held);
+    told
+}
+
+/// Counts what an external address has, in one turn.
+pub(crate) fn count_behind<D: LeaseDisk + Drop, R: Wait>(
+    rt: &R,
+    alloc: Global,
+    config: &Config,
+    turn: &Turn<Shard<D>>,
+    word: &EpochWord,
+    pass: &mut HousePass<D>,
+    now: Moment,
+) -> Result<(ShardNumbers, Told), BookFault>
+    requires config { IsConfig config.now }
+    requires batch { IsBatchOf turn.now.key config.now [] }
+    requires pass { IsPassBehind turn.now word.now pass.old }
+    ensures pass { IsPassBehind turn.now word.now pass.new }
+    ensures shard { pass.new.shard ≡ pass.old.shard }
+    ensures counted { IfOk result (λ counted. ServesHouse turn.now.key D.tells D.seen D.moment
+        D.left_since D.may_leave D.faults now [] pass.old pass.new [] counted.1) }
+    ensures refused { IfErr result (RefusesHouse turn.now.key D.tells D.seen D.moment D.left_since
+        D.may_leave D.faults now
+        (λ log. batch_behind turn.now.key log now pass.new.epoch.heard [])
+        (raised_behind turn.now.key)
+        pass.old pass.new) }
+{
+    let mut held = turn.take(rt, &mut pass.history);
+    let told = settle_and_count(rt, alloc, config, turn, word, pass, &mut held, now);
     turn.give(&mut pass.history, held);
     told
 }

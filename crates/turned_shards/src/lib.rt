@@ -2,6 +2,7 @@
 //! turn keeps, and what is published of it.
 #![tactic(auto)]
 
+mod counting;
 mod doubts;
 mod laws;
 mod moments;

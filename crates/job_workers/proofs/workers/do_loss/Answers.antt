@@ -6,4 +6,4 @@ use Rattle.job_workers.proofs.workers.do_loss.Goals as goal
 pub returns-clause-works : goal.returns-clause-works
 returns-clause-works g c sent faults =
     let is : c.args.next ≡ Nexts.Loss = search rules in
-    Works-loss _ _ _ _ _ _ _ _ sent faults is c.lose_all.ensures
+    Works-loss _ _ _ _ _ _ _ _ sent faults is c.lose_all-end.ensures
