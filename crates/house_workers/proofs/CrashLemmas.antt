@@ -128,7 +128,7 @@ module _ {D : Type 0} (tells : Type 0) (seen : D → List ℕ) (moment : D → �
     begun_at config k (w ∷ bs) (t ∷ ts) (p ∷ ps) (l ∷ ls) (suc i) b all there =
         begun_at config (k + 1) bs ts ps ls i b all.1 there
 
-    first_of : {X : Type 0} (xs ys : List X) (i : ℕ) (x : X) → i < length xs → slice_get (xs ++ ys) i ≡ Some x
+    pub first_of : {X : Type 0} (xs ys : List X) (i : ℕ) (x : X) → i < length xs → slice_get (xs ++ ys) i ≡ Some x
         → slice_get xs i ≡ Some x
     first_of [] ys i x small there = absurd (omega arith)
     first_of (y ∷ xs) ys zero x small there = there

@@ -1,6 +1,7 @@
 -- From a house that has begun to its end.
-use Rattle.std.proofs.Common.{◌≡◌, ℕ, zero, suc, ◌+◌, Bool, List, [], ◌∷◌, length, Some, Result, Ok, Err, refl, sym, ap, ◌∙◌, subst, arith}
+use Rattle.std.proofs.Common.{◌≡◌, ℕ, zero, suc, ◌+◌, Bool, List, [], ◌∷◌, length, Some, Result, Ok, Err, IfOk, refl, sym, ap, ◌∙◌, subst, arith}
 use Rattle.std.specs.List.{AllByRecursion, slice_get}
+use Rattle.std.proofs.lemmas.List.{length-map}
 use Rattle.pcp_base.specs.declared.configs.Config.{Config}
 use Rattle.pcp_base.specs.declared.configs.External.{External}
 use Rattle.pcp_announce.specs.declared.doors.Group.{Group}
@@ -15,6 +16,7 @@ use Rattle.request_workers.specs.declared.faults.ServeFault.TheVariants as Serve
 use Rattle.request_workers.specs.BegunHouses.{AnswersBegun}
 use Rattle.request_workers.specs.Parts.{BegunState}
 use Rattle.request_workers.specs.Seats.{ArePasses}
+use Rattle.request_workers.specs.Served.{ShardRun}
 use Rattle.shared_house.specs.declared.beginning.Begun.{Begun}
 use Rattle.turned_shards.specs.declared.openings.Opening.{Opening}
 use Rattle.turned_shards.specs.declared.passes.HousePass.{HousePass}
@@ -236,3 +238,21 @@ module _ {D : Type 0} (tells : Type 0) (seen : D → List ℕ) (moment : D → �
         → house ≡ begun.house → ArePasses (calls_of tells seen moment left_since may_leave faults house) 0 begun.passes.items
     begins_for config begun is house same =
         subst (λ (h : HouseView D). ArePasses (calls_of tells seen moment left_since may_leave faults h) 0 begun.passes.items) (sym same) (begun_passes config begun is)
+
+    -- there is a row for each external address
+    pub rows_back : (config : Config) (begun : Begun D) (is : IsBegunFor tells seen moment left_since may_leave faults config begun) (house : HouseView D)
+        (groups : List Group) (port : ℕ) (fresh : Bool) (old new : BegunState (HousePass D)) (result : Result (List TallyRow) ServeFault)
+        → old.passes ≡ begun.passes.items
+        → AnswersBegun (calls_of tells seen moment left_since may_leave faults house) config groups port fresh old new result
+        → IfOk result (λ rows. length rows ≡ length config.externals)
+    rows_back config begun is house groups port fresh old new (Err fault) passes answers = tt
+    rows_back config begun is house groups port fresh old new (Ok rows) passes answers =
+        let runs = answers.served.serves.runs in
+        let a = ap length runs.rows_are in
+        let b = length-map runs.shards (λ (r : ShardRun (HousePass D)). r.row) in
+        let c = ap length runs.passes_are in
+        let d = length-map runs.shards (λ (r : ShardRun (HousePass D)). r.new.pass) in
+        let e = answers.count in
+        let f = ap length passes in
+        let g = begun_count config begun is in
+        omega (arith, a, b, c, d, e, f, g)

@@ -1,4 +1,5 @@
 pub mod CallLemmas
+pub mod CauseLemmas
 pub mod CrashLemmas
 pub mod EndLemmas
 pub mod FaultLemmas

@@ -7,6 +7,7 @@ use Rattle.pcp_base.specs.declared.datagrams.Entry.{Entry}
 use Rattle.pcp_base.specs.States.{State}
 use Rattle.pcp_announce.specs.declared.doors.Group.{Group}
 use Rattle.lease_disk.specs.declared.disks.DiskPair.{DiskPair}
+use Rattle.lease_disk.specs.Pairs.{PairHasCause}
 use Rattle.shard_book.specs.Books.{BookView}
 use Rattle.lease_histories.specs.Entries.{Served}
 use Rattle.lease_house.specs.SoloOpenings.{OpensOne}
@@ -88,6 +89,20 @@ module _ (D : Type 0) (tells : Type 0) (seen : D → List ℕ) (moment : D → �
         (o : Opening D) (ended : HousePass D) (pair : DiskPair D) →
         EndsOne tells seen moment left_since may_leave faults o r.new.pass ended pair →
         AreFewFaults o pair r.row.faulted
+
+    -- Where a row of the tally counts jobs as faulted, a count of the pair of its external address has
+    -- risen since the call's start. No such count has fallen.
+    abbrev pub FaultedRowsHaveCauses : Type 0
+    FaultedRowsHaveCauses = (config : Config) (groups : List Group) (port m : ℕ)
+        (before pairs : List (DiskPair D)) (begun : Begun D) (old new : Edges)
+        (rows : List TallyRow) →
+        Begins tells seen moment left_since may_leave faults config m before begun →
+        ServesToEnd tells seen moment left_since may_leave faults config groups port begun old new
+        (Ok rows) pairs →
+        (place : ℕ) (row : TallyRow) (now : DiskPair D) →
+        slice_get rows place ≡ Some row → slice_get pairs place ≡ Some now →
+        (p : DiskPair D) × (slice_get before place ≡ Some p)
+        × PairHasCause faults p now (0 < row.faulted)
 
     -- So it is with each row that serving tells at its end.
     abbrev pub FullQueuesWereFilled : Type 0

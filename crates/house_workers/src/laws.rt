@@ -1,5 +1,5 @@
 //! What holds of the run of an external address. A proof that needs a law calls its function.
-ghost use Rattle.house_workers.specs.Laws.{AcknowledgedEntriesAreKept, CrashesAreAlongHistories, CrashesAreRecovered, FaultsAreCounted, FullQueuesWereFilled, JobsAreCounted, OwnEntriesAreInOrder, OwnEntriesAreNoted, RepliesAreOfOwnEntries, UnsentAreCounted};
+ghost use Rattle.house_workers.specs.Laws.{AcknowledgedEntriesAreKept, CrashesAreAlongHistories, CrashesAreRecovered, FaultedRowsHaveCauses, FaultsAreCounted, FullQueuesWereFilled, JobsAreCounted, OwnEntriesAreInOrder, OwnEntriesAreNoted, RepliesAreOfOwnEntries, UnsentAreCounted};
 
 use lease_disk::LeaseDisk;
 use lease_house::crashes_are_found;
@@ -27,6 +27,12 @@ pub fn replies_are_of_own_entries<D: LeaseDisk>()
 /// have risen since the opening.
 pub fn faults_are_counted<D: LeaseDisk>()
     ensures { FaultsAreCounted D D.tells D.seen D.moment D.left_since D.may_leave D.faults }
+{}
+
+/// A row of the tally counts jobs as faulted only where a count of the pair of its external address has
+/// risen since the call's start, by its opening or by what was served.
+pub fn faulted_rows_have_causes<D: LeaseDisk>()
+    ensures { FaultedRowsHaveCauses D D.tells D.seen D.moment D.left_since D.may_leave D.faults }
 {}
 
 /// The row of an external address counts the jobs that were put for it, what its calls did with

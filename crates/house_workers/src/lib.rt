@@ -9,7 +9,8 @@ mod serving;
 pub use houses::ServingHouse;
 pub use laws::{
     acknowledged_entries_are_kept, crashes_are_along_histories, crashes_are_recovered,
-    faults_are_counted, full_queues_were_filled, jobs_are_counted, own_entries_are_in_order,
-    own_entries_are_noted, replies_are_of_own_entries, unsent_are_counted,
+    faulted_rows_have_causes, faults_are_counted, full_queues_were_filled, jobs_are_counted,
+    own_entries_are_in_order, own_entries_are_noted, replies_are_of_own_entries,
+    unsent_are_counted,
 };
 pub use serving::serve_all;

@@ -1,5 +1,5 @@
 //! Serving with a house that has begun, to its end.
-ghost use Rattle.std.specs.Prelude.{◌≡◌, ◌+◌, ◌*◌, length, map};
+ghost use Rattle.std.specs.Prelude.{◌≡◌, ◌+◌, ◌*◌, length, map, IfOk};
 ghost use Rattle.pcp_base.specs.Configs.{IsConfig};
 ghost use Rattle.pcp_base.specs.declared.configs.TheConstants.{MOST_EXTERNALS};
 ghost use Rattle.pcp_announce.specs.Doors.{groups};
@@ -70,6 +70,7 @@ pub fn serve_all<
           clocks = map T.times clocks.new;
         })
         result.0 result.1.items }
+    ensures rows { IfOk result.0 (λ rows. length rows ≡ length config.now.externals) }
     ensures count { length result.1.items
         ≡ length begun.house.turns + length begun.house.spare }
 {

@@ -1,5 +1,5 @@
 use Rattle.std.proofs.Common.{length, refl, ap, ◌∙◌}
-use Rattle.house_workers.proofs.EndLemmas.{begins_for, begun_lanes, ends_home, serves_to_end}
+use Rattle.house_workers.proofs.EndLemmas.{begins_for, begun_lanes, ends_home, rows_back, serves_to_end}
 use Rattle.house_workers.proofs.serving.serve_all.Goals as goal
 
 pub serve_begun-tally-requires-clause-passes : goal.serve_begun-tally-requires-clause-passes
@@ -23,3 +23,8 @@ pub returns-clause-served : goal.returns-clause-served
 returns-clause-served g c =
     serves_to_end g.D.LeaseDisk.tells g.D.LeaseDisk.seen g.D.LeaseDisk.moment g.D.LeaseDisk.left_since g.D.LeaseDisk.may_leave g.D.LeaseDisk.faults
     _ _ _ c.args.begun _ _ _ _ _ _ _ _ c.of-house.ensures c.into_house.ensures c.deref_mut.ensures.value c.serve_begun-tally.ensures c.end-pairs.ensures.ended
+
+pub returns-clause-rows : goal.returns-clause-rows
+returns-clause-rows g c =
+    rows_back g.D.LeaseDisk.tells g.D.LeaseDisk.seen g.D.LeaseDisk.moment g.D.LeaseDisk.left_since g.D.LeaseDisk.may_leave g.D.LeaseDisk.faults
+    c.args.config.now c.args.begun c.requires.begun c.of-house.result _ _ _ _ _ c.serve_begun-tally.result refl c.serve_begun-tally.ensures
