@@ -1,8 +1,11 @@
 -- A house that is opened, served and told of.
-use Rattle.std.proofs.Common.{◌≡◌, ◌/◌, inl, inr, ℕ, suc, ◌+◌, List, [], ◌∷◌, ◌++◌, length, map, flat_map, replicate, Option, Result, Ok, Err, refl, sym, ap, subst, ◌∙◌}
+use Rattle.std.proofs.Common.{◌≡◌, ◌≢◌, ◌⊎◌, ◌/◌, ◌<◌, ◌≤◌, ◌&&◌, nat_lt, inl, inr, ℕ, suc, ◌+◌, Bool, true, false, cond, List, [], ◌∷◌, ◌++◌, length, map, zip, flat_map, replicate, Option, None, Some, Result, Ok, Err, IfOk, refl, sym, ap, subst, ◌∙◌, arith}
+use Rattle.std.specs.List.{position_from, slice_get}
+use Rattle.std.proofs.lemmas.Grind.{common_steps}
 use Rattle.std.proofs.lemmas.List.{length-append, length-replicate, map-append}
 use Rattle.pcp_base.specs.declared.configs.Config.{Config}
 use Rattle.pcp_base.specs.declared.configs.External.{External}
+use Rattle.pcp_base.specs.declared.configs.TheConstants.{MOST_EXTERNALS}
 use Rattle.pcp_announce.specs.declared.doors.Group.{Group}
 use Rattle.pcp_io.specs.Faults.{HasRisen}
 use Rattle.pcp_io.specs.Times.{IsTimeNow, Times}
@@ -26,10 +29,11 @@ use Rattle.job_workers.specs.declared.tallies.TallyRow.{TallyRow}
 use Rattle.request_workers.specs.declared.faults.ServeFault.{ServeFault}
 use Rattle.request_workers.specs.declared.faults.ServeFault.TheVariants as ServeFaults
 use Rattle.shared_house.specs.declared.beginning.Begun.{Begun}
-use Rattle.shared_house.specs.Beginnings.{RefusesBegin}
+use Rattle.shared_house.specs.Beginnings.{Begins, RefusesBegin}
 use Rattle.shared_house.specs.Findings.{update_places}
+use Rattle.house_workers.specs.Laws.{FaultedRowsHaveCauses}
 use Rattle.house_workers.specs.ServingAll.{Edges, ServesToEnd}
-use Rattle.serve_runs.specs.Served.{EndsUnread, GivesStart, IsToldTo, ServeState}
+use Rattle.serve_runs.specs.Served.{EndsUnread, GivesStart, IsLostAt, IsToldTo, ServeState, first_lost, has_failed, is_lost, served_as}
 use Rattle.serve_runs.specs.Updates.{places_of}
 
 -- the dispatcher's clock was read, and no other
@@ -82,19 +86,137 @@ as-many-books disks config m (x ∷ xs) (p ∷ ps) [] spare opens = absurd opens
 as-many-books disks config m (x ∷ xs) (p ∷ ps) (b ∷ bs) spare opens =
     ap suc (as-many-books disks config m xs ps bs spare opens.1)
 
+-- so many rows there are at most
+pub few-rows : (tally : Result (List TallyRow) ServeFault) (count : ℕ) → IfOk tally (λ rows. length rows ≡ count) → count ≤ MOST_EXTERNALS
+    → IfOk tally (λ rows. length rows ≤ MOST_EXTERNALS)
+few-rows (Ok rows) count is few = omega (arith, is, few)
+few-rows (Err fault) count is few = tt
+
 -- ---- faults
 
+-- whatever disk is lost, no other fault is told once the tally is written
+served-no-read : (shard : Option ℕ) → served_as shard ≡ Statuses.ReadFault → ⊥
+served-no-read None is = cc
+served-no-read (Some shard) is = cc
+
+served-no-words : (shard : Option ℕ) → served_as shard ≡ Statuses.WordsRefused → ⊥
+served-no-words None is = cc
+served-no-words (Some shard) is = cc
+
+served-lost : (shard : ℕ) (first : Option ℕ) → served_as first ≡ Statuses.DiskFault shard → first ≡ Some shard
+served-lost shard None is = absurd cc
+served-lost shard (Some n) is = let e : n ≡ shard = cc in ap Some e
+
+-- the place that is found, with what stands there
+record Failed {D : Type 0} (lost : D → Bool) (rows : List TallyRow) (pairs : List (DiskPair D)) (i : ℕ) : Type 0 where
+  row : TallyRow
+  pair : DiskPair D
+  row_there : slice_get rows i ≡ Some row
+  pair_there : slice_get pairs i ≡ Some pair
+  faulted : 0 < row.faulted
+  lost_side : is_lost lost pair ≡ true
+
+some-fault : (n : ℕ) → nat_lt 0 n ≡ true → 0 < n
+some-fault n e = grind (arith, common_steps)
+
+both-true : (a b : Bool) → (a && b) ≡ true → (a ≡ true) × (b ≡ true)
+both-true true b e = (refl, e)
+both-true false b e = absurd cc
+
+here-or-later : (b : Bool) (k n : ℕ) (later : Option ℕ) → cond b (Some k) later ≡ Some n → ((b ≡ true) × (k ≡ n)) ⊎ (later ≡ Some n)
+here-or-later true k n later e = let same : k ≡ n = cc in inl (refl, same)
+here-or-later false k n later e = inr e
+
+module _ {D : Type 0} (lost : D → Bool) where
+  failed-here : (row : TallyRow) (pair : DiskPair D) (rows : List TallyRow) (pairs : List (DiskPair D)) → has_failed lost (row, pair) ≡ true
+      → Failed lost (row ∷ rows) (pair ∷ pairs) 0
+  failed-here row pair rows pairs is =
+      let both = both-true (nat_lt 0 row.faulted) (is_lost lost pair) is in
+      record { row = row; pair = pair; row_there = refl; pair_there = refl; faulted = some-fault row.faulted both.0; lost_side = both.1 }
+
+  -- the place among all is that behind so many
+  pub failed-from : (k : ℕ) (rows : List TallyRow) (pairs : List (DiskPair D)) (n : ℕ) → position_from (has_failed lost) k (zip rows pairs) ≡ Some n
+      → (i : ℕ) × (k + i ≡ n) × Failed lost rows pairs i
+  failed-from k [] pairs n found = absurd cc
+  failed-from k (row ∷ rows) [] n found = absurd cc
+  failed-from k (row ∷ rows) (pair ∷ pairs) n found =
+      next (here-or-later (has_failed lost (row, pair)) k n (position_from (has_failed lost) (k + 1) (zip rows pairs)) found)
+    where
+      next : ((has_failed lost (row, pair) ≡ true) × (k ≡ n)) ⊎ (position_from (has_failed lost) (k + 1) (zip rows pairs) ≡ Some n)
+          → (i : ℕ) × (k + i ≡ n) × Failed lost (row ∷ rows) (pair ∷ pairs) i
+      next (inl is) = let same = is.1 in (0, omega (arith, same), failed-here row pair rows pairs is.0)
+      next (inr later) =
+          let rest = failed-from (k + 1) rows pairs n later in
+          let same = rest.1 in
+          let f = rest.2 in (
+            suc rest.0,
+            omega (arith, same),
+            record { row = f.row; pair = f.pair; row_there = f.row_there; pair_there = f.pair_there; faulted = f.faulted; lost_side = f.lost_side },
+          )
+
+  failed-at : (rows : List TallyRow) (pairs : List (DiskPair D)) (status : Status) (shard : ℕ) → status ≡ served_as (first_lost lost rows pairs)
+      → status ≡ Statuses.DiskFault shard → Failed lost rows pairs shard
+  failed-at rows pairs status shard told is =
+      let found = failed-from 0 rows pairs shard (served-lost shard (first_lost lost rows pairs) (sym told ∙ is)) in
+      let same : found.0 ≡ shard = let e = found.1 in omega (arith, e) in
+      subst (Failed lost rows pairs) same found.2
+
+  failed : {W : Type 0} (tally : Result (List TallyRow) ServeFault) (pairs : List (DiskPair D)) (out_old out_new : W) (before now : Option (List ℕ)) (status : Status) (shard : ℕ)
+      → IsToldTo lost tally pairs out_old out_new before now status → status ≡ Statuses.DiskFault shard
+      → (rows : List TallyRow) × (tally ≡ Ok rows) × Failed lost rows pairs shard
+  failed (Ok rows) pairs out_old out_new before now status shard (inl told) is = (rows, refl, failed-at rows pairs status shard told.0 is)
+  failed (Ok rows) pairs out_old out_new before now status shard (inr (inl told)) is = absurd (cc (told.0, is))
+  failed (Ok rows) pairs out_old out_new before now status shard (inr (inr told)) is = absurd (cc (told.0, is))
+  failed (Err ServeFaults.Read) pairs out_old out_new before now status shard told is = absurd (cc (told.0, is))
+  failed (Err ServeFaults.Memory) pairs out_old out_new before now status shard told is = absurd (cc (told.0, is))
+
+  -- of the pairs as they were seen
+  pub told-of : {W : Type 0} (tally : Result (List TallyRow) ServeFault) (seen pairs : List (DiskPair D)) (out_old out_new : W) (before now : Option (List ℕ)) (status : Status)
+      → seen ≡ pairs → IsToldTo lost tally seen out_old out_new before now status → IsToldTo lost tally pairs out_old out_new before now status
+  told-of tally seen pairs out_old out_new before now status same told = subst (λ (l : List (DiskPair D)). IsToldTo lost tally l out_old out_new before now status) same told
+
+  -- the side that is lost
+  pub lost-at : {W : Type 0} (tally : Result (List TallyRow) ServeFault) (pairs : List (DiskPair D)) (out_old out_new : W) (before now : Option (List ℕ)) (status : Status) (shard : ℕ)
+      → IsToldTo lost tally pairs out_old out_new before now status → status ≡ Statuses.DiskFault shard → IsLostAt lost pairs shard
+  lost-at tally pairs out_old out_new before now status shard told is =
+      let f = (failed tally pairs out_old out_new before now status shard told is).2 in
+      record { pair = f.pair; there = f.pair_there; lost_side = f.lost_side }
+
+  pub no-words : {W : Type 0} (tally : Result (List TallyRow) ServeFault) (pairs : List (DiskPair D)) (out_old out_new : W) (before now : Option (List ℕ)) (status : Status)
+      → IsToldTo lost tally pairs out_old out_new before now status → status ≢ Statuses.WordsRefused
+  no-words (Ok rows) pairs out_old out_new before now status (inl told) is = served-no-words (first_lost lost rows pairs) (sym told.0 ∙ is)
+  no-words (Ok rows) pairs out_old out_new before now status (inr (inl told)) is = cc (told.0, is)
+  no-words (Ok rows) pairs out_old out_new before now status (inr (inr told)) is = cc (told.0, is)
+  no-words (Err ServeFaults.Read) pairs out_old out_new before now status told is = cc (told.0, is)
+  no-words (Err ServeFaults.Memory) pairs out_old out_new before now status told is = cc (told.0, is)
+
+-- a count of its pair rose
+pub disk-lost : {W D : Type 0} (disks : DiskMeanings D) (lost : D → Bool) (config : Config) (groups : List Group) (port m : ℕ) (pairs_before : List (DiskPair D)) (begun : Begun D)
+    (old new : Edges) (tally : Result (List TallyRow) ServeFault) (pairs : List (DiskPair D)) (out_old out_new : W) (before now : Option (List ℕ)) (status : Status) (shard : ℕ)
+    → FaultedRowsHaveCauses D disks.tells disks.seen disks.moment disks.left_since disks.may_leave disks.faults
+    → Begins disks.tells disks.seen disks.moment disks.left_since disks.may_leave disks.faults config m pairs_before begun
+    → ServesToEnd disks.tells disks.seen disks.moment disks.left_since disks.may_leave disks.faults config groups port begun old new tally pairs
+    → IsToldTo lost tally pairs out_old out_new before now status → status ≡ Statuses.DiskFault shard → HasPairFault disks.faults pairs_before pairs shard
+disk-lost disks lost config groups port m pairs_before begun old new tally pairs out_old out_new before now status shard causes begins serves told is =
+    let f = failed lost tally pairs out_old out_new before now status shard told is in
+    let served : ServesToEnd disks.tells disks.seen disks.moment disks.left_since disks.may_leave disks.faults config groups port begun old new (Ok f.0) pairs =
+    subst (λ (t : Result (List TallyRow) ServeFault). ServesToEnd disks.tells disks.seen disks.moment disks.left_since disks.may_leave disks.faults config groups port begun old new t pairs)
+    f.1 serves in
+    let cause = causes config groups port m pairs_before pairs begun old new f.0 begins served shard f.2.row f.2.pair f.2.row_there f.2.pair_there in
+    record { before = cause.0; after = f.2.pair; was = cause.1; is = f.2.pair_there; risen = cause.2.risen f.2.faulted }
+
 -- a fault of reading is the inbox's
-pub read-fault : {W D : Type 0} (disks : DiskMeanings D) (config : Config) (groups : List Group) (port : ℕ) (begun : Begun D) (old new : Edges)
+pub read-fault : {W D : Type 0} (disks : DiskMeanings D) (lost : D → Bool) (config : Config) (groups : List Group) (port : ℕ) (begun : Begun D) (old new : Edges)
     (tally : Result (List TallyRow) ServeFault) (pairs : List (DiskPair D)) (out_old out_new : W) (before now : Option (List ℕ)) (status : Status)
     → ServesToEnd disks.tells disks.seen disks.moment disks.left_since disks.may_leave disks.faults config groups port begun old new tally pairs
-    → IsToldTo tally out_old out_new before now status → status ≡ Statuses.ReadFault → HasRisen old.faults new.faults
-read-fault disks config groups port begun old new (Ok rows) pairs out_old out_new before now status serves (inl told) is = absurd (cc (told.0, is))
-read-fault disks config groups port begun old new (Ok rows) pairs out_old out_new before now status serves (inr (inl told)) is = absurd (cc (told.0, is))
-read-fault disks config groups port begun old new (Ok rows) pairs out_old out_new before now status serves (inr (inr told)) is = absurd (cc (told.0, is))
-read-fault disks config groups port begun old new (Err ServeFaults.Read) pairs out_old out_new before now status serves told is =
+    → IsToldTo lost tally pairs out_old out_new before now status → status ≡ Statuses.ReadFault → HasRisen old.faults new.faults
+read-fault disks lost config groups port begun old new (Ok rows) pairs out_old out_new before now status serves (inl told) is =
+    absurd (served-no-read (first_lost lost rows pairs) (sym told.0 ∙ is))
+read-fault disks lost config groups port begun old new (Ok rows) pairs out_old out_new before now status serves (inr (inl told)) is = absurd (cc (told.0, is))
+read-fault disks lost config groups port begun old new (Ok rows) pairs out_old out_new before now status serves (inr (inr told)) is = absurd (cc (told.0, is))
+read-fault disks lost config groups port begun old new (Err ServeFaults.Read) pairs out_old out_new before now status serves told is =
     subst (HasRisen old.faults) (sym (ap (λ e. e.faults) serves.edges)) serves.answers.risen
-read-fault disks config groups port begun old new (Err ServeFaults.Memory) pairs out_old out_new before now status serves told is = absurd (cc (told.0, is))
+read-fault disks lost config groups port begun old new (Err ServeFaults.Memory) pairs out_old out_new before now status serves told is = absurd (cc (told.0, is))
 
 -- a disk that is named is that of an external address, and its count rose
 pub disk-named : {D : Type 0} (disks : DiskMeanings D) (config : Config) (m : ℕ) (fault : HouseFault) (old new : List (DiskPair D)) (shard : ℕ)
@@ -106,7 +228,7 @@ disk-named disks config m fault old new shard (inr vain) within is = absurd (cc 
 
 -- ---- no configuration
 
-pub ends-unread : {W D : Type 0} (source_before source_now : Option (List ℕ)) (before : ServeState W D) (status : Status) (result : Result Config ConfigFault) (fault : ConfigFault) →
+pub ends-unread : {W I D : Type 0} (source_before source_now : Option (List ℕ)) (before : ServeState W I D) (status : Status) (result : Result Config ConfigFault) (fault : ConfigFault) →
     result ≡ Err fault → status ≡ unread_as fault →
     ((cause : ConfigCause) → result ≡ Err (ConfigFaults.Refused cause) → RefusesConfig source_before source_now cause) →
     (result ≡ Err ConfigFaults.Read → StopsAtFault source_before source_now) → ReadsNoFurther source_before source_now →

@@ -8,7 +8,7 @@ ghost use Rattle.server_commands.specs.declared.statuses.Status.TheVariants as S
 ghost use Rattle.serve_commands.specs.Words.{IsServeWords};
 ghost use Rattle.serve_commands.specs.declared.commands.ServePlan.{ServePlan};
 ghost use Rattle.pcp_server.specs.Outsides.{disks_by};
-ghost use Rattle.serve_runs.specs.Served.{Serves};
+ghost use Rattle.serve_runs.specs.Served.{IsLostAt, Serves};
 
 use crate::serving::serve_config;
 use config_source::config_of;
@@ -51,11 +51,12 @@ fn serve_by<
     requires lanes { length lanes.old ≡ MOST_EXTERNALS }
     requires clocks { length clocks.old ≡ 2 * MOST_EXTERNALS + 1 }
     ensures serve { Serves
-        (disks_by D.tells D.seen D.moment D.left_since D.may_leave D.faults)
+        (disks_by D.tells D.seen D.moment D.left_since D.may_leave D.faults) D.lost
         (C.left config.old) (C.left config.new)
         (record {
           out = out.old;
           held = W.held out.old;
+          inbox = inbox.old;
           pairs = disks.items;
           edges = record {
             left = I.left inbox.old;
@@ -68,6 +69,7 @@ fn serve_by<
         (record {
           out = out.new;
           held = W.held out.new;
+          inbox = inbox.new;
           pairs = result.1.items;
           edges = record {
             left = I.left inbox.new;
@@ -87,7 +89,8 @@ fn serve_by<
         HasRisen (W.faults out.old) (W.faults out.new) }
     ensures disk_fault { (shard : ℕ) → result.0 ≡ Statuses.DiskFault shard →
         HasPairFault D.faults disks.items result.1.items shard }
-    ensures no_items { (shard : ℕ) → result.0 ≡ Statuses.DiskFault shard → inbox.new ≡ inbox.old }
+    ensures no_items { (shard : ℕ) → result.0 ≡ Statuses.DiskFault shard →
+        (inbox.new ≡ inbox.old) ⊎ IsLostAt D.lost result.1.items shard }
     ensures config_reads { C.faults config.old ≤ C.faults config.new }
     ensures writes { W.faults out.old ≤ W.faults out.new }
     ensures words { result.0 ≢ Statuses.WordsRefused }
@@ -111,6 +114,10 @@ fn serve_by<
 /// worker for each external address and a loop for each lane, until `inbox` stops; the lines of the tally
 /// come last. All pairs come back in the same order, whatever the status. What it tells of
 /// itself is left on `board`.
+///
+/// `DiskFault` names the external address whose journal wasn't opened, and then the inbox has had no call; or,
+/// once the lines of the tally are written, the first one of which disks refused jobs and of whose pair a side is
+/// lost ([`LeaseDisk::is_lost`]). `Done` comes only where there is none.
 ///
 /// Of the 17 outboxes, 16 lanes and 33 clocks worker `i` has outbox `i` and clock `i`, lane `i` has clock
 /// `16 + i`, and the dispatcher the last outbox and the last clock.
@@ -157,11 +164,12 @@ pub fn run_serve<
     // What was read, served, handed on and written, and what a crash may leave of the journals, by the
     // status.
     ensures serve { (plan : ServePlan) → IsServeWords (map string_bytes words.now) plan → Serves
-        (disks_by D.tells D.seen D.moment D.left_since D.may_leave D.faults)
+        (disks_by D.tells D.seen D.moment D.left_since D.may_leave D.faults) D.lost
         (C.left config.old) (C.left config.new)
         (record {
           out = out.old;
           held = W.held out.old;
+          inbox = inbox.old;
           pairs = disks.items;
           edges = record {
             left = I.left inbox.old;
@@ -174,6 +182,7 @@ pub fn run_serve<
         (record {
           out = out.new;
           held = W.held out.new;
+          inbox = inbox.new;
           pairs = result.1.items;
           edges = record {
             left = I.left inbox.new;
@@ -186,7 +195,8 @@ pub fn run_serve<
         result.0 }
 
     // A fault is told only where a count of faults rose in this call, of that pair where it is a
-    // disk's, and then the inbox has had no call.
+    // disk's. That of a disk ended the opening, and then the inbox has had no call, or a side of that pair
+    // is lost.
     ensures read_fault { result.0 ≡ Statuses.ReadFault →
         HasRisen (C.faults config.old) (C.faults config.new)
         ⊎ HasRisen (I.faults inbox.old) (I.faults inbox.new) }
@@ -194,7 +204,8 @@ pub fn run_serve<
         HasRisen (W.faults out.old) (W.faults out.new) }
     ensures disk_fault { (shard : ℕ) → result.0 ≡ Statuses.DiskFault shard →
         HasPairFault D.faults disks.items result.1.items shard }
-    ensures no_items { (shard : ℕ) → result.0 ≡ Statuses.DiskFault shard → inbox.new ≡ inbox.old }
+    ensures no_items { (shard : ℕ) → result.0 ≡ Statuses.DiskFault shard →
+        (inbox.new ≡ inbox.old) ⊎ IsLostAt D.lost result.1.items shard }
     ensures config_reads { C.faults config.old ≤ C.faults config.new }
     ensures writes { W.faults out.old ≤ W.faults out.new }
 {

@@ -1,5 +1,5 @@
 //! A house is opened, served to its end, and its tally told.
-ghost use Rattle.std.specs.Prelude.{◌≡◌, ◌+◌, ◌*◌, ◌≢◌, ◌≤◌, ℕ, List, length, map};
+ghost use Rattle.std.specs.Prelude.{◌≡◌, ◌⊎◌, ◌+◌, ◌*◌, ◌≢◌, ◌≤◌, ℕ, List, length, map, IfOk};
 ghost use Rattle.pcp_base.specs.Configs.{IsConfig};
 ghost use Rattle.pcp_base.specs.declared.configs.TheConstants.{MOST_EXTERNALS};
 ghost use Rattle.pcp_io.specs.Faults.{HasRisen};
@@ -10,11 +10,11 @@ ghost use Rattle.shared_house.specs.Beginnings.{Begins};
 ghost use Rattle.house_workers.specs.ServingAll.{IsBegunFor};
 ghost use Rattle.server_commands.specs.declared.statuses.Status.TheVariants as Statuses;
 ghost use Rattle.pcp_server.specs.Outsides.{disks_by};
-ghost use Rattle.serve_runs.specs.Served.{GivesStart, ServesConfig, SendsAndServes};
+ghost use Rattle.serve_runs.specs.Served.{GivesStart, IsLostAt, ServesConfig, SendsAndServes};
 
 use crate::telling::tell_tally;
 use crate::updates::send_updates;
-use house_workers::serve_all;
+use house_workers::{faulted_rows_have_causes, serve_all};
 use job_workers::Tally;
 use lane_loops::moment_of;
 use lease_disk::{DiskPair, LeaseDisk};
@@ -68,7 +68,8 @@ fn serve_house<
     requires outs { length outs.old ≡ MOST_EXTERNALS + 1 }
     requires lanes { length lanes.old ≡ MOST_EXTERNALS }
     requires clocks { length clocks.old ≡ 2 * MOST_EXTERNALS + 1 }
-    ensures { (m : ℕ) (pairs : List (DiskPair D)) → (b : Begins D.tells D.seen D.moment D.left_since
+    ensures rows { IfOk result.0 (λ rows. length rows ≤ MOST_EXTERNALS) }
+    ensures serves { (m : ℕ) (pairs : List (DiskPair D)) → (b : Begins D.tells D.seen D.moment D.left_since
         D.may_leave D.faults config.now m pairs begun) → SendsAndServes
         (disks_by D.tells D.seen D.moment D.left_since D.may_leave D.faults) config.now
         begun b.books
@@ -123,10 +124,11 @@ pub(crate) fn serve_config<
     requires lanes { length lanes.old ≡ MOST_EXTERNALS }
     requires clocks { length clocks.old ≡ 2 * MOST_EXTERNALS + 1 }
     ensures served { ServesConfig
-        (disks_by D.tells D.seen D.moment D.left_since D.may_leave D.faults) config.now
+        (disks_by D.tells D.seen D.moment D.left_since D.may_leave D.faults) D.lost config.now
         (record {
           out = out.old;
           held = W.held out.old;
+          inbox = inbox.old;
           pairs = disks.items;
           edges = record {
             left = I.left inbox.old;
@@ -139,6 +141,7 @@ pub(crate) fn serve_config<
         (record {
           out = out.new;
           held = W.held out.new;
+          inbox = inbox.new;
           pairs = result.1.items;
           edges = record {
             left = I.left inbox.new;
@@ -158,8 +161,9 @@ pub(crate) fn serve_config<
     ensures disk_fault { (shard : ℕ) → result.0 ≡ Statuses.DiskFault shard →
         HasPairFault D.faults disks.items result.1.items shard }
 
-    // A disk's fault ends the opening alone.
-    ensures no_items { (shard : ℕ) → result.0 ≡ Statuses.DiskFault shard → inbox.new ≡ inbox.old }
+    // It ended the opening, or a side of that pair is lost.
+    ensures no_items { (shard : ℕ) → result.0 ≡ Statuses.DiskFault shard →
+        (inbox.new ≡ inbox.old) ⊎ IsLostAt D.lost result.1.items shard }
     ensures writes { W.faults out.old ≤ W.faults out.new }
     ensures words { result.0 ≢ Statuses.WordsRefused }
 {
@@ -169,7 +173,8 @@ pub(crate) fn serve_config<
             let (tally, disks) = serve_house(
                 rt, alloc, begun, config, inbox, outs, lanes, clocks, gate, board,
             );
-            (tell_tally(alloc, tally, out), disks)
+            faulted_rows_have_causes::<D>();
+            (tell_tally(alloc, tally, &disks, out), disks)
         }
         Err(refused) => (unopened_as(refused.fault), refused.disks),
     }

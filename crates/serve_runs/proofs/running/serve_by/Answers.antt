@@ -1,4 +1,4 @@
-use Rattle.std.proofs.Common.{rules, ◌≡◌, Err, inl, map}
+use Rattle.std.proofs.Common.{rules, ◌≡◌, Err, refl, inl, map}
 use Rattle.request_workers.specs.Parts.{links_told, outs_told}
 use Rattle.serve_runs.proofs.ServingLemmas.{ends-unread}
 use Rattle.serve_runs.proofs.running.serve_by.Goals as goal
@@ -10,6 +10,7 @@ returns-in-Err-clause-serve g c =
     (record {
       out = c.args.out.now;
       held = g.W.Sink.held c.args.out.now;
+      inbox = c.args.inbox.now;
       pairs = c.args.disks.items;
       edges = record {
         left = g.I.Inbox.left c.args.inbox.now;
@@ -21,3 +22,6 @@ returns-in-Err-clause-serve g c =
     })
     c.unread_as.result c.config_of.result c.in-Err.fault is c.unread_as.ensures c.config_of.ensures.refused
     c.config_of.ensures.stopped c.config_of.ensures.few)
+
+pub returns-in-Err-clause-no_items : goal.returns-in-Err-clause-no_items
+returns-in-Err-clause-no_items g c shard is = inl refl
