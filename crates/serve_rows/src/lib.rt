@@ -10,9 +10,13 @@ mod edges;
 #[cfg(test)]
 mod failing;
 #[cfg(test)]
+mod failing_disks;
+#[cfg(test)]
 mod flags;
 #[cfg(test)]
 mod held;
+#[cfg(test)]
+mod lost;
 #[cfg(test)]
 mod refused;
 #[cfg(test)]
