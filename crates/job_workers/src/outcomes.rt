@@ -2,7 +2,7 @@
 use crate::tallies::TallyRow;
 use lease_house::HouseFault;
 use pcp_base::Moment;
-use status_board::Board;
+use status_board::{Board, ShardNumbers};
 
 /// Whether a disk failed in the last call of the house.
 #[derive(Clone, Copy, Debug, PartialEq, Eq)]
@@ -25,7 +25,7 @@ impl Outcome {
     }
 
     /// That of calls one after the other: the last one's, if one was made.
-    pub fn then(self, later: Outcome) -> Outcome {
+    pub fn followed_by(self, later: Outcome) -> Outcome {
         match later {
             Outcome::Idle => self,
             Outcome::Fine | Outcome::Fault => later,
@@ -46,4 +46,13 @@ pub(crate) fn leave_end(board: &Board, shard: u32, row: &TallyRow, end: CallEnd)
     board.count(shard, &row.counts());
     board.call_ended(shard, end.moment, end.outcome == Outcome::Fault);
     end.outcome
+}
+
+/// Leaves the numbers of an external address as the answer of this ask. Where the call had none, those
+/// that were left before stand.
+pub(crate) fn leave_numbers(board: &Board, shard: u32, asked: u64, numbers: Option<ShardNumbers>) {
+    match numbers {
+        Some(numbers) => board.leave(shard, asked, &numbers),
+        None => board.keep(shard, asked),
+    }
 }

@@ -12,39 +12,46 @@ const LONGEST_PAUSE: u32 = 1_000;
 /// How long a pause sleeps at a time, in milliseconds: so late it finds that the dispatcher has ended.
 const SLICE: u32 = 50;
 
-/// How long the next pause is. Each behind another fault is twice as long, up to a second.
+/// How long a worker waits behind its last round. Each wait behind another fault is twice as long, up to
+/// a second.
 #[derive(Clone, Copy, Debug)]
-pub(crate) struct Pause {
-    milliseconds: u32,
+pub struct Pause {
+    /// in milliseconds
+    due: u32,
+    /// behind the next fault, in milliseconds
+    next: u32,
 }
 
 impl Pause {
-    pub(crate) fn new() -> Pause {
+    /// No disk failed yet.
+    pub fn new() -> Pause {
         Pause {
-            milliseconds: FIRST_PAUSE,
+            due: 0,
+            next: FIRST_PAUSE,
         }
     }
 
-    /// Waits behind a round whose last call ended so, unless the dispatcher has ended.
-    pub(crate) fn behind(&mut self, outcome: Outcome, ended: &AtomicBool) {
+    /// The last call of a round ended so.
+    pub fn note(&mut self, outcome: Outcome) {
+        self.due = 0;
         match outcome {
             Outcome::Idle => {}
-            Outcome::Fine => self.milliseconds = FIRST_PAUSE,
+            Outcome::Fine => self.next = FIRST_PAUSE,
             Outcome::Fault => {
-                wait(self.milliseconds, ended);
-                self.milliseconds = self.milliseconds.saturating_mul(2).min(LONGEST_PAUSE);
+                self.due = self.next;
+                self.next = self.next.saturating_mul(2).min(LONGEST_PAUSE);
             }
         }
     }
-}
 
-/// Waits so long, or until the dispatcher has ended.
-fn wait(milliseconds: u32, ended: &AtomicBool) {
-    let mut left = milliseconds;
-    while left > 0 && !ended.load(Ordering::SeqCst) {
-        let slice = left.min(SLICE);
-        nap(slice);
-        left -= slice;
+    /// Waits as long as is due, or until the dispatcher has ended.
+    pub fn wait(&self, ended: &AtomicBool) {
+        let mut left = self.due;
+        while left > 0 && !ended.load(Ordering::SeqCst) {
+            let slice = left.min(SLICE);
+            nap(slice);
+            left -= slice;
+        }
     }
 }
 

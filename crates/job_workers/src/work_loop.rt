@@ -63,9 +63,11 @@ pub fn work<R: Wait, O: Outbox, T: Clock, G: Gate, P, H: JobHouse<P>>(
     let mut pause = Pause::new();
     for _ in rt.forever() {
         let over = ended.load(Ordering::SeqCst);
-        let round = do_round(rt, alloc, house, gate, board, queue, desk, out, clock);
-        pause.behind(round.outcome, ended);
-        if is_over(rt, &desk.parker, round.dry, over) {
+        let dry = do_round(
+            rt, alloc, house, gate, board, queue, desk, out, clock, &mut pause,
+        );
+        pause.wait(ended);
+        if is_over(rt, &desk.parker, dry, over) {
             return;
         }
     }
@@ -105,9 +107,11 @@ pub fn work_off<R: Wait, O: Outbox, T: Clock, G: Gate, P, H: JobHouse<P>>(
     ensures all { MayBeEmpty desk.new.taker }
     ensures batch { desk.new.batch ≡ [] }
 {
+    let mut pause = Pause::new();
     for _ in rt.forever() {
-        let round = do_round(rt, alloc, house, gate, board, queue, desk, out, clock);
-        if round.dry {
+        if do_round(
+            rt, alloc, house, gate, board, queue, desk, out, clock, &mut pause,
+        ) {
             return;
         }
     }

@@ -10,7 +10,8 @@ ghost use Rattle.job_workers.specs.Works.{AnswersBatch, Counts, LosesAll, Works}
 ghost use Rattle.job_workers.specs.Gatherings.{Gathers, HasWorked, IsDesk, behind};
 
 use crate::houses::JobHouse;
-use crate::outcomes::{CallEnd, Outcome, leave_end};
+use crate::outcomes::{CallEnd, Outcome, leave_end, leave_numbers};
+use crate::pauses::Pause;
 use crate::sends::send_all;
 use crate::tallies::{Sends, TallyRow};
 use crossbeam_utils::sync::Parker;
@@ -336,21 +337,10 @@ fn do_count<R: Wait, T: Clock, G: Gate, P, H: JobHouse<P>>(
     } = desk;
     // What is asked from here on isn't answered by these numbers.
     let asked = board.asks();
-    let (end, numbers) = count_all(rt, alloc, house, pass, row, clock);
-    match numbers {
-        Some(numbers) => board.leave(*shard, asked, &numbers),
-        None => board.keep(*shard, asked),
-    }
+    let counted = count_all(rt, alloc, house, pass, row, clock);
+    let (end, numbers) = counted;
+    leave_numbers(board, *shard, asked, numbers);
     leave_end(board, *shard, row, end)
-}
-
-/// What a round came to.
-#[derive(Clone, Copy, Debug)]
-pub struct Round {
-    /// whether the queue was empty then
-    pub dry: bool,
-    /// how its last call ended
-    pub outcome: Outcome,
 }
 
 /// Takes jobs and does them, and counts where somebody asks for that. It says whether the queue was
@@ -365,7 +355,8 @@ pub fn do_round<R: Wait, O: Outbox, T: Clock, G: Gate, P, H: JobHouse<P>>(
     desk: &mut Desk<P>,
     out: &mut O,
     clock: &mut T,
-) -> Round
+    pause: &mut Pause,
+) -> bool
     requires desk { IsDesk (H.calls house.now) queue.now desk.old.pass desk.old.taker }
     requires batch { desk.old.batch ≡ [] }
     ensures works { HasWorked (H.calls house.now)
@@ -384,7 +375,7 @@ pub fn do_round<R: Wait, O: Outbox, T: Clock, G: Gate, P, H: JobHouse<P>>(
           times = T.times clock.new;
         })
         desk.old.taker desk.new.taker }
-    ensures dry { IsTrue result.dry → MayBeEmpty desk.new.taker }
+    ensures dry { IsTrue result → MayBeEmpty desk.new.taker }
     ensures batch { desk.new.batch ≡ [] }
 {
     let Desk { taker, batch, .. } = &mut *desk;
@@ -392,8 +383,6 @@ pub fn do_round<R: Wait, O: Outbox, T: Clock, G: Gate, P, H: JobHouse<P>>(
     let answered = do_batch(rt, alloc, house, gate, board, desk, out, clock);
     let lost = do_loss(rt, alloc, house, gate, board, desk, clock, next);
     let counted = do_count(rt, alloc, house, gate, board, desk, clock);
-    Round {
-        dry: next == Next::Dry,
-        outcome: answered.then(lost).then(counted),
-    }
+    pause.note(answered.followed_by(lost).followed_by(counted));
+    next == Next::Dry
 }

@@ -50,11 +50,13 @@ impl Taken {
         }
     }
 
-    /// How many ports from `low` to `high` aren't taken.
-    fn free(&self, low: u16, high: u16) -> u32 {
+    /// How many ports of the range aren't taken.
+    fn free(&self, range: Range) -> u32 {
+        let low = usize::from(range.low);
+        let high = usize::from(range.high);
         let mut count: u32 = 0;
         for (port, is_taken) in self.marks.iter().enumerate() {
-            if usize::from(low) <= port && port <= usize::from(high) && !*is_taken {
+            if low <= port && port <= high && !*is_taken {
                 count = count.saturating_add(1);
             }
         }
@@ -67,28 +69,39 @@ fn unmarked(alloc: Global, count: usize) -> Result<Vec<bool>, Memory> {
     Ok(vec![in alloc; false; count]?)
 }
 
-/// The ports that leases own, or that rest at this moment.
-fn taken_of(
+/// The first and the last port of an external address.
+#[derive(Clone, Copy)]
+struct Range {
+    low: u16,
+    high: u16,
+}
+
+/// How many ports of the range neither are one of these owners' nor rest at this moment.
+fn count_free(
     alloc: Global,
     protocol: Protocol,
+    range: Range,
     owners: &[Owner],
     ends: &[End],
     m: Moment,
-) -> Result<Taken, Memory> {
+) -> Result<u32, Memory> {
     let mut taken = Taken::new(alloc, protocol)?;
     taken.mark_owned(owners);
     taken.mark_resting(ends, m);
-    Ok(taken)
+    Ok(taken.free(range))
 }
 
-/// The first and the last port of this external address. There is none of one that isn't configured.
-fn range_of(config: &Config, address: &Address) -> (u16, u16) {
+/// The ports of this external address. One that isn't configured has none.
+fn range_of(config: &Config, address: &Address) -> Range {
     for external in config.externals.items() {
         if external.address == *address {
-            return (external.low, external.high);
+            return Range {
+                low: external.low,
+                high: external.high,
+            };
         }
     }
-    (1, 0)
+    Range { low: 1, high: 0 }
 }
 
 impl<D: LeaseDisk + Drop> Shard<D> {
@@ -126,9 +139,9 @@ impl<D: LeaseDisk + Drop> Shard<D> {
         let resting = m.get().saturating_sub(REST_SECONDS);
         let owners = core.owners(alloc, Moment::of(resting).unwrap_or(m))?;
         let ends = core.ends(alloc)?;
-        let tcp = taken_of(alloc, Protocol::Tcp, &owners, &ends, m)?;
-        let udp = taken_of(alloc, Protocol::Udp, &owners, &ends, m)?;
-        let (low, high) = range_of(config, &self.address);
-        Ok((tcp.free(low, high), udp.free(low, high)))
+        let range = range_of(config, &self.address);
+        let free_tcp = count_free(alloc, Protocol::Tcp, range, &owners, &ends, m)?;
+        let free_udp = count_free(alloc, Protocol::Udp, range, &owners, &ends, m)?;
+        Ok((free_tcp, free_udp))
     }
 }

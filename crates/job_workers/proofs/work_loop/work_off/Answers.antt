@@ -4,14 +4,14 @@ use Rattle.job_workers.proofs.work_loop.work_off.Goals as goal
 pub loop-init : goal.loop-init
 loop-init g c = (tt, tt, c.requires.desk, c.requires.batch, HasWorked-none _ _ _)
 
-pub returns-then-dry-clause-works : goal.returns-then-dry-clause-works
-returns-then-dry-clause-works g c = HasWorked-append _ _ _ _ _ _ _ c.loop.invariant.4 c.do_round-round.ensures.works
+pub returns-then-do_round-clause-works : goal.returns-then-do_round-clause-works
+returns-then-do_round-clause-works g c = HasWorked-append _ _ _ _ _ _ _ c.loop.invariant.4 c.do_round.ensures.works
 
 pub loop-preserved : goal.loop-preserved
 loop-preserved g c = (
   tt,
   tt,
-  IsDesk-after _ _ _ _ _ _ c.loop.invariant.2 c.do_round-round.ensures.works,
-  c.do_round-round.ensures.batch,
-  HasWorked-append _ _ _ _ _ _ _ c.loop.invariant.4 c.do_round-round.ensures.works,
+  IsDesk-after _ _ _ _ _ _ c.loop.invariant.2 c.do_round.ensures.works,
+  c.do_round.ensures.batch,
+  HasWorked-append _ _ _ _ _ _ _ c.loop.invariant.4 c.do_round.ensures.works,
 )

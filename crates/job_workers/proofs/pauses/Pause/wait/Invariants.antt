@@ -1,4 +1,4 @@
-use Rattle.job_workers.proofs.pauses.wait.Given as goal
+use Rattle.job_workers.proofs.pauses.Pause.wait.Given as goal
 
 abbrev pub decreases-loop-left : goal.decreases-loop-left
 decreases-loop-left l = l.left
