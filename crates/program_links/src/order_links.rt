@@ -6,14 +6,14 @@ use pcp_base::Octets;
 use std::alloc::Global;
 use std::io;
 use std::io::{ErrorKind, Read, Write};
-use std::net::UnixStream;
+use std::os::unix::net::UnixStream;
 use std::time::{Duration, Instant};
 
 /// How long an order may take in all, but for one that is waited for without a limit, in seconds.
 const LIMIT_SECONDS: u64 = 5;
 
 /// The longest answer, in octets.
-const LONGEST_ANSWER: usize = 1 << 20;
+const LONGEST_ANSWER: usize = 1_048_576;
 
 /// How many octets are read at most in one call.
 const PIECE: usize = 4096;
@@ -132,7 +132,7 @@ impl<'a> Asking<'a> {
 
     /// Reads what came next: how many octets, none where the server has closed the connection.
     fn hear(&mut self, piece: &mut [u8]) -> Result<usize, Unanswered>
-        ensures { IfOk result (λ n. n ≤ length piece.new) }
+        ensures fits { IfOk result (λ n. n ≤ length piece.new) }
         ensures same { length piece.new ≡ length piece.old }
     {
         self.socket.set_read_timeout(self.left()?)?;
