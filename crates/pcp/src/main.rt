@@ -6,10 +6,12 @@ ghost use Rattle.std.specs.declared.io.ErrorKind.TheVariants.{OutOfMemory};
 ghost use Rattle.server_commands.specs.declared.statuses.Status.TheVariants as Statuses;
 
 mod meetings;
+mod orders;
 mod relays;
 mod serve;
 mod tools;
 
+use crate::orders::{may_order, order_over};
 use crate::relays::{may_relay, relay_over};
 use crate::serve::{Served, externals_in, serve_over};
 use crate::tools::{ask_over, may_ask};
@@ -40,6 +42,9 @@ const USAGE: &str = "usage: pcp serve CONFIG JOURNALS PORT LANEPORT
        pcp play CONFIG SCRIPT JOURNALS START
        pcp dump CONFIG JOURNALS
        pcp load CONFIG JOURNALS START NUMBER COUNT
+       pcp stop JOURNALS
+       pcp lose JOURNALS ADDRESS
+       pcp status JOURNALS
        pcp map OPTIONS..
        pcp peer OPTIONS..
        pcp announce OPTIONS..
@@ -55,8 +60,10 @@ are made in it as they are needed. START is a moment in whole seconds below 2^40
 
 serve Answers the Port Control Protocol requests that come to UDP port PORT,
       usually 5351, of the addresses that CONFIG names as `listen`, or else of all
-      addresses of this host, until it is stopped by the octet ff and 'stop', sent
-      from 127.0.0.1 to PORT of 127.0.0.1; nothing is ordered by other addresses.
+      addresses of this host, until `pcp stop` ends it. Orders come by the socket
+      `orders` in JOURNALS, which is its user's alone, and, unless CONFIG has
+      orders = \"folder\", by the octet ff and 'stop' or 'lose ADDRESS', sent from
+      127.0.0.1 to PORT of 127.0.0.1; nothing is ordered by other addresses.
       Whose an external port is is asked at port LANEPORT of 127.0.0.1, and at
       those above it for the further external addresses. At its end it writes a
       line for each of these.
@@ -78,6 +85,13 @@ load  Opens the journals at START, serves COUNT requests (at most 1000000) that
       NUMBER (below 2^64) makes, a hundred a second, and writes a summary.
 
           pcp load examples/first.toml journals 1000 7 20000
+
+stop, lose, status
+      Order something of the server that runs over JOURNALS: that it ends, which is
+      waited for; that it loses all leases of the external address ADDRESS, which
+      tells their clients by the epoch; or that it says how it is, in JSON.
+
+          pcp status journals
 
 map, peer, announce
       Ask a server for a mapping, for one towards one remote peer, or for its
@@ -112,7 +126,7 @@ Exit status, and the line on standard error:
     8  pcp: out of memory
    10  pcp: no random word
    11  pcp: no answer
-   12  pcp: refused with code N (of RFC 6887, section 7.4)
+   12  pcp: refused with code N (of RFC 6887, section 7.4), or an order: pcp: refused
    13  pcp: too many turns
    14  pcp: stopped
 
@@ -232,6 +246,7 @@ fn run<R: Threads + Wait + Sync>(
     match words {
         [word] if word.as_str() == "--help" => Ended::with(rt, tell(rt, USAGE)),
         [word] if word.as_str() == "--version" => Ended::with(rt, tell(rt, VERSION)),
+        _ if may_order(words) => order(rt, words, explains),
         _ if may_ask(words) => ask(rt, words, explains),
         _ if may_relay(words) => relay(threads, rt, words, explains),
         _ => serve_or_run(threads, rt, words, explains),
@@ -263,6 +278,23 @@ fn ask(rt: &HostRuntime, words: &[String], explains: bool) -> Ended {
             Ok(status) => Ended::with_tool(rt, words, status, explains),
             Err(Memory) => Ended::with(rt, Status::Memory),
         },
+        Err(Memory) => Ended::with(rt, Status::Memory),
+    }
+}
+
+/// Orders something of a server that runs.
+fn order(rt: &HostRuntime, words: &[String], explains: bool) -> Ended {
+    match order_over(rt, words) {
+        Ok((status, cause)) => {
+            let mut ended = Ended::with_tool(rt, words, status, explains);
+            if let Some(cause) = cause
+                && explains
+            {
+                // Without memory for it nothing is told.
+                let _ = ended.told.push(cause);
+            }
+            ended
+        }
         Err(Memory) => Ended::with(rt, Status::Memory),
     }
 }

@@ -1,5 +1,5 @@
 //! `serve`: the server over the sockets, clocks and journals of this host.
-ghost use Rattle.std.specs.Prelude.{◌≡◌, ◌+◌, IfOk, length};
+ghost use Rattle.std.specs.Prelude.{◌≡◌, ◌+◌, ◌≤◌, IfOk, length};
 ghost use Rattle.pcp_base.specs.Configs.{IsConfig};
 ghost use Rattle.pcp_base.specs.declared.configs.TheConstants.{MOST_EXTERNALS};
 
@@ -15,8 +15,8 @@ use program_links::{
     system_time,
 };
 use program_texts::{
-    KeptSource, ToldDisk, beginning_of, door_cause, doors_of, gap_text, journals_in, last_of,
-    look_at, pair_cause, threads_cause, told_pairs,
+    KeptSource, ToldDisk, beginning_of, door_cause, doors_of, gap_text, last_of, look_at,
+    pair_cause, threads_cause, told_journals_in,
 };
 use serve_commands::ServePlan;
 use serve_runs::run_serve;
@@ -69,7 +69,9 @@ pub(crate) fn serve_over<'a, R: Threads + Wait + Sync, W: Sink>(
     board: &'a Board,
     explains: bool,
     out: &mut W,
-) -> Result<Served<'a>, Memory> {
+) -> Result<Served<'a>, Memory>
+    requires { IfOk read.now IsConfig }
+{
     let alloc = rt.alloc();
     let links = match links_by(rt, plan, read) {
         Ok(links) => links,
@@ -82,7 +84,7 @@ pub(crate) fn serve_over<'a, R: Threads + Wait + Sync, W: Sink>(
     };
     tell_doors(rt, &links);
     let count = externals_in(read);
-    if !can_meet(threads, alloc, threads_of(count))? {
+    if read.is_ok() && !can_meet(threads, alloc, threads_of(count))? {
         let mut served = Served::not(Status::Memory, alloc);
         served.told.push(threads_cause(alloc, threads_of(count))?)?;
         return Ok(served);
@@ -122,7 +124,7 @@ fn serve_by<'a, R: Threads + Wait + Sync, W: Sink>(
     } = links;
     let mut inbox = ServerInbox::of(rt, ears, board, clock.same(), journals)?;
     let mut clocks = clocks_of(alloc, &clock, 2 * MOST_EXTERNALS + 1)?;
-    let disks = told_pairs(rt, board, journals_in(rt, journals)?)?;
+    let disks = told_journals_in(rt, board, journals)?;
     let (status, disks) = run_serve(
         threads,
         alloc,
@@ -189,7 +191,10 @@ fn served_causes(
 }
 
 /// How many external addresses this configuration has; none where there is none.
-pub(crate) fn externals_in(read: &Result<Config, ConfigFault>) -> usize {
+pub(crate) fn externals_in(read: &Result<Config, ConfigFault>) -> usize
+    requires { IfOk read.now IsConfig }
+    ensures { result ≤ MOST_EXTERNALS }
+{
     match read {
         Ok(config) => config.externals.items().len(),
         Err(_) => 0,

@@ -141,12 +141,15 @@ impl<'a> OrderDoor<'a> {
         self.path.as_str()
     }
 
-    /// Makes the socket, unless it is there. One that a server left is removed first.
+    /// Whether the socket was made.
+    pub(crate) fn is_open(&self) -> bool {
+        self.listener.is_some()
+    }
+
+    /// Makes the socket. One that a server left is removed first.
     pub(crate) fn open(&mut self) -> io::Result<()> {
-        if self.listener.is_none() {
-            remove_old(self.rt, self.path.as_str())?;
-            self.listener = Some(listener_at(self.rt, self.path.as_str())?);
-        }
+        remove_old(self.rt, self.path.as_str())?;
+        self.listener = Some(listener_at(self.rt, self.path.as_str())?);
         Ok(())
     }
 

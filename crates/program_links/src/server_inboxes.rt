@@ -64,6 +64,9 @@ impl<'a> ServerInbox<'a> {
         ensures same { OnOk result (self.new.faults ≡ self.old.faults) }
         ensures counted { OnErr result (self.new.faults ≡ one_more self.old.faults) }
     {
+        if self.orders.is_open() {
+            return Ok(());
+        }
         if let Err(error) = self.orders.open() {
             let _ = eprintln!(self.rt; "pcp: {}: {error}", self.orders.path());
             self.faults = self.faults.saturating_add(1);

@@ -15,8 +15,8 @@ pub struct ServerLane<'a> {
     // the place of its external address
     place: u32,
     takes_stops: bool,
-    // whether an operator was told
-    has_told: bool,
+    // whether there is no end to be told any more
+    is_silent: bool,
 }
 
 impl<'a> Model for ServerLane<'a> {
@@ -40,18 +40,18 @@ impl<'a> ServerLane<'a> {
             rt,
             place,
             takes_stops,
-            has_told: false,
+            is_silent: false,
         }
     }
 
-    /// Tells an operator, once, that the lane has ended.
+    /// Tells an operator that the lane has ended, unless one was told, or the work is over.
     fn tell_end(&mut self)
         ensures { self.new ≡ self.old }
     {
-        if !self.has_told {
+        if !self.is_silent {
             let _ = eprintln!(self.rt; "pcp: lane of external address {} has ended", self.place);
         }
-        self.has_told = true;
+        self.is_silent = true;
     }
 }
 
@@ -80,10 +80,11 @@ impl<'a> LaneLink for ServerLane<'a> {
         ensures passes { IfOk result (λ asked. asked ≡ lane_asked self.old.takes_stops over asked) }
         ensures cause { HasCause self.old.faults self.new.faults result }
     {
+        self.is_silent = self.is_silent || over;
         match self.lane.ask(over) {
             Ok(asked) => {
                 let asked = lane_asked(self.takes_stops, over, asked);
-                if asked == LaneAsk::Stop && !over {
+                if asked == LaneAsk::Stop {
                     self.tell_end();
                 }
                 Ok(asked)

@@ -13,4 +13,4 @@ pub use crate::disk_causes::{DiskCause, pair_cause};
 pub use crate::kept::KeptSource;
 pub use crate::places::{Places, journals_in, may_open, places_of};
 pub use crate::told::{beginning_of, doors_of, gap_text, last_of, look_at, told_of};
-pub use crate::told_disks::{ToldDisk, told_pairs};
+pub use crate::told_disks::{ToldDisk, told_journals_in};

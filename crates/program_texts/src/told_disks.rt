@@ -1,9 +1,11 @@
 //! A disk whose faults people are told.
-ghost use Rattle.std.specs.Prelude.{◌≡◌};
+ghost use Rattle.std.specs.Prelude.{◌≡◌, ◌<◌, IfOk, length};
+ghost use Rattle.pcp_base.specs.declared.configs.TheConstants.{MOST_EXTERNALS};
 
 use crate::disk_causes::DiskCause;
+use crate::places::pair_at;
 use lease_disk::{DiskPair, FileDisk, LeaseDisk};
-use pcp_base::{Failed, Memory};
+use pcp_base::{Failed, MOST_EXTERNALS, Memory};
 use pcp_io::{Clock, SteadyClock};
 use status_board::Board;
 use std::alloc::Global;
@@ -175,19 +177,33 @@ impl<'a> LeaseDisk for ToldDisk<'a> {
     }
 }
 
-/// The disks of a server's journals, of these pairs. The one error is want of memory.
-pub fn told_pairs<'a>(
+/// The disks of the journal of the external address at this place.
+fn told_pair<'a>(
     rt: &'a HostRuntime,
     board: &'a Board,
-    pairs: Vec<DiskPair<FileDisk<&'a HostRuntime>>>,
-) -> Result<Vec<DiskPair<ToldDisk<'a>>>, Memory> {
-    let mut told = Vec::new(rt.alloc());
-    for (place, pair) in pairs.into_iter().enumerate() {
-        let DiskPair { a, b } = pair;
-        told.push(DiskPair {
-            a: ToldDisk::of(rt, board, a, place as u32, 0),
-            b: ToldDisk::of(rt, board, b, place as u32, 1),
-        })?;
+    folder: &str,
+    place: usize,
+) -> Result<DiskPair<ToldDisk<'a>>, Memory>
+    requires { place < MOST_EXTERNALS }
+{
+    let DiskPair { a, b } = pair_at(rt, folder, place)?;
+    Ok(DiskPair {
+        a: ToldDisk::of(rt, board, a, place as u32, 0),
+        b: ToldDisk::of(rt, board, b, place as u32, 1),
+    })
+}
+
+/// The disks of all journals of a server in a folder. The one error is want of memory.
+pub fn told_journals_in<'a>(
+    rt: &'a HostRuntime,
+    board: &'a Board,
+    folder: &str,
+) -> Result<Vec<DiskPair<ToldDisk<'a>>>, Memory>
+    ensures { IfOk result (λ pairs. length pairs.items ≡ MOST_EXTERNALS) }
+{
+    let mut pairs = Vec::new(rt.alloc());
+    for place in 0..MOST_EXTERNALS {
+        pairs.push(told_pair(rt, board, folder, place)?)?;
     }
-    Ok(told)
+    Ok(pairs)
 }
