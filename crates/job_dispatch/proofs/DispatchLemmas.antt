@@ -17,30 +17,34 @@ use Rattle.job_dispatch.specs.declared.noise.NoiseCounts.{NoiseCounts}
 use Rattle.job_dispatch.specs.declared.ports.Port.{Port}
 use Rattle.job_queue.specs.declared.jobs.Job.{Job}
 use Rattle.job_queue.specs.declared.jobs.Job.TheVariants as Jobs
-use Rattle.job_dispatch.specs.Dispatches.{ArePorts, ChangesPort, Put, Full, Noise, Starved, Ignored, HasFate, IsJobOf, IsPort, Offers, OffersAt, Sifts, StarvesAt, is_noise_for, noise_by_fate, place_of_external, port_starved}
+use Rattle.job_dispatch.specs.Dispatches.{ArePorts, ChangesPort, Put, Full, Noise, Starved, Ignored, HasFate, IsJobOf, IsPort, Offers, OffersAt, MayPut, Sifts, StarvesAt, is_noise_for, noise_by_fate, place_of_external, port_starved}
 use Rattle.job_dispatch.specs.Noise.{IsTooMuch, noise_dropped, noise_put}
 
 put_count : (config : Config) (noise counted : NoiseCounts) (shard : ℕ) (job : Job) (noisy : Bool) → noisy ≡ is_noise_for config shard job
     → counted ≡ (if noisy then noise_put noise else noise) → counted ≡ noise_by_fate config noise (Put shard job)
 put_count config noise counted shard job noisy mark is = is ∙ ap (λ (b : Bool). if b then noise_put noise else noise) mark
 
--- a job that was offered was put, or dropped at a full queue
-offered : (config : Config) (item : InboxItem) (noisy : Bool) (shard : ℕ) (job : Job) (port changed : Port) (old new : List Port) (noise counted : NoiseCounts)
-    → IsJobOf config item shard job → noisy ≡ is_noise_for config shard job → (noisy ≡ true → noise.put < 1000)
-    → ChangesPort shard port changed old new → Offers noisy job port changed noise counted → HasFate config item old new noise counted
-offered config item noisy shard job port changed old new noise counted is mark room changes (inl put) = (
+-- a datagram that was offered was put, or dropped at a full queue
+offered : (config : Config) (d : Datagram) (noisy : Bool) (shard : ℕ) (job : Job) (port changed : Port) (old new : List Port) (noise counted : NoiseCounts)
+    → IsJobOf config (Items.Packet d) shard job → noisy ≡ is_noise_for config shard job → (noisy ≡ true → noise.put < 1000)
+    → ChangesPort shard port changed old new → Offers noisy job port changed noise counted → HasFate config (Items.Packet d) old new noise counted
+offered config d noisy shard job port changed old new noise counted is mark room changes (inl put) = (
   Put shard job,
-  (is, (port, subst (λ (p : Port). ChangesPort shard port p old new) put.0 changes), λ e. room (mark ∙ e)),
+  (
+    is,
+    (port, subst (λ (p : Port). ChangesPort shard port p old new) put.0 changes, subst (λ (j : Job). MayPut port j) (sym is.0) tt),
+    λ e. room (mark ∙ e),
+  ),
   put_count config noise counted shard job noisy mark put.1,
 )
-offered config item noisy shard job port changed old new noise counted is mark room changes (inr full) =
-    (Full shard job, (is, (port, subst (λ (p : Port). ChangesPort shard port p old new) full.0 changes, full.1)), full.2)
+offered config d noisy shard job port changed old new noise counted is mark room changes (inr full) =
+    (Full shard job, (is, tt, (port, subst (λ (p : Port). ChangesPort shard port p old new) full.0 changes, full.1)), full.2)
 
-pub fate_offered : (config : Config) (item : InboxItem) (noisy : Bool) (shard : ℕ) (job : Job) (old new : List Port) (noise counted : NoiseCounts)
-    → IsJobOf config item shard job → noisy ≡ is_noise_for config shard job → (noisy ≡ true → noise.put < 1000)
-    → OffersAt noisy shard job old new noise counted → HasFate config item old new noise counted
-fate_offered config item noisy shard job old new noise counted is mark room o =
-    offered config item noisy shard job o.port o.changed old new noise counted is mark room o.changes o.offers
+pub fate_offered : (config : Config) (d : Datagram) (noisy : Bool) (shard : ℕ) (job : Job) (old new : List Port) (noise counted : NoiseCounts)
+    → IsJobOf config (Items.Packet d) shard job → noisy ≡ is_noise_for config shard job → (noisy ≡ true → noise.put < 1000)
+    → OffersAt noisy shard job old new noise counted → HasFate config (Items.Packet d) old new noise counted
+fate_offered config d noisy shard job old new noise counted is mark room o =
+    offered config d noisy shard job o.port o.changed old new noise counted is mark room o.changes o.offers
 
 pub fate_starved : (config : Config) (d : Datagram) (old new : List Port) (noise : NoiseCounts) → StarvesAt old new → HasFate config (Items.Packet d) old new noise noise
 fate_starved config d old new noise h = (Starved, (tt, h), refl)
@@ -90,10 +94,6 @@ sifts_noise sifted ports port changed noise counted much within p same is cause 
   cause = λ e. (port, slice_get_read ports (length ports) sifted.place port refl within p, subst (λ (x : Port). IsTooMuch noise x.putter) (sym p) (cause e));
   room = λ e _. room e;
 }
-
-pub fate_ignored : (config : Config) (order : ℕ) (address : Address) (ports : List Port) (noise : NoiseCounts)
-    → place_of_external config address ≡ None → HasFate config (Items.Lose order address) ports ports noise noise
-fate_ignored config order address ports noise none = (Ignored, (none, refl), refl)
 
 at_or_behind : (b : Bool) (i n k : ℕ) (later : Option ℕ) → cond b (Some i) later ≡ Some n → (later ≡ Some n → n < (i + 1) + k) → n < i + suc k
 at_or_behind true i n k later e behind = let same : i ≡ n = cc in omega (arith, same)

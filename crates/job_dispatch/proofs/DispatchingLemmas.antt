@@ -1,5 +1,5 @@
--- Items that are handed on one after the other.
-use Rattle.std.proofs.Common.{◌≡◌, ◌≢◌, ◌≤◌, ℕ, ◌/◌, suc, zero, take, IfSome, ◌⊎◌, inl, inr, Bool, true, false, List, [], ◌∷◌, ◌++◌, length, slice_set, Some, Result, Ok, Err, refl, sym, ap, ◌∙◌, subst}
+-- What is done one after the other.
+use Rattle.std.proofs.Common.{◌≡◌, ◌≢◌, ◌≤◌, ◌<◌, ◌^◌, ◌-◌, ℕ, ◌/◌, suc, zero, take, IfSome, ◌⊎◌, inl, inr, Bool, true, false, List, [], ◌∷◌, ◌++◌, length, map, slice_set, Option, Some, None, Result, Ok, Err, refl, sym, ap, ◌∙◌, subst, arith}
 use Rattle.std.specs.List.{slice_get}
 use Rattle.atomic_table.specs.Seated.{TableId}
 use Rattle.pcp_base.specs.declared.configs.Config.{Config}
@@ -8,18 +8,19 @@ use Rattle.pcp_io.specs.declared.inboxes.InboxItem.{InboxItem}
 use Rattle.pcp_io.specs.declared.inboxes.Incoming.{Incoming}
 use Rattle.pcp_io.specs.declared.inboxes.Incoming.TheVariants as Incomings
 use Rattle.pcp_io.specs.declared.inboxes.InboxItem.TheVariants as Items
+use Rattle.pcp_io.specs.Faults.{HasRisen}
 use Rattle.pcp_io.specs.Takes.{IsNextItem, item_of}
 use Rattle.pcp_announce.specs.declared.doors.Group.{Group}
 use Rattle.job_workers.specs.HouseCalls.{HouseCalls}
 use Rattle.job_dispatch.specs.declared.ports.Port.{Port}
 use Rattle.job_dispatch.specs.declared.noise.NoiseCounts.{NoiseCounts}
 use Rattle.job_dispatch.specs.Announcing.{AnnounceState, Announces}
-use Rattle.job_dispatch.specs.Dispatches.{ArePorts, ChangesPort, Dispatched, Fate, Put, Full, Noise, Starved, Ignored, HasFate, IsFate, IsPort, port_full, port_starved, port_with}
+use Rattle.job_dispatch.specs.Dispatches.{AreLate, ArePorts, ChangesPort, Dispatched, Fate, Put, Full, Waits, Joins, Noise, Starved, Ignored, Given, Late, HasFate, IsFate, IsLate, IsPort, NoneWaits, port_full, port_late, port_starved, port_waiting, port_with}
+use Rattle.job_dispatch.specs.Dispatching.{DispatchState, DoesItem, DoesStep, DoesSteps, EndsByFault, EndsByStop, EndsDispatcher, IsItemTurn, RunsDispatcher, RunsItems}
 use Rattle.job_dispatch.specs.PortsAfter.{ArePortsAfter}
 use Rattle.job_dispatch.specs.Noise.{in_second}
-use Rattle.job_dispatch.proofs.NoiseLemmas.{dropped_items}
-use Rattle.job_dispatch.proofs.PortLemmas.{after_items}
-use Rattle.job_dispatch.specs.Dispatching.{DispatchState, DoesItem, DoesItems, IsItemTurn, RunsDispatcher}
+use Rattle.job_dispatch.proofs.NoiseLemmas.{dropped_steps}
+use Rattle.job_dispatch.proofs.PortLemmas.{after_steps}
 
 length-slice_set : {X : Type 0} (xs : List X) (i : ℕ) (y : X) → length (slice_set xs i y) ≡ length xs
 length-slice_set [] i y = refl
@@ -65,20 +66,27 @@ pub ports_after : (config : Config) (queues : List TableId) (noise : NoiseCounts
 ports_after config queues noise item (Put shard job) old new h f =
     ports_after_change config queues old new shard f.1.0 (port_with f.1.0 job) h f.1.1 (record { queue_is = refl; route_is = refl })
 ports_after config queues noise item (Full shard job) old new h f =
-    ports_after_change config queues old new shard f.1.0 (port_full f.1.0) h f.1.1 (record { queue_is = refl; route_is = refl })
+    ports_after_change config queues old new shard f.2.0 (port_full f.2.0) h f.2.1 (record { queue_is = refl; route_is = refl })
+ports_after config queues noise item (Waits shard) old new h f =
+    ports_after_change config queues old new shard f.1.0 (port_waiting f.1.0) h f.1.1 (record { queue_is = refl; route_is = refl })
+ports_after config queues noise item (Joins shard) old new h f = subst (λ (ps : List Port). ArePorts config queues ps) (sym f.1) h
 ports_after config queues noise item (Noise shard job) old new h f = subst (λ (ps : List Port). ArePorts config queues ps) (sym f.2) h
 ports_after config queues noise item Starved old new h f =
     ports_after_change config queues old new 0 f.1.0 (port_starved f.1.0) h f.1.1 (record { queue_is = refl; route_is = refl })
 ports_after config queues noise item Ignored old new h f = subst (λ (ps : List Port). ArePorts config queues ps) (sym f.1) h
 
+pub ports_after_late : (config : Config) (queues : List TableId) (shard : ℕ) (old new : List Port) → ArePorts config queues old → IsLate shard old new → ArePorts config queues new
+ports_after_late config queues shard old new h l =
+    ports_after_change config queues old new shard l.0 (port_late l.0) h l.1 (record { queue_is = refl; route_is = refl })
+
 pub pass_after : {P : Type 0} (house : HouseCalls P) (groups : List Group) (port time : ℕ) (old new : AnnounceState P) → house.is_pass old.pass → Announces house groups port time old new → house.is_pass new.pass
 pass_after house groups port time old new h a = a.told.stays.is h
 
--- ---- items so far
+-- ---- steps so far
 
 pub record HasDispatched {P : Type 0} (house : HouseCalls P) (config : Config) (queues : List TableId) (groups : List Group) (port : ℕ) (old now : DispatchState P) : Type 0 where
   pub dispatched : List Dispatched
-  pub does : DoesItems house config groups port dispatched old now
+  pub does : DoesSteps house config groups port dispatched old now
   pub ports : ArePorts config queues now.ports
   pub pass : house.is_pass now.announcing.pass
 
@@ -86,69 +94,158 @@ pub HasDispatched-none : {P : Type 0} (house : HouseCalls P) (config : Config) (
     → ArePorts config queues a.ports → house.is_pass a.announcing.pass → HasDispatched house config queues groups port a a
 HasDispatched-none house config queues groups port a ports pass = record { dispatched = []; does = refl; ports = ports; pass = pass }
 
-items-push : {P : Type 0} (house : HouseCalls P) (config : Config) (groups : List Group) (port : ℕ) (ds : List Dispatched) (d : Dispatched) (a b c : DispatchState P)
-    → DoesItems house config groups port ds a b → DoesItem house config groups port d b c → DoesItems house config groups port (ds ++ d ∷ []) a c
-items-push {P} house config groups port [] d a b c is does = (c, subst (λ (s : DispatchState P). DoesItem house config groups port d s c) is does, refl)
-items-push house config groups port (x ∷ xs) d a b c h does = (h.0, h.1, items-push house config groups port xs d h.0 b c h.2 does)
+pub steps-append : {P : Type 0} (house : HouseCalls P) (config : Config) (groups : List Group) (port : ℕ) (xs ys : List Dispatched) (a b c : DispatchState P)
+    → DoesSteps house config groups port xs a b → DoesSteps house config groups port ys b c → DoesSteps house config groups port (xs ++ ys) a c
+steps-append {P} house config groups port [] ys a b c is does = subst (λ (s : DispatchState P). DoesSteps house config groups port ys s c) is does
+steps-append house config groups port (x ∷ xs) ys a b c h does = (h.0, h.1, steps-append house config groups port xs ys h.0 b c h.2 does)
 
--- one item more
-pub turn_on : {P : Type 0} (house : HouseCalls P) (config : Config) (queues : List TableId) (groups : List Group) (port : ℕ) (a b c : DispatchState P) (result : Result Bool Failed)
-    → HasDispatched house config queues groups port a b → IsItemTurn house config groups port b c result → result ≡ Ok true → HasDispatched house config queues groups port a c
-turn_on house config queues groups port a b c (Ok true) h turn is = record {
-  dispatched = h.dispatched ++ turn.0 ∷ [];
-  does = items-push house config groups port h.dispatched turn.0 a b c h.does turn.1;
-  ports = ports_after config queues (in_second b.noise (turn.1.time / 1000)) turn.0.item turn.0.fate b.ports c.ports h.ports turn.1.fate;
-  pass = pass_after house groups port _ b.announcing c.announcing h.pass turn.1.announced;
+one_step : {P : Type 0} (house : HouseCalls P) (config : Config) (groups : List Group) (port : ℕ) (d : Dispatched) (a b : DispatchState P)
+    → DoesStep house config groups port d a b → DoesSteps house config groups port (d ∷ []) a b
+one_step house config groups port d a b does = (b, does, refl)
+
+-- losses that waited are steps
+late_steps : {P : Type 0} (house : HouseCalls P) (config : Config) (groups : List Group) (port : ℕ) (shards : List ℕ) (a : DispatchState P) (ports : List Port)
+    → AreLate shards a.ports ports → DoesSteps house config groups port (map Late shards) a (record a { ports = ports })
+late_steps house config groups port [] a ports is = ap (λ (ps : List Port). record a { ports = ps }) is
+late_steps house config groups port (s ∷ ss) a ports h =
+    (record a { ports = h.0 }, (h.1, refl), late_steps house config groups port ss (record a { ports = h.0 }) ports h.2)
+
+-- An item came behind answers to orders, by which the inbox has as much left.
+item_behind : {P : Type 0} (house : HouseCalls P) (config : Config) (groups : List Group) (port : ℕ) (item : InboxItem) (fate : Fate) (b c : DispatchState P) (left : Option (List InboxItem)) (faults : ℕ)
+    → left ≡ b.left → b.faults ≤ faults → DoesItem house config groups port item fate (record b { left = left; faults = faults }) c → DoesItem house config groups port item fate b c
+item_behind house config groups port item fate b c left faults same later does = record {
+  given = subst (λ (l : Option (List InboxItem)). IsNextItem l c.left (Some item)) same does.given;
+  later = let more = does.later in omega (arith, later, more);
+  time = does.time;
+  announced = does.announced;
+  becomes = does.becomes;
+  noise = does.noise;
 }
-turn_on house config queues groups port a b c (Ok false) h turn is = absurd (let e : ◌≡◌ {A = Result Bool Failed} (Ok false) (Ok true) = is in cc)
-turn_on house config queues groups port a b c (Err fault) h turn is = absurd (let e : ◌≡◌ {A = Result Bool Failed} (Err fault) (Ok true) = is in cc)
+
+pub risen_behind : (a b c : ℕ) → a ≤ b → HasRisen b c → HasRisen a c
+risen_behind a b c later (inl e) = inl (omega (arith, later, e))
+risen_behind a b c later (inr e) = inr e
+
+pub risen_before : (a b c : ℕ) → HasRisen a b → b ≤ c → HasRisen a c
+risen_before a b c (inl e) later = inl (omega (arith, later, e))
+risen_before a b c (inr e) later = inr (omega (arith, later, e))
+
+-- losses that waited were put, and then an item came
+pub turn_on : {P : Type 0} (house : HouseCalls P) (config : Config) (queues : List TableId) (groups : List Group) (port : ℕ) (a b c : DispatchState P)
+    (ports : List Port) (left : Option (List InboxItem)) (faults : ℕ) (result : Result Bool Failed)
+    → HasDispatched house config queues groups port a b → (shards : List ℕ) × AreLate shards b.ports ports → ArePorts config queues ports → left ≡ b.left → b.faults ≤ faults
+    → IsItemTurn house config groups port (record b { ports = ports; left = left; faults = faults }) c result → result ≡ Ok true → HasDispatched house config queues groups port a c
+turn_on {P} house config queues groups port a b c ports left faults (Ok true) h late are same later turn is =
+    let mid : DispatchState P = record b { ports = ports } in
+    let put = steps-append house config groups port h.dispatched (map Late late.0) a b mid h.does (late_steps house config groups port late.0 b ports late.1) in
+    record {
+      dispatched = (h.dispatched ++ map Late late.0) ++ Given turn.0 turn.1 ∷ [];
+      does = steps-append house config groups port (h.dispatched ++ map Late late.0) (Given turn.0 turn.1 ∷ []) a mid c put
+          (one_step house config groups port (Given turn.0 turn.1) mid c (item_behind house config groups port turn.0 turn.1 mid c left faults same later turn.2));
+      ports = ports_after config queues (in_second b.noise (turn.2.time / 1000)) turn.0 turn.1 ports c.ports are turn.2.becomes;
+      pass = pass_after house groups port _ b.announcing c.announcing h.pass turn.2.announced;
+    }
+turn_on house config queues groups port a b c ports left faults (Ok false) h late are same later turn is = absurd (let e : ◌≡◌ {A = Result Bool Failed} (Ok false) (Ok true) = is in cc)
+turn_on house config queues groups port a b c ports left faults (Err fault) h late are same later turn is = absurd (let e : ◌≡◌ {A = Result Bool Failed} (Err fault) (Ok true) = is in cc)
 
 -- the end
-pub ends_by_stop : {P : Type 0} (house : HouseCalls P) (config : Config) (queues : List TableId) (groups : List Group) (port : ℕ) (a b c : DispatchState P) (result : Result Bool Failed)
-    → HasDispatched house config queues groups port a b → IsItemTurn house config groups port b c result → result ≡ Ok false → RunsDispatcher house config groups port a c (Ok tt)
-ends_by_stop house config queues groups port a b c (Ok false) h turn is = record {
-  dispatched = h.dispatched;
-  last = b;
-  does = h.does;
-  ends = turn;
-  ports = subst (λ (ps : List Port). ArePortsAfter 0 h.dispatched a.ports ps) (sym turn.same.0) (after_items house config groups port h.dispatched a b h.does);
-  dropped = ap (λ (n : NoiseCounts). n.dropped) turn.same.1 ∙ dropped_items house config groups port h.dispatched a b h.does;
-}
-ends_by_stop house config queues groups port a b c (Ok true) h turn is = absurd (let e : ◌≡◌ {A = Result Bool Failed} (Ok true) (Ok false) = is in cc)
-ends_by_stop house config queues groups port a b c (Err fault) h turn is = absurd (let e : ◌≡◌ {A = Result Bool Failed} (Err fault) (Ok false) = is in cc)
+pub ends_by_stop : {P : Type 0} (house : HouseCalls P) (config : Config) (queues : List TableId) (groups : List Group) (port : ℕ) (a b c : DispatchState P)
+    (ports : List Port) (left : Option (List InboxItem)) (faults : ℕ) (result : Result Bool Failed)
+    → HasDispatched house config queues groups port a b → (shards : List ℕ) × AreLate shards b.ports ports → left ≡ b.left
+    → IsItemTurn house config groups port (record b { ports = ports; left = left; faults = faults }) c result → result ≡ Ok false → RunsItems house config groups port a c (Ok tt)
+ends_by_stop {P} house config queues groups port a b c ports left faults (Ok false) h late same turn is =
+    let mid : DispatchState P = record b { ports = ports } in
+    let ends : EndsByStop mid c = record { stop = subst (λ (l : Option (List InboxItem)). IsNextItem l c.left None) same turn.stop; same = turn.same } in
+    record {
+      dispatched = h.dispatched ++ map Late late.0;
+      last = mid;
+      does = steps-append house config groups port h.dispatched (map Late late.0) a b mid h.does (late_steps house config groups port late.0 b ports late.1);
+      ends = ends;
+    }
+ends_by_stop house config queues groups port a b c ports left faults (Ok true) h late same turn is = absurd (let e : ◌≡◌ {A = Result Bool Failed} (Ok true) (Ok false) = is in cc)
+ends_by_stop house config queues groups port a b c ports left faults (Err fault) h late same turn is = absurd (let e : ◌≡◌ {A = Result Bool Failed} (Err fault) (Ok false) = is in cc)
 
-pub ends_by_fault : {P : Type 0} (house : HouseCalls P) (config : Config) (queues : List TableId) (groups : List Group) (port : ℕ) (a b c : DispatchState P) (result : Result Bool Failed) (fault : Failed)
-    → HasDispatched house config queues groups port a b → IsItemTurn house config groups port b c result → result ≡ Err fault → RunsDispatcher house config groups port a c (Err fault)
-ends_by_fault house config queues groups port a b c (Err f) fault h turn is = record {
-  dispatched = h.dispatched;
-  last = b;
-  does = h.does;
-  ends = turn;
-  ports = subst (λ (ps : List Port). ArePortsAfter 0 h.dispatched a.ports ps) (sym turn.same.0) (after_items house config groups port h.dispatched a b h.does);
-  dropped = ap (λ (n : NoiseCounts). n.dropped) turn.same.1 ∙ dropped_items house config groups port h.dispatched a b h.does;
+pub ends_by_fault : {P : Type 0} (house : HouseCalls P) (config : Config) (queues : List TableId) (groups : List Group) (port : ℕ) (a b c : DispatchState P)
+    (ports : List Port) (left : Option (List InboxItem)) (faults : ℕ) (result : Result Bool Failed) (fault : Failed)
+    → HasDispatched house config queues groups port a b → (shards : List ℕ) × AreLate shards b.ports ports → left ≡ b.left → b.faults ≤ faults
+    → IsItemTurn house config groups port (record b { ports = ports; left = left; faults = faults }) c result → result ≡ Err fault → RunsItems house config groups port a c (Err fault)
+ends_by_fault {P} house config queues groups port a b c ports left faults (Err f) fault h late same later turn is =
+    let mid : DispatchState P = record b { ports = ports } in
+    let ends : EndsByFault mid c = record {
+      fault = risen_behind b.faults faults c.faults later turn.fault;
+      same = (turn.same.0, turn.same.1, turn.same.2, turn.same.3 ∙ same);
+    } in
+    record {
+      dispatched = h.dispatched ++ map Late late.0;
+      last = mid;
+      does = steps-append house config groups port h.dispatched (map Late late.0) a b mid h.does (late_steps house config groups port late.0 b ports late.1);
+      ends = ends;
+    }
+ends_by_fault house config queues groups port a b c ports left faults (Ok true) fault h late same later turn is = absurd (let e : ◌≡◌ {A = Result Bool Failed} (Ok true) (Err fault) = is in cc)
+ends_by_fault house config queues groups port a b c ports left faults (Ok false) fault h late same later turn is = absurd (let e : ◌≡◌ {A = Result Bool Failed} (Ok false) (Err fault) = is in cc)
+
+-- ---- losses that are put at the end
+
+-- it ended so still, behind these losses and answers to orders
+ends_behind : {P : Type 0} (last b : DispatchState P) (ports : List Port) (left : Option (List InboxItem)) (faults : ℕ) (result : Result (Unit {0}) Failed)
+    → EndsDispatcher last b result → left ≡ b.left → b.faults ≤ faults
+    → EndsDispatcher (record last { ports = ports }) (record b { ports = ports; left = left; faults = faults }) result
+ends_behind last b ports left faults (Ok done) ends same later = record {
+  stop = subst (λ (l : Option (List InboxItem)). IsNextItem last.left l None) (sym same) ends.stop;
+  same = (refl, ends.same.1, ends.same.2);
 }
-ends_by_fault house config queues groups port a b c (Ok true) fault h turn is = absurd (let e : ◌≡◌ {A = Result Bool Failed} (Ok true) (Err fault) = is in cc)
-ends_by_fault house config queues groups port a b c (Ok false) fault h turn is = absurd (let e : ◌≡◌ {A = Result Bool Failed} (Ok false) (Err fault) = is in cc)
+ends_behind last b ports left faults (Err fault) ends same later = record {
+  fault = risen_before last.faults b.faults faults ends.fault later;
+  same = (refl, ends.same.1, ends.same.2, same ∙ ends.same.3);
+}
+
+ended : {P : Type 0} (last b : DispatchState P) (result : Result (Unit {0}) Failed) → EndsDispatcher last b result → (b.ports ≡ last.ports) × (b.noise ≡ last.noise)
+ended last b (Ok done) ends = (ends.same.0, ends.same.1)
+ended last b (Err fault) ends = (ends.same.0, ends.same.1)
+
+pub ends_late : {P : Type 0} (house : HouseCalls P) (config : Config) (groups : List Group) (port : ℕ) (a b : DispatchState P)
+    (ports : List Port) (left : Option (List InboxItem)) (faults : ℕ) (result : Result (Unit {0}) Failed)
+    → RunsItems house config groups port a b result → (shards : List ℕ) × AreLate shards b.ports ports → NoneWaits ports → left ≡ b.left → b.faults ≤ faults
+    → RunsDispatcher house config groups port a (record b { ports = ports; left = left; faults = faults }) result
+ends_late {P} house config groups port a b ports left faults result runs late none same later =
+    let is = ended runs.last b result runs.ends in
+    let end : DispatchState P = record runs.last { ports = ports } in
+    let does : DoesSteps house config groups port (runs.dispatched ++ map Late late.0) a end =
+    steps-append house config groups port runs.dispatched (map Late late.0) a runs.last end runs.does
+    (late_steps house config groups port late.0 runs.last ports (subst (λ (ps : List Port). AreLate late.0 ps ports) is.0 late.1)) in
+    record {
+      dispatched = runs.dispatched ++ map Late late.0;
+      last = end;
+      does = does;
+      ends = ends_behind runs.last b ports left faults result runs.ends same later;
+      ports = after_steps house config groups port (runs.dispatched ++ map Late late.0) a end does;
+      dropped = ap (λ (n : NoiseCounts). n.dropped) is.1 ∙ dropped_steps house config groups port (runs.dispatched ++ map Late late.0) a end does;
+      none_waits = none;
+    }
+
+-- ---- one item
 
 -- an item that isn't a stop was announced and handed on
 pub item_turn : {P : Type 0} (house : HouseCalls P) (config : Config) (groups : List Group) (port : ℕ) (old new : DispatchState P) (incoming : Incoming) (room : List ℕ) (time : ℕ)
     → IsNextItem old.left new.left (item_of incoming room) → old.faults ≤ new.faults → incoming ≢ Incomings.Stop → Announces house groups port time old.announcing new.announcing
-    → IfSome (item_of incoming room) (λ item. HasFate config item old.ports new.ports (in_second old.noise (time / 1000)) new.noise) → (d : Dispatched) × DoesItem house config groups port d old new
+    → IfSome (item_of incoming room) (λ item. HasFate config item old.ports new.ports (in_second old.noise (time / 1000)) new.noise)
+    → (item : InboxItem) × (fate : Fate) × DoesItem house config groups port item fate old new
 item_turn house config groups port old new (Incomings.Packet peer at door n) room time next later on announced h =
-    (record { item = Items.Packet (record { peer = peer; port = at; door = door; octets = take n room }); fate = h.0 }, record { given = next; later = later; time = time; announced = announced; fate = h.1; noise = h.2 })
+    (Items.Packet (record { peer = peer; port = at; door = door; octets = take n room }), h.0, record { given = next; later = later; time = time; announced = announced; becomes = h.1; noise = h.2 })
 item_turn house config groups port old new (Incomings.Lose order address) room time next later on announced h =
-    (record { item = Items.Lose order address; fate = h.0 }, record { given = next; later = later; time = time; announced = announced; fate = h.1; noise = h.2 })
+    (Items.Lose order address, h.0, record { given = next; later = later; time = time; announced = announced; becomes = h.1; noise = h.2 })
 item_turn house config groups port old new (Incomings.Status order) room time next later on announced h =
-    (record { item = Items.Status order; fate = h.0 }, record { given = next; later = later; time = time; announced = announced; fate = h.1; noise = h.2 })
+    (Items.Status order, h.0, record { given = next; later = later; time = time; announced = announced; becomes = h.1; noise = h.2 })
 item_turn house config groups port old new Incomings.Quiet room time next later on announced h =
-    (record { item = Items.Quiet; fate = h.0 }, record { given = next; later = later; time = time; announced = announced; fate = h.1; noise = h.2 })
+    (Items.Quiet, h.0, record { given = next; later = later; time = time; announced = announced; becomes = h.1; noise = h.2 })
 item_turn house config groups port old new Incomings.Stop room time next later on announced h = absurd (on refl)
 
--- the same, where the second was begun before
+-- the same, where the second was begun before, and orders were answered behind the take
 pub item_turn_begun : {P : Type 0} (house : HouseCalls P) (config : Config) (groups : List Group) (port : ℕ) (old new : DispatchState P) (incoming : Incoming) (room : List ℕ) (time : ℕ) (begun : NoiseCounts)
-    → begun ≡ in_second old.noise (time / 1000)
-    → IsNextItem old.left new.left (item_of incoming room) → old.faults ≤ new.faults → incoming ≢ Incomings.Stop → Announces house groups port time old.announcing new.announcing
-    → IfSome (item_of incoming room) (λ item. HasFate config item old.ports new.ports begun new.noise) → (d : Dispatched) × DoesItem house config groups port d old new
-item_turn_begun house config groups port old new incoming room time begun is next later on announced h =
-    item_turn house config groups port old new incoming room time next later on announced
+    (left : Option (List InboxItem))
+    → begun ≡ in_second old.noise (time / 1000) → new.left ≡ left
+    → IsNextItem old.left left (item_of incoming room) → old.faults ≤ new.faults → incoming ≢ Incomings.Stop → Announces house groups port time old.announcing new.announcing
+    → IfSome (item_of incoming room) (λ item. HasFate config item old.ports new.ports begun new.noise) → (item : InboxItem) × (fate : Fate) × DoesItem house config groups port item fate old new
+item_turn_begun house config groups port old new incoming room time begun left is same next later on announced h =
+    item_turn house config groups port old new incoming room time (subst (λ (l : Option (List InboxItem)). IsNextItem old.left l (item_of incoming room)) (sym same) next) later on announced
     (subst (λ (n : NoiseCounts). IfSome (item_of incoming room) (λ (item : InboxItem). HasFate config item old.ports new.ports n new.noise)) is h)

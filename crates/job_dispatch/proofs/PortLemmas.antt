@@ -1,5 +1,5 @@
--- Ports after all items.
-use Rattle.std.proofs.Common.{◌≡◌, ◌≢◌, ℕ, zero, suc, ◌+◌, ◌/◌, ◌≤◌, List, [], ◌∷◌, ◌++◌, fold, map, slice_set, Option, Some, None, refl, sym, ap, ◌∙◌, subst, append_assoc, arith}
+-- Ports after all that was done.
+use Rattle.std.proofs.Common.{◌≡◌, ◌≢◌, ℕ, zero, suc, ◌+◌, ◌/◌, ◌≤◌, List, [], ◌∷◌, ◌++◌, fold, slice_set, Option, Some, None, refl, sym, ap, ◌∙◌, subst, append_assoc, arith}
 use Rattle.std.specs.List.{slice_get}
 use Rattle.std.proofs.lemmas.Bool.{eq-eqb, ne_eqb}
 use Rattle.std.proofs.lemmas.List.{append-nil}
@@ -9,12 +9,13 @@ use Rattle.pcp_announce.specs.declared.doors.Group.{Group}
 use Rattle.job_workers.specs.HouseCalls.{HouseCalls}
 use Rattle.job_dispatch.specs.declared.ports.Port.{Port}
 use Rattle.job_queue.specs.declared.jobs.Job.{Job}
+use Rattle.job_queue.specs.declared.jobs.Job.TheVariants as Jobs
 use Rattle.job_queue.specs.Queues.{PutterKnowledge}
 use Rattle.job_dispatch.specs.declared.noise.NoiseCounts.{NoiseCounts}
-use Rattle.job_dispatch.specs.Dispatches.{ChangesPort, Dispatched, Fate, Put, Full, Noise, Starved, Ignored, IsFate, all_put_for, port_full, port_starved, port_with, put_for}
-use Rattle.job_dispatch.specs.Dispatching.{DispatchState, DoesItems}
+use Rattle.job_dispatch.specs.Dispatches.{ChangesPort, Dispatched, Fate, Put, Full, Waits, Joins, Noise, Starved, Ignored, Given, Late, IsFate, IsLate, all_put_for, port_full, port_late, port_starved, port_waiting, port_with, put_by}
+use Rattle.job_dispatch.specs.Dispatching.{DispatchState, DoesStep, DoesSteps}
 use Rattle.job_dispatch.specs.Noise.{in_second}
-use Rattle.job_dispatch.specs.PortsAfter.{ArePortsAfter, IsPortAfter, put_more, row_by_fate}
+use Rattle.job_dispatch.specs.PortsAfter.{ArePortsAfter, IsPortAfter, put_more, row_by, waits_by}
 
 -- ---- none, and one after the other
 
@@ -23,19 +24,20 @@ none_more p = ap (λ (l : List Job). record p { put = l }) (sym (append-nil p.pu
 
 pub are_none : (shard : ℕ) (ps : List Port) → ArePortsAfter shard [] ps ps
 are_none shard [] = tt
-are_none shard (p ∷ ps) = (record { putter = none_more p.putter; row = refl }, are_none (shard + 1) ps)
+are_none shard (p ∷ ps) = (record { putter = none_more p.putter; row = refl; waits = refl }, are_none (shard + 1) ps)
 
-put_behind : (shard : ℕ) (fate : Fate) (put : Option Job) (rest : List Dispatched) (d : Dispatched) → put_for shard d.fate ≡ put → all_put_for shard (d ∷ rest) ≡ all_put_for shard (d ∷ []) ++ all_put_for shard rest
-put_behind shard fate None rest d e = rw e refl
-put_behind shard fate (Some job) rest d e = rw e refl
+put_behind : (shard : ℕ) (put : Option Job) (rest : List Dispatched) (d : Dispatched) → put_by shard d ≡ put → all_put_for shard (d ∷ rest) ≡ all_put_for shard (d ∷ []) ++ all_put_for shard rest
+put_behind shard None rest d e = rw e refl
+put_behind shard (Some job) rest d e = rw e refl
 
 follows : (shard : ℕ) (d : Dispatched) (rest : List Dispatched) (a b c : Port) → IsPortAfter shard (d ∷ []) a b → IsPortAfter shard rest b c → IsPortAfter shard (d ∷ rest) a c
 follows shard d rest a b c x y = record {
   putter = y.putter ∙ (ap (λ (p : PutterKnowledge). put_more p (all_put_for shard rest)) x.putter
       ∙ ap (λ (l : List Job). record a.putter { put = l })
       (append_assoc a.putter.put (all_put_for shard (d ∷ [])) (all_put_for shard rest)
-      ∙ ap (λ (l : List Job). a.putter.put ++ l) (sym (put_behind shard d.fate (put_for shard d.fate) rest d refl))));
-  row = y.row ∙ ap (λ r. fold (row_by_fate shard) r (map (λ (x : Dispatched). x.fate) rest)) x.row;
+      ∙ ap (λ (l : List Job). a.putter.put ++ l) (sym (put_behind shard (put_by shard d) rest d refl))));
+  row = y.row ∙ ap (λ r. fold (row_by shard) r rest) x.row;
+  waits = y.waits ∙ ap (λ w. fold (waits_by shard) w rest) x.waits;
 }
 
 pub all_follow : (shard : ℕ) (d : Dispatched) (rest : List Dispatched) (xs bs cs : List Port) → ArePortsAfter shard (d ∷ []) xs bs → ArePortsAfter shard rest bs cs → ArePortsAfter shard (d ∷ rest) xs cs
@@ -91,31 +93,56 @@ one_put p job js e = ap (λ (l : List Job). put_more p l) (sym e)
 no_put : (p : PutterKnowledge) (js : List Job) → js ≡ [] → p ≡ put_more p js
 no_put p js e = none_more p ∙ ap (λ (l : List Job). put_more p l) (sym e)
 
-pub after_item : (config : Config) (noise : NoiseCounts) (item : InboxItem) (fate : Fate) (old new : List Port) → IsFate config noise item fate old new → ArePortsAfter 0 (record { item = item; fate = fate } ∷ []) old new
+pub after_item : (config : Config) (noise : NoiseCounts) (item : InboxItem) (fate : Fate) (old new : List Port) → IsFate config noise item fate old new → ArePortsAfter 0 (Given item fate ∷ []) old new
 unfolding Leaves
 after_item config noise item (Put at job) old new f =
-    of_change at (record { item = item; fate = Put at job }) old new f.1.0 (port_with f.1.0 job) f.1.1
-    (record { putter = one_put f.1.0.putter job (all_put_for at (record { item = item; fate = Put at job } ∷ [])) (rw (eq-eqb at at refl) refl); row = refl })
-    (λ n h port. record { putter = no_put port.putter (all_put_for n (record { item = item; fate = Put at job } ∷ [])) (rw (ne_eqb at n (λ e. h (sym e))) refl); row = refl })
+    of_change at (Given item (Put at job)) old new f.1.0 (port_with f.1.0 job) f.1.1
+    (record { putter = one_put f.1.0.putter job (all_put_for at (Given item (Put at job) ∷ [])) (rw (eq-eqb at at refl) refl); row = refl; waits = refl })
+    (λ n h port. record { putter = no_put port.putter (all_put_for n (Given item (Put at job) ∷ [])) (rw (ne_eqb at n (λ e. h (sym e))) refl); row = refl; waits = refl })
 after_item config noise item (Full at job) old new f =
-    of_change at (record { item = item; fate = Full at job }) old new f.1.0 (port_full f.1.0) f.1.1
-    (record { putter = none_more f.1.0.putter; row = rw (eq-eqb at at refl) refl })
-    (λ n h port. record { putter = none_more port.putter; row = rw (ne_eqb at n (λ e. h (sym e))) refl })
+    of_change at (Given item (Full at job)) old new f.2.0 (port_full f.2.0) f.2.1
+    (record { putter = none_more f.2.0.putter; row = rw (eq-eqb at at refl) refl; waits = refl })
+    (λ n h port. record { putter = none_more port.putter; row = rw (ne_eqb at n (λ e. h (sym e))) refl; waits = refl })
+after_item config noise item (Waits at) old new f =
+    of_change at (Given item (Waits at)) old new f.1.0 (port_waiting f.1.0) f.1.1
+    (record { putter = none_more f.1.0.putter; row = refl; waits = rw (eq-eqb at at refl) refl })
+    (λ n h port. record { putter = none_more port.putter; row = refl; waits = rw (ne_eqb at n (λ e. h (sym e))) refl })
+after_item config noise item (Joins at) old new f =
+    subst (λ (l : List Port). ArePortsAfter 0 (Given item (Joins at) ∷ []) old l) (sym f.1)
+    (leaves_rest 0 (Given item (Joins at)) old (λ n h port. record { putter = none_more port.putter; row = refl; waits = refl }))
 after_item config noise item (Noise at job) old new f =
-    subst (λ (l : List Port). ArePortsAfter 0 (record { item = item; fate = Noise at job } ∷ []) old l) (sym f.2)
-    (leaves_rest 0 (record { item = item; fate = Noise at job }) old (λ n h port. record { putter = none_more port.putter; row = refl }))
+    subst (λ (l : List Port). ArePortsAfter 0 (Given item (Noise at job) ∷ []) old l) (sym f.2)
+    (leaves_rest 0 (Given item (Noise at job)) old (λ n h port. record { putter = none_more port.putter; row = refl; waits = refl }))
 after_item config noise item Starved old new f =
-    of_change 0 (record { item = item; fate = Starved }) old new f.1.0 (port_starved f.1.0) f.1.1
-    (record { putter = none_more f.1.0.putter; row = refl })
-    (λ n h port. record { putter = none_more port.putter; row = rw (ne_eqb 0 n (λ e. h (sym e))) refl })
+    of_change 0 (Given item Starved) old new f.1.0 (port_starved f.1.0) f.1.1
+    (record { putter = none_more f.1.0.putter; row = refl; waits = refl })
+    (λ n h port. record { putter = none_more port.putter; row = rw (ne_eqb 0 n (λ e. h (sym e))) refl; waits = refl })
 after_item config noise item Ignored old new f =
-    subst (λ (l : List Port). ArePortsAfter 0 (record { item = item; fate = Ignored } ∷ []) old l) (sym f.1)
-    (leaves_rest 0 (record { item = item; fate = Ignored }) old (λ n h port. record { putter = none_more port.putter; row = refl }))
+    subst (λ (l : List Port). ArePortsAfter 0 (Given item Ignored ∷ []) old l) (sym f.1)
+    (leaves_rest 0 (Given item Ignored) old (λ n h port. record { putter = none_more port.putter; row = refl; waits = refl }))
 
--- ---- all items
+-- ---- a loss that waited
 
--- What stands in the ports after all items is what their fates say.
-pub after_items : {P : Type 0} (house : HouseCalls P) (config : Config) (groups : List Group) (port : ℕ) (ds : List Dispatched) (a b : DispatchState P) → DoesItems house config groups port ds a b → ArePortsAfter 0 ds a.ports b.ports
-after_items house config groups port [] a b does = subst (λ (s : DispatchState _). ArePortsAfter 0 [] a.ports s.ports) (sym does) (are_none 0 a.ports)
-after_items house config groups port (d ∷ ds) a b does =
-    all_follow 0 d ds a.ports does.0.ports b.ports (after_item config (in_second a.noise (does.1.time / 1000)) d.item d.fate a.ports does.0.ports does.1.fate) (after_items house config groups port ds does.0 b does.2)
+after_late : (at : ℕ) (old new : List Port) → IsLate at old new → ArePortsAfter 0 (Late at ∷ []) old new
+unfolding Leaves
+after_late at old new l =
+    of_change at (Late at) old new l.0 (port_late l.0) l.1
+    (record { putter = one_put l.0.putter Jobs.Lose (all_put_for at (Late at ∷ [])) (rw (eq-eqb at at refl) refl); row = refl; waits = rw (eq-eqb at at refl) refl })
+    (λ n h port. record {
+      putter = no_put port.putter (all_put_for n (Late at ∷ [])) (rw (ne_eqb at n (λ e. h (sym e))) refl);
+      row = refl;
+      waits = rw (ne_eqb at n (λ e. h (sym e))) refl;
+    })
+
+-- ---- all that was done
+
+pub after_step : {P : Type 0} (house : HouseCalls P) (config : Config) (groups : List Group) (port : ℕ) (d : Dispatched) (a b : DispatchState P) → DoesStep house config groups port d a b
+    → ArePortsAfter 0 (d ∷ []) a.ports b.ports
+after_step house config groups port (Given item fate) a b does = after_item config (in_second a.noise (does.time / 1000)) item fate a.ports b.ports does.becomes
+after_step house config groups port (Late at) a b does = after_late at a.ports b.ports does.0
+
+-- What stands in the ports after all is what the steps say.
+pub after_steps : {P : Type 0} (house : HouseCalls P) (config : Config) (groups : List Group) (port : ℕ) (ds : List Dispatched) (a b : DispatchState P) → DoesSteps house config groups port ds a b → ArePortsAfter 0 ds a.ports b.ports
+after_steps house config groups port [] a b does = subst (λ (s : DispatchState _). ArePortsAfter 0 [] a.ports s.ports) (sym does) (are_none 0 a.ports)
+after_steps house config groups port (d ∷ ds) a b does =
+    all_follow 0 d ds a.ports does.0.ports b.ports (after_step house config groups port d a does.0 does.1) (after_steps house config groups port ds does.0 b does.2)

@@ -1,7 +1,7 @@
 -- What the dispatcher does (our own): the items of the inbox one after the other, each to the queue
--- of its external address, and announcements in between.
+-- of its external address, losses that waited for room in theirs, and announcements in between.
 use Rattle.std.specs.Prelude.{◌≡◌, ℕ, ◌==◌, ◌<◌, ◌⊎◌, Bool, true, false, List, [], ◌∷◌, ◌++◌, length, filter_map, slice_set, Option, Some, None, if◌then◌else◌}
-use Rattle.std.specs.List.{position_from, slice_get}
+use Rattle.std.specs.List.{AllByRecursion, position_from, slice_get}
 use Rattle.atomic_table.specs.Seated.{TableId}
 use Rattle.pcp_base.specs.declared.addresses.Address.{Address}
 use Rattle.pcp_base.specs.declared.configs.Config.{Config}
@@ -36,6 +36,10 @@ pub data Fate : Type 0 where
   Put : ℕ → Job → Fate
   -- it was dropped, since that queue was full
   Full : ℕ → Job → Fate
+  -- the loss waits for room in the queue of this shard, which was full
+  Waits : ℕ → Fate
+  -- one waits for that shard already, and is put for both
+  Joins : ℕ → Fate
   -- it was dropped, since it is noise, of which that queue had much, or this second
   Noise : ℕ → Job → Fate
   -- it was dropped for want of memory, before it was known where it goes
@@ -70,6 +74,16 @@ abbrev pub port_with : Port → Job → Port
 port_with port job =
     record port { putter = record port.putter { put = port.putter.put ++ job ∷ [] } }
 
+abbrev pub port_waiting : Port → Port
+port_waiting port = record port { waits = true }
+
+-- the loss that waited was put
+abbrev pub port_late : Port → Port
+port_late port = record port {
+  putter = record port.putter { put = port.putter.put ++ Jobs.Lose ∷ [] };
+  waits = false;
+}
+
 abbrev pub port_full : Port → Port
 port_full port = record port { row = row_full port.row }
 
@@ -85,15 +99,27 @@ pub record ChangesPort (shard : ℕ) (port changed : Port) (old new : List Port)
   pub there : slice_get old shard ≡ Some port
   pub new_are : new ≡ slice_set old shard changed
 
+-- a loss is put at once only where none waits
+abbrev pub MayPut : Port → Job → Type 0
+MayPut port (Jobs.Packet d) = Unit {0}
+MayPut port Jobs.Lose = port.waits ≡ false
+
 -- what became of an item, where this noise was counted in this second
 abbrev pub IsFate : Config → NoiseCounts → InboxItem → Fate → List Port → List Port → Type 0
 IsFate config noise item (Put shard job) old new =
     IsJobOf config item shard job
-    × ((port : Port) × ChangesPort shard port (port_with port job) old new)
+    × ((port : Port) × ChangesPort shard port (port_with port job) old new × MayPut port job)
     × (is_noise_for config shard job ≡ true → noise.put < 1000)
 IsFate config noise item (Full shard job) old new =
-    IsJobOf config item shard job
+    IsJobOf config item shard job × IsPacket item
     × ((port : Port) × ChangesPort shard port (port_full port) old new × WasFull port.putter.put)
+IsFate config noise item (Waits shard) old new =
+    IsJobOf config item shard Jobs.Lose
+    × ((port : Port) × ChangesPort shard port (port_waiting port) old new
+    × WasFull port.putter.put × (port.waits ≡ false))
+IsFate config noise item (Joins shard) old new =
+    IsJobOf config item shard Jobs.Lose × (new ≡ old)
+    × ((port : Port) × (slice_get old shard ≡ Some port) × (port.waits ≡ true))
 IsFate config noise item (Noise shard job) old new =
     IsJobOf config item shard job × (is_noise_for config shard job ≡ true) × (new ≡ old)
     × ((port : Port) × (slice_get old shard ≡ Some port) × IsTooMuch noise port.putter)
@@ -106,18 +132,11 @@ abbrev pub noise_by_fate : Config → NoiseCounts → Fate → NoiseCounts
 noise_by_fate config noise (Put shard job) =
     if is_noise_for config shard job then noise_put noise else noise
 noise_by_fate config noise (Full shard job) = noise
+noise_by_fate config noise (Waits shard) = noise
+noise_by_fate config noise (Joins shard) = noise
 noise_by_fate config noise (Noise shard job) = noise_dropped noise
 noise_by_fate config noise Starved = noise
 noise_by_fate config noise Ignored = noise
-
--- what may become of an item, whatever the queues hold
-abbrev pub IsFateOf : Config → InboxItem → Fate → Type 0
-IsFateOf config item (Put shard job) = IsJobOf config item shard job
-IsFateOf config item (Full shard job) = IsJobOf config item shard job
-IsFateOf config item (Noise shard job) =
-    IsJobOf config item shard job × (is_noise_for config shard job ≡ true)
-IsFateOf config item Starved = IsPacket item
-IsFateOf config item Ignored = IsNoJob config item
 
 -- a job was offered to its queue, and counted if it is noise
 abbrev pub Offers : Bool → Job → Port → Port → NoiseCounts → NoiseCounts → Type 0
@@ -144,6 +163,25 @@ pub record OffersAt (is_noise : Bool) (shard : ℕ) (job : Job) (old new : List 
   pub changes : ChangesPort shard port changed old new
   pub offers : Offers is_noise job port changed noise counted
 
+-- a loss was put, waits at its full queue, or one waited already
+abbrev pub OffersLoss : Port → Port → Bool → Type 0
+OffersLoss old new put =
+    ((put ≡ true) × (old.waits ≡ false) × (new ≡ port_with old Jobs.Lose))
+    ⊎ (((put ≡ false) × (old.waits ≡ false) × (new ≡ port_waiting old) × WasFull old.putter.put)
+    ⊎ ((put ≡ false) × (old.waits ≡ true) × (new ≡ old)))
+
+-- so of this shard
+pub record OffersLossAt (shard : ℕ) (old new : List Port) (put : Bool) : Type 0 where
+  pub port : Port
+  pub changed : Port
+  pub changes : ChangesPort shard port changed old new
+  pub offers : OffersLoss port changed put
+
+-- a loss that waited was put, or nothing changed
+abbrev pub PutsLate : Port → Port → Bool → Type 0
+PutsLate old new put =
+    ((put ≡ true) × (old.waits ≡ true) × (new ≡ port_late old)) ⊎ ((put ≡ false) × (new ≡ old))
+
 -- what was sifted was dropped as noise and counted, or nothing changed
 pub record Sifts (sifted : Sifted) (old new : List Port) (noise counted : NoiseCounts)
     (dropped : Bool) : Type 0 where
@@ -164,20 +202,49 @@ HasFate config item old new noise counted =
     (fate : Fate) × IsFate config noise item fate old new
     × (counted ≡ noise_by_fate config noise fate)
 
--- ---- all items
+-- the loss was put, waits since its queue was full, or is put with one that waits
+abbrev pub HasLossFate : Config → InboxItem → List Port → List Port → Type 0
+HasLossFate config item old new =
+    (noise : NoiseCounts) → HasFate config item old new noise noise
 
-pub record Dispatched : Type 0 where
-  pub item : InboxItem
-  pub fate : Fate
+-- the loss that waited for this shard was put
+abbrev pub IsLate : ℕ → List Port → List Port → Type 0
+IsLate shard old new =
+    (port : Port) × ChangesPort shard port (port_late port) old new × (port.waits ≡ true)
+
+-- those that waited for these shards were, one after the other
+abbrev pub AreLate : List ℕ → List Port → List Port → Type 0
+AreLate [] old new = new ≡ old
+AreLate (shard ∷ shards) old new =
+    (mid : List Port) × IsLate shard old mid × AreLate shards mid new
+
+-- no loss waits
+abbrev pub NoneWaits : List Port → Type 0
+NoneWaits ports = AllByRecursion (λ p. p.waits ≡ false) ports
+
+-- ---- all that was done
+
+-- what the dispatcher did
+pub data Dispatched : Type 0 where
+  -- the inbox gave an item, and this became of it
+  Given : InboxItem → Fate → Dispatched
+  -- the loss that waited for this shard was put
+  Late : ℕ → Dispatched
 
 -- the job that was put for this shard, if any
 abbrev pub put_for : ℕ → Fate → Option Job
 put_for shard (Put at job) = if at == shard then Some job else None
 put_for shard (Full at job) = None
+put_for shard (Waits at) = None
+put_for shard (Joins at) = None
 put_for shard (Noise at job) = None
 put_for shard Starved = None
 put_for shard Ignored = None
 
+abbrev pub put_by : ℕ → Dispatched → Option Job
+put_by shard (Given item fate) = put_for shard fate
+put_by shard (Late at) = if at == shard then Some Jobs.Lose else None
+
 -- what was put for this shard, in order
 abbrev pub all_put_for : ℕ → List Dispatched → List Job
-all_put_for shard ds = filter_map (λ d. put_for shard d.fate) ds
+all_put_for shard ds = filter_map (put_by shard) ds

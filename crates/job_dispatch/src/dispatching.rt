@@ -1,32 +1,64 @@
 //! The dispatcher's loop.
-ghost use Rattle.std.specs.Prelude.{◌≡◌, ◌≤◌, length, IfSome};
+ghost use Rattle.std.specs.Prelude.{◌≡◌, ◌≤◌, ℕ, List, length, IfSome};
 ghost use Rattle.pcp_base.specs.Configs.{IsConfig};
 ghost use Rattle.pcp_io.specs.declared.inboxes.TheConstants.{LONGEST_DATAGRAM};
 ghost use Rattle.pcp_io.specs.Takes.{filled, item_of};
 ghost use Rattle.pcp_announce.specs.Doors.{groups};
 ghost use Rattle.job_dispatch.specs.declared.ports.TheConstants.{ANNOUNCEMENT_PORT};
-ghost use Rattle.job_dispatch.specs.Dispatches.{ArePorts, HasFate};
-ghost use Rattle.job_dispatch.specs.Dispatching.{IsItemTurn, RunsDispatcher};
+ghost use Rattle.job_dispatch.specs.Dispatches.{AreLate, ArePorts, HasFate, NoneWaits};
+ghost use Rattle.job_dispatch.specs.Dispatching.{IsItemTurn, RunsDispatcher, RunsItems};
 
 use crate::announcements::announce;
+use crate::losses::{dispatch_loss, put_all_waiting, put_waiting};
 use crate::noise::NoiseCounts;
-use crate::ports::{Port, dispatch_loss, dispatch_packet};
+use crate::orders::{Orders, REFUSED, tell};
+use crate::ports::{Port, dispatch_packet};
 use job_queue::JobQueue;
 use job_workers::JobHouse;
 use pcp_announce::Announcer;
 use pcp_base::{Config, Failed};
 use pcp_io::{Clock, Inbox, Incoming, Outbox};
+use status_board::Board;
 use std::alloc::Global;
 use std::sync::Wait;
 
+/// Leaves what was counted on the board, and asks all workers for their numbers. The order of this
+/// number waits for them.
+fn ask_status<I: Inbox>(
+    board: &Board,
+    ports: &[Port],
+    noise: &NoiseCounts,
+    orders: &mut Orders,
+    inbox: &mut I,
+    order: u32,
+)
+    ensures left { I.left inbox.new ≡ I.left inbox.old }
+    ensures later { I.faults inbox.old ≤ I.faults inbox.new }
+{
+    board.drop_noise(noise.dropped);
+    for (shard, port) in ports.iter().enumerate() {
+        board.count_dropped(shard as u32, port.row.full, port.row.starved);
+    }
+    board.ask();
+    for port in ports {
+        port.unparker.unpark();
+    }
+    if !orders.add_status(order) {
+        tell(inbox, order, REFUSED);
+    }
+}
+
 /// What becomes of what a take gave.
-fn dispatch_item<R: Wait>(
+fn dispatch_item<R: Wait, I: Inbox>(
     rt: &R,
     alloc: Global,
     config: &Config,
+    board: &Board,
     queues: &[JobQueue],
     ports: &mut [Port],
     noise: &mut NoiseCounts,
+    orders: &mut Orders,
+    inbox: &mut I,
     incoming: Incoming,
     piece: &[u8],
 )
@@ -34,8 +66,10 @@ fn dispatch_item<R: Wait>(
     requires ports { ArePorts config.now queues.now ports.old }
     requires all { length ports.old ≡ length config.now.externals }
     requires piece { filled incoming ≤ length piece.now }
-    ensures { IfSome (item_of incoming piece.now)
+    ensures fate { IfSome (item_of incoming piece.now)
         (λ item. HasFate config.now item ports.old ports.new noise.old noise.new) }
+    ensures left { I.left inbox.new ≡ I.left inbox.old }
+    ensures later { I.faults inbox.old ≤ I.faults inbox.new }
 {
     match incoming {
         Incoming::Packet {
@@ -50,9 +84,9 @@ fn dispatch_item<R: Wait>(
             );
         }
         Incoming::Lose(order, address) => {
-            dispatch_loss(rt, config, queues, ports, noise, order, &address);
+            dispatch_loss(rt, config, queues, ports, orders, inbox, order, &address);
         }
-        Incoming::Status(_) => {}
+        Incoming::Status(order) => ask_status(board, ports, noise, orders, inbox, order),
         Incoming::Quiet => {}
         Incoming::Stop => {}
     }
@@ -64,11 +98,13 @@ fn do_item<R: Wait, I: Inbox, O: Outbox, T: Clock, P, H: JobHouse<P>>(
     alloc: Global,
     house: &H,
     config: &Config,
+    board: &Board,
     queues: &[JobQueue],
     pass: &mut P,
     announcer: &mut Announcer,
     ports: &mut [Port],
     noise: &mut NoiseCounts,
+    orders: &mut Orders,
     inbox: &mut I,
     out: &mut O,
     clock: &mut T,
@@ -114,16 +150,86 @@ fn do_item<R: Wait, I: Inbox, O: Outbox, T: Clock, P, H: JobHouse<P>>(
     }
     let time = announce(house, config, pass, announcer, out, clock);
     noise.begin(time / 1_000);
-    dispatch_item(rt, alloc, config, queues, ports, noise, incoming, piece);
+    orders.reach(alloc, config, board, inbox, time);
+    dispatch_item(
+        rt, alloc, config, board, queues, ports, noise, orders, inbox, incoming, piece,
+    );
     Ok(true)
 }
 
-/// Hands on all items until the inbox stops or fails.
+/// Hands on all items until the inbox stops or fails, and in between losses that waited.
+fn dispatch_items<R: Wait, I: Inbox, O: Outbox, T: Clock, P, H: JobHouse<P>>(
+    rt: &R,
+    alloc: Global,
+    house: &H,
+    config: &Config,
+    board: &Board,
+    queues: &[JobQueue],
+    pass: &mut P,
+    announcer: &mut Announcer,
+    ports: &mut [Port],
+    noise: &mut NoiseCounts,
+    orders: &mut Orders,
+    inbox: &mut I,
+    out: &mut O,
+    clock: &mut T,
+    piece: &mut [u8],
+) -> Result<(), Failed>
+    requires config { IsConfig config.now }
+    requires pass { (H.calls house.now).is_pass pass.old }
+    requires ports { ArePorts config.now queues.now ports.old }
+    requires all { length ports.old ≡ length config.now.externals }
+    requires piece { LONGEST_DATAGRAM ≤ length piece.old }
+    ensures { RunsItems (H.calls house.now) config.now (groups config.now) ANNOUNCEMENT_PORT
+        (record {
+          ports = ports.old;
+          noise = noise.old;
+          announcing = record {
+            pass = pass.old;
+            schedule = announcer.old;
+            sent = O.sent out.old;
+            faults = O.faults out.old;
+            times = T.times clock.old;
+          };
+          left = I.left inbox.old;
+          faults = I.faults inbox.old;
+        })
+        (record {
+          ports = ports.new;
+          noise = noise.new;
+          announcing = record {
+            pass = pass.new;
+            schedule = announcer.new;
+            sent = O.sent out.new;
+            faults = O.faults out.new;
+            times = T.times clock.new;
+          };
+          left = I.left inbox.new;
+          faults = I.faults inbox.new;
+        })
+        result }
+{
+    for _ in rt.forever() {
+        put_waiting(rt, config, queues, ports, orders, inbox);
+        let more = do_item(
+            rt, alloc, house, config, board, queues, pass, announcer, ports, noise, orders, inbox,
+            out, clock, piece,
+        )?;
+        if !more {
+            return Ok(());
+        }
+    }
+    unreachable!()
+}
+
+/// Hands on all items until the inbox stops or fails. Then all losses that wait are put, and all orders
+/// answered.
 pub fn dispatch<R: Wait, I: Inbox, O: Outbox, T: Clock, P, H: JobHouse<P>>(
     rt: &R,
     alloc: Global,
     house: &H,
     config: &Config,
+    board: &Board,
     queues: &[JobQueue],
     pass: &mut P,
     announcer: &mut Announcer,
@@ -168,14 +274,25 @@ pub fn dispatch<R: Wait, I: Inbox, O: Outbox, T: Clock, P, H: JobHouse<P>>(
         })
         result }
 {
-    for _ in rt.forever() {
-        let more = do_item(
-            rt, alloc, house, config, queues, pass, announcer, ports, noise, inbox, out, clock,
-            piece,
-        )?;
-        if !more {
-            return Ok(());
-        }
-    }
-    unreachable!()
+    let mut orders = Orders::new();
+    let read = dispatch_items(
+        rt,
+        alloc,
+        house,
+        config,
+        board,
+        queues,
+        pass,
+        announcer,
+        ports,
+        noise,
+        &mut orders,
+        inbox,
+        out,
+        clock,
+        piece,
+    );
+    put_all_waiting(rt, config, queues, ports, &mut orders, inbox);
+    orders.answer_statuses(alloc, config, board, inbox);
+    read
 }

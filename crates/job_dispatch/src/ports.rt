@@ -3,7 +3,7 @@ ghost use Rattle.std.specs.Prelude.{◌≡◌, ◌<◌, length, Some, IfOk, IsFa
 ghost use Rattle.pcp_base.specs.Configs.{IsConfig};
 ghost use Rattle.pcp_io.specs.declared.inboxes.InboxItem.TheVariants as InboxItem;
 ghost use Rattle.lease_histories.specs.Routes.{route_of};
-ghost use Rattle.job_dispatch.specs.Dispatches.{ArePorts, HasFate, Offers, OffersAt, Sifts, StarvesAt, came, is_noise_for, place_of_external, port_starved};
+ghost use Rattle.job_dispatch.specs.Dispatches.{ArePorts, HasFate, Offers, OffersAt, Sifts, StarvesAt, came, is_noise_for, port_starved};
 ghost use Rattle.job_dispatch.specs.Noise.{IsTooMuch};
 ghost use Rattle.job_queue.specs.Noise.{is_noise};
 ghost use Rattle.job_queue.specs.Queues.{IsJobFor, is_noise_job};
@@ -27,6 +27,8 @@ pub struct Port {
     pub row: TallyRow,
     /// wakes the worker
     pub unparker: Unparker,
+    /// whether a loss waits for room in the queue
+    pub waits: bool,
 }
 
 /// Puts a job into its queue, or counts that it was dropped at a full one, and wakes the worker. Noise
@@ -49,23 +51,13 @@ fn offer<R: Wait>(
         putter,
         row,
         unparker,
+        waits: _waits,
     } = port;
     match queue.put(rt, putter, job, is_noise) {
         Ok(()) => noise.count_put(is_noise),
         Err(_) => row.count_full(),
     }
     unparker.unpark();
-}
-
-/// The index of the external address.
-fn external_place(config: &Config, address: &Address) -> Option<usize>
-    ensures { result ≡ place_of_external config.now address.now }
-{
-    config
-        .externals
-        .items()
-        .iter()
-        .position(|external| external.address == *address)
 }
 
 /// A datagram that came by this door from this peer.
@@ -232,25 +224,4 @@ pub fn dispatch_packet<R: Wait>(
     copy_packet(
         rt, alloc, config, queues, ports, noise, sifted, peer, port, door, octets,
     );
-}
-
-/// What becomes of a loss by the order of this number.
-pub fn dispatch_loss<R: Wait>(
-    rt: &R,
-    config: &Config,
-    queues: &[JobQueue],
-    ports: &mut [Port],
-    noise: &mut NoiseCounts,
-    order: u32,
-    address: &Address,
-)
-    requires ports { ArePorts config.now queues.now ports.old }
-    requires all { length ports.old ≡ length config.now.externals }
-    ensures { HasFate config.now (InboxItem.Lose order address.now)
-        ports.old ports.new noise.old noise.new }
-{
-    let Some(shard) = external_place(config, address) else {
-        return;
-    };
-    offer_at(rt, config, queues, ports, noise, shard, Job::Lose, false);
 }

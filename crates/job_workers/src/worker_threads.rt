@@ -12,10 +12,10 @@ use pcp_io::{Clock, Gate, Outbox};
 use status_board::Board;
 use std::alloc::Global;
 use std::sync::Wait;
-use std::sync::atomic::AtomicBool;
+use std::sync::atomic::{AtomicBool, AtomicU32, Ordering};
 use std::thread::{Threads, join_mut};
 
-/// The first worker.
+/// The first worker, which counts that it is here.
 fn work_first<R: Wait, O: Outbox, T: Clock, G: Gate, P, H: JobHouse<P>>(
     rt: &R,
     alloc: Global,
@@ -23,6 +23,7 @@ fn work_first<R: Wait, O: Outbox, T: Clock, G: Gate, P, H: JobHouse<P>>(
     gate: &G,
     board: &Board,
     ended: &AtomicBool,
+    here: &AtomicU32,
     queues: &[JobQueue],
     desks: &mut [Desk<P>],
     outs: &mut [O],
@@ -36,6 +37,7 @@ fn work_first<R: Wait, O: Outbox, T: Clock, G: Gate, P, H: JobHouse<P>>(
         (stations desks.new (map (λ o. record { sent = O.sent o; faults = O.faults o }) outs.new)
         (map T.times clocks.new)) }
 {
+    let _before = here.fetch_add(1, Ordering::SeqCst);
     work(
         rt,
         alloc,
@@ -50,7 +52,8 @@ fn work_first<R: Wait, O: Outbox, T: Clock, G: Gate, P, H: JobHouse<P>>(
     );
 }
 
-/// Has each worker work until the dispatcher has ended and its queue is empty.
+/// Has each worker work until the dispatcher has ended and its queue is empty. Each counts first that
+/// it is here.
 #[cycle(workers)]
 pub fn run_workers<
     R: Threads + Wait + Sync,
@@ -66,6 +69,7 @@ pub fn run_workers<
     gate: &G,
     board: &Board,
     ended: &AtomicBool,
+    here: &AtomicU32,
     queues: &[JobQueue],
     desks: &mut [Desk<P>],
     outs: &mut [O],
@@ -94,6 +98,7 @@ pub fn run_workers<
         gate,
         board,
         ended,
+        here,
         queue,
         desk,
         out,
@@ -122,6 +127,7 @@ fn run_both<
     gate: &G,
     board: &Board,
     ended: &AtomicBool,
+    here: &AtomicU32,
     queue: &[JobQueue],
     desk: &mut [Desk<P>],
     out: &mut [O],
@@ -160,7 +166,7 @@ fn run_both<
             (map T.times clock.exit.now)) }
     {
         work_first(
-            rt, alloc, house, gate, board, ended, queue, desk, out, clock,
+            rt, alloc, house, gate, board, ended, here, queue, desk, out, clock,
         )
     };
     let mut rest = move ||
@@ -177,7 +183,7 @@ fn run_both<
             (map T.times clocks.exit.now)) }
     {
         run_workers(
-            rt, alloc, house, gate, board, ended, queues, desks, outs, clocks,
+            rt, alloc, house, gate, board, ended, here, queues, desks, outs, clocks,
         )
     };
     join_mut(rt, &mut one, &mut rest);

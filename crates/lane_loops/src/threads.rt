@@ -7,13 +7,14 @@ use crate::loops::run_lane;
 use lane_index::Lane;
 use pcp_io::{Clock, LaneLink};
 use std::sync::Wait;
-use std::sync::atomic::AtomicBool;
+use std::sync::atomic::{AtomicBool, AtomicU32, Ordering};
 use std::thread::{Threads, join_mut};
 
-/// The first lane.
+/// The first lane, which counts that it is here.
 fn run_first<R: Wait, L: LaneLink, T: Clock>(
     rt: &R,
     ended: &AtomicBool,
+    here: &AtomicU32,
     lanes: &mut [Lane],
     links: &mut [L],
     clocks: &mut [T],
@@ -27,14 +28,16 @@ fn run_first<R: Wait, L: LaneLink, T: Clock>(
         (map (λ l. record { asks = L.asks l; answers = L.answers l; faults = L.faults l }) links.new)
         (map T.times clocks.new)) }
 {
+    let _before = here.fetch_add(1, Ordering::SeqCst);
     run_lane(rt, ended, &mut lanes[0], &mut links[0], &mut clocks[0]);
 }
 
-/// Runs the loop of each lane until it ends.
+/// Runs the loop of each lane until it ends. Each counts first that it is here.
 #[cycle(lanes)]
 pub fn run_lanes<R: Threads + Wait + Sync, L: LaneLink + Send, T: Clock + Send>(
     rt: &R,
     ended: &AtomicBool,
+    here: &AtomicU32,
     lanes: &mut [Lane],
     links: &mut [L],
     clocks: &mut [T],
@@ -58,6 +61,7 @@ pub fn run_lanes<R: Threads + Wait + Sync, L: LaneLink + Send, T: Clock + Send>(
     run_both(
         rt,
         ended,
+        here,
         lane,
         link,
         clock,
@@ -73,6 +77,7 @@ pub fn run_lanes<R: Threads + Wait + Sync, L: LaneLink + Send, T: Clock + Send>(
 fn run_both<R: Threads + Wait + Sync, L: LaneLink + Send, T: Clock + Send>(
     rt: &R,
     ended: &AtomicBool,
+    here: &AtomicU32,
     lane: &mut [Lane],
     link: &mut [L],
     clock: &mut [T],
@@ -108,7 +113,7 @@ fn run_both<R: Threads + Wait + Sync, L: LaneLink + Send, T: Clock + Send>(
             (lane_states lane.exit.now
             (map (λ l. record { asks = L.asks l; answers = L.answers l; faults = L.faults l }) link.exit.now)
             (map T.times clock.exit.now)) }
-    { run_first(rt, ended, lane, link, clock) };
+    { run_first(rt, ended, here, lane, link, clock) };
     let mut rest = move ||
         requires { IsSync R.row × IsSend L.row × IsSend T.row
             × (length links.now ≡ length lanes.now) × (length clocks.now ≡ length lanes.now) }
@@ -119,6 +124,6 @@ fn run_both<R: Threads + Wait + Sync, L: LaneLink + Send, T: Clock + Send>(
             (lane_states lanes.exit.now
             (map (λ l. record { asks = L.asks l; answers = L.answers l; faults = L.faults l }) links.exit.now)
             (map T.times clocks.exit.now)) }
-    { run_lanes(rt, ended, lanes, links, clocks) };
+    { run_lanes(rt, ended, here, lanes, links, clocks) };
     join_mut(rt, &mut one, &mut rest);
 }

@@ -4,7 +4,6 @@ use Rattle.std.specs.List.{AllByRecursion}
 use Rattle.std.proofs.lemmas.List.{length-map}
 use Rattle.atomic_table.specs.Seated.{TableId}
 use Rattle.pcp_base.specs.declared.configs.Config.{Config}
-use Rattle.pcp_base.specs.declared.errors.Failed.{Failed}
 use Rattle.pcp_announce.specs.declared.doors.Group.{Group}
 use Rattle.pcp_io.specs.declared.inboxes.InboxItem.{InboxItem}
 use Rattle.pcp_io.specs.Times.{Times}
@@ -15,7 +14,9 @@ use Rattle.job_workers.specs.HouseCalls.{HouseCalls}
 use Rattle.job_workers.specs.Stations.{OutState}
 use Rattle.job_dispatch.specs.declared.ports.Port.{Port}
 use Rattle.job_dispatch.specs.Announcing.{AnnounceState}
+use Rattle.job_dispatch.specs.Dispatches.{NoneWaits}
 use Rattle.job_dispatch.specs.Dispatching.{DispatchState}
+use Rattle.request_workers.specs.declared.faults.RunFault.{RunFault}
 use Rattle.request_workers.specs.Seats.{AreSeated, Seats}
 use Rattle.request_workers.specs.Served.{RunsAll}
 use Rattle.request_workers.proofs.ServeLemmas.{desks-length}
@@ -41,6 +42,15 @@ nothing_put house shard (q ∷ qs) [] ps h = absurd h
 nothing_put house shard (q ∷ qs) (d ∷ ds) [] h = absurd h
 nothing_put house shard (q ∷ qs) (d ∷ ds) (p ∷ ps) h = (h.0.put, nothing_put house (shard + 1) qs ds ps h.1)
 
+-- and no loss waits
+pub none_waiting : {P : Type 0} (house : HouseCalls P) (shard : ℕ) (qs : List TableId) (ds : List (Desk P)) (ps : List Port) → AreSeated house shard qs ds ps → NoneWaits ps
+none_waiting house shard [] [] [] h = tt
+none_waiting house shard [] [] (p ∷ ps) h = absurd h
+none_waiting house shard [] (d ∷ ds) ps h = absurd h
+none_waiting house shard (q ∷ qs) [] ps h = absurd h
+none_waiting house shard (q ∷ qs) (d ∷ ds) [] h = absurd h
+none_waiting house shard (q ∷ qs) (d ∷ ds) (p ∷ ps) h = (h.0.waits, none_waiting house (shard + 1) qs ds ps h.1)
+
 pub passes_of : {P : Type 0} (house : HouseCalls P) (passes : List P) (qs qs' : List TableId) (ds ds' : List (Desk P)) (ps ps' : List Port)
     → ds ≡ [] → Seats house 0 passes qs qs' ds ds' ps ps' → map (λ (d : Desk P). d.pass) ds' ≡ passes
 passes_of {P} house passes qs qs' ds ds' ps ps' b s =
@@ -54,7 +64,7 @@ queues-length {P} house passes qs qs' ds ds' ps ps' a b c s =
 
 -- the run of all threads, from the passes as they were
 pub of_runs : {P : Type 0} (house : HouseCalls P) (config : Config) (groups : List Group) (port : ℕ) (dispatcher : DispatchState P) (announcing : AnnounceState P)
-    (left : Option (List InboxItem)) (faults : ℕ) (read : Result (Unit {0}) Failed) (seated passes : List P) (outs outs' : List OutState) (times times' : List (Option Times))
+    (left : Option (List InboxItem)) (faults : ℕ) (read : Result (Unit {0}) RunFault) (seated passes : List P) (outs outs' : List OutState) (times times' : List (Option Times))
     (lanes lanes' : List LaneState) (mid passes' : List P) (row_mid rows' : List TallyRow) → seated ≡ passes → mid ≡ [] → row_mid ≡ []
     → RunsAll house config groups port dispatcher announcing left faults read seated outs outs' times times' lanes lanes' mid passes' row_mid rows'
     → RunsAll house config groups port dispatcher announcing left faults read passes outs outs' times times' lanes lanes' [] passes' [] rows'

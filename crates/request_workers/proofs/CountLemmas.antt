@@ -1,5 +1,5 @@
 -- Rows count.
-use Rattle.std.proofs.Common.{◌≡◌, ℕ, ◌+◌, ◌-◌, ◌==◌, ◌^◌, min, Bool, true, false, cond, List, [], ◌∷◌, length, map, fold, refl, sym, ap, ◌∙◌, arith}
+use Rattle.std.proofs.Common.{◌≡◌, ℕ, ◌+◌, ◌-◌, ◌==◌, ◌^◌, min, Bool, true, false, cond, List, [], ◌∷◌, length, fold, refl, sym, ap, ◌∙◌, arith}
 use Rattle.std.specs.List.{sum_by}
 use Rattle.std.proofs.lemmas.List.Concat.{length-flat_map}
 use Rattle.pcp_base.specs.declared.datagrams.Entry.{Entry}
@@ -10,8 +10,8 @@ use Rattle.job_workers.specs.HouseCalls.{HouseCalls}
 use Rattle.job_workers.specs.Sends.{sent_count, unsent_count}
 use Rattle.job_workers.specs.Tallies.{more, no_jobs, row_full, row_starved}
 use Rattle.job_workers.specs.Works.{DoesCall, DoesCalls, IsOfHouse, Lost, Refused, Replied, WorkCall, WorkResult, WorkState, row_by, unsent_in}
-use Rattle.job_dispatch.specs.Dispatches.{Dispatched, Fate, Full, Ignored, Noise, Put, Starved}
-use Rattle.job_dispatch.specs.PortsAfter.{dispatched_row, row_by_fate}
+use Rattle.job_dispatch.specs.Dispatches.{Dispatched, Full, Given, Ignored, Joins, Late, Noise, Put, Starved, Waits}
+use Rattle.job_dispatch.specs.PortsAfter.{dispatched_row, row_by}
 use Rattle.request_workers.specs.Counts.{RowsCount, counted, faulted_in, is_full, is_starved, sent_in, silent_in, starved_in}
 
 -- ---- counts that stand still at their end
@@ -92,7 +92,7 @@ of_run : {P : Type 0} (house : HouseCalls P) (field : TallyRow → ℕ) (many : 
     → (cs : List WorkCall) (a b : WorkState P) → DoesCalls house cs a b → a.row ≡ no_jobs → field b.row ≡ counted (sum_by many cs)
 of_run house field many one none cs a b does begins = count_calls house field many one cs 0 a b does (ap field begins ∙ (none ∙ none_counted))
 
--- ---- the items of the dispatcher
+-- ---- what the dispatcher did
 
 full_if : (b : Bool) (row : TallyRow) (k : ℕ) → row.full ≡ counted k → (cond b (row_full row) row).full ≡ counted (k + cond b 1 0)
 full_if true row k e = grows k 1 row.full e
@@ -110,27 +110,33 @@ starved_if_full : (b : Bool) (row : TallyRow) (k : ℕ) → row.starved ≡ coun
 starved_if_full true row k e = stands k row.starved e
 starved_if_full false row k e = stands k row.starved e
 
-full_by : (shard : ℕ) (f : Fate) (row : TallyRow) (k : ℕ) → row.full ≡ counted k → (row_by_fate shard row f).full ≡ counted (k + cond (is_full shard f) 1 0)
-full_by shard (Put at job) row k e = stands k row.full e
-full_by shard (Full at job) row k e = full_if (at == shard) row k e
-full_by shard (Noise at job) row k e = stands k row.full e
-full_by shard Starved row k e = full_if_starved (0 == shard) row k e
-full_by shard Ignored row k e = stands k row.full e
+full_by : (shard : ℕ) (d : Dispatched) (row : TallyRow) (k : ℕ) → row.full ≡ counted k → (row_by shard row d).full ≡ counted (k + cond (is_full shard d) 1 0)
+full_by shard (Given item (Put at job)) row k e = stands k row.full e
+full_by shard (Given item (Full at job)) row k e = full_if (at == shard) row k e
+full_by shard (Given item (Waits at)) row k e = stands k row.full e
+full_by shard (Given item (Joins at)) row k e = stands k row.full e
+full_by shard (Given item (Noise at job)) row k e = stands k row.full e
+full_by shard (Given item Starved) row k e = full_if_starved (0 == shard) row k e
+full_by shard (Given item Ignored) row k e = stands k row.full e
+full_by shard (Late at) row k e = stands k row.full e
 
-starved_by : (shard : ℕ) (f : Fate) (row : TallyRow) (k : ℕ) → row.starved ≡ counted k → (row_by_fate shard row f).starved ≡ counted (k + cond (is_starved shard f) 1 0)
-starved_by shard (Put at job) row k e = stands k row.starved e
-starved_by shard (Full at job) row k e = starved_if_full (at == shard) row k e
-starved_by shard (Noise at job) row k e = stands k row.starved e
-starved_by shard Starved row k e = starved_if (0 == shard) row k e
-starved_by shard Ignored row k e = stands k row.starved e
+starved_by : (shard : ℕ) (d : Dispatched) (row : TallyRow) (k : ℕ) → row.starved ≡ counted k → (row_by shard row d).starved ≡ counted (k + cond (is_starved shard d) 1 0)
+starved_by shard (Given item (Put at job)) row k e = stands k row.starved e
+starved_by shard (Given item (Full at job)) row k e = starved_if_full (at == shard) row k e
+starved_by shard (Given item (Waits at)) row k e = stands k row.starved e
+starved_by shard (Given item (Joins at)) row k e = stands k row.starved e
+starved_by shard (Given item (Noise at job)) row k e = stands k row.starved e
+starved_by shard (Given item Starved) row k e = starved_if (0 == shard) row k e
+starved_by shard (Given item Ignored) row k e = stands k row.starved e
+starved_by shard (Late at) row k e = stands k row.starved e
 
-count_fates : (shard : ℕ) (field : TallyRow → ℕ) (test : Fate → Bool)
-    → ((f : Fate) (row : TallyRow) (k : ℕ) → field row ≡ counted k → field (row_by_fate shard row f) ≡ counted (k + cond (test f) 1 0))
+count_steps : (shard : ℕ) (field : TallyRow → ℕ) (test : Dispatched → Bool)
+    → ((d : Dispatched) (row : TallyRow) (k : ℕ) → field row ≡ counted k → field (row_by shard row d) ≡ counted (k + cond (test d) 1 0))
     → (ds : List Dispatched) (row : TallyRow) (k : ℕ) → field row ≡ counted k
-    → field (fold (row_by_fate shard) row (map (λ (d : Dispatched). d.fate) ds)) ≡ counted (fold (λ n (d : Dispatched). n + cond (test d.fate) 1 0) k ds)
-count_fates shard field test one [] row k e = e
-count_fates shard field test one (d ∷ ds) row k e =
-    count_fates shard field test one ds (row_by_fate shard row d.fate) (k + cond (test d.fate) 1 0) (one d.fate row k e)
+    → field (fold (row_by shard) row ds) ≡ counted (fold (λ n (d : Dispatched). n + cond (test d) 1 0) k ds)
+count_steps shard field test one [] row k e = e
+count_steps shard field test one (d ∷ ds) row k e =
+    count_steps shard field test one ds (row_by shard row d) (k + cond (test d) 1 0) (one d row k e)
 
 -- ---- the row of an external address
 
@@ -159,10 +165,10 @@ rows_count {P} house shard ds r is =
           ∙ of_run house (λ x. x.faulted) (λ c. faulted_in (length c.jobs) c.result)
           (λ c a b k d e. ap (λ (x : TallyRow). x.faulted) d.row ∙ faulted_after (length c.jobs) c.result a.row k e) refl is.works.calls r.old r.new does is.begins;
       full = ap (λ (x : TallyRow). x.full) is.row
-          ∙ count_fates shard (λ x. x.full) (is_full shard) (full_by shard) ds no_jobs 0 none_counted;
+          ∙ count_steps shard (λ x. x.full) (is_full shard) (full_by shard) ds no_jobs 0 none_counted;
       starved = ap (λ (x : TallyRow). x.starved) is.row
           ∙ both (sum_by (λ (c : WorkCall). starved_in (length c.jobs) c.result) is.works.calls) _ r.new.row.starved (dispatched_row shard ds).starved
           (of_run house (λ x. x.starved) (λ c. starved_in (length c.jobs) c.result)
           (λ c a b k d e. ap (λ (x : TallyRow). x.starved) d.row ∙ starved_after (length c.jobs) c.result a.row k e) refl is.works.calls r.old r.new does is.begins)
-          (count_fates shard (λ x. x.starved) (is_starved shard) (starved_by shard) ds no_jobs 0 none_counted);
+          (count_steps shard (λ x. x.starved) (is_starved shard) (starved_by shard) ds no_jobs 0 none_counted);
     }

@@ -1,6 +1,7 @@
 pub mod BegunHouseLemmas
 pub mod BegunLemmas
 pub mod CountLemmas
+pub mod LeadLemmas
 pub mod PartLemmas
 pub mod PassLemmas
 pub mod SeatLemmas

@@ -5,7 +5,6 @@ use Rattle.pcp_base.specs.declared.configs.TheConstants.{MOST_EXTERNALS}
 use Rattle.pcp_io.specs.declared.inboxes.InboxItem.{InboxItem}
 use Rattle.pcp_io.specs.Times.{Times}
 use Rattle.pcp_base.specs.declared.configs.Config.{Config}
-use Rattle.pcp_base.specs.declared.errors.Failed.{Failed}
 use Rattle.pcp_announce.specs.declared.doors.Group.{Group}
 use Rattle.lane_index.specs.Lanes.{LaneKnowledge}
 use Rattle.lane_loops.specs.LaneRuns.{LaneState}
@@ -13,6 +12,7 @@ use Rattle.lane_loops.specs.LaneSets.{LinkState}
 use Rattle.job_workers.specs.declared.tallies.TallyRow.{TallyRow}
 use Rattle.job_workers.specs.HouseCalls.{HouseCalls}
 use Rattle.job_workers.specs.Stations.{OutState}
+use Rattle.request_workers.specs.declared.faults.RunFault.{RunFault}
 use Rattle.request_workers.specs.Parts.{ArePartsOf}
 use Rattle.request_workers.specs.Served.{ServesAll}
 
@@ -114,7 +114,7 @@ parts_of f g h count passes lanes left faults outs front_outs outs1 outs2 out li
 pub serves_with : {P : Type 0} (house : HouseCalls P) (config : Config) (groups : List Group) (port : ℕ)
     (fresh : Bool) (asking asked : P) (out out_read out_new : OutState)
     (clock clock_read clock_new : Option Times) (left left' : Option (List InboxItem))
-    (faults faults' : ℕ) (read : Result (Unit {0}) Failed) (outs outs' : List OutState)
+    (faults faults' : ℕ) (read : Result (Unit {0}) RunFault) (outs outs' : List OutState)
     (times times' : List (Option Times)) (lanes lanes' : List LaneState) (passes passes' : List P)
     (rows : List TallyRow) → out ≡ out_read → clock ≡ clock_read
     → ServesAll house config groups port fresh asking asked out_read out_new clock_read clock_new

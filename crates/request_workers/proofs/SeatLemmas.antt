@@ -1,5 +1,5 @@
 -- Seats before the threads begin, and what is left of them at the end.
-use Rattle.std.proofs.Common.{◌≡◌, ℕ, ◌+◌, ◌-◌, ◌<◌, List, [], ◌∷◌, ◌++◌, length, map, Option, Some, Result, Ok, Err, IfOk, refl, sym, ap, ◌∙◌, subst, append_assoc, arith}
+use Rattle.std.proofs.Common.{◌≡◌, ℕ, ◌+◌, ◌-◌, ◌<◌, List, [], ◌∷◌, ◌++◌, length, map, Option, Some, Result, Ok, Err, IfOk, false, refl, sym, ap, ◌∙◌, subst, append_assoc, arith}
 use Rattle.std.proofs.lemmas.List.{append-nil}
 use Rattle.atomic_table.specs.Seated.{TableId}
 use Rattle.pcp_base.specs.declared.configs.Config.{Config}
@@ -50,9 +50,9 @@ seats_none house shard ps qs ds os none = record {
 
 is_seated : {P : Type 0} (house : HouseCalls P) (shard : ℕ) (p : P) (seat : Seat) (desk : Desk P) (port : Port)
     → house.is_pass p → house.place_of p ≡ shard → IsSeat house.config shard seat
-    → desk.pass ≡ p → desk.taker ≡ seat.taker → desk.row ≡ no_jobs → desk.batch ≡ seat.batch → port.putter ≡ seat.putter → port.row ≡ no_jobs
+    → desk.pass ≡ p → desk.taker ≡ seat.taker → desk.row ≡ no_jobs → desk.batch ≡ seat.batch → port.putter ≡ seat.putter → port.row ≡ no_jobs → port.waits ≡ false
     → IsSeated house shard seat.queue desk port
-is_seated house shard p seat desk port is at s pass taker row batch putter counted =
+is_seated house shard p seat desk port is at s pass taker row batch putter counted waits =
     let place : house.place_of desk.pass ≡ shard = ap house.place_of pass ∙ at in
     record {
       desk_is = record {
@@ -70,16 +70,17 @@ is_seated house shard p seat desk port is at s pass taker row batch putter count
       };
       put = ap (λ t. t.put) putter ∙ s.ends.put;
       counted = counted;
+      waits = waits;
     }
 
 -- a pass and a seat, and the others
 pub seats_more : {P : Type 0} (house : HouseCalls P) (shard : ℕ) (all ps : List P) (p : P) (all_seats seats : List Seat) (seat : Seat) (desk : Desk P) (port : Port)
     (qs qs1 qs2 : List TableId) (ds ds1 ds2 : List (Desk P)) (os os1 os2 : List Port)
     → ArePasses house shard all → all ≡ p ∷ ps → AreSeats house.config shard all_seats → all_seats ≡ seat ∷ seats
-    → desk.pass ≡ p → desk.taker ≡ seat.taker → desk.row ≡ no_jobs → desk.batch ≡ seat.batch → port.putter ≡ seat.putter → port.row ≡ no_jobs
+    → desk.pass ≡ p → desk.taker ≡ seat.taker → desk.row ≡ no_jobs → desk.batch ≡ seat.batch → port.putter ≡ seat.putter → port.row ≡ no_jobs → port.waits ≡ false
     → qs1 ≡ qs ++ seat.queue ∷ [] → ds1 ≡ ds ++ desk ∷ [] → os1 ≡ os ++ port ∷ []
     → Seats house (shard + 1) ps qs1 qs2 ds1 ds2 os1 os2 → Seats house shard all qs qs2 ds ds2 os os2
-seats_more {P} house shard all ps p all_seats seats seat desk port qs qs1 qs2 ds ds1 ds2 os os1 os2 h e s es pass taker row batch putter counted eq ed eo rest =
+seats_more {P} house shard all ps p all_seats seats seat desk port qs qs1 qs2 ds ds1 ds2 os os1 os2 h e s es pass taker row batch putter counted waits eq ed eo rest =
     let first : ArePasses house shard (p ∷ ps) = subst (λ (l : List P). ArePasses house shard l) e h in
     let seat_is : AreSeats house.config shard (seat ∷ seats) = subst (λ (l : List Seat). AreSeats house.config shard l) es s in
     record {
@@ -90,7 +91,7 @@ seats_more {P} house shard all ps p all_seats seats seat desk port qs qs1 qs2 ds
       desks_are = rest.desks_are ∙ (ap (λ (l : List (Desk P)). l ++ rest.desks) ed ∙ append_assoc ds (desk ∷ []) rest.desks);
       ports_are = rest.ports_are ∙ (ap (λ (l : List Port). l ++ rest.ports) eo ∙ append_assoc os (port ∷ []) rest.ports);
       passes_are = ap (λ (l : List P). desk.pass ∷ l) rest.passes_are ∙ (ap (λ x. x ∷ ps) pass ∙ sym e);
-      seated = (is_seated house shard p seat desk port first.0.0 first.0.1 seat_is.0 pass taker row batch putter counted, rest.seated);
+      seated = (is_seated house shard p seat desk port first.0.0 first.0.1 seat_is.0 pass taker row batch putter counted waits, rest.seated);
     }
 
 -- ---- what is left

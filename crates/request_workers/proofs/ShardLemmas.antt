@@ -4,7 +4,6 @@ use Rattle.std.specs.List.{AllByRecursion}
 use Rattle.std.proofs.lemmas.List.{length-map}
 use Rattle.atomic_table.specs.Seated.{TableId}
 use Rattle.pcp_base.specs.declared.configs.Config.{Config}
-use Rattle.pcp_base.specs.declared.errors.Failed.{Failed}
 use Rattle.pcp_announce.specs.declared.doors.Group.{Group}
 use Rattle.pcp_io.specs.declared.inboxes.InboxItem.{InboxItem}
 use Rattle.pcp_io.specs.Times.{Times}
@@ -24,8 +23,10 @@ use Rattle.job_dispatch.specs.declared.noise.NoiseCounts.{NoiseCounts}
 use Rattle.job_dispatch.specs.declared.ports.Port.{Port}
 use Rattle.job_dispatch.specs.Announcing.{AnnounceState}
 use Rattle.job_dispatch.specs.Dispatches.{Dispatched, all_put_for}
-use Rattle.job_dispatch.specs.Dispatching.{DispatchState, RunsDispatcher}
-use Rattle.job_dispatch.specs.PortsAfter.{ArePortsAfter, IsPortAfter, dispatched_row, row_by_fate}
+use Rattle.job_dispatch.specs.Dispatching.{DispatchState}
+use Rattle.job_dispatch.specs.PortsAfter.{ArePortsAfter, IsPortAfter, dispatched_row, row_by}
+use Rattle.request_workers.specs.declared.faults.RunFault.{RunFault}
+use Rattle.request_workers.specs.Leads.{Leads}
 use Rattle.request_workers.specs.Seats.{AreSeated, Ending, FinishesAll, IsEnding, IsSeated}
 use Rattle.request_workers.specs.Served.{AreShardRuns, IsShardRun, RunsAll, ShardRun, out_of}
 use Rattle.request_workers.proofs.ServeLemmas.{desks_of, desks_of-stations}
@@ -59,7 +60,7 @@ serves_one house shard ds q s p e seated worked ending port =
     let put : e.port.putter.put ≡ all_put_for shard ds =
     ap (λ (x : PutterKnowledge). x.put) port.putter ∙ ap (λ (l : List Job). l ++ all_put_for shard ds) seated.put in
     let all : worked.jobs ++ ending.jobs ≡ all_put_for shard ds = ap (λ (l : List Job). l ++ ending.jobs) (sym taken) ∙ (sym ending.all ∙ put) in
-    let counted : e.port.row ≡ dispatched_row shard ds = port.row ∙ ap (λ (r : TallyRow). fold (row_by_fate shard) r (map (λ (d : Dispatched). d.fate) ds)) seated.counted in
+    let counted : e.port.row ≡ dispatched_row shard ds = port.row ∙ ap (λ (r : TallyRow). fold (row_by shard) r ds) seated.counted in
     record {
       works = subst (λ (js : List Job). Works house js (state_at s) (state_at e.done)) all
           (Works-append house worked.jobs ending.jobs (state_at s) (state_at e.left) (state_at e.done) worked.works ending.works);
@@ -132,21 +133,21 @@ passes_at {P} (s ∷ ss) = ap (λ (l : List P). s.desk.pass ∷ l) (passes_at ss
 -- ---- the whole run
 
 pub runs_all : {P O T : Type 0} (f : O → OutState) (g : T → Option Times) (house : HouseCalls P) (config : Config) (groups : List Group) (port : ℕ) (old : DispatchState P) (announcing : AnnounceState P)
-    (items_left : Option (List InboxItem)) (inbox_faults : ℕ) (read : Result (Unit {0}) Failed) (qs : List TableId)
+    (items_left : Option (List InboxItem)) (inbox_faults : ℕ) (read : Result (Unit {0}) RunFault) (qs : List TableId)
     (desks desks_then desks_left : List (Desk P)) (desks_end : List (Desk P)) (outs outs_left : List O) (outs_end : List OutState) (clocks clocks_left : List T) (times_end : List (Option Times))
     (lanes lanes' : List LaneState) (started noise : NoiseCounts) (ports_then ports ports_end : List Port) (passes passes' : List P) (rows rows' : List TallyRow)
     → desks_then ≡ desks → desks_end ≡ desks_left → started ≡ old.noise → ports_then ≡ old.ports → ports_end ≡ ports
     → AreSeated house 0 qs desks old.ports → length outs ≡ length desks → length clocks ≡ length desks
-    → RunsDispatcher house config groups port (record old { ports = ports_then; noise = started }) (record { ports = ports; noise = noise; announcing = announcing; left = items_left; faults = inbox_faults }) read
+    → Leads house config groups port (record old { ports = ports_then; noise = started }) (record { ports = ports; noise = noise; announcing = announcing; left = items_left; faults = inbox_faults }) read
     → AllWorked house (stations desks_then (map f outs) (map g clocks)) (stations desks_left (map f outs_left) (map g clocks_left))
     → AllRun lanes lanes'
     → FinishesAll house desks_end ports_end (map f outs_left) outs_end (map g clocks_left) times_end passes passes' rows rows'
     → RunsAll house config groups port old announcing items_left inbox_faults read (map (λ (d : Desk P). d.pass) desks) (map f outs) outs_end (map g clocks) times_end lanes lanes' passes passes' rows rows'
 runs_all {P} f g house config groups port old announcing items_left inbox_faults read qs desks desks_then desks_left desks_end outs outs_left outs_end clocks clocks_left times_end lanes lanes' started noise ports_then ports ports_end passes passes' rows rows' then_is end_is noise_was ports_were ports_is seated a b runs_then workers ran ends =
     let end : DispatchState P = record { ports = ports; noise = noise; announcing = announcing; left = items_left; faults = inbox_faults } in
-    let runs : RunsDispatcher house config groups port old end read =
-    subst (λ (l : List Port). RunsDispatcher house config groups port (record old { ports = l }) end read) ports_were
-    (subst (λ (n : NoiseCounts). RunsDispatcher house config groups port (record old { ports = ports_then; noise = n }) end read) noise_was runs_then) in
+    let runs : Leads house config groups port old end read =
+    subst (λ (l : List Port). Leads house config groups port (record old { ports = l }) end read) ports_were
+    (subst (λ (n : NoiseCounts). Leads house config groups port (record old { ports = ports_then; noise = n }) end read) noise_was runs_then) in
     let os : List OutState = map f outs in
     let ts : List (Option Times) = map g clocks in
     let ss : List (Station P) = stations desks os ts in

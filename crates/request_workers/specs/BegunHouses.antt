@@ -7,6 +7,8 @@ use Rattle.pcp_io.specs.Faults.{HasRisen}
 use Rattle.lane_loops.specs.LaneSets.{lane_states}
 use Rattle.job_workers.specs.declared.tallies.TallyRow.{TallyRow}
 use Rattle.job_workers.specs.HouseCalls.{HouseCalls}
+use Rattle.request_workers.specs.declared.faults.RunFault.{RunFault}
+use Rattle.request_workers.specs.declared.faults.RunFault.TheVariants as RunFaults
 use Rattle.request_workers.specs.declared.faults.ServeFault.{ServeFault}
 use Rattle.request_workers.specs.declared.faults.ServeFault.TheVariants as ServeFaults
 use Rattle.request_workers.specs.Parts.{ArePartsOf, BegunState, Ends, Spares}
@@ -14,12 +16,17 @@ use Rattle.request_workers.specs.Passes.{SplitsFirst}
 use Rattle.request_workers.specs.Seats.{ArePasses}
 use Rattle.request_workers.specs.Served.{ServesAll}
 
+-- what a run's fault is to who serves
+abbrev pub served_as : RunFault → ServeFault
+served_as (RunFaults.Inbox fault) = ServeFaults.Read
+served_as RunFaults.Threads = ServeFaults.Threads
+
 module _ {P : Type 0} (house : HouseCalls P) (config : Config) (groups : List Group) (port : ℕ)
     (fresh : Bool) where
   -- All was served, by the outboxes, links and clocks of the external addresses that there are. The
   -- others are as they were.
   pub record ServesParts (asking asked : P) (old new : BegunState P)
-      (read : Result (Unit {0}) Failed) (rows : List TallyRow) : Type 0 where
+      (read : Result (Unit {0}) RunFault) (rows : List TallyRow) : Type 0 where
     pub spare : Spares
     pub before : Ends
     pub after : Ends
@@ -34,7 +41,7 @@ module _ {P : Type 0} (house : HouseCalls P) (config : Config) (groups : List Gr
 
   -- A pass for the dispatcher was split off the first one, and all was served. The passes that come
   -- back are those of the house still, in order.
-  pub record ServesBegun (old new : BegunState P) (read : Result (Unit {0}) Failed)
+  pub record ServesBegun (old new : BegunState P) (read : Result (Unit {0}) RunFault)
       (rows : List TallyRow) : Type 0 where
     pub passes : List P
     pub asking : P
@@ -48,11 +55,18 @@ module _ {P : Type 0} (house : HouseCalls P) (config : Config) (groups : List Gr
   pub record FailsToRead (old new : BegunState P) : Type 0 where
     pub fault : Failed
     pub rows : List TallyRow
-    pub served : ServesBegun old new (Err fault) rows
+    pub served : ServesBegun old new (Err (RunFaults.Inbox fault)) rows
     pub risen : HasRisen old.faults new.faults
+
+  -- Threads were missing: what serves did all but dispatch. The inbox is as it was.
+  pub record LacksThreads (old new : BegunState P) : Type 0 where
+    pub rows : List TallyRow
+    pub served : ServesBegun old new (Err RunFaults.Threads) rows
+    pub inbox : (new.left ≡ old.left) × (new.faults ≡ old.faults)
 
   -- Ok comes only after a stop. Without memory nothing was served, and all is as it was.
   abbrev pub AnswersBegun : (old new : BegunState P) → Result (List TallyRow) ServeFault → Type 0
   AnswersBegun old new (Ok rows) = ServesBegun old new (Ok tt) rows
   AnswersBegun old new (Err ServeFaults.Read) = FailsToRead old new
   AnswersBegun old new (Err ServeFaults.Memory) = new ≡ old
+  AnswersBegun old new (Err ServeFaults.Threads) = LacksThreads old new

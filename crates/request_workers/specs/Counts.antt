@@ -5,7 +5,7 @@ use Rattle.job_workers.specs.declared.tallies.TallyRow.{TallyRow}
 use Rattle.job_workers.specs.HouseCalls.{HouseCalls}
 use Rattle.job_workers.specs.Sends.{sent_count}
 use Rattle.job_workers.specs.Works.{Lost, Refused, Replied, WorkCall, WorkResult, unsent_in}
-use Rattle.job_dispatch.specs.Dispatches.{Dispatched, Fate, Full, Ignored, Noise, Put, Starved, all_put_for}
+use Rattle.job_dispatch.specs.Dispatches.{Dispatched, Full, Given, Ignored, Joins, Late, Noise, Put, Starved, Waits, all_put_for}
 use Rattle.request_workers.specs.Served.{IsShardRun, ShardRun}
 
 -- so many, in a count of 64 bits, which stands still at its end
@@ -40,23 +40,29 @@ starved_in jobs Lost = 0
 starved_in jobs (Refused (Disk shard)) = 0
 starved_in jobs (Refused Memory) = jobs
 
--- ---- of the items that the dispatcher handed on
+-- ---- of what the dispatcher did
 
--- a job of this shard that was dropped since its queue was full
-abbrev pub is_full : ℕ → Fate → Bool
-is_full shard (Put at job) = false
-is_full shard (Full at job) = at == shard
-is_full shard (Noise at job) = false
-is_full shard Starved = false
-is_full shard Ignored = false
+-- a job of this shard was dropped since its queue was full
+abbrev pub is_full : ℕ → Dispatched → Bool
+is_full shard (Given item (Put at job)) = false
+is_full shard (Given item (Full at job)) = at == shard
+is_full shard (Given item (Waits at)) = false
+is_full shard (Given item (Joins at)) = false
+is_full shard (Given item (Noise at job)) = false
+is_full shard (Given item Starved) = false
+is_full shard (Given item Ignored) = false
+is_full shard (Late at) = false
 
--- one that was dropped for want of memory: it counts for the first shard
-abbrev pub is_starved : ℕ → Fate → Bool
-is_starved shard (Put at job) = false
-is_starved shard (Full at job) = false
-is_starved shard (Noise at job) = false
-is_starved shard Starved = 0 == shard
-is_starved shard Ignored = false
+-- one was dropped for want of memory: it counts for the first shard
+abbrev pub is_starved : ℕ → Dispatched → Bool
+is_starved shard (Given item (Put at job)) = false
+is_starved shard (Given item (Full at job)) = false
+is_starved shard (Given item (Waits at)) = false
+is_starved shard (Given item (Joins at)) = false
+is_starved shard (Given item (Noise at job)) = false
+is_starved shard (Given item Starved) = 0 == shard
+is_starved shard (Given item Ignored) = false
+is_starved shard (Late at) = false
 
 -- ---- the row of an external address
 
@@ -68,10 +74,10 @@ pub record Counts (shard : ℕ) (ds : List Dispatched) (calls : List WorkCall) (
   pub silent : row.silent ≡ counted (sum_by (λ c. silent_in (length c.jobs) c.result) calls)
   pub unsent : row.unsent ≡ counted (sum_by (λ c. unsent_in c.result) calls)
   pub faulted : row.faulted ≡ counted (sum_by (λ c. faulted_in (length c.jobs) c.result) calls)
-  pub full : row.full ≡ counted (count_by (λ d. is_full shard d.fate) ds)
+  pub full : row.full ≡ counted (count_by (is_full shard) ds)
   pub starved : row.starved ≡ counted
       (sum_by (λ c. starved_in (length c.jobs) c.result) calls
-      + count_by (λ d. is_starved shard d.fate) ds)
+      + count_by (is_starved shard) ds)
 
 -- so of each external address
 abbrev pub RowsCount : {P : Type 0} → HouseCalls P → Type 0

@@ -1,5 +1,6 @@
 pub mod BegunHouses
 pub mod Counts
+pub mod Leads
 pub mod Parts
 pub mod Passes
 pub mod Rooms

@@ -1,6 +1,6 @@
 -- What stands for each external address before the threads begin, and what is left of it at the end
 -- (our own).
-use Rattle.std.specs.Prelude.{◌≡◌, ℕ, ◌+◌, List, [], ◌∷◌, ◌++◌, length, map, Option}
+use Rattle.std.specs.Prelude.{◌≡◌, ℕ, ◌+◌, List, [], ◌∷◌, ◌++◌, false, length, map, Option}
 use Rattle.std.specs.List.{AllByRecursion}
 use Rattle.atomic_table.specs.Seated.{TableId}
 use Rattle.pcp_base.specs.declared.configs.Config.{Config}
@@ -62,6 +62,7 @@ module _ {P : Type 0} where
     pub port_is : IsPort house.config shard queue port
     pub put : port.putter.put ≡ []
     pub counted : port.row ≡ no_jobs
+    pub waits : port.waits ≡ false
 
   -- those of the external addresses from this one on
   abbrev pub AreSeated : HouseCalls P → ℕ → List TableId → List (Desk P) → List Port → Type 0

@@ -2,7 +2,6 @@
 use Rattle.std.specs.Prelude.{◌≡◌, ℕ, ◌+◌, Bool, List, [], ◌∷◌, ◌++◌, map, Option, Result}
 use Rattle.std.specs.List.{AllByRecursion}
 use Rattle.pcp_base.specs.declared.configs.Config.{Config}
-use Rattle.pcp_base.specs.declared.errors.Failed.{Failed}
 use Rattle.pcp_announce.specs.declared.doors.Group.{Group}
 use Rattle.pcp_io.specs.declared.inboxes.InboxItem.{InboxItem}
 use Rattle.pcp_io.specs.Times.{Times, IsTimeNow}
@@ -17,10 +16,12 @@ use Rattle.job_workers.specs.Works.{WorkState, Works}
 use Rattle.job_dispatch.specs.declared.noise.NoiseCounts.{NoiseCounts}
 use Rattle.job_dispatch.specs.declared.ports.Port.{Port}
 use Rattle.job_dispatch.specs.Announcing.{AnnounceState}
-use Rattle.job_dispatch.specs.Dispatches.{Dispatched, all_put_for}
-use Rattle.job_dispatch.specs.Dispatching.{DispatchState, RunsDispatcher}
+use Rattle.job_dispatch.specs.Dispatches.{Dispatched, NoneWaits, all_put_for}
+use Rattle.job_dispatch.specs.Dispatching.{DispatchState}
 use Rattle.job_dispatch.specs.Noise.{no_noise}
 use Rattle.job_dispatch.specs.PortsAfter.{dispatched_row}
+use Rattle.request_workers.specs.declared.faults.RunFault.{RunFault}
+use Rattle.request_workers.specs.Leads.{Leads}
 
 -- one external address: what its worker began and ended with, and its row of the tally
 pub record ShardRun (P : Type 0) : Type 0 where
@@ -46,18 +47,18 @@ module _ {P : Type 0} (house : HouseCalls P) where
   AreShardRuns shard ds [] = Unit {0}
   AreShardRuns shard ds (r ∷ rs) = IsShardRun shard ds r × AreShardRuns (shard + 1) ds rs
 
-  -- The whole run: the dispatcher handed on all items until the inbox stopped or failed; what it
-  -- put for each external address was done; the loop of each lane ran. The passes and the rows were
-  -- added in the order of the external addresses.
+  -- The whole run: the dispatcher handed on all items until the inbox stopped or failed, or none where
+  -- threads were missing; what it put for each external address was done; the loop of each lane ran.
+  -- The passes and the rows were added in the order of the external addresses.
   pub record RunsAll (config : Config) (groups : List Group) (port : ℕ)
       (dispatcher : DispatchState P) (announcing : AnnounceState P)
-      (items_left : Option (List InboxItem)) (inbox_faults : ℕ) (read : Result (Unit {0}) Failed)
+      (items_left : Option (List InboxItem)) (inbox_faults : ℕ) (read : Result (Unit {0}) RunFault)
       (seated : List P) (outs_old outs_new : List OutState)
       (times_old times_new : List (Option Times)) (lanes_old lanes_new : List LaneState)
       (passes_old passes_new : List P) (rows_old rows_new : List TallyRow) : Type 0 where
     pub ports : List Port
     pub noise : NoiseCounts
-    pub runs : RunsDispatcher house config groups port dispatcher
+    pub runs : Leads house config groups port dispatcher
         (record {
           ports = ports;
           noise = noise;
@@ -90,7 +91,7 @@ module _ {P : Type 0} (house : HouseCalls P) where
   pub record ServesAll (config : Config) (groups : List Group) (port : ℕ) (fresh : Bool)
       (asking asked : P) (out_old out_new : OutState) (clock_old clock_new : Option Times)
       (left_old left_new : Option (List InboxItem)) (faults_old faults_new : ℕ)
-      (read : Result (Unit {0}) Failed) (outs_old outs_new : List OutState)
+      (read : Result (Unit {0}) RunFault) (outs_old outs_new : List OutState)
       (times_old times_new : List (Option Times)) (lanes_old lanes_new : List LaneState)
       (passes_old passes_new : List P) (rows : List TallyRow) : Type 0 where
     pub told_to : P
@@ -98,8 +99,9 @@ module _ {P : Type 0} (house : HouseCalls P) where
     pub schedule : Schedule
     pub begins : BeginsAnnouncer fresh asking told_to clock_old clock_then schedule
     pub ports : List Port
-    -- nothing had been put
+    -- nothing had been put, and no loss waited
     pub nothing : AllByRecursion (λ p. p.putter.put ≡ []) ports
+    pub none_waits : NoneWaits ports
     pub schedule_at_end : Schedule
     pub runs : RunsAll config groups port
         (record {

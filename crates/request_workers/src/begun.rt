@@ -9,13 +9,14 @@ ghost use Rattle.request_workers.specs.Rooms.{IsRoom};
 ghost use Rattle.request_workers.specs.Seats.{ArePasses};
 ghost use Rattle.request_workers.specs.Served.{BeginsAnnouncer, ServesAll};
 
+use crate::faults::RunFault;
 use crate::rooms::Room;
 use crate::seats::seat_all;
 use crate::serving::run_seated;
 use job_workers::{JobHouse, TallyRow};
 use lane_index::Lane;
 use pcp_announce::Announcer;
-use pcp_base::{Config, Failed};
+use pcp_base::Config;
 use pcp_io::{Clock, Gate, Inbox, LaneLink, Outbox};
 use status_board::Board;
 use std::alloc::Global;
@@ -69,7 +70,7 @@ pub fn serve_room<
     clock: &mut T,
     gate: &G,
     board: &Board,
-) -> (Result<(), Failed>, Vec<TallyRow>)
+) -> (Result<(), RunFault>, Vec<TallyRow>)
     requires config { (config.now ≡ (H.calls house.now).config) × IsConfig config.now }
     requires room { IsRoom config.now (length config.now.externals) room }
     requires asking { (H.calls house.now).is_pass asking.old }

@@ -4,11 +4,11 @@ ghost use Rattle.pcp_base.specs.Configs.{IsConfig};
 ghost use Rattle.pcp_base.specs.declared.configs.TheConstants.{MOST_EXTERNALS};
 ghost use Rattle.pcp_announce.specs.Doors.{groups};
 ghost use Rattle.job_dispatch.specs.declared.ports.TheConstants.{ANNOUNCEMENT_PORT};
-ghost use Rattle.request_workers.specs.BegunHouses.{AnswersBegun};
+ghost use Rattle.request_workers.specs.BegunHouses.{AnswersBegun, served_as};
 ghost use Rattle.request_workers.specs.Parts.{links_told, outs_told};
 ghost use Rattle.request_workers.specs.Seats.{ArePasses};
 
-use crate::faults::ServeFault;
+use crate::faults::{RunFault, ServeFault};
 use crate::parting::serve_parts;
 use crate::rooms::make_room;
 use crate::splitting::split_first;
@@ -21,13 +21,23 @@ use std::alloc::Global;
 use std::sync::Wait;
 use std::thread::Threads;
 
+/// What a run's fault is to who serves.
+fn served_as(fault: RunFault) -> ServeFault
+    ensures { result ≡ served_as fault }
+{
+    match fault {
+        RunFault::Inbox(_failed) => ServeFault::Read,
+        RunFault::Threads => ServeFault::Threads,
+    }
+}
+
 /// Serves a house that has begun, with a dispatcher, a worker for each external address and a loop for
 /// each lane, until the inbox stops or fails and all that was put is done. The passes come back in
 /// order. Of `MOST_EXTERNALS + 1` outboxes, `MOST_EXTERNALS` links and `2 * MOST_EXTERNALS + 1` clocks
 /// worker `i` has outbox `i` and clock `i`, lane `i` has link `i` and clock `MOST_EXTERNALS + i`, and
 /// the dispatcher the last outbox and the last clock. Those of external addresses that aren't get no
 /// call. `Read` comes only where the inbox's count rose. After `Memory` nothing was served, and nothing
-/// got a call.
+/// got a call. After `Threads` the inbox is as it was, and nothing was put or announced.
 pub fn serve_begun<
     R: Threads + Wait + Sync,
     I: Inbox,
@@ -111,7 +121,7 @@ pub fn serve_begun<
     house.give_up(asking);
     match read {
         Ok(()) => {}
-        Err(_failed) => return Err(ServeFault::Read),
+        Err(fault) => return Err(served_as(fault)),
     }
     Ok(Listed::of(rows))
 }

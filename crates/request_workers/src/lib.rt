@@ -17,7 +17,7 @@ mod threads;
 pub use begun::serve_room;
 pub use begun_house::serve_begun;
 pub use endings::finish_all;
-pub use faults::ServeFault;
+pub use faults::{RunFault, ServeFault};
 pub use laws::{passes_stay, rows_count};
 pub use parting::serve_parts;
 pub use rooms::{Room, make_room};

@@ -10,10 +10,11 @@ ghost use Rattle.request_workers.specs.Rooms.{IsRoom};
 ghost use Rattle.request_workers.specs.Seats.{ArePasses};
 
 use crate::begun::serve_room;
+use crate::faults::RunFault;
 use crate::rooms::Room;
 use job_workers::{JobHouse, TallyRow};
 use lane_index::Lane;
-use pcp_base::{Config, Failed, MOST_EXTERNALS};
+use pcp_base::{Config, MOST_EXTERNALS};
 use pcp_io::{Clock, Gate, Inbox, LaneLink, Outbox};
 use status_board::Board;
 use std::alloc::Global;
@@ -48,7 +49,7 @@ pub fn serve_parts<
     clocks: &mut [T],
     gate: &G,
     board: &Board,
-) -> (Result<(), Failed>, Vec<TallyRow>)
+) -> (Result<(), RunFault>, Vec<TallyRow>)
     requires config { (config.now ≡ (H.calls house.now).config) × IsConfig config.now }
     requires room { IsRoom config.now (length config.now.externals) room }
     requires asking { (H.calls house.now).is_pass asking.old }

@@ -113,6 +113,7 @@ pub fn seat_all<P, H: JobHouse<P>>(
         putter,
         row: TallyRow::new(),
         unparker,
+        waits: false,
     });
     seat_all(house, shard + 1, passes, seats, queues, desks, ports);
 }

@@ -10,13 +10,14 @@ ghost use Rattle.request_workers.specs.Seats.{AreSeated};
 ghost use Rattle.request_workers.specs.Served.{RunsAll};
 
 use crate::endings::finish_all;
+use crate::faults::RunFault;
 use crate::threads::run_threads;
 use job_dispatch::{NoiseCounts, Port};
 use job_queue::JobQueue;
 use job_workers::{Desk, JobHouse, TallyRow};
 use lane_index::Lane;
 use pcp_announce::Announcer;
-use pcp_base::{Config, Failed};
+use pcp_base::Config;
 use pcp_io::{Clock, Gate, Inbox, LONGEST_DATAGRAM, LaneLink, Outbox};
 use status_board::Board;
 use std::alloc::Global;
@@ -56,7 +57,7 @@ pub fn run_seated<
     clock: &mut T,
     passes: &mut Vec<P>,
     rows: &mut Vec<TallyRow>,
-) -> Result<(), Failed>
+) -> Result<(), RunFault>
     requires seated { AreSeated (H.calls house.now) 0 queues.now desks.old.items ports.old.items }
     requires config { (config.now ≡ (H.calls house.now).config) × IsConfig config.now }
     requires all { length queues.now ≡ length config.now.externals }

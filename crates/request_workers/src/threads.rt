@@ -6,12 +6,13 @@ ghost use Rattle.pcp_io.specs.declared.inboxes.TheConstants.{LONGEST_DATAGRAM};
 ghost use Rattle.pcp_announce.specs.Doors.{groups};
 ghost use Rattle.job_dispatch.specs.declared.ports.TheConstants.{ANNOUNCEMENT_PORT};
 ghost use Rattle.job_dispatch.specs.Dispatches.{ArePorts};
-ghost use Rattle.job_dispatch.specs.Dispatching.{RunsDispatcher};
 ghost use Rattle.lane_loops.specs.LaneSets.{AllRun, lane_states};
 ghost use Rattle.job_workers.specs.Stations.{AllWorked, AreStations, stations};
+ghost use Rattle.request_workers.specs.Leads.{Leads, led_as};
 ghost use Rattle.request_workers.specs.Parts.{links_told, outs_told};
 
-use job_dispatch::{NoiseCounts, Port, dispatch};
+use crate::faults::RunFault;
+use job_dispatch::{NoiseCounts, Port, dispatch, nap};
 use job_queue::JobQueue;
 use job_workers::{Desk, JobHouse, run_workers};
 use lane_index::Lane;
@@ -22,7 +23,7 @@ use pcp_io::{Clock, Gate, Inbox, LaneLink, Outbox};
 use status_board::Board;
 use std::alloc::Global;
 use std::sync::Wait;
-use std::sync::atomic::{AtomicBool, Ordering};
+use std::sync::atomic::{AtomicBool, AtomicU32, Ordering};
 use std::thread::{Threads, join_mut};
 
 /// The workers and the loops of the lanes.
@@ -41,6 +42,7 @@ fn run_followers<
     gate: &G,
     board: &Board,
     ended: &AtomicBool,
+    here: &AtomicU32,
     queues: &[JobQueue],
     desks: &mut [Desk<P>],
     outs: &mut [O],
@@ -81,7 +83,7 @@ fn run_followers<
             (map T.times clocks.exit.now)) }
     {
         run_workers(
-            rt, alloc, house, gate, board, ended, queues, desks, outs, clocks,
+            rt, alloc, house, gate, board, ended, here, queues, desks, outs, clocks,
         )
     };
     let mut looking = move ||
@@ -94,7 +96,7 @@ fn run_followers<
             (lane_states lanes.exit.now
             (links_told L.asks L.answers L.faults links.exit.now)
             (map T.times lane_clocks.exit.now)) }
-    { run_lanes(rt, ended, lanes, links, lane_clocks) };
+    { run_lanes(rt, ended, here, lanes, links, lane_clocks) };
     join_mut(rt, &mut working, &mut looking);
 }
 
@@ -106,14 +108,45 @@ fn tell_end(ended: &AtomicBool, ports: &[Port]) {
     }
 }
 
-/// Dispatches, and tells the end to all who wait for it.
+/// How often the dispatcher looks at most whether all threads are there.
+const MOST_LOOKS: u32 = 500;
+
+/// How long it sleeps between two looks, in nanoseconds.
+const NAP: i64 = 10_000_000;
+
+/// Whether so many threads are there. They are waited for, some 5 seconds at most.
+fn are_here(here: &AtomicU32, count: usize) -> bool {
+    for _ in 0..MOST_LOOKS {
+        if here.load(Ordering::SeqCst) as usize >= count {
+            return true;
+        }
+        nap(NAP);
+    }
+    false
+}
+
+/// The dispatcher's result, as that of a run.
+fn led_as(read: Result<(), Failed>) -> Result<(), RunFault>
+    ensures { result ≡ led_as read }
+{
+    match read {
+        Ok(()) => Ok(()),
+        Err(failed) => Err(RunFault::Inbox(failed)),
+    }
+}
+
+/// Dispatches once so many threads are there, and tells the end to all who wait for it. Where they
+/// aren't, nothing is dispatched.
 fn lead<R: Wait, I: Inbox, O: Outbox, T: Clock, P, H: JobHouse<P>>(
     rt: &R,
     alloc: Global,
     house: &H,
     config: &Config,
+    board: &Board,
     queues: &[JobQueue],
     ended: &AtomicBool,
+    here: &AtomicU32,
+    count: usize,
     pass: &mut P,
     announcer: &mut Announcer,
     ports: &mut [Port],
@@ -122,13 +155,13 @@ fn lead<R: Wait, I: Inbox, O: Outbox, T: Clock, P, H: JobHouse<P>>(
     out: &mut O,
     clock: &mut T,
     piece: &mut [u8],
-) -> Result<(), Failed>
+) -> Result<(), RunFault>
     requires config { IsConfig config.now }
     requires pass { (H.calls house.now).is_pass pass.old }
     requires ports { ArePorts config.now queues.now ports.old }
     requires all { length ports.old ≡ length config.now.externals }
     requires piece { LONGEST_DATAGRAM ≤ length piece.old }
-    ensures { RunsDispatcher (H.calls house.now) config.now (groups config.now)
+    ensures { Leads (H.calls house.now) config.now (groups config.now)
         ANNOUNCEMENT_PORT
         (record {
           ports = ports.old;
@@ -158,15 +191,20 @@ fn lead<R: Wait, I: Inbox, O: Outbox, T: Clock, P, H: JobHouse<P>>(
         })
         result }
 {
+    if !are_here(here, count) {
+        tell_end(ended, ports);
+        return Err(RunFault::Threads);
+    }
     let read = dispatch(
-        rt, alloc, house, config, queues, pass, announcer, ports, noise, inbox, out, clock, piece,
+        rt, alloc, house, config, board, queues, pass, announcer, ports, noise, inbox, out, clock,
+        piece,
     );
     tell_end(ended, ports);
-    read
+    led_as(read)
 }
 
-/// Runs all until the inbox stops or fails and all others have ended. The dispatcher waits for
-/// nobody, so it goes first where no thread can be made.
+/// Runs all until the inbox stops or fails and all others have ended. Where a thread can't be made,
+/// the dispatcher goes first: it misses that thread, dispatches nothing, and then all end.
 pub fn run_threads<
     R: Threads + Wait + Sync,
     I: Inbox,
@@ -199,7 +237,7 @@ pub fn run_threads<
     out: &mut O,
     clock: &mut T,
     piece: &mut [u8],
-) -> Result<(), Failed>
+) -> Result<(), RunFault>
     requires outs { length outs.old ≡ length desks.old }
     requires clocks { length clocks.old ≡ length desks.old }
     requires desks { AreStations (H.calls house.now) queues.now desks.old }
@@ -222,7 +260,7 @@ pub fn run_threads<
         (lane_states lanes.new
         (links_told L.asks L.answers L.faults links.new)
         (map T.times lane_clocks.new)) }
-    ensures dispatcher { RunsDispatcher (H.calls house.now) config.now
+    ensures dispatcher { Leads (H.calls house.now) config.now
         (groups config.now)
         ANNOUNCEMENT_PORT
         (record {
@@ -253,6 +291,9 @@ pub fn run_threads<
         })
         result }
 {
+    let begun = AtomicU32::new(0);
+    let here = &begun;
+    let count = desks.len().saturating_add(lanes.len());
     let mut following = move ||
         requires { IsSync R.row × IsSync G.row × IsSend O.row × IsSend T.row × IsSend L.row
             × IsSync H.row × IsSend P.row × (length outs.now ≡ length desks.now)
@@ -281,6 +322,7 @@ pub fn run_threads<
             gate,
             board,
             ended,
+            here,
             queues,
             desks,
             outs,
@@ -290,12 +332,12 @@ pub fn run_threads<
             lane_clocks,
         )
     };
-    let mut leading = move || -> Result<(), Failed>
+    let mut leading = move || -> Result<(), RunFault>
         requires { IsConfig config.now × (H.calls house.now).is_pass pass.now
             × ArePorts config.now queues.now ports.now
             × (length ports.now ≡ length config.now.externals)
             × (LONGEST_DATAGRAM ≤ length piece.now) }
-        ensures { RunsDispatcher (H.calls house.entry.now) config.entry.now
+        ensures { Leads (H.calls house.entry.now) config.entry.now
             (groups config.entry.now)
             ANNOUNCEMENT_PORT
             (record {
@@ -327,8 +369,8 @@ pub fn run_threads<
             result }
     {
         lead(
-            rt, alloc, house, config, queues, ended, pass, announcer, ports, noise, inbox, out,
-            clock, piece,
+            rt, alloc, house, config, board, queues, ended, here, count, pass, announcer, ports,
+            noise, inbox, out, clock, piece,
         )
     };
     let (_, read) = join_mut(rt, &mut following, &mut leading);

@@ -1,20 +1,9 @@
-use Rattle.std.proofs.Common.{◌≡◌, true, false, Ok, Err, Result, Bool, rules}
-use Rattle.pcp_base.specs.declared.errors.Failed.{Failed}
-use Rattle.job_dispatch.proofs.DispatchingLemmas.{ends_by_fault, ends_by_stop, turn_on}
+use Rattle.std.proofs.Common.{◌∙◌, arith}
+use Rattle.job_dispatch.proofs.DispatchingLemmas.{ends_late}
 use Rattle.job_dispatch.proofs.dispatching.dispatch.Goals as goal
 
-pub loop-preserved : goal.loop-preserved
-loop-preserved g c =
-    let is : c.do_item.result ≡ Ok true = search rules in
-    (tt, tt, turn_on _ _ _ _ _ _ _ _ c.do_item.result c.loop.invariant.2 c.do_item.ensures is)
-
-pub returns-then-not-more : goal.returns-then-not-more
-returns-then-not-more g c =
-    let is : c.do_item.result ≡ Ok false = search rules in
-    ends_by_stop _ _ _ _ _ _ _ _ c.do_item.result c.loop.invariant.2 c.do_item.ensures is
-
-pub returns-in_err-more : goal.returns-in_err-more
-returns-in_err-more g c =
-    let is : ◌≡◌ {A = Result Bool Failed} c.do_item.result (Err c.in_err-more.field-0.0) = search rules in
-    let told : ◌≡◌ {A = Result (Unit {0}) Failed} c.from_residual.result (Err c.in_err-more.field-0.0) = search rules in
-    rw told (ends_by_fault _ _ _ _ _ _ _ _ c.do_item.result c.in_err-more.field-0.0 c.loop.invariant.2 c.do_item.ensures is)
+pub returns : goal.returns
+returns g c =
+    ends_late _ _ _ _ _ _ _ _ _ c.dispatch_items-read.result c.dispatch_items-read.ensures c.put_all_waiting.ensures.late c.put_all_waiting.ensures.none
+    (c.answer_statuses.ensures.left ∙ c.put_all_waiting.ensures.left)
+    (let first = c.put_all_waiting.ensures.later in let second = c.answer_statuses.ensures.later in omega (arith, first, second))

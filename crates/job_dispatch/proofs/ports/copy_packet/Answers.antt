@@ -22,4 +22,4 @@ returns g c =
     let is : IsJobOf c.args.config.now (Items.Packet d) c.args.sifted.place (Jobs.Packet c.in-Ok.datagram) = (ap Jobs.Packet c.in-Ok.ensures, c.requires.place) in
     let mark : c.args.sifted.is_noise ≡ is_noise_for c.args.config.now c.args.sifted.place (Jobs.Packet c.in-Ok.datagram) =
     c.requires.noise ∙ sym (ap (λ (x : Datagram). is_noise c.args.config.now x) c.in-Ok.ensures) in
-    fate_offered c.args.config.now (Items.Packet d) c.args.sifted.is_noise c.args.sifted.place (Jobs.Packet c.in-Ok.datagram) _ _ _ _ is mark c.requires.room c.offer_at.ensures
+    fate_offered c.args.config.now d c.args.sifted.is_noise c.args.sifted.place (Jobs.Packet c.in-Ok.datagram) _ _ _ _ is mark c.requires.room c.offer_at.ensures

@@ -1,5 +1,5 @@
 use Rattle.std.proofs.Common.{◌∙◌, length, sym, ap, arith}
-use Rattle.request_workers.proofs.BegunLemmas.{nothing_put, of_runs, passes_of, queues-length, seated_of}
+use Rattle.request_workers.proofs.BegunLemmas.{none_waiting, nothing_put, of_runs, passes_of, queues-length, seated_of}
 use Rattle.request_workers.proofs.begun.serve_room.Goals as goal
 
 -- there are as many queues as external addresses
@@ -32,6 +32,8 @@ returns g c = record {
   begins = c.begin_announcer-announcer.ensures.begins;
   ports = c.seat_all.new.ports.items;
   nothing = nothing_put _ 0 _ _ _
+      (seated_of _ _ _ _ _ _ _ _ c.requires.room.queues.0 c.requires.room.desks.0 c.requires.room.ports.0 c.seat_all.ensures.seats);
+  none_waits = none_waiting _ 0 _ _ _
       (seated_of _ _ _ _ _ _ _ _ c.requires.room.queues.0 c.requires.room.desks.0 c.requires.room.ports.0 c.seat_all.ensures.seats);
   schedule_at_end = c.run_seated-read.new.announcer;
   runs = of_runs _ _ _ _ _ _ _ _ _ _ _ _ _ _ _ _ _ _ _ _ _

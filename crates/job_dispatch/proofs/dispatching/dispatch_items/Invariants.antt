@@ -1,7 +1,7 @@
 use Rattle.pcp_announce.specs.Doors.{groups}
 use Rattle.job_dispatch.specs.declared.ports.TheConstants.{ANNOUNCEMENT_PORT}
 use Rattle.job_dispatch.proofs.DispatchingLemmas.{HasDispatched}
-use Rattle.job_dispatch.proofs.dispatching.dispatch.Given as goal
+use Rattle.job_dispatch.proofs.dispatching.dispatch_items.Given as goal
 
 abbrev pub invariant-loop : goal.invariant-loop
 invariant-loop g l =
