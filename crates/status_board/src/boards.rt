@@ -45,6 +45,20 @@ pub(crate) struct ShardWords {
     errors: [AtomicI64; 2],
 }
 
+/// The count that a word has.
+fn count_in(word: &AtomicU64) -> u32 {
+    u32::try_from(word.load(Ordering::SeqCst)).unwrap_or(u32::MAX)
+}
+
+/// The error that a word has, if any: the system's number, or none where it isn't the system's.
+fn error_in(word: &AtomicI64) -> Option<Option<i32>> {
+    match word.load(Ordering::SeqCst) {
+        NO_ERROR => None,
+        OWN_ERROR => Some(None),
+        number => Some(i32::try_from(number).ok()),
+    }
+}
+
 impl ShardWords {
     fn new() -> ShardWords {
         ShardWords {
@@ -95,9 +109,9 @@ impl ShardWords {
         ShardNumbers {
             moment: self.moment.load(Ordering::SeqCst),
             base: self.base.load(Ordering::SeqCst),
-            leases: self.leases.load(Ordering::SeqCst) as u32,
-            free_tcp: self.free_tcp.load(Ordering::SeqCst) as u32,
-            free_udp: self.free_udp.load(Ordering::SeqCst) as u32,
+            leases: count_in(&self.leases),
+            free_tcp: count_in(&self.free_tcp),
+            free_udp: count_in(&self.free_udp),
         }
     }
 
@@ -152,14 +166,11 @@ impl ShardWords {
     /// Which side had an error last, the even one first, and the system's number of it; none where it
     /// isn't the system's.
     pub(crate) fn error(&self) -> Option<(usize, Option<i32>)> {
-        for (side, error) in self.errors.iter().enumerate() {
-            match error.load(Ordering::SeqCst) {
-                NO_ERROR => {}
-                OWN_ERROR => return Some((side, None)),
-                number => return Some((side, Some(number as i32))),
-            }
+        let [a, b] = &self.errors;
+        match error_in(a) {
+            Some(error) => Some((0, error)),
+            None => Some((1, error_in(b)?)),
         }
-        None
     }
 }
 
