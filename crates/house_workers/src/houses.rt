@@ -87,7 +87,7 @@ impl<D: LeaseDisk + Drop> JobHouse<HousePass<D>> for ServingHouse<D> {
         alloc: Global,
         pass: &mut HousePass<D>,
         now: Moment,
-    ) -> Result<ShardNumbers, HouseFault> {
+    ) -> Result<Option<ShardNumbers>, HouseFault> {
         let counted = match self.house.count(rt, alloc, pass, now) {
             Ok(counted) => counted,
             Err(fault) => return Err(fault),

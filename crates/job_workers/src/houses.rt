@@ -48,15 +48,15 @@ pub trait JobHouse<P> {
         ensures lost { IfOk result (λ _. LosesAllOf (calls self.now) now pass.old pass.new) }
         ensures refused { IfErr result (RefusesLossOf (calls self.now) now pass.old pass.new) };
 
-    /// Counts what the pass's external address has at this moment. For all else it does as `serve` does
-    /// with a batch without datagrams.
+    /// Counts what the pass's external address has at this moment. There is no count where memory was
+    /// wanting for it. For all else it does as `serve` does with a batch without datagrams.
     fn count<R: Wait>(
         &self,
         rt: &R,
         alloc: Global,
         pass: &mut P,
         now: Moment,
-    ) -> Result<ShardNumbers, HouseFault>
+    ) -> Result<Option<ShardNumbers>, HouseFault>
         requires { (calls self.now).is_pass pass.old }
         ensures served { OnOk result
             (AnswersBatchOf (calls self.now) now [] pass.old pass.new []) }

@@ -188,7 +188,7 @@ fn count_all<R: Wait, T: Clock, P, H: JobHouse<P>>(
                 moment: now,
                 outcome: Outcome::Fine,
             };
-            (end, Some(numbers))
+            (end, numbers)
         }
         Err(fault) => {
             row.count_refused(0, fault);

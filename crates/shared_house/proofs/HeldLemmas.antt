@@ -48,6 +48,10 @@ pub on-ok : {X E : Type 0} (r : Result X E) (P : Type 0) → P → OnOk r P
 on-ok (Ok x) P p = p
 on-ok (Err e) P p = tt
 
+pub on-ok-weaker : {X E : Type 0} (r : Result X E) (P Q : Type 0) → OnOk r P → (P → Q) → OnOk r Q
+on-ok-weaker (Ok x) P Q p f = f p
+on-ok-weaker (Err e) P Q p f = tt
+
 pub if-err-weaker : {X E : Type 0} (r : Result X E) (Q R : E → Type 0) → IfErr r Q →
     ((e : E) → Q e → R e) → IfErr r R
 if-err-weaker (Ok x) Q R q f = tt

@@ -126,15 +126,16 @@ impl<D: LeaseDisk + Drop> House<D> {
     }
 
     /// Counts what the pass's external address has, in one turn, once it is settled: at the greater of
-    /// `now` and the moment of its last entry. It says too what its lane may learn. For all else it
-    /// does as `serve` does with a batch without datagrams.
+    /// `now` and the moment of its last entry. There is no count where memory was wanting for it. It
+    /// says too what its lane may learn. For all else it does as `serve` does with a batch without
+    /// datagrams.
     pub fn count<R: Wait>(
         &self,
         rt: &R,
         alloc: Global,
         pass: &mut HousePass<D>,
         now: Moment,
-    ) -> Result<(ShardNumbers, Told), HouseFault>
+    ) -> Result<(Option<ShardNumbers>, Told), HouseFault>
         requires { IsPassOf self.now pass.old }
         ensures pass { IsPassOf self.now pass.new }
         ensures shard { pass.new.shard ≡ pass.old.shard }

@@ -22,7 +22,6 @@ use crate::served::Served;
 use epoch_word::EpochWord;
 use lane_index::Told;
 use lease_disk::LeaseDisk;
-use lease_journal::JournalFault;
 use pcp_base::{Config, Datagram, Moment};
 use shard_book::BookFault;
 use status_board::ShardNumbers;
@@ -327,6 +326,42 @@ fn settle_and_lose<D: LeaseDisk + Drop, R: Wait>(
     }
 }
 
+/// Counts what the held shard has, which is settled, and answers no datagram. There is no count where
+/// memory was wanting for it.
+fn count_and_publish<D: LeaseDisk + Drop, R: Wait>(
+    rt: &R,
+    alloc: Global,
+    config: &Config,
+    turn: &Turn<Shard<D>>,
+    word: &EpochWord,
+    pass: &mut HousePass<D>,
+    held: &mut Held<Shard<D>>,
+    now: Moment,
+) -> Result<(Option<ShardNumbers>, Told), BookFault>
+    requires config { IsConfig config.now }
+    requires batch { IsBatchOf turn.now.key config.now [] }
+    requires held { IsHeldBy D.tells D.seen D.moment D.left_since D.may_leave D.faults turn.now held.old
+        pass.old.history }
+    requires settled { held.old.book.fault ≡ None }
+    requires word { pass.old.epoch.word ≡ word.now }
+    ensures held { IsHeldBy D.tells D.seen D.moment D.left_since D.may_leave D.faults turn.now held.new
+        pass.new.history }
+    ensures shard { pass.new.shard ≡ pass.old.shard }
+    ensures heard { HearsMore pass.old.epoch pass.new.epoch }
+    ensures counted { OnOk result (NotesOwn (batch_entries config.now now pass.new.epoch.heard
+        [] held.old) pass.old pass.new) }
+    ensures published { IfOk result
+        (λ counted. counted.1 ≡ told_of turn.now.key pass.new.history.seen) }
+    ensures refused { IfErr result (RefusesHeld held.old (batch_entries config.now now
+        pass.new.epoch.heard [] held.old) pass.old pass.new) }
+{
+    let numbers = held.value().numbers(alloc, config, now).ok();
+    match answer_and_publish(rt, alloc, config, turn, word, pass, held, &[], now) {
+        Ok(served) => Ok((numbers, served.told)),
+        Err(fault) => Err(fault),
+    }
+}
+
 /// Settles the held shard, and counts what it has. All records are published.
 fn settle_and_count<D: LeaseDisk + Drop, R: Wait>(
     rt: &R,
@@ -337,7 +372,7 @@ fn settle_and_count<D: LeaseDisk + Drop, R: Wait>(
     pass: &mut HousePass<D>,
     held: &mut Held<Shard<D>>,
     now: Moment,
-) -> Result<(ShardNumbers, Told), BookFault>
+) -> Result<(Option<ShardNumbers>, Told), BookFault>
     requires config { IsConfig config.now }
     requires batch { IsBatchOf turn.now.key config.now [] }
     requires held { IsHeldBy D.tells D.seen D.moment D.left_since D.may_leave D.faults turn.now held.old
@@ -358,14 +393,7 @@ fn settle_and_count<D: LeaseDisk + Drop, R: Wait>(
         pass.old pass.new) }
 {
     match settle_and_publish(rt, alloc, turn, word, pass, held, now) {
-        Ok(()) => {}
-        Err(fault) => return Err(fault),
-    }
-    let Ok(numbers) = held.value().numbers(alloc, config, now) else {
-        return Err(JournalFault::Memory);
-    };
-    match answer_and_publish(rt, alloc, config, turn, word, pass, held, &[], now) {
-        Ok(served) => Ok((numbers, served.told)),
+        Ok(()) => count_and_publish(rt, alloc, config, turn, word, pass, held, now),
         Err(fault) => Err(fault),
     }
 }
@@ -427,7 +455,7 @@ pub(crate) fn lose_behind<D: LeaseDisk + Drop, R: Wait>(
     told
 }
 
-/// Counts what an external address has, in one turn.
+/// Counts what an external address has, in one turn. There is no count where memory was wanting for it.
 pub(crate) fn count_behind<D: LeaseDisk + Drop, R: Wait>(
     rt: &R,
     alloc: Global,
@@ -436,7 +464,7 @@ pub(crate) fn count_behind<D: LeaseDisk + Drop, R: Wait>(
     word: &EpochWord,
     pass: &mut HousePass<D>,
     now: Moment,
-) -> Result<(ShardNumbers, Told), BookFault>
+) -> Result<(Option<ShardNumbers>, Told), BookFault>
     requires config { IsConfig config.now }
     requires batch { IsBatchOf turn.now.key config.now [] }
     requires pass { IsPassBehind turn.now word.now pass.old }

@@ -31,10 +31,11 @@ fn counts<D: LeaseDisk + Drop, R: Wait>(
     ensures { Follows house.now pass.old pass.new }
 {
     match house.count(rt, alloc, pass, moment(now)) {
-        Ok((numbers, _told)) => {
+        Ok((Some(numbers), _told)) => {
             let free_udp = PORTS.saturating_sub(used);
             numbers.leases == leases && numbers.free_udp == free_udp && numbers.free_tcp == PORTS
         }
+        Ok((None, _told)) => false,
         Err(_) => false,
     }
 }
