@@ -1,5 +1,6 @@
 -- What the texts of orders say.
-use Rattle.std.proofs.Common.{◌≡◌, ℕ, List, [], ◌∷◌, ◌++◌, codes, refl, ap, subst, sym, ◌∙◌}
+use Rattle.std.proofs.Common.{◌≡◌, ℕ, List, [], ◌∷◌, ◌++◌, Option, Some, None, codes, refl, ap, subst, sym, ◌∙◌}
+use Rattle.std.specs.Prelude.{IfSome, IfNone}
 use Rattle.std.proofs.lemmas.List.{append_cancel_right}
 use Rattle.pcp_base.specs.declared.addresses.Address.{Address}
 use Rattle.pcp_base.specs.AddressTexts.{IsAddressText}
@@ -50,11 +51,18 @@ none-says text stop status lost Status says = status says
 text-is : (octets text other : List ℕ) → octets ≡ text ++ 10 ∷ [] → octets ≡ other ++ 10 ∷ [] → other ≡ text
 text-is octets text other is was = append_cancel_right other text (10 ∷ []) (sym was ∙ is)
 
-pub line-only : (octets text : List ℕ) (order : OrderLine) → octets ≡ text ++ 10 ∷ []
-    → ((other : OrderLine) → IsOrderText text other → other ≡ order)
-    → (other : OrderLine) → IsOrderLine octets other → other ≡ order
-line-only octets text order is only other line = only other (subst (λ t. IsOrderText t other) (text-is octets text line.0 is line.1.0) line.1.1)
+pub some_line : (octets text : List ℕ) (read : Option OrderLine) → octets ≡ text ++ 10 ∷ []
+    → IfSome read (IsOrderText text) → IfSome read (IsOrderLine octets)
+some_line octets text (Some order) is says = (text, (is, says))
+some_line octets text None is says = tt
 
-pub line-none : (octets text : List ℕ) → octets ≡ text ++ 10 ∷ [] → ((order : OrderLine) → ¬ (IsOrderText text order))
-    → (order : OrderLine) → ¬ (IsOrderLine octets order)
-line-none octets text is none order line = none order (subst (λ t. IsOrderText t order) (text-is octets text line.0 is line.1.0) line.1.1)
+pub only_line : (octets text : List ℕ) (read : Option OrderLine) → octets ≡ text ++ 10 ∷ []
+    → IfSome read (λ order. (other : OrderLine) → IsOrderText text other → other ≡ order)
+    → IfSome read (λ order. (other : OrderLine) → IsOrderLine octets other → other ≡ order)
+only_line octets text (Some order) is only = λ other line. only other (subst (λ t. IsOrderText t other) (text-is octets text line.0 is line.1.0) line.1.1)
+only_line octets text None is only = tt
+
+pub none_line : (octets text : List ℕ) (read : Option OrderLine) → octets ≡ text ++ 10 ∷ []
+    → IfNone read ((order : OrderLine) → ¬ (IsOrderText text order)) → IfNone read ((order : OrderLine) → ¬ (IsOrderLine octets order))
+none_line octets text (Some order) is none = tt
+none_line octets text None is none = λ order line. none order (subst (λ t. IsOrderText t order) (text-is octets text line.0 is line.1.0) line.1.1)

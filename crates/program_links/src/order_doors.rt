@@ -32,6 +32,7 @@ const BACKLOG: i32 = 16;
 const REFUSED: &[u8] = b"refused\n";
 
 /// What came by a connection.
+#[derive(Clone, Copy)]
 enum Heard {
     /// Its line isn't there yet.
     Nothing,
@@ -173,16 +174,32 @@ impl<'a> OrderDoor<'a> {
     pub(crate) fn take(&mut self) -> Option<(u32, OrderLine)> {
         let time = self.clock.now();
         self.admit(time);
-        let mut place = 0;
-        for _ in 0..MOST_CALLERS {
-            match self.heard_at(place, time)? {
-                Heard::Line(line) => return Some((self.number(place, line), line)),
-                Heard::Nothing => place += 1,
-                Heard::Refused => self.callers.swap_remove(place).tell(REFUSED),
-                Heard::Gone => drop(self.callers.swap_remove(place)),
+        // The one that comes in the place of one that goes was heard before.
+        for place in (0..MOST_CALLERS).rev() {
+            match self.heard_at(place, time) {
+                Some(Heard::Line(line)) => return Some((self.number(place, line), line)),
+                Some(Heard::Refused) => self.tell(place, REFUSED),
+                Some(Heard::Gone) => drop(self.remove(place)),
+                Some(Heard::Nothing) | None => {}
             }
         }
         None
+    }
+
+    /// Takes the connection at this place out, if there is one.
+    fn remove(&mut self, place: usize) -> Option<Caller> {
+        if place < self.callers.len() {
+            Some(self.callers.swap_remove(place))
+        } else {
+            None
+        }
+    }
+
+    /// Tells the connection at this place something, and closes it.
+    fn tell(&mut self, place: usize, text: &[u8]) {
+        if let Some(caller) = self.remove(place) {
+            caller.tell(text);
+        }
     }
 
     /// What came by the connection at this place; none where there is none.
@@ -233,7 +250,7 @@ impl<'a> OrderDoor<'a> {
     fn number(&mut self, place: usize, line: OrderLine) -> u32 {
         self.last = self.last.checked_add(1).unwrap_or(1);
         if line == OrderLine::Stop {
-            self.stopped = Some(self.callers.swap_remove(place).stream);
+            self.stopped = self.remove(place).map(|caller| caller.stream);
         } else if let Some(caller) = self.callers.get_mut(place) {
             caller.order = Some(self.last);
         }
@@ -247,7 +264,7 @@ impl<'a> OrderDoor<'a> {
             .iter()
             .position(|caller| caller.order == Some(order));
         if let Some(place) = place {
-            self.callers.swap_remove(place).tell(text);
+            self.tell(place, text);
         }
     }
 

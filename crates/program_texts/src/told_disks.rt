@@ -29,7 +29,6 @@ pub struct ToldDisk<'a> {
 
 impl<'a> ToldDisk<'a> {
     ghost use Rattle.std.specs.Prelude.{◌≡◌};
-    ghost use Rattle.pcp_base.specs.declared.failures.Failed.{Failed};
 
     /// This disk, of a side of the journal of the external address at this place: side 0 is the even one.
     pub fn of(
