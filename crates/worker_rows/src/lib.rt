@@ -9,6 +9,8 @@ mod crowds;
 #[cfg(test)]
 mod edges;
 #[cfg(test)]
+mod endless;
+#[cfg(test)]
 mod failing;
 #[cfg(test)]
 mod flags;
