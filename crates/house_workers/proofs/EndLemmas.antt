@@ -128,6 +128,7 @@ module _ {D : Type 0} (tells : Type 0) (seen : D → List ℕ) (moment : D → �
         → ArePasses (calls_of tells seen moment left_since may_leave faults house) 0 new.passes
     passes_back house config groups port fresh old new (Ok rows) h were = h.stay
     passes_back house config groups port fresh old new (Err ServeFaults.Read) h were = h.served.stay
+    passes_back house config groups port fresh old new (Err ServeFaults.Threads) h were = h.served.stay
     passes_back house config groups port fresh old new (Err ServeFaults.Memory) h were =
         subst (λ (s : BegunState (HousePass D)). ArePasses (calls_of tells seen moment left_since may_leave faults house) 0 s.passes) (sym h) were
 
@@ -136,6 +137,7 @@ module _ {D : Type 0} (tells : Type 0) (seen : D → List ℕ) (moment : D → �
         → length new.passes ≡ length old.passes
     count_back house config groups port fresh old new (Ok rows) h = h.count
     count_back house config groups port fresh old new (Err ServeFaults.Read) h = h.served.count
+    count_back house config groups port fresh old new (Err ServeFaults.Threads) h = h.served.count
     count_back house config groups port fresh old new (Err ServeFaults.Memory) h = ap (λ (s : BegunState (HousePass D)). length s.passes) h
 
     pass_at : (house : HouseView D) (k : ℕ) (ps : List (HousePass D)) (i : ℕ) (p : HousePass D)

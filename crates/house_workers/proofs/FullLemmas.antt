@@ -3,7 +3,6 @@ use Rattle.std.proofs.Common.{◌≡◌, ℕ, zero, suc, ◌+◌, ◌-◌, ◌/�
 use Rattle.std.specs.List.{AllByRecursion, count_by, slice_get}
 use Rattle.std.proofs.lemmas.Bool.{eqb-true}
 use Rattle.pcp_base.specs.declared.configs.Config.{Config}
-use Rattle.pcp_base.specs.declared.errors.Failed.{Failed}
 use Rattle.pcp_announce.specs.declared.doors.Group.{Group}
 use Rattle.pcp_io.specs.declared.inboxes.InboxItem.{InboxItem}
 use Rattle.job_queue.specs.declared.jobs.Job.{Job}
@@ -13,16 +12,18 @@ use Rattle.job_workers.specs.declared.tallies.TallyRow.{TallyRow}
 use Rattle.job_workers.specs.HouseCalls.{HouseCalls}
 use Rattle.job_dispatch.specs.declared.noise.NoiseCounts.{NoiseCounts}
 use Rattle.job_dispatch.specs.declared.ports.Port.{Port}
-use Rattle.job_dispatch.specs.Dispatches.{Dispatched, Fate, Put, Full, Noise, Starved, Ignored, IsFate, all_put_for, put_for}
-use Rattle.job_dispatch.specs.Dispatching.{DispatchState, DoesItems}
+use Rattle.job_dispatch.specs.Dispatches.{Dispatched, Fate, Given, Late, Put, Full, Waits, Joins, Noise, Starved, Ignored, IsFate, all_put_for, put_by}
+use Rattle.job_dispatch.specs.Dispatching.{DispatchState, DoesStep, DoesSteps}
 use Rattle.job_dispatch.specs.Noise.{in_second}
 use Rattle.job_dispatch.specs.PortsAfter.{ArePortsAfter, IsPortAfter}
-use Rattle.job_dispatch.proofs.PortLemmas.{after_item}
+use Rattle.job_dispatch.proofs.PortLemmas.{after_step}
+use Rattle.request_workers.specs.declared.faults.RunFault.{RunFault}
 use Rattle.request_workers.specs.BegunHouses.{ServesBegun}
 use Rattle.request_workers.specs.Counts.{counted, is_full}
 use Rattle.request_workers.specs.Parts.{BegunState}
 use Rattle.request_workers.specs.Served.{AreShardRuns, ShardRun}
 use Rattle.request_workers.proofs.CountLemmas.{rows_count}
+use Rattle.request_workers.proofs.LeadLemmas.{does_all}
 use Rattle.house_workers.specs.Laws.{IsFilled}
 
 -- ---- what ports have put
@@ -71,7 +72,7 @@ at_most_after shard n d old new most after q e =
     let few = most was.0 was.1 in
     omega (arith, more, few)
 
-put_count : (shard : ℕ) (put : Option Job) (d : Dispatched) (rest : List Dispatched) → put_for shard d.fate ≡ put
+put_count : (shard : ℕ) (put : Option Job) (d : Dispatched) (rest : List Dispatched) → put_by shard d ≡ put
     → length (all_put_for shard (d ∷ rest)) ≡ length (all_put_for shard (d ∷ [])) + length (all_put_for shard rest)
 put_count shard None d rest e = rw e (omega arith)
 put_count shard (Some job) d rest e = rw e (omega arith)
@@ -85,16 +86,25 @@ filled put was =
     omega (arith, parts, full)
 
 full_here : (shard n : ℕ) (config : Config) (noise : NoiseCounts) (item : InboxItem) (fate : Fate) (old new : List Port) → AtMost shard n old → IsFate config noise item fate old new
-    → is_full shard fate ≡ true → MOST_JOBS ≤ n
+    → is_full shard (Given item fate) ≡ true → MOST_JOBS ≤ n
 full_here shard n config noise item (Put at job) old new most f e = absurd (let x : false ≡ true = e in cc)
 full_here shard n config noise item (Full at job) old new most f e =
     let same : at ≡ shard = eqb-true at shard e in
-    let many = filled f.1.0.putter.put f.1.2 in
-    let few = most f.1.0 (subst (λ i. slice_get old i ≡ Some f.1.0) same f.1.1.there) in
+    let many = filled f.2.0.putter.put f.2.2 in
+    let few = most f.2.0 (subst (λ i. slice_get old i ≡ Some f.2.0) same f.2.1.there) in
     omega (arith, many, few)
+full_here shard n config noise item (Waits at) old new most f e = absurd (let x : false ≡ true = e in cc)
+full_here shard n config noise item (Joins at) old new most f e = absurd (let x : false ≡ true = e in cc)
 full_here shard n config noise item (Noise at job) old new most f e = absurd (let x : false ≡ true = e in cc)
 full_here shard n config noise item Starved old new most f e = absurd (let x : false ≡ true = e in cc)
 full_here shard n config noise item Ignored old new most f e = absurd (let x : false ≡ true = e in cc)
+
+-- so of each step
+full_step : {P : Type 0} (house : HouseCalls P) (config : Config) (groups : List Group) (port shard n : ℕ) (d : Dispatched) (a b : DispatchState P)
+    → AtMost shard n a.ports → DoesStep house config groups port d a b → is_full shard d ≡ true → MOST_JOBS ≤ n
+full_step house config groups port shard n (Given item fate) a b most does e =
+    full_here shard n config (in_second a.noise (does.time / 1000)) item fate a.ports b.ports most does.becomes e
+full_step house config groups port shard n (Late at) a b most does e = absurd (let x : false ≡ true = e in cc)
 
 one_more : (n m k l total : ℕ) (full : Bool) → l ≡ k + cond full 1 0 → (full ≡ true → MOST_JOBS ≤ n) → (l < total → MOST_JOBS ≤ n + m) → k < total → MOST_JOBS ≤ n + m
 one_more n m k l total true e here rest more =
@@ -106,20 +116,20 @@ one_more n m k l total false e here rest more =
 
 -- Where an item was dropped at a full queue, that many jobs were put into it, before or by these items.
 put_where_full : {P : Type 0} (house : HouseCalls P) (config : Config) (groups : List Group) (port shard : ℕ) (ds : List Dispatched) (n k : ℕ) (a b : DispatchState P)
-    → AtMost shard n a.ports → DoesItems house config groups port ds a b → k < fold (λ m (d : Dispatched). m + cond (is_full shard d.fate) 1 0) k ds
+    → AtMost shard n a.ports → DoesSteps house config groups port ds a b → k < fold (λ m (d : Dispatched). m + cond (is_full shard d) 1 0) k ds
     → MOST_JOBS ≤ n + length (all_put_for shard ds)
 put_where_full house config groups port shard [] n k a b most does more = absurd (omega (arith, more))
 put_where_full house config groups port shard (d ∷ ds) n k a b most does more =
     let one : ℕ = length (all_put_for shard (d ∷ [])) in
     let rest : ℕ = length (all_put_for shard ds) in
-    let l : ℕ = k + cond (is_full shard d.fate) 1 0 in
-    let total : ℕ = fold (λ m (x : Dispatched). m + cond (is_full shard x.fate) 1 0) l ds in
-    let after = at_most_after shard n d a.ports does.0.ports most (after_item config (in_second a.noise (does.1.time / 1000)) d.item d.fate a.ports does.0.ports does.1.fate) in
-    let all : length (all_put_for shard (d ∷ ds)) ≡ one + rest = put_count shard (put_for shard d.fate) d ds refl in
+    let l : ℕ = k + cond (is_full shard d) 1 0 in
+    let total : ℕ = fold (λ m (x : Dispatched). m + cond (is_full shard x) 1 0) l ds in
+    let after = at_most_after shard n d a.ports does.0.ports most (after_step house config groups port d a does.0 does.1) in
+    let all : length (all_put_for shard (d ∷ ds)) ≡ one + rest = put_count shard (put_by shard d) d ds refl in
     let same : n + (one + rest) ≡ (n + one) + rest = omega arith in
     let got : MOST_JOBS ≤ n + (one + rest) =
-    one_more n (one + rest) k l total (is_full shard d.fate) refl
-    (full_here shard n config (in_second a.noise (does.1.time / 1000)) d.item d.fate a.ports does.0.ports most does.1.fate)
+    one_more n (one + rest) k l total (is_full shard d) refl
+    (full_step house config groups port shard n d a does.0 most does.1)
     (λ h. subst (λ x. MOST_JOBS ≤ x) (sym same) (put_where_full house config groups port shard ds (n + one) l does.0 b after does.2 h)) more in
     subst (λ x. MOST_JOBS ≤ n + x) (sym all) got
 
@@ -140,20 +150,21 @@ row_filled full put row is taken many some =
     subst (λ n. MOST_JOBS ≤ n) (sym taken) (kept_count MOST_JOBS put (2 ^ 64 - 1) jobs_fit (many dropped))
 
 rows_filled : {P : Type 0} (house : HouseCalls P) (shard : ℕ) (ds : List Dispatched) (rs : List (ShardRun P)) → AreShardRuns house shard ds rs
-    → ((n : ℕ) → 0 < count_by (λ (d : Dispatched). is_full n d.fate) ds → MOST_JOBS ≤ length (all_put_for n ds))
+    → ((n : ℕ) → 0 < count_by (λ (d : Dispatched). is_full n d) ds → MOST_JOBS ≤ length (all_put_for n ds))
     → AllByRecursion IsFilled (map (λ (r : ShardRun P). r.row) rs)
 rows_filled house shard ds [] runs many = tt
 rows_filled house shard ds (r ∷ rs) runs many =
     let counts = rows_count house shard ds r runs.0 in
-    (row_filled (count_by (λ (d : Dispatched). is_full shard d.fate) ds) (length (all_put_for shard ds)) r.row counts.full counts.taken (many shard), rows_filled house (shard + 1) ds rs runs.1 many)
+    (row_filled (count_by (λ (d : Dispatched). is_full shard d) ds) (length (all_put_for shard ds)) r.row counts.full counts.taken (many shard), rows_filled house (shard + 1) ds rs runs.1 many)
 
-pub filled_rows : {P : Type 0} (house : HouseCalls P) (config : Config) (groups : List Group) (port : ℕ) (fresh : Bool) (old new : BegunState P) (read : Result (Unit {0}) Failed) (rows : List TallyRow)
+pub filled_rows : {P : Type 0} (house : HouseCalls P) (config : Config) (groups : List Group) (port : ℕ) (fresh : Bool) (old new : BegunState P) (read : Result (Unit {0}) RunFault) (rows : List TallyRow)
     → ServesBegun house config groups port fresh old new read rows → AllByRecursion IsFilled rows
 filled_rows house config groups port fresh old new read rows served =
     let all = served.served.serves in
     let ds = all.runs.runs.dispatched in
+    let steps = does_all house config groups port _ _ read all.runs.runs in
     subst (λ (l : List TallyRow). AllByRecursion IsFilled l) (sym all.runs.rows_are)
     (rows_filled house 0 ds all.runs.shards all.runs.each
     (λ n some.
-    let got : MOST_JOBS ≤ 0 + length (all_put_for n ds) = put_where_full house config groups port n ds 0 0 _ all.runs.runs.last (none_put n all.ports all.nothing) all.runs.runs.does some in
+    let got : MOST_JOBS ≤ 0 + length (all_put_for n ds) = put_where_full house config groups port n ds 0 0 _ steps.0 (none_put n all.ports all.nothing) steps.1 some in
     omega (arith, got)))

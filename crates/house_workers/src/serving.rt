@@ -26,7 +26,8 @@ use std::thread::Threads;
 /// `MOST_EXTERNALS` links and `2 * MOST_EXTERNALS + 1` clocks worker `i` has outbox `i` and clock
 /// `i`, lane `i` has link `i` and clock `MOST_EXTERNALS + i`, and the dispatcher the last outbox and
 /// the last clock. Those of external addresses that aren't get no call. `Read` comes only where the
-/// inbox's count rose. After `Memory` nothing was served.
+/// inbox's count rose. After `Memory` nothing was served, and after `Threads`, where one couldn't be made,
+/// nothing was dispatched.
 pub fn serve_all<
     R: Threads + Wait + Sync,
     I: Inbox,

@@ -33,7 +33,7 @@ use Rattle.shared_house.specs.Beginnings.{Begins, RefusesBegin}
 use Rattle.shared_house.specs.Findings.{update_places}
 use Rattle.house_workers.specs.Laws.{FaultedRowsHaveCauses}
 use Rattle.house_workers.specs.ServingAll.{Edges, ServesToEnd}
-use Rattle.serve_runs.specs.Served.{EndsUnread, GivesStart, IsLostAt, IsToldTo, ServeState, first_lost, has_failed, is_lost, served_as}
+use Rattle.serve_runs.specs.Served.{EndsUnread, GivesStart, IsLostAt, IsToldTo, ServeState, first_lost, has_failed, is_lost, ended_as}
 use Rattle.serve_runs.specs.Updates.{places_of}
 
 -- the dispatcher's clock was read, and no other
@@ -95,15 +95,15 @@ few-rows (Err fault) count is few = tt
 -- ---- faults
 
 -- whatever disk is lost, no other fault is told once the tally is written
-served-no-read : (shard : Option ℕ) → served_as shard ≡ Statuses.ReadFault → ⊥
+served-no-read : (shard : Option ℕ) → ended_as shard ≡ Statuses.ReadFault → ⊥
 served-no-read None is = cc
 served-no-read (Some shard) is = cc
 
-served-no-words : (shard : Option ℕ) → served_as shard ≡ Statuses.WordsRefused → ⊥
+served-no-words : (shard : Option ℕ) → ended_as shard ≡ Statuses.WordsRefused → ⊥
 served-no-words None is = cc
 served-no-words (Some shard) is = cc
 
-served-lost : (shard : ℕ) (first : Option ℕ) → served_as first ≡ Statuses.DiskFault shard → first ≡ Some shard
+served-lost : (shard : ℕ) (first : Option ℕ) → ended_as first ≡ Statuses.DiskFault shard → first ≡ Some shard
 served-lost shard None is = absurd cc
 served-lost shard (Some n) is = let e : n ≡ shard = cc in ap Some e
 
@@ -154,7 +154,7 @@ module _ {D : Type 0} (lost : D → Bool) where
             record { row = f.row; pair = f.pair; row_there = f.row_there; pair_there = f.pair_there; faulted = f.faulted; lost_side = f.lost_side },
           )
 
-  failed-at : (rows : List TallyRow) (pairs : List (DiskPair D)) (status : Status) (shard : ℕ) → status ≡ served_as (first_lost lost rows pairs)
+  failed-at : (rows : List TallyRow) (pairs : List (DiskPair D)) (status : Status) (shard : ℕ) → status ≡ ended_as (first_lost lost rows pairs)
       → status ≡ Statuses.DiskFault shard → Failed lost rows pairs shard
   failed-at rows pairs status shard told is =
       let found = failed-from 0 rows pairs shard (served-lost shard (first_lost lost rows pairs) (sym told ∙ is)) in
@@ -168,6 +168,7 @@ module _ {D : Type 0} (lost : D → Bool) where
   failed (Ok rows) pairs out_old out_new before now status shard (inr (inl told)) is = absurd (cc (told.0, is))
   failed (Ok rows) pairs out_old out_new before now status shard (inr (inr told)) is = absurd (cc (told.0, is))
   failed (Err ServeFaults.Read) pairs out_old out_new before now status shard told is = absurd (cc (told.0, is))
+  failed (Err ServeFaults.Threads) pairs out_old out_new before now status shard told is = absurd (cc (told.0, is))
   failed (Err ServeFaults.Memory) pairs out_old out_new before now status shard told is = absurd (cc (told.0, is))
 
   -- of the pairs as they were seen
@@ -188,6 +189,7 @@ module _ {D : Type 0} (lost : D → Bool) where
   no-words (Ok rows) pairs out_old out_new before now status (inr (inl told)) is = cc (told.0, is)
   no-words (Ok rows) pairs out_old out_new before now status (inr (inr told)) is = cc (told.0, is)
   no-words (Err ServeFaults.Read) pairs out_old out_new before now status told is = cc (told.0, is)
+  no-words (Err ServeFaults.Threads) pairs out_old out_new before now status told is = cc (told.0, is)
   no-words (Err ServeFaults.Memory) pairs out_old out_new before now status told is = cc (told.0, is)
 
 -- a count of its pair rose
@@ -216,6 +218,7 @@ read-fault disks lost config groups port begun old new (Ok rows) pairs out_old o
 read-fault disks lost config groups port begun old new (Ok rows) pairs out_old out_new before now status serves (inr (inr told)) is = absurd (cc (told.0, is))
 read-fault disks lost config groups port begun old new (Err ServeFaults.Read) pairs out_old out_new before now status serves told is =
     subst (HasRisen old.faults) (sym (ap (λ e. e.faults) serves.edges)) serves.answers.risen
+read-fault disks lost config groups port begun old new (Err ServeFaults.Threads) pairs out_old out_new before now status serves told is = absurd (cc (told.0, is))
 read-fault disks lost config groups port begun old new (Err ServeFaults.Memory) pairs out_old out_new before now status serves told is = absurd (cc (told.0, is))
 
 -- a disk that is named is that of an external address, and its count rose

@@ -50,9 +50,9 @@ pub record GivesStart (old new : List (Option Times)) (start : ℕ) : Type 0 whe
 -- ---- the end
 
 -- the status once the tally is written
-abbrev pub served_as : Option ℕ → Status
-served_as (Some shard) = Statuses.DiskFault shard
-served_as None = Statuses.Done
+abbrev pub ended_as : Option ℕ → Status
+ended_as (Some shard) = Statuses.DiskFault shard
+ended_as None = Statuses.Done
 
 module _ {D : Type 0} (lost : D → Bool) where
   -- a side of the pair lost a sync
@@ -79,13 +79,15 @@ module _ {D : Type 0} (lost : D → Bool) where
   abbrev pub IsToldTo : {W : Type 0} → Result (List TallyRow) ServeFault → List (DiskPair D)
       → (old new : W) → (before now : Option (List ℕ)) → Status → Type 0
   IsToldTo (Ok rows) pairs old new before now status =
-      ((status ≡ served_as (first_lost rows pairs))
+      ((status ≡ ended_as (first_lost rows pairs))
       × (now ≡ append_known before (rows_text 0 rows)))
       ⊎ (((status ≡ Statuses.WriteFault) × WritesPart before now (rows_text 0 rows))
       ⊎ ((status ≡ Statuses.Memory) × (new ≡ old)))
   IsToldTo (Err ServeFaults.Read) pairs old new before now status =
       (status ≡ Statuses.ReadFault) × (new ≡ old)
   IsToldTo (Err ServeFaults.Memory) pairs old new before now status =
+      (status ≡ Statuses.Memory) × (new ≡ old)
+  IsToldTo (Err ServeFaults.Threads) pairs old new before now status =
       (status ≡ Statuses.Memory) × (new ≡ old)
 
 module _ {D : Type 0} where

@@ -3,7 +3,7 @@ ghost use Rattle.std.specs.Prelude.{◌≡◌, ◌≢◌, ◌<◌, ◌≤◌, le
 ghost use Rattle.std.specs.List.{position_from};
 ghost use Rattle.pcp_base.specs.declared.configs.TheConstants.{MOST_EXTERNALS};
 ghost use Rattle.server_commands.specs.declared.statuses.Status.TheVariants as Statuses;
-ghost use Rattle.serve_runs.specs.Served.{first_lost, has_failed, is_lost, served_as};
+ghost use Rattle.serve_runs.specs.Served.{first_lost, has_failed, is_lost, ended_as};
 
 use job_workers::TallyRow;
 use lease_disk::{DiskPair, LeaseDisk};
@@ -34,9 +34,9 @@ fn first_lost<D: LeaseDisk>(rows: &[TallyRow], pairs: &[DiskPair<D>]) -> Option<
 }
 
 /// The status of a house that was served to its end and whose tally is written.
-pub(crate) fn served_as<D: LeaseDisk>(rows: &[TallyRow], pairs: &[DiskPair<D>]) -> Status
+pub(crate) fn ended_as<D: LeaseDisk>(rows: &[TallyRow], pairs: &[DiskPair<D>]) -> Status
     requires few { length rows.now ≤ MOST_EXTERNALS }
-    ensures told { result ≡ served_as (first_lost D.lost rows.now pairs.now) }
+    ensures told { result ≡ ended_as (first_lost D.lost rows.now pairs.now) }
     ensures no_write { result ≢ Statuses.WriteFault }
 {
     match first_lost(rows, pairs) {

@@ -5,7 +5,7 @@ ghost use Rattle.pcp_io.specs.Faults.{HasRisen};
 ghost use Rattle.server_commands.specs.declared.statuses.Status.TheVariants as Statuses;
 ghost use Rattle.serve_runs.specs.Served.{IsToldTo};
 
-use crate::lost::served_as;
+use crate::lost::ended_as;
 use crate::tally_texts::tally_text;
 use job_workers::{Tally, TallyRow};
 use lease_disk::{DiskPair, LeaseDisk};
@@ -31,7 +31,7 @@ fn tell_rows<W: Sink, D: LeaseDisk>(
         return Status::Memory;
     };
     match write_all(out, &text) {
-        Ok(()) => served_as(rows, pairs),
+        Ok(()) => ended_as(rows, pairs),
         Err(_) => Status::WriteFault,
     }
 }
@@ -53,5 +53,6 @@ pub(crate) fn tell_tally<W: Sink, D: LeaseDisk>(
         Ok(rows) => tell_rows(alloc, rows.items(), pairs, out),
         Err(ServeFault::Read) => Status::ReadFault,
         Err(ServeFault::Memory) => Status::Memory,
+        Err(ServeFault::Threads) => Status::Memory,
     }
 }

@@ -17,6 +17,8 @@ mod flags;
 #[cfg(test)]
 mod held;
 #[cfg(test)]
+mod late_loss;
+#[cfg(test)]
 mod requests;
 #[cfg(test)]
 mod serving;
