@@ -133,7 +133,7 @@ risen_before a b c (inr e) later = inr (omega (arith, later, e))
 -- losses that waited were put, and then an item came
 pub turn_on : {P : Type 0} (house : HouseCalls P) (config : Config) (queues : List TableId) (groups : List Group) (port : ℕ) (a b c : DispatchState P)
     (ports : List Port) (left : Option (List InboxItem)) (faults : ℕ) (result : Result Bool Failed)
-    → HasDispatched house config queues groups port a b → (shards : List ℕ) × AreLate shards b.ports ports → ArePorts config queues ports → left ≡ b.left → b.faults ≤ faults
+    → HasDispatched house config queues groups port a b → ((shards : List ℕ) × AreLate shards b.ports ports) → ArePorts config queues ports → left ≡ b.left → b.faults ≤ faults
     → IsItemTurn house config groups port (record b { ports = ports; left = left; faults = faults }) c result → result ≡ Ok true → HasDispatched house config queues groups port a c
 turn_on {P} house config queues groups port a b c ports left faults (Ok true) h late are same later turn is =
     let mid : DispatchState P = record b { ports = ports } in
@@ -151,7 +151,7 @@ turn_on house config queues groups port a b c ports left faults (Err fault) h la
 -- the end
 pub ends_by_stop : {P : Type 0} (house : HouseCalls P) (config : Config) (queues : List TableId) (groups : List Group) (port : ℕ) (a b c : DispatchState P)
     (ports : List Port) (left : Option (List InboxItem)) (faults : ℕ) (result : Result Bool Failed)
-    → HasDispatched house config queues groups port a b → (shards : List ℕ) × AreLate shards b.ports ports → left ≡ b.left
+    → HasDispatched house config queues groups port a b → ((shards : List ℕ) × AreLate shards b.ports ports) → left ≡ b.left
     → IsItemTurn house config groups port (record b { ports = ports; left = left; faults = faults }) c result → result ≡ Ok false → RunsItems house config groups port a c (Ok tt)
 ends_by_stop {P} house config queues groups port a b c ports left faults (Ok false) h late same turn is =
     let mid : DispatchState P = record b { ports = ports } in
@@ -167,7 +167,7 @@ ends_by_stop house config queues groups port a b c ports left faults (Err fault)
 
 pub ends_by_fault : {P : Type 0} (house : HouseCalls P) (config : Config) (queues : List TableId) (groups : List Group) (port : ℕ) (a b c : DispatchState P)
     (ports : List Port) (left : Option (List InboxItem)) (faults : ℕ) (result : Result Bool Failed) (fault : Failed)
-    → HasDispatched house config queues groups port a b → (shards : List ℕ) × AreLate shards b.ports ports → left ≡ b.left → b.faults ≤ faults
+    → HasDispatched house config queues groups port a b → ((shards : List ℕ) × AreLate shards b.ports ports) → left ≡ b.left → b.faults ≤ faults
     → IsItemTurn house config groups port (record b { ports = ports; left = left; faults = faults }) c result → result ≡ Err fault → RunsItems house config groups port a c (Err fault)
 ends_by_fault {P} house config queues groups port a b c ports left faults (Err f) fault h late same later turn is =
     let mid : DispatchState P = record b { ports = ports } in
@@ -205,7 +205,7 @@ ended last b (Err fault) ends = (ends.same.0, ends.same.1)
 
 pub ends_late : {P : Type 0} (house : HouseCalls P) (config : Config) (groups : List Group) (port : ℕ) (a b : DispatchState P)
     (ports : List Port) (left : Option (List InboxItem)) (faults : ℕ) (result : Result (Unit {0}) Failed)
-    → RunsItems house config groups port a b result → (shards : List ℕ) × AreLate shards b.ports ports → NoneWaits ports → left ≡ b.left → b.faults ≤ faults
+    → RunsItems house config groups port a b result → ((shards : List ℕ) × AreLate shards b.ports ports) → NoneWaits ports → left ≡ b.left → b.faults ≤ faults
     → RunsDispatcher house config groups port a (record b { ports = ports; left = left; faults = faults }) result
 ends_late {P} house config groups port a b ports left faults result runs late none same later =
     let is = ended runs.last b result runs.ends in

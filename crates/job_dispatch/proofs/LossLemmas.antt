@@ -123,7 +123,7 @@ put_one config queues shard a b c h late = record {
 pub put_same : (config : Config) (queues : List TableId) (a b c : List Port) → HasPutLate config queues a b → c ≡ b → HasPutLate config queues a c
 put_same config queues a b c h e = subst (λ (l : List Port). HasPutLate config queues a l) (sym e) h
 
-pub put_some : (config : Config) (queues : List TableId) (a b c : List Port) → HasPutLate config queues a b → (shards : List ℕ) × AreLate shards b c → ArePorts config queues c → HasPutLate config queues a c
+pub put_some : (config : Config) (queues : List TableId) (a b c : List Port) → HasPutLate config queues a b → ((shards : List ℕ) × AreLate shards b c) → ArePorts config queues c → HasPutLate config queues a c
 put_some config queues a b c h more ports = record {
   shards = h.shards ++ more.0;
   late = late_append h.shards more.0 a b c h.late more.1;

@@ -134,8 +134,14 @@ impl Orders {
         self.statuses.add(order)
     }
 
-    /// It is this time. Where all workers have left their numbers since they were asked, or long
-    /// enough ago, whoever asked is answered.
+    /// Whether whoever asked how the server is gets an answer now: all workers have left their numbers
+    /// since, or they were asked long enough ago.
+    fn is_due(&self, board: &Board) -> bool {
+        !self.statuses.is_empty()
+            && (board.is_answered() || self.time.saturating_sub(self.asked) >= LONGEST_ASK)
+    }
+
+    /// It is this time. Whoever asked how the server is is answered where that is due.
     pub(crate) fn reach<I: Inbox>(
         &mut self,
         alloc: Global,
@@ -148,10 +154,7 @@ impl Orders {
         ensures later { I.faults inbox.old ≤ I.faults inbox.new }
     {
         self.time = time;
-        if self.statuses.is_empty() {
-            return;
-        }
-        if board.is_answered() || time.saturating_sub(self.asked) >= LONGEST_ASK {
+        if self.is_due(board) {
             self.answer_statuses(alloc, config, board, inbox);
         }
     }
@@ -167,6 +170,9 @@ impl Orders {
         ensures left { I.left inbox.new ≡ I.left inbox.old }
         ensures later { I.faults inbox.old ≤ I.faults inbox.new }
     {
+        if self.statuses.is_empty() {
+            return;
+        }
         match status_text(alloc, config, board, self.time) {
             Ok(text) => self.statuses.answer(inbox, &text),
             Err(_memory) => self.statuses.answer(inbox, REFUSED),
