@@ -22,7 +22,7 @@ use pcp_io::{Clock, Gate, Inbox, LONGEST_DATAGRAM, LaneLink, Outbox};
 use status_board::Board;
 use std::alloc::Global;
 use std::sync::Wait;
-use std::sync::atomic::AtomicBool;
+use std::sync::atomic::{AtomicBool, AtomicU32};
 use std::thread::Threads;
 
 /// Runs all threads, and does what they left, so that all that was put is done.
@@ -105,6 +105,7 @@ pub fn run_seated<
     ensures empty { desks.new.items ≡ [] }
 {
     let ended = AtomicBool::new(false);
+    let here = AtomicU32::new(0);
     let mut piece = [0; LONGEST_DATAGRAM];
     let mut noise = NoiseCounts::new();
     let read = run_threads(
@@ -115,6 +116,7 @@ pub fn run_seated<
         gate,
         board,
         &ended,
+        &here,
         queues,
         desks,
         outs,

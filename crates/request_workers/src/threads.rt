@@ -204,7 +204,8 @@ fn lead<R: Wait, I: Inbox, O: Outbox, T: Clock, P, H: JobHouse<P>>(
 }
 
 /// Runs all until the inbox stops or fails and all others have ended. Where a thread can't be made,
-/// the dispatcher goes first: it misses that thread, dispatches nothing, and then all end.
+/// the dispatcher goes first: it misses that thread, dispatches nothing, and then all end. `here` counts
+/// the threads that are there, and begins with none.
 pub fn run_threads<
     R: Threads + Wait + Sync,
     I: Inbox,
@@ -222,6 +223,7 @@ pub fn run_threads<
     gate: &G,
     board: &Board,
     ended: &AtomicBool,
+    here: &AtomicU32,
     queues: &[JobQueue],
     desks: &mut [Desk<P>],
     outs: &mut [O],
@@ -291,8 +293,6 @@ pub fn run_threads<
         })
         result }
 {
-    let begun = AtomicU32::new(0);
-    let here = &begun;
     let count = desks.len().saturating_add(lanes.len());
     let mut following = move ||
         requires { IsSync R.row × IsSync G.row × IsSend O.row × IsSend T.row × IsSend L.row
