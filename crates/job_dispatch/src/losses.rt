@@ -40,11 +40,11 @@ fn offer_loss<R: Wait>(rt: &R, queue: &JobQueue, port: &mut Port) -> bool
     if port.waits {
         return false;
     }
-    let is_put = put_loss(rt, queue, port);
-    if !is_put {
-        port.waits = true;
+    if put_loss(rt, queue, port) {
+        return true;
     }
-    is_put
+    port.waits = true;
+    false
 }
 
 /// Offers a loss to the queue of this shard.
@@ -112,11 +112,11 @@ fn put_late<R: Wait>(rt: &R, queue: &JobQueue, port: &mut Port) -> bool
     if !port.waits {
         return false;
     }
-    let is_put = put_loss(rt, queue, port);
-    if is_put {
-        port.waits = false;
+    if !put_loss(rt, queue, port) {
+        return false;
     }
-    is_put
+    port.waits = false;
+    true
 }
 
 /// Puts the loss that waits for this shard, if one does and there is room. True where it was put.
