@@ -137,9 +137,9 @@ impl<'a> OrderDoor<'a> {
         })
     }
 
-    /// The path of the socket.
-    pub(crate) fn path(&self) -> &str {
-        self.path.as_str()
+    /// Tells an operator why the socket can't be made.
+    pub(crate) fn tell_fault(&self, error: &io::Error) {
+        let _ = eprintln!(self.rt; "pcp: {}: {error}", self.path.as_str());
     }
 
     /// Whether the socket was made.

@@ -68,7 +68,7 @@ impl<'a> ServerInbox<'a> {
             return Ok(());
         }
         if let Err(error) = self.orders.open() {
-            let _ = eprintln!(self.rt; "pcp: {}: {error}", self.orders.path());
+            self.orders.tell_fault(&error);
             self.faults = self.faults.saturating_add(1);
             return Err(Failed);
         }
