@@ -50,6 +50,7 @@ pub(crate) fn serve_blank<
     {
         return Err(Memory);
     }
+    let board = Board::new(alloc, MOST_EXTERNALS)?;
     let Ok(begun) = House::begin(rt, alloc, config, disks, Moment::of(1_000).unwrap()) else {
         return Err(Memory);
     };
@@ -63,7 +64,7 @@ pub(crate) fn serve_blank<
         links,
         &mut clocks,
         gate,
-        &Board::new(alloc, MOST_EXTERNALS)?,
+        &board,
     );
     Ok(Ended {
         tally,
