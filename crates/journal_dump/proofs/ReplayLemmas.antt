@@ -35,6 +35,6 @@ view_reads a b s Blank is = is.0
 view_reads a b s Damaged is = is.0
 
 pub view_looks : (a b : List ℕ) (s : State) (found : Found) → ViewMeans a b s found → IsLookedUntil a b found s.last
-view_looks a b s Recovered is = (s, (is, refl))
+view_looks a b s Recovered is = (s, is, refl)
 view_looks a b s Blank is = (is.0, ap (λ (t : State). t.last) is.1)
 view_looks a b s Damaged is = (is.0, ap (λ (t : State). t.last) is.1)

@@ -11,8 +11,8 @@ use Rattle.program_links.specs.OrderLines.{IsOrderLine, IsOrderText}
 -- a loss is of an address that stands behind `lose `
 behind-writes : (text behind : List ℕ) (address : Address) → text ≡ codes "lose " ++ behind → IsOrderText text (Lose address) → IsAddressText behind address
 behind-writes text behind address is says =
-    let same : 108 ∷ 111 ∷ 115 ∷ 101 ∷ 32 ∷ says.0 ≡ 108 ∷ 111 ∷ 115 ∷ 101 ∷ 32 ∷ behind = sym says.1.0 ∙ is in
-    let rest : says.0 ≡ behind = cc in subst (λ xs. IsAddressText xs address) rest says.1.1
+    let same : 108 ∷ 111 ∷ 115 ∷ 101 ∷ 32 ∷ says.0 ≡ 108 ∷ 111 ∷ 115 ∷ 101 ∷ 32 ∷ behind = sym says.1 ∙ is in
+    let rest : says.0 ≡ behind = cc in subst (λ xs. IsAddressText xs address) rest says.2
 
 pub lost-only : (text behind : List ℕ) (address : Address) → text ≡ codes "lose " ++ behind
     → ((other : Address) → IsAddressText behind other → other ≡ address)
@@ -26,20 +26,20 @@ lost-none text behind is none other says = none other (behind-writes text behind
 -- no text says two things
 pub stop-only : (text : List ℕ) → text ≡ codes "stop" → (other : OrderLine) → IsOrderText text other → other ≡ Stop
 stop-only text is Stop says = refl
-stop-only text is (Lose address) says = absurd (let e : codes "stop" ≡ codes "lose " ++ says.0 = sym is ∙ says.1.0 in cc)
+stop-only text is (Lose address) says = absurd (let e : codes "stop" ≡ codes "lose " ++ says.0 = sym is ∙ says.1 in cc)
 stop-only text is Status says = absurd (let e : codes "stop" ≡ codes "status" = sym is ∙ says in cc)
 
 pub status-only : (text : List ℕ) → text ≡ codes "status" → (other : OrderLine) → IsOrderText text other → other ≡ Status
 status-only text is Stop says = absurd (let e : codes "status" ≡ codes "stop" = sym is ∙ says in cc)
-status-only text is (Lose address) says = absurd (let e : codes "status" ≡ codes "lose " ++ says.0 = sym is ∙ says.1.0 in cc)
+status-only text is (Lose address) says = absurd (let e : codes "status" ≡ codes "lose " ++ says.0 = sym is ∙ says.1 in cc)
 status-only text is Status says = refl
 
 pub lose-only : (text : List ℕ) (address : Address) → IsOrderText text (Lose address)
     → ((other : Address) → IsOrderText text (Lose other) → other ≡ address)
     → (other : OrderLine) → IsOrderText text other → other ≡ Lose address
-lose-only text address lost only Stop says = absurd (let e : codes "stop" ≡ codes "lose " ++ lost.0 = sym says ∙ lost.1.0 in cc)
+lose-only text address lost only Stop says = absurd (let e : codes "stop" ≡ codes "lose " ++ lost.0 = sym says ∙ lost.1 in cc)
 lose-only text address lost only (Lose other) says = ap Lose (only other says)
-lose-only text address lost only Status says = absurd (let e : codes "status" ≡ codes "lose " ++ lost.0 = sym says ∙ lost.1.0 in cc)
+lose-only text address lost only Status says = absurd (let e : codes "status" ≡ codes "lose " ++ lost.0 = sym says ∙ lost.1 in cc)
 
 pub none-says : (text : List ℕ) → ¬ (text ≡ codes "stop") → ¬ (text ≡ codes "status") → ((address : Address) → ¬ (IsOrderText text (Lose address)))
     → (order : OrderLine) → ¬ (IsOrderText text order)
@@ -53,16 +53,16 @@ text-is octets text other is was = append_cancel_right other text (10 ∷ []) (s
 
 pub some_line : (octets text : List ℕ) (read : Option OrderLine) → octets ≡ text ++ 10 ∷ []
     → IfSome read (IsOrderText text) → IfSome read (IsOrderLine octets)
-some_line octets text (Some order) is says = (text, (is, says))
+some_line octets text (Some order) is says = (text, is, says)
 some_line octets text None is says = tt
 
 pub only_line : (octets text : List ℕ) (read : Option OrderLine) → octets ≡ text ++ 10 ∷ []
     → IfSome read (λ order. (other : OrderLine) → IsOrderText text other → other ≡ order)
     → IfSome read (λ order. (other : OrderLine) → IsOrderLine octets other → other ≡ order)
-only_line octets text (Some order) is only = λ other line. only other (subst (λ t. IsOrderText t other) (text-is octets text line.0 is line.1.0) line.1.1)
+only_line octets text (Some order) is only = λ other line. only other (subst (λ t. IsOrderText t other) (text-is octets text line.0 is line.1) line.2)
 only_line octets text None is only = tt
 
 pub none_line : (octets text : List ℕ) (read : Option OrderLine) → octets ≡ text ++ 10 ∷ []
     → IfNone read ((order : OrderLine) → ¬ (IsOrderText text order)) → IfNone read ((order : OrderLine) → ¬ (IsOrderLine octets order))
 none_line octets text (Some order) is none = tt
-none_line octets text None is none = λ order line. none order (subst (λ t. IsOrderText t order) (text-is octets text line.0 is line.1.0) line.1.1)
+none_line octets text None is none = λ order line. none order (subst (λ t. IsOrderText t order) (text-is octets text line.0 is line.1) line.2)
