@@ -71,21 +71,22 @@ run_at house shard ds (r ∷ rs) zero row runs there =
     let same : r.row ≡ row = cc in (shard, r, runs.0, same, refl)
 run_at house shard ds (r ∷ rs) (suc i) row runs there = run_at house (shard + 1) ds rs i row runs.1 there
 
--- the book and the turn of a pass with which a house began
-seat_at : {D : Type 0} (config : Config) (k : ℕ) (bs : List (BookView D)) (ts : List (TurnName (Opening D))) (ps : List (HousePass D)) (ls : List LaneKnowledge) (i : ℕ)
-    → BeginAll config k bs ts ps ls → i < length ps
-    → (b : BookView D) × (t : TurnName (Opening D)) × (slice_get bs i ≡ Some b) × (slice_get ts i ≡ Some t) × (t.key.book ≡ b)
-seat_at config k [] [] [] [] i all small = absurd (omega (arith, small))
-seat_at config k [] [] [] (l ∷ ls) i all small = absurd all
-seat_at config k [] [] (p ∷ ps) ls i all small = absurd all
-seat_at config k [] (t ∷ ts) ps ls i all small = absurd all
-seat_at config k (b ∷ bs) [] ps ls i all small = absurd all
-seat_at config k (b ∷ bs) (t ∷ ts) [] ls i all small = absurd all
-seat_at config k (b ∷ bs) (t ∷ ts) (p ∷ ps) [] i all small = absurd all
-seat_at config k (b ∷ bs) (t ∷ ts) (p ∷ ps) (l ∷ ls) zero all small =
-    (b, t, refl, refl, ap (λ (o : Opening D). o.book) all.0.key)
-seat_at config k (b ∷ bs) (t ∷ ts) (p ∷ ps) (l ∷ ls) (suc i) all small =
-    seat_at config (k + 1) bs ts ps ls i all.1 (omega (arith, small))
+module _ {D : Type 0} where
+  -- the book and the turn of a pass with which a house began
+  seat_at : (config : Config) (k : ℕ) (bs : List (BookView D)) (ts : List (TurnName (Opening D))) (ps : List (HousePass D)) (ls : List LaneKnowledge) (i : ℕ)
+      → BeginAll config k bs ts ps ls → i < length ps
+      → (b : BookView D) × (t : TurnName (Opening D)) × (slice_get bs i ≡ Some b) × (slice_get ts i ≡ Some t) × (t.key.book ≡ b)
+  seat_at config k [] [] [] [] i all small = absurd (omega (arith, small))
+  seat_at config k [] [] [] (l ∷ ls) i all small = absurd all
+  seat_at config k [] [] (p ∷ ps) ls i all small = absurd all
+  seat_at config k [] (t ∷ ts) ps ls i all small = absurd all
+  seat_at config k (b ∷ bs) [] ps ls i all small = absurd all
+  seat_at config k (b ∷ bs) (t ∷ ts) [] ls i all small = absurd all
+  seat_at config k (b ∷ bs) (t ∷ ts) (p ∷ ps) [] i all small = absurd all
+  seat_at config k (b ∷ bs) (t ∷ ts) (p ∷ ps) (l ∷ ls) zero all small =
+      (b, t, refl, refl, ap (λ (o : Opening D). o.book) all.0.key)
+  seat_at config k (b ∷ bs) (t ∷ ts) (p ∷ ps) (l ∷ ls) (suc i) all small =
+      seat_at config (k + 1) bs ts ps ls i all.1 (omega (arith, small))
 
 module _ {D : Type 0} (tells : Type 0) (seen : D → List ℕ) (moment : D → ℕ)
     (left_since : D → ℕ → List ℕ → Type 0) (may_leave : D → List ℕ → Type 0) (faults : D → ℕ)
@@ -134,7 +135,7 @@ module _ {D : Type 0} (tells : Type 0) (seen : D → List ℕ) (moment : D → �
         let ends = serves.ends.count in
         let inside : place < length serves.ends.ended = omega (arith, turns, ends) in
         let pair : slice_get serves.ends.ended place ≡ Some now =
-        first_of serves.ends.ended begun.house.spare place now inside
+        first_of tells seen moment left_since may_leave faults serves.ends.ended begun.house.spare place now inside
         (subst (λ (l : List (DiskPair D)). slice_get l place ≡ Some now) serves.ends.back back) in
         let last : HousePass D = get_or serves.ended place one.1.new.pass in
         let ended = serves.ends.each place seat.1 one.1.new.pass last now seat.3 passed (slice_get-get_or serves.ended place one.1.new.pass few) pair in
