@@ -48,6 +48,16 @@ pub(crate) fn leave_end(board: &Board, shard: u32, row: &TallyRow, end: CallEnd)
     end.outcome
 }
 
+/// The same behind a call without jobs. It writes nothing, so that it was made doesn't say that a fault
+/// is over.
+pub(crate) fn leave_count(board: &Board, shard: u32, row: &TallyRow, end: CallEnd) -> Outcome {
+    if end.outcome == Outcome::Fault {
+        return leave_end(board, shard, row, end);
+    }
+    board.count(shard, &row.counts());
+    end.outcome
+}
+
 /// Leaves the numbers of an external address as the answer of this ask. Where the call had none, those
 /// that were left before stand.
 pub(crate) fn leave_numbers(board: &Board, shard: u32, asked: u64, numbers: Option<ShardNumbers>) {

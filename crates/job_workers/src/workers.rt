@@ -10,7 +10,7 @@ ghost use Rattle.job_workers.specs.Works.{AnswersBatch, Counts, LosesAll, Works}
 ghost use Rattle.job_workers.specs.Gatherings.{Gathers, HasWorked, IsDesk, behind};
 
 use crate::houses::JobHouse;
-use crate::outcomes::{CallEnd, Outcome, leave_end, leave_numbers};
+use crate::outcomes::{CallEnd, Outcome, leave_count, leave_end, leave_numbers};
 use crate::pauses::Pause;
 use crate::sends::send_all;
 use crate::tallies::{Sends, TallyRow};
@@ -339,8 +339,9 @@ fn do_count<R: Wait, T: Clock, G: Gate, P, H: JobHouse<P>>(
     let asked = board.asks();
     let counted = count_all(rt, alloc, house, pass, row, clock);
     let (end, numbers) = counted;
+    let outcome = leave_count(board, *shard, row, end);
     leave_numbers(board, *shard, asked, numbers);
-    leave_end(board, *shard, row, end)
+    outcome
 }
 
 /// Takes jobs and does them, and counts where somebody asks for that. It says whether the queue was
