@@ -186,6 +186,17 @@ ends_by_fault house config queues groups port a b c ports left faults (Ok false)
 
 -- ---- losses that are put at the end
 
+ports_step : {P : Type 0} (house : HouseCalls P) (config : Config) (queues : List TableId) (groups : List Group) (port : ℕ) (d : Dispatched) (a b : DispatchState P)
+    → ArePorts config queues a.ports → DoesStep house config groups port d a b → ArePorts config queues b.ports
+ports_step house config queues groups port (Given item fate) a b h does = ports_after config queues (in_second a.noise (does.time / 1000)) item fate a.ports b.ports h does.becomes
+ports_step house config queues groups port (Late shard) a b h does = ports_after_late config queues shard a.ports b.ports h does.0
+
+ports_steps : {P : Type 0} (house : HouseCalls P) (config : Config) (queues : List TableId) (groups : List Group) (port : ℕ) (ds : List Dispatched) (a b : DispatchState P)
+    → ArePorts config queues a.ports → DoesSteps house config groups port ds a b → ArePorts config queues b.ports
+ports_steps {P} house config queues groups port [] a b h does = subst (λ (s : DispatchState P). ArePorts config queues s.ports) (sym does) h
+ports_steps house config queues groups port (d ∷ ds) a b h does =
+    ports_steps house config queues groups port ds does.0 b (ports_step house config queues groups port d a does.0 h does.1) does.2
+
 -- it ended so still, behind these losses and answers to orders
 ends_behind : {P : Type 0} (last b : DispatchState P) (ports : List Port) (left : Option (List InboxItem)) (faults : ℕ) (result : Result (Unit {0}) Failed)
     → EndsDispatcher last b result → left ≡ b.left → b.faults ≤ faults
@@ -202,6 +213,13 @@ ends_behind last b ports left faults (Err fault) ends same later = record {
 ended : {P : Type 0} (last b : DispatchState P) (result : Result (Unit {0}) Failed) → EndsDispatcher last b result → (b.ports ≡ last.ports) × (b.noise ≡ last.noise)
 ended last b (Ok done) ends = (ends.same.0, ends.same.1)
 ended last b (Err fault) ends = (ends.same.0, ends.same.1)
+
+-- the ports are the same queues' still
+pub ports_kept : {P : Type 0} (house : HouseCalls P) (config : Config) (queues : List TableId) (groups : List Group) (port : ℕ) (a b : DispatchState P) (result : Result (Unit {0}) Failed)
+    → ArePorts config queues a.ports → RunsItems house config groups port a b result → ArePorts config queues b.ports
+ports_kept house config queues groups port a b result h runs =
+    let is = ended runs.last b result runs.ends in
+    subst (λ (ps : List Port). ArePorts config queues ps) (sym is.0) (ports_steps house config queues groups port runs.dispatched a runs.last h runs.does)
 
 pub ends_late : {P : Type 0} (house : HouseCalls P) (config : Config) (groups : List Group) (port : ℕ) (a b : DispatchState P)
     (ports : List Port) (left : Option (List InboxItem)) (faults : ℕ) (result : Result (Unit {0}) Failed)

@@ -36,8 +36,10 @@ fn ask_status<I: Inbox>(
     ensures later { I.faults inbox.old ≤ I.faults inbox.new }
 {
     board.drop_noise(noise.dropped);
-    for (shard, port) in ports.iter().enumerate() {
-        board.count_dropped(shard as u32, port.row.full, port.row.starved);
+    let mut shard = 0u32;
+    for port in ports {
+        board.count_dropped(shard, port.row.full, port.row.starved);
+        shard = shard.saturating_add(1);
     }
     board.ask();
     for port in ports {
