@@ -135,7 +135,7 @@ module _ {D : Type 0} (lost : D → Bool) where
       record { row = row; pair = pair; row_there = refl; pair_there = refl; faulted = some-fault row.faulted both.0; lost_side = both.1 }
 
   -- the place among all is that behind so many
-  pub failed-from : (k : ℕ) (rows : List TallyRow) (pairs : List (DiskPair D)) (n : ℕ) → position_from (has_failed lost) k (zip rows pairs) ≡ Some n
+  failed-from : (k : ℕ) (rows : List TallyRow) (pairs : List (DiskPair D)) (n : ℕ) → position_from (has_failed lost) k (zip rows pairs) ≡ Some n
       → (i : ℕ) × (k + i ≡ n) × Failed lost rows pairs i
   failed-from k [] pairs n found = absurd cc
   failed-from k (row ∷ rows) [] n found = absurd cc
