@@ -3,7 +3,9 @@ use Rattle.job_dispatch.proofs.DispatchingLemmas.{ends_late, ports_kept}
 use Rattle.job_dispatch.proofs.dispatching.dispatch.Goals as goal
 
 pub put_all_waiting-requires : goal.put_all_waiting-requires
-put_all_waiting-requires g c = ports_kept _ _ _ _ _ _ _ c.dispatch_items-read.result c.requires.ports c.dispatch_items-read.ensures
+put_all_waiting-requires g c = record {
+  ports = ports_kept _ _ _ _ _ _ _ c.dispatch_items-read.result c.requires.ports c.dispatch_items-read.ensures;
+}
 
 pub returns : goal.returns
 returns g c =

@@ -10,13 +10,13 @@ loop-shard-preserved g c =
     let later = c.loop-shard.invariant.later in
     elim c.if-put_late_at.branch [
       | then-put_late_at w ↦ record {
-        put = put_one _ _ c.loop-shard.shard _ _ _ c.loop-shard.invariant.put (c.put_late_at.ensures.put w.if-put_late_at);
+        put = put_one _ _ c.loop-shard.shard _ _ _ c.loop-shard.invariant.put (c.put_late_at.ensures.put w.if-put_late_at.true);
         count = omega (arith, count, counted);
         left = ap (λ x. g.I.Inbox.left x) w.inbox-is ∙ (w.answer_losses.ensures.left ∙ c.loop-shard.invariant.left);
         later = let is = ap (λ x. g.I.Inbox.faults x) w.inbox-is in let more = w.answer_losses.ensures.later in omega (arith, is, more, later);
       }
       | else-put_late_at w ↦ record {
-        put = put_same _ _ _ _ _ c.loop-shard.invariant.put (c.put_late_at.ensures.unchanged w.if-put_late_at);
+        put = put_same _ _ _ _ _ c.loop-shard.invariant.put (c.put_late_at.ensures.unchanged w.if-put_late_at.false);
         count = omega (arith, count, counted);
         left = ap (λ x. g.I.Inbox.left x) w.inbox-is ∙ c.loop-shard.invariant.left;
         later = let is = ap (λ x. g.I.Inbox.faults x) w.inbox-is in omega (arith, is, later);
