@@ -11,7 +11,7 @@ use Rattle.job_workers.specs.Sends.{sent_count, unsent_count}
 use Rattle.job_workers.specs.Tallies.{more, no_jobs, row_full, row_starved}
 use Rattle.job_workers.specs.Works.{DoesCall, DoesCalls, IsOfHouse, Lost, Refused, Replied, WorkCall, WorkResult, WorkState, row_by, unsent_in}
 use Rattle.job_dispatch.specs.Dispatches.{Dispatched, Full, Given, Ignored, Joins, Late, Noise, Put, Starved, Waits}
-use Rattle.job_dispatch.specs.PortsAfter.{dispatched_row, row_by}
+use Rattle.job_dispatch.specs.PortsAfter.{dispatched_row, row_by as row_by_step}
 use Rattle.request_workers.specs.Counts.{RowsCount, counted, faulted_in, is_full, is_starved, sent_in, silent_in, starved_in}
 
 -- ---- counts that stand still at their end
@@ -110,7 +110,7 @@ starved_if_full : (b : Bool) (row : TallyRow) (k : ℕ) → row.starved ≡ coun
 starved_if_full true row k e = stands k row.starved e
 starved_if_full false row k e = stands k row.starved e
 
-full_by : (shard : ℕ) (d : Dispatched) (row : TallyRow) (k : ℕ) → row.full ≡ counted k → (row_by shard row d).full ≡ counted (k + cond (is_full shard d) 1 0)
+full_by : (shard : ℕ) (d : Dispatched) (row : TallyRow) (k : ℕ) → row.full ≡ counted k → (row_by_step shard row d).full ≡ counted (k + cond (is_full shard d) 1 0)
 full_by shard (Given item (Put at job)) row k e = stands k row.full e
 full_by shard (Given item (Full at job)) row k e = full_if (at == shard) row k e
 full_by shard (Given item (Waits at)) row k e = stands k row.full e
@@ -120,7 +120,7 @@ full_by shard (Given item Starved) row k e = full_if_starved (0 == shard) row k 
 full_by shard (Given item Ignored) row k e = stands k row.full e
 full_by shard (Late at) row k e = stands k row.full e
 
-starved_by : (shard : ℕ) (d : Dispatched) (row : TallyRow) (k : ℕ) → row.starved ≡ counted k → (row_by shard row d).starved ≡ counted (k + cond (is_starved shard d) 1 0)
+starved_by : (shard : ℕ) (d : Dispatched) (row : TallyRow) (k : ℕ) → row.starved ≡ counted k → (row_by_step shard row d).starved ≡ counted (k + cond (is_starved shard d) 1 0)
 starved_by shard (Given item (Put at job)) row k e = stands k row.starved e
 starved_by shard (Given item (Full at job)) row k e = starved_if_full (at == shard) row k e
 starved_by shard (Given item (Waits at)) row k e = stands k row.starved e
@@ -131,12 +131,12 @@ starved_by shard (Given item Ignored) row k e = stands k row.starved e
 starved_by shard (Late at) row k e = stands k row.starved e
 
 count_steps : (shard : ℕ) (field : TallyRow → ℕ) (test : Dispatched → Bool)
-    → ((d : Dispatched) (row : TallyRow) (k : ℕ) → field row ≡ counted k → field (row_by shard row d) ≡ counted (k + cond (test d) 1 0))
+    → ((d : Dispatched) (row : TallyRow) (k : ℕ) → field row ≡ counted k → field (row_by_step shard row d) ≡ counted (k + cond (test d) 1 0))
     → (ds : List Dispatched) (row : TallyRow) (k : ℕ) → field row ≡ counted k
-    → field (fold (row_by shard) row ds) ≡ counted (fold (λ n (d : Dispatched). n + cond (test d) 1 0) k ds)
+    → field (fold (row_by_step shard) row ds) ≡ counted (fold (λ n (d : Dispatched). n + cond (test d) 1 0) k ds)
 count_steps shard field test one [] row k e = e
 count_steps shard field test one (d ∷ ds) row k e =
-    count_steps shard field test one ds (row_by shard row d) (k + cond (test d) 1 0) (one d row k e)
+    count_steps shard field test one ds (row_by_step shard row d) (k + cond (test d) 1 0) (one d row k e)
 
 -- ---- the row of an external address
 
