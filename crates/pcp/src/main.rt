@@ -120,12 +120,13 @@ Exit status, and the line on standard error:
     2  pcp: words refused
     3  pcp: configuration refused: too long (or: not toml, not a configuration)
     4  pcp: script refused at line N
-    5  pcp: read failed (of serve, proxy and cascade also: a port is taken)
+    5  pcp: read failed (of serve, proxy and cascade also: a port is taken; of
+       stop, lose and status: the server went away)
     6  pcp: write failed
     7  pcp: disk of shard N failed (N counts the external addresses from 0)
-    8  pcp: out of memory
+    8  pcp: out of memory (of serve also: too few threads)
    10  pcp: no random word
-   11  pcp: no answer
+   11  pcp: no answer (of stop, lose and status: no server there, or not for you)
    12  pcp: refused with code N (of RFC 6887, section 7.4), or an order: pcp: refused
    13  pcp: too many turns
    14  pcp: stopped
@@ -246,6 +247,9 @@ fn run<R: Threads + Wait + Sync>(
     match words {
         [word] if word.as_str() == "--help" => Ended::with(rt, tell(rt, USAGE)),
         [word] if word.as_str() == "--version" => Ended::with(rt, tell(rt, VERSION)),
+        [_, word] if word.as_str() == "--help" && may_order(words) => {
+            Ended::with(rt, tell(rt, USAGE))
+        }
         _ if may_order(words) => order(rt, words, explains),
         _ if may_ask(words) => ask(rt, words, explains),
         _ if may_relay(words) => relay(threads, rt, words, explains),
