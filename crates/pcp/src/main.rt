@@ -31,8 +31,9 @@ use status_board::Board;
 use std::alloc::Global;
 use std::env;
 use std::env::VarError;
+use std::fs::File;
 use std::io::ErrorKind;
-use std::os::fd::IntoRawFd;
+use std::os::fd::{AsRawFd, IntoRawFd};
 use std::process::ExitCode;
 use std::sync::Wait;
 use std::thread::Threads;
@@ -191,7 +192,23 @@ fn exit_with(rt: &HostRuntime, status: EndStatus) -> u8 {
     }
 }
 
+/// Gives the numbers of the standard streams to a file that takes nothing, where they are free: else a
+/// journal gets one of them, and what is printed is written over it.
+fn keep_standard(rt: &HostRuntime) {
+    for _ in 0..3 {
+        let Ok(file) = File::open(rt, "/dev/null") else {
+            return;
+        };
+        if file.as_raw_fd() > 2 {
+            return;
+        }
+        // It stays open until the program has ended.
+        let _open = file.into_raw_fd();
+    }
+}
+
 fn main(rt: HostRuntime) -> ExitCode {
+    keep_standard(&rt);
     let ended = match words(&rt) {
         Ok(words) => run(&rt, &rt, &words, explains(&rt)),
         Err(status) => Ended::with(&rt, status),
@@ -377,7 +394,7 @@ fn ended_by(
         }
     };
     drop(disks);
-    if let Some(stream) = stopped {
+    for stream in stopped {
         // The system closes it when the program has ended.
         let _open = stream.into_raw_fd();
     }

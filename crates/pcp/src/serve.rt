@@ -33,8 +33,8 @@ pub(crate) struct Served<'a> {
     pub(crate) status: Status,
     /// the journals' disks
     pub(crate) disks: Vec<DiskPair<ToldDisk<'a>>>,
-    /// the connection that ordered the stop, which is to stay open until the program ends
-    pub(crate) stopped: Option<UnixStream>,
+    /// the connections that ordered the stop, which are to stay open until the program ends
+    pub(crate) stopped: Vec<UnixStream>,
     /// what people are told of that in any case
     pub(crate) told: Vec<String>,
     /// what people are told who ask for more than a status
@@ -47,7 +47,7 @@ impl<'a> Served<'a> {
         Served {
             status,
             disks: Vec::new(alloc),
-            stopped: None,
+            stopped: Vec::new(alloc),
             told: Vec::new(alloc),
             cause: None,
         }
@@ -125,6 +125,8 @@ fn serve_by<'a, R: Threads + Wait + Sync, W: Sink>(
     let mut inbox = ServerInbox::of(rt, ears, board, clock.same(), journals)?;
     let mut clocks = clocks_of(alloc, &clock, 2 * MOST_EXTERNALS + 1)?;
     let disks = told_journals_in(rt, board, journals)?;
+    // So each worker leaves its numbers at its beginning.
+    board.ask();
     let (status, disks) = run_serve(
         threads,
         alloc,

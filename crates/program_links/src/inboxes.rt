@@ -7,7 +7,7 @@ ghost use Rattle.program_links.specs.Ears.{all_faults};
 
 use crate::sockets::same_socket;
 use libc::net as c;
-use libc::types::pollfd;
+use libc::types::{pollfd, timespec};
 use pcp_base::Failed;
 use pcp_io::{Inbox, Incoming, LONGEST_DATAGRAM, ORDER_DOOR, UdpInbox};
 use std::alloc::{AllocError, Global};
@@ -146,6 +146,9 @@ impl DoorsInbox {
             *asked = asked_of(*fd);
         }
         self.is_told = self.deaf.is_none() && c::poll(&mut self.asked, WAITING_MS) >= 0;
+        if !self.is_told && self.deaf.is_none() {
+            nap();
+        }
     }
 
     /// Takes what came at an ear at the last wait.
@@ -203,12 +206,25 @@ impl DoorsInbox {
 }
 
 /// What the system is asked of a descriptor: whether something came.
-fn asked_of(fd: i32) -> pollfd {
+pub(crate) fn asked_of(fd: i32) -> pollfd {
     pollfd {
         fd,
         events: c::POLLIN,
         revents: 0,
     }
+}
+
+/// Waits ten milliseconds, where the system can't be asked to wait for something.
+fn nap() {
+    let asked = timespec {
+        tv_sec: 0,
+        tv_nsec: 10_000_000,
+    };
+    let mut left = timespec {
+        tv_sec: 0,
+        tv_nsec: 0,
+    };
+    let _status = libc::nanosleep(&asked, &mut left);
 }
 
 /// The first place behind this one at which something came, those up to it coming last; any place where

@@ -1,5 +1,5 @@
 //! The socket of orders in the folder of journals.
-use crate::inboxes::NO_DESCRIPTOR;
+use crate::inboxes::{NO_DESCRIPTOR, asked_of};
 use crate::order_lines::{OrderLine, read_order_line};
 use crate::sockets::ended;
 use libc::{fchmod, net as c};
@@ -8,7 +8,7 @@ use pcp_io::{Clock, SteadyClock};
 use std::io::{ErrorKind, Read, Write};
 use std::net::Net;
 use std::os::fd::{AsFd, AsRawFd};
-use std::os::unix::fs::FileTypeExt;
+use std::os::unix::fs::{FileTypeExt, MetadataExt};
 use std::os::unix::net::{SocketAddr, UnixListener, UnixStream};
 use std::rt::Files;
 use std::{fs, io};
@@ -26,7 +26,10 @@ const LINE_MS: u64 = 1000;
 const LONGEST_LINE: usize = 64;
 
 /// How many connections may wait for their turn.
-const BACKLOG: i32 = 16;
+const BACKLOG: i32 = 128;
+
+/// How many connections at most wait for a loss when one more is ordered, so that others have a place.
+const MOST_WAITING: usize = 4;
 
 /// What is answered where nothing is done.
 const REFUSED: &[u8] = b"refused\n";
@@ -92,6 +95,17 @@ impl Caller {
         Heard::Nothing
     }
 
+    /// Whether it waits for an answer that nobody reads any more.
+    fn is_left(&self) -> bool {
+        if self.order.is_none() {
+            return false;
+        }
+        let mut asked = [asked_of(self.stream.as_raw_fd())];
+        let _count = c::poll(&mut asked, 0);
+        let [found] = asked;
+        found.revents & c::POLLHUP != 0
+    }
+
     /// Tells it this, where the system takes it at once, and closes it.
     fn tell(self, text: &[u8]) {
         let mut stream = self.stream;
@@ -104,8 +118,9 @@ fn is_pause(error: &io::Error) -> bool {
     [ErrorKind::WouldBlock, ErrorKind::Interrupted].contains(&error.kind())
 }
 
-/// The socket of orders in a folder, which only its owner may use. At most 8 connections are there at once;
-/// each has a second for its one line, of at most 64 octets, and is then answered and closed. No call waits.
+/// The socket of orders in a folder, which only its owner may use. At most 8 connections are there at once,
+/// and others wait for a place; each has a second for its one line, of at most 64 octets, and is then answered
+/// and closed. A loss is refused while 4 wait for an answer. No call waits.
 #[derive(Drop)]
 pub(crate) struct OrderDoor<'a> {
     rt: &'a HostRuntime,
@@ -118,7 +133,9 @@ pub(crate) struct OrderDoor<'a> {
     // the number of the last order
     last: u32,
     // who ordered the stop
-    stopped: Option<UnixStream>,
+    stopped: Vec<UnixStream>,
+    // the device and the number of the socket in its folder
+    own: Option<(u64, u64)>,
 }
 
 impl<'a> OrderDoor<'a> {
@@ -133,7 +150,8 @@ impl<'a> OrderDoor<'a> {
             rests: false,
             callers: Vec::with_capacity(alloc, MOST_CALLERS)?,
             last: 0,
-            stopped: None,
+            stopped: Vec::with_capacity(alloc, MOST_ASKED)?,
+            own: None,
         })
     }
 
@@ -151,6 +169,7 @@ impl<'a> OrderDoor<'a> {
     pub(crate) fn open(&mut self) -> io::Result<()> {
         remove_old(self.rt, self.path.as_str())?;
         self.listener = Some(listener_at(self.rt, self.path.as_str())?);
+        self.own = socket_in(self.rt, self.path.as_str());
         Ok(())
     }
 
@@ -159,7 +178,9 @@ impl<'a> OrderDoor<'a> {
         let mut asked = [NO_DESCRIPTOR; MOST_ASKED];
         let (first, others) = asked.split_at_mut(1);
         match &self.listener {
-            Some(listener) if !self.rests => first.fill(listener.as_raw_fd()),
+            Some(listener) if !self.rests && self.has_place() => {
+                first.fill(listener.as_raw_fd());
+            }
             _ => {}
         }
         for (place, caller) in others.iter_mut().zip(self.callers.iter()) {
@@ -177,6 +198,9 @@ impl<'a> OrderDoor<'a> {
         // The one that comes in the place of one that goes was heard before.
         for place in (0..MOST_CALLERS).rev() {
             match self.heard_at(place, time) {
+                Some(Heard::Line(OrderLine::Lose(_))) if self.is_crowded() => {
+                    self.tell(place, REFUSED);
+                }
                 Some(Heard::Line(line)) => return Some((self.number(place, line), line)),
                 Some(Heard::Refused) => self.tell(place, REFUSED),
                 Some(Heard::Gone) => drop(self.remove(place)),
@@ -184,6 +208,21 @@ impl<'a> OrderDoor<'a> {
             }
         }
         None
+    }
+
+    /// Whether one more connection may come.
+    fn has_place(&self) -> bool {
+        self.callers.len() < MOST_CALLERS
+    }
+
+    /// Whether so many wait for an answer that no further loss is ordered.
+    fn is_crowded(&self) -> bool {
+        let waiting = self
+            .callers
+            .iter()
+            .filter(|caller| caller.order.is_some())
+            .count();
+        waiting >= MOST_WAITING
     }
 
     /// Takes the connection at this place out, if there is one.
@@ -205,6 +244,9 @@ impl<'a> OrderDoor<'a> {
     /// What came by the connection at this place; none where there is none.
     fn heard_at(&mut self, place: usize, time: u64) -> Option<Heard> {
         let caller = self.callers.get_mut(place)?;
+        if caller.is_left() {
+            return Some(Heard::Gone);
+        }
         if caller.order.is_some() {
             return Some(Heard::Nothing);
         }
@@ -214,10 +256,13 @@ impl<'a> OrderDoor<'a> {
         }
     }
 
-    /// Takes the connections that wait, and closes those for which there is no room.
+    /// Takes the connections that wait for a place, as far as there is one.
     fn admit(&mut self, time: u64) {
         self.rests = false;
-        for _ in 0..BACKLOG {
+        for _ in 0..MOST_CALLERS {
+            if !self.has_place() {
+                return;
+            }
             let Some(listener) = &self.listener else {
                 return;
             };
@@ -233,7 +278,7 @@ impl<'a> OrderDoor<'a> {
 
     /// A connection that has come.
     fn welcome(&mut self, stream: UnixStream, time: u64) {
-        if self.callers.len() >= MOST_CALLERS || stream.set_nonblocking(true).is_err() {
+        if stream.set_nonblocking(true).is_err() {
             return;
         }
         let caller = Caller {
@@ -250,7 +295,9 @@ impl<'a> OrderDoor<'a> {
     fn number(&mut self, place: usize, line: OrderLine) -> u32 {
         self.last = self.last.checked_add(1).unwrap_or(1);
         if line == OrderLine::Stop {
-            self.stopped = self.remove(place).map(|caller| caller.stream);
+            if let Some(caller) = self.remove(place) {
+                let _ = self.stopped.push(caller.stream);
+            }
         } else if let Some(caller) = self.callers.get_mut(place) {
             caller.order = Some(self.last);
         }
@@ -268,27 +315,42 @@ impl<'a> OrderDoor<'a> {
         }
     }
 
-    /// Refuses all that wait, and removes the socket, if it was made. The connection that ordered the stop
-    /// is handed back.
-    pub(crate) fn end(self) -> Option<UnixStream> {
+    /// Refuses all that wait, but for a stop, and removes the socket, if it is the one that was made. The
+    /// connections that ordered the stop are handed back.
+    pub(crate) fn end(self) -> Vec<UnixStream> {
         let mut door = self;
         let time = door.clock.now();
         door.admit(time);
         let OrderDoor {
             rt,
             path,
-            listener,
             callers,
-            stopped,
+            mut stopped,
+            own,
             ..
         } = door;
-        for caller in callers {
-            caller.tell(REFUSED);
+        for mut caller in callers {
+            match caller.hear() {
+                Heard::Line(OrderLine::Stop) => {
+                    let _ = stopped.push(caller.stream);
+                }
+                _ => caller.tell(REFUSED),
+            }
         }
-        if listener.is_some() {
+        if own.is_some() && socket_in(rt, path.as_str()) == own {
             let _ = fs::remove_file(rt, path.as_str());
         }
         stopped
+    }
+}
+
+/// The device and the number of the socket that stands there; none where there is none.
+fn socket_in(rt: &HostRuntime, path: &str) -> Option<(u64, u64)> {
+    let found = fs::symlink_metadata(rt, path).ok()?;
+    if found.file_type().is_socket() {
+        Some((found.dev(), found.ino()))
+    } else {
+        None
     }
 }
 

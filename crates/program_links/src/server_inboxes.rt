@@ -53,8 +53,8 @@ impl<'a> ServerInbox<'a> {
     }
 
     /// Refuses who waits for an answer, and removes the socket. Who ordered the stop learns by the end of
-    /// this connection that the server has ended.
-    pub fn end(self) -> Option<UnixStream> {
+    /// these connections that the server has ended.
+    pub fn end(self) -> Vec<UnixStream> {
         self.orders.end()
     }
 
