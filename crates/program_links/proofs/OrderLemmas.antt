@@ -1,5 +1,5 @@
 -- What the texts of orders say.
-use Rattle.std.proofs.Common.{◌≡◌, ℕ, List, [], ◌∷◌, ◌++◌, Option, Some, None, codes, refl, ap, subst, sym, ◌∙◌}
+use Rattle.std.proofs.Common.{◌≡◌, ℕ, List, [], ◌∷◌, ◌++◌, Option, Some, None, codes, refl, ap, subst, sym, ◌∙◌, arith}
 use Rattle.std.specs.Prelude.{IfSome, IfNone}
 use Rattle.std.proofs.lemmas.List.{append_cancel_right}
 use Rattle.pcp_base.specs.declared.addresses.Address.{Address}
@@ -23,23 +23,31 @@ pub lost-none : (text behind : List ℕ) → text ≡ codes "lose " ++ behind �
     → (other : Address) → ¬ (IsOrderText text (Lose other))
 lost-none text behind is none other says = none other (behind-writes text behind other is says)
 
+first : List ℕ → ℕ
+first [] = 0
+first (x ∷ xs) = x
+
+-- what begins with an s is no loss
+no-loss : (rest behind : List ℕ) → ¬ (115 ∷ rest ≡ codes "lose " ++ behind)
+no-loss rest behind same = let e : 115 ≡ 108 = ap first same in omega (arith, e)
+
 -- no text says two things
 pub stop-only : (text : List ℕ) → text ≡ codes "stop" → (other : OrderLine) → IsOrderText text other → other ≡ Stop
 stop-only text is Stop says = refl
-stop-only text is (Lose address) says = absurd (let e : codes "stop" ≡ codes "lose " ++ says.0 = sym is ∙ says.1 in cc)
+stop-only text is (Lose address) says = absurd (no-loss (codes "top") says.0 (sym is ∙ says.1))
 stop-only text is Status says = absurd (let e : codes "stop" ≡ codes "status" = sym is ∙ says in cc)
 
 pub status-only : (text : List ℕ) → text ≡ codes "status" → (other : OrderLine) → IsOrderText text other → other ≡ Status
 status-only text is Stop says = absurd (let e : codes "status" ≡ codes "stop" = sym is ∙ says in cc)
-status-only text is (Lose address) says = absurd (let e : codes "status" ≡ codes "lose " ++ says.0 = sym is ∙ says.1 in cc)
+status-only text is (Lose address) says = absurd (no-loss (codes "tatus") says.0 (sym is ∙ says.1))
 status-only text is Status says = refl
 
 pub lose-only : (text : List ℕ) (address : Address) → IsOrderText text (Lose address)
     → ((other : Address) → IsOrderText text (Lose other) → other ≡ address)
     → (other : OrderLine) → IsOrderText text other → other ≡ Lose address
-lose-only text address lost only Stop says = absurd (let e : codes "stop" ≡ codes "lose " ++ lost.0 = sym says ∙ lost.1 in cc)
+lose-only text address lost only Stop says = absurd (no-loss (codes "top") lost.0 (sym says ∙ lost.1))
 lose-only text address lost only (Lose other) says = ap Lose (only other says)
-lose-only text address lost only Status says = absurd (let e : codes "status" ≡ codes "lose " ++ lost.0 = sym says ∙ lost.1 in cc)
+lose-only text address lost only Status says = absurd (no-loss (codes "tatus") lost.0 (sym says ∙ lost.1))
 
 pub none-says : (text : List ℕ) → ¬ (text ≡ codes "stop") → ¬ (text ≡ codes "status") → ((address : Address) → ¬ (IsOrderText text (Lose address)))
     → (order : OrderLine) → ¬ (IsOrderText text order)

@@ -66,7 +66,9 @@ fn lane_asked(takes_stops: bool, over: bool, asked: LaneAsk) -> LaneAsk
 }
 
 impl<'a> LaneLink for ServerLane<'a> {
-    ghost use Rattle.std.specs.Prelude.{◌≡◌, None, IfOk};
+    ghost use Rattle.std.specs.Prelude.{◌≡◌, None, IfOk, OnErr};
+    ghost use Rattle.pcp_io.specs.Asks.{IsNextAsk};
+    ghost use Rattle.pcp_io.specs.CallLogs.{one_more};
     ghost use Rattle.pcp_io.specs.Faults.{HasCause};
     ghost use Rattle.program_links.specs.Lanes.{lane_asked};
 
@@ -77,8 +79,10 @@ impl<'a> LaneLink for ServerLane<'a> {
     ghost faults = { λ l. l.faults };
 
     fn ask(&mut self, over: bool) -> Result<LaneAsk, Failed>
+        ensures asks { IfOk result (IsNextAsk None None) }
         ensures passes { IfOk result (λ asked. asked ≡ lane_asked self.old.takes_stops over asked) }
         ensures cause { HasCause self.old.faults self.new.faults result }
+        ensures counted { OnErr result (self.new.faults ≡ one_more self.old.faults) }
     {
         self.is_silent = self.is_silent || over;
         match self.lane.ask(over) {
@@ -96,9 +100,7 @@ impl<'a> LaneLink for ServerLane<'a> {
         }
     }
 
-    fn answer(&mut self, owner: Option<Endpoint>) -> Result<(), Failed>
-        ensures cause { HasCause self.old.faults self.new.faults result }
-    {
+    fn answer(&mut self, owner: Option<Endpoint>) -> Result<(), Failed> {
         match self.lane.answer(owner) {
             Ok(()) => Ok(()),
             Err(Failed) => {
