@@ -134,25 +134,30 @@ module _ {D : Type 0} (lost : D → Bool) where
       let both = both-true (nat_lt 0 row.faulted) (is_lost lost pair) is in
       record { row = row; pair = pair; row_there = refl; pair_there = refl; faulted = some-fault row.faulted both.0; lost_side = both.1 }
 
+  -- here, or at a later place
+  failed-next : (k n : ℕ) (row : TallyRow) (pair : DiskPair D) (rows : List TallyRow) (pairs : List (DiskPair D)) (later : Option ℕ)
+      → ((has_failed lost (row, pair) ≡ true) × (k ≡ n)) ⊎ (later ≡ Some n)
+      → (later ≡ Some n → (i : ℕ) × ((k + 1) + i ≡ n) × Failed lost rows pairs i)
+      → (i : ℕ) × (k + i ≡ n) × Failed lost (row ∷ rows) (pair ∷ pairs) i
+  failed-next k n row pair rows pairs later (inl is) rest = let same = is.1 in (0, omega (arith, same), failed-here row pair rows pairs is.0)
+  failed-next k n row pair rows pairs later (inr found) rest =
+      let behind = rest found in
+      let same = behind.1 in
+      let f = behind.2 in (
+        suc behind.0,
+        omega (arith, same),
+        record { row = f.row; pair = f.pair; row_there = f.row_there; pair_there = f.pair_there; faulted = f.faulted; lost_side = f.lost_side },
+      )
+
   -- the place among all is that behind so many
   failed-from : (k : ℕ) (rows : List TallyRow) (pairs : List (DiskPair D)) (n : ℕ) → position_from (has_failed lost) k (zip rows pairs) ≡ Some n
       → (i : ℕ) × (k + i ≡ n) × Failed lost rows pairs i
   failed-from k [] pairs n found = absurd cc
   failed-from k (row ∷ rows) [] n found = absurd cc
   failed-from k (row ∷ rows) (pair ∷ pairs) n found =
-      next (here-or-later (has_failed lost (row, pair)) k n (position_from (has_failed lost) (k + 1) (zip rows pairs)) found)
-    where
-      next : ((has_failed lost (row, pair) ≡ true) × (k ≡ n)) ⊎ (position_from (has_failed lost) (k + 1) (zip rows pairs) ≡ Some n)
-          → (i : ℕ) × (k + i ≡ n) × Failed lost (row ∷ rows) (pair ∷ pairs) i
-      next (inl is) = let same = is.1 in (0, omega (arith, same), failed-here row pair rows pairs is.0)
-      next (inr later) =
-          let rest = failed-from (k + 1) rows pairs n later in
-          let same = rest.1 in
-          let f = rest.2 in (
-            suc rest.0,
-            omega (arith, same),
-            record { row = f.row; pair = f.pair; row_there = f.row_there; pair_there = f.pair_there; faulted = f.faulted; lost_side = f.lost_side },
-          )
+      let later = position_from (has_failed lost) (k + 1) (zip rows pairs) in
+      failed-next k n row pair rows pairs later (here-or-later (has_failed lost (row, pair)) k n later found)
+      (λ there. failed-from (k + 1) rows pairs n there)
 
   failed-at : (rows : List TallyRow) (pairs : List (DiskPair D)) (status : Status) (shard : ℕ) → status ≡ ended_as (first_lost lost rows pairs)
       → status ≡ Statuses.DiskFault shard → Failed lost rows pairs shard
