@@ -23,7 +23,7 @@ pub lost-none : (text behind : List ℕ) → text ≡ codes "lose " ++ behind �
     → (other : Address) → ¬ (IsOrderText text (Lose other))
 lost-none text behind is none other says = none other (behind-writes text behind other is says)
 
-first : List ℕ → ℕ
+abbrev first : List ℕ → ℕ
 first [] = 0
 first (x ∷ xs) = x
 

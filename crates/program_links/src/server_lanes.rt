@@ -66,7 +66,8 @@ fn lane_asked(takes_stops: bool, over: bool, asked: LaneAsk) -> LaneAsk
 }
 
 impl<'a> LaneLink for ServerLane<'a> {
-    ghost use Rattle.std.specs.Prelude.{◌≡◌, None, IfOk, OnErr};
+    ghost use Rattle.std.specs.Prelude.{◌≡◌, List, Option, None, IfOk, OnErr};
+    ghost use Rattle.pcp_io.specs.declared.lane_links.LaneAsk.{LaneAsk};
     ghost use Rattle.pcp_io.specs.Asks.{IsNextAsk};
     ghost use Rattle.pcp_io.specs.CallLogs.{one_more};
     ghost use Rattle.pcp_io.specs.Faults.{HasCause};
@@ -80,6 +81,7 @@ impl<'a> LaneLink for ServerLane<'a> {
 
     fn ask(&mut self, over: bool) -> Result<LaneAsk, Failed>
         ensures asks { IfOk result (IsNextAsk None None) }
+        ensures unchanged { OnErr result (◌≡◌ {A = Option (List LaneAsk)} None None) }
         ensures passes { IfOk result (λ asked. asked ≡ lane_asked self.old.takes_stops over asked) }
         ensures cause { HasCause self.old.faults self.new.faults result }
         ensures counted { OnErr result (self.new.faults ≡ one_more self.old.faults) }
