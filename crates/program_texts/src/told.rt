@@ -51,8 +51,8 @@ fn looked_at<D: LeaseDisk>(alloc: Global, pair: &mut DiskPair<D>) -> Option<Look
 /// The last moment of all these journals; none where none of them could be read.
 pub fn last_of(looks: &[Option<Looked>]) -> Option<Moment> {
     let mut last = None;
-    for looked in looks.iter().flatten() {
-        last = last.max(Some(looked.last));
+    for looked in looks {
+        last = last.max((*looked).map(|looked| looked.last));
     }
     last
 }

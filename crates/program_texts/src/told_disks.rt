@@ -38,7 +38,7 @@ impl<'a> ToldDisk<'a> {
         place: u32,
         side: usize,
     ) -> ToldDisk<'a>
-        ensures { result.disk ≡ disk }
+        ensures { result.disk ≡ disk.entry }
     {
         ToldDisk {
             disk,
@@ -59,11 +59,6 @@ impl<'a> ToldDisk<'a> {
         self.board.size(self.place, self.side, size);
     }
 
-    /// Leaves that a call that writes worked.
-    fn works(&self) {
-        self.board.disk_works(self.place, self.side);
-    }
-
     /// Leaves why a call failed, and tells it where people are to be told.
     fn fails(&mut self) -> Failed
         ensures { self.new.disk ≡ self.old.disk }
@@ -72,6 +67,8 @@ impl<'a> ToldDisk<'a> {
             Some(error) => error.raw_os_error(),
             None => None,
         };
+        // Of both sides the one that failed last is told.
+        self.board.disk_works(self.place, 1 - self.side.min(1));
         self.board.disk_failed(self.place, self.side, error);
         if self.disk.is_lost() {
             self.board.lose_disk();
@@ -143,7 +140,6 @@ impl<'a> LeaseDisk for ToldDisk<'a> {
             Ok(()) => {
                 let end = place.saturating_add(piece.len() as u64);
                 self.resize(self.size.max(end));
-                self.works();
                 Ok(())
             }
             Err(Failed) => Err(self.fails()),
@@ -154,7 +150,6 @@ impl<'a> LeaseDisk for ToldDisk<'a> {
         match self.disk.cut(length) {
             Ok(()) => {
                 self.resize(self.size.min(length));
-                self.works();
                 Ok(())
             }
             Err(Failed) => Err(self.fails()),
@@ -163,10 +158,7 @@ impl<'a> LeaseDisk for ToldDisk<'a> {
 
     fn sync(&mut self) -> Result<(), Failed> {
         match self.disk.sync() {
-            Ok(()) => {
-                self.works();
-                Ok(())
-            }
+            Ok(()) => Ok(()),
             Err(Failed) => Err(self.fails()),
         }
     }
