@@ -1,11 +1,9 @@
-//! Tests of a house of many threads: disks that fail, what a lane learns, what is counted, a lookup
+//! Tests of a house of many threads: disks that fail, what a lane learns, a lookup
 //! while a sync waits, and eight threads at once.
 #![tactic(auto)]
 
 #[cfg(test)]
 mod configs;
-#[cfg(test)]
-mod counts;
 #[cfg(test)]
 mod disks;
 #[cfg(test)]
