@@ -361,7 +361,7 @@ fn serve_at<R: Threads + Wait + Sync>(
         words,
         plan,
         places.journals,
-        &mut config,
+        config.kept(),
         &read,
         &board,
         explains,

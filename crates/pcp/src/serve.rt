@@ -9,14 +9,14 @@ use journal_dump::Looked;
 use lane_loops::moment_of;
 use lease_disk::DiskPair;
 use pcp_base::{Config, MOST_EXTERNALS, Memory};
-use pcp_io::{FileSource, MemorySource, NoGate, Sink, SteadyClock};
+use pcp_io::{MemorySource, NoGate, Sink, SteadyClock};
 use program_links::{
     LinksFault, ServerInbox, ServerLinks, clocks_of, gap_of, links_of, no_links, start_of,
     system_time,
 };
 use program_texts::{
-    KeptSource, ToldDisk, beginning_of, door_cause, doors_of, gap_text, last_of, look_at,
-    pair_cause, threads_cause, told_journals_in,
+    ToldDisk, beginning_of, door_cause, doors_of, gap_text, last_of, look_at, pair_cause,
+    threads_cause, told_journals_in,
 };
 use serve_commands::ServePlan;
 use serve_runs::run_serve;
@@ -57,14 +57,14 @@ impl<'a> Served<'a> {
 /// Serves over this host in these threads, at the doors that the configuration names, and leaves what it
 /// tells of itself on the board. Where a door can't be had, or a thread can't be made, no journal is
 /// touched. An operator is told of the doors once they are had, and where `explains` of what is served
-/// there.
+/// there. `kept` is what was read of the configuration.
 pub(crate) fn serve_over<'a, R: Threads + Wait + Sync, W: Sink>(
     threads: &R,
     rt: &'a HostRuntime,
     words: &[String],
     plan: ServePlan,
     journals: &str,
-    config: &mut KeptSource<FileSource<&'a HostRuntime>>,
+    kept: Option<&[u8]>,
     read: &Result<Config, ConfigFault>,
     board: &'a Board,
     explains: bool,
@@ -94,7 +94,7 @@ pub(crate) fn serve_over<'a, R: Threads + Wait + Sync, W: Sink>(
         tell_beginning(rt, plan, read, &looks);
     }
     let clock = clock_behind(rt, &looks);
-    let mut again = again(alloc, config.kept(), read)?;
+    let mut again = again(alloc, kept, read)?;
     serve_by(
         threads, rt, words, journals, &mut again, links, clock, board, out,
     )
