@@ -1,5 +1,6 @@
 //! Disks that fail while a house is served, and an inbox that waits for that.
-ghost use Rattle.std.specs.Prelude.{◌≤◌, length};
+ghost use Rattle.std.specs.Prelude.{◌≡◌, ◌≤◌, length};
+ghost use Rattle.pcp_io.specs.CallLogs.{one_more};
 ghost use Rattle.pcp_io.specs.declared.inboxes.TheConstants.{LONGEST_DATAGRAM};
 
 use lease_disk::{DiskPair, LeaseDisk, MemoryDisk};
@@ -70,8 +71,10 @@ pub(crate) struct FailingDisk<'a> {
 }
 
 impl<'a> FailingDisk<'a> {
-    /// Counts a fault of its own.
-    fn fail(&mut self) -> Failed {
+    /// Counts a fault.
+    fn fail(&mut self) -> Failed
+        ensures { self.new.faults ≡ one_more self.old.faults }
+    {
         self.faults = self.faults.saturating_add(1);
         Failed
     }
@@ -82,7 +85,9 @@ impl<'a> FailingDisk<'a> {
     }
 
     /// Whether this call is the first of its kind that is to fail, which then is told.
-    fn begins_to_fail(&mut self, failing: Failing) -> bool {
+    fn begins_to_fail(&mut self, failing: Failing) -> bool
+        ensures { self.new.faults ≡ self.old.faults }
+    {
         if self.failing != failing || !self.flags.serving.load(Ordering::SeqCst) {
             return false;
         }
@@ -93,7 +98,7 @@ impl<'a> FailingDisk<'a> {
 }
 
 impl<'a> LeaseDisk for FailingDisk<'a> {
-    ghost use Rattle.std.specs.Prelude.{[], ◌+◌};
+    ghost use Rattle.std.specs.Prelude.{[]};
 
     ghost tells = { ⊥ };
 
@@ -107,7 +112,7 @@ impl<'a> LeaseDisk for FailingDisk<'a> {
 
     ghost left_since = { λ _ _ _. ⊥ };
 
-    ghost faults = { λ d. d.faults + d.disk.calls.faults };
+    ghost faults = { λ d. d.faults };
 
     ghost seen_now = { λ _ told. told };
 
@@ -118,25 +123,37 @@ impl<'a> LeaseDisk for FailingDisk<'a> {
     ghost only_now = { λ _ _ was. was };
 
     fn len(&mut self) -> Result<u64, Failed> {
-        self.disk.len()
+        match self.disk.len() {
+            Ok(size) => Ok(size),
+            Err(Failed) => Err(self.fail()),
+        }
     }
 
     fn read_at(&mut self, place: u64, piece: &mut [u8]) -> Result<usize, Failed> {
-        self.disk.read_at(place, piece)
+        match self.disk.read_at(place, piece) {
+            Ok(count) => Ok(count),
+            Err(Failed) => Err(self.fail()),
+        }
     }
 
     fn write_at(&mut self, place: u64, piece: &[u8]) -> Result<(), Failed> {
         if self.refuses() || self.begins_to_fail(Failing::Write) {
             return Err(self.fail());
         }
-        self.disk.write_at(place, piece)
+        match self.disk.write_at(place, piece) {
+            Ok(()) => Ok(()),
+            Err(Failed) => Err(self.fail()),
+        }
     }
 
     fn cut(&mut self, length: u64) -> Result<(), Failed> {
         if self.refuses() {
             return Err(self.fail());
         }
-        self.disk.cut(length)
+        match self.disk.cut(length) {
+            Ok(()) => Ok(()),
+            Err(Failed) => Err(self.fail()),
+        }
     }
 
     fn sync(&mut self) -> Result<(), Failed> {
@@ -147,7 +164,10 @@ impl<'a> LeaseDisk for FailingDisk<'a> {
             self.lost = true;
             return Err(self.fail());
         }
-        self.disk.sync()
+        match self.disk.sync() {
+            Ok(()) => Ok(()),
+            Err(Failed) => Err(self.fail()),
+        }
     }
 
     fn is_lost(&self) -> bool {

@@ -17,6 +17,7 @@ use std::thread::Threads;
 
 /// Of two external addresses how their disks fail, and which write of the sink does; how the command ends,
 /// and of each external address the jobs that were taken, replies, and jobs that a disk refused.
+#[derive(Clone, Copy)]
 struct Row {
     failing: [Failing; 2],
     write: u64,
@@ -51,7 +52,7 @@ const LOST: Counts = Counts {
     faulted: 3,
 };
 
-static ROWS: [Row; 7] = [
+const ROWS: [Row; 7] = [
     Row {
         failing: [Failing::Write, Failing::Nothing],
         write: NEVER,
@@ -200,7 +201,8 @@ fn goes_so<R: Threads + Wait + Sync>(rt: &R, alloc: Global, row: &Row) -> Result
 
 #[test]
 fn disks_fail_while_serving(rt: HostRuntime) -> Result<(), Fail> {
-    for (number, row) in ROWS.iter().enumerate() {
+    let rows = ROWS;
+    for (number, row) in rows.iter().enumerate() {
         assert!(rt; goes_so(&rt, rt.alloc(), row)?, "{number}");
     }
     Ok(())
