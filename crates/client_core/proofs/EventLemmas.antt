@@ -5,7 +5,6 @@ use Rattle.std.proofs.Math.Nat.{div-div-eq-div-mul}
 use Rattle.std.proofs.lemmas.Nat.{pow-add}
 use Rattle.pcp_base.specs.declared.addresses.Address.{Address}
 use Rattle.pcp_base.specs.declared.asks.Ask.{Ask}
-use Rattle.client_core.specs.declared.events.TheConstants.{LEAST_GAP_MS}
 use Rattle.client_core.specs.declared.events.HeldLease.{HeldLease}
 use Rattle.client_core.specs.declared.events.Grant.{Grant}
 use Rattle.client_core.specs.declared.events.Event.{Event}
@@ -43,7 +42,7 @@ resting-plain (Taken at word grant ∷ before) h = absurd cc
 resting-plain (Refused at seconds ∷ before) h = (refl, refl)
 resting-plain (Ended at ∷ before) h = absurd cc
 resting-plain (Dropped ∷ before) h = (refl, refl)
-resting-plain (Invalid at ∷ before) h = absurd cc
+resting-plain (Invalid at word ∷ before) h = absurd cc
 
 -- a lease that is renewed is that of the success
 renewed-lease-by : (o : Option Renewing) (lease : Option HeldLease) → ((r : Renewing) → o ≡ Some r → lease ≡ Some (lease_of r.at r.grant)) → (r : Renewing) → one_more_sent o ≡ Some r → lease ≡ Some (lease_of r.at r.grant)
@@ -62,7 +61,7 @@ renewed-lease (Taken at word grant ∷ before) r e =
 renewed-lease (Refused at seconds ∷ before) r e = absurd cc
 renewed-lease (Ended at ∷ before) r e = absurd cc
 renewed-lease (Dropped ∷ before) r e = absurd cc
-renewed-lease (Invalid at ∷ before) r e = absurd cc
+renewed-lease (Invalid at word ∷ before) r e = absurd cc
 
 -- halves of a part of a lifetime
 halved : (l n : ℕ) → l / 2 ^ n / 2 ≡ l / 2 ^ (n + 1)
@@ -102,9 +101,9 @@ sent-is w at word wait false None plain lease = refl
 sent-is w at word wait false (Some r) plain lease =
     let end : lease_end w.lease ≡ r.at + lasting r.grant = ap lease_end (lease r refl) in
     let half = halved (lasting r.grant) (r.sent + 1) in
-    ap (λ u. timed w (Renewal (lasting r.grant / 2 ^ (r.sent + 1) / 2)) (max (at + LEAST_GAP_MS) (renewal_at u (lasting r.grant / 2 ^ (r.sent + 1) / 2) word))) end
-    ∙ ap (λ t. timed w (Renewal (lasting r.grant / 2 ^ (r.sent + 1) / 2)) (max (at + LEAST_GAP_MS) t)) (renewal-is (next_of r) (lasting r.grant / 2 ^ (r.sent + 1) / 2) word half)
-    ∙ ap (λ p. timed w (Renewal p) (max (at + LEAST_GAP_MS) (renewal_after (next_of r) word))) half
+    ap (λ u. timed w (Renewal (lasting r.grant / 2 ^ (r.sent + 1) / 2)) (max (at + 4000) (renewal_at u (lasting r.grant / 2 ^ (r.sent + 1) / 2) word))) end
+    ∙ ap (λ t. timed w (Renewal (lasting r.grant / 2 ^ (r.sent + 1) / 2)) (max (at + 4000) t)) (renewal-is (next_of r) (lasting r.grant / 2 ^ (r.sent + 1) / 2) word half)
+    ∙ ap (λ p. timed w (Renewal p) (max (at + 4000) (renewal_after (next_of r) word))) half
 
 taken-is : (third : Option Address) (ask : Ask) (start : ℕ) (before : List Event) (at word : ℕ) (grant : Grant) → after (state_by third ask start before) (Taken at word grant) ≡ state_by third ask start (Taken at word grant ∷ before)
 taken-is third ask start before at word grant =
@@ -131,7 +130,7 @@ one-event third ask start before (Refused at seconds) = refl
 one-event third ask start before (Ended at) = refl
 one-event third ask start before Dropped =
     ap (dropped_with (state_by third ask start before)) (without-is (waits_out_error before) (renewing_by before) (wait_by before) (time_by start before) (lease_by before))
-one-event third ask start before (Invalid at) = refl
+one-event third ask start before (Invalid at word) = refl
 
 all-events : (third : Option Address) (ask : Ask) (start : ℕ) (before events : List Event) → after_all (state_by third ask start before) events ≡ state_by third ask start (fold (λ past event. event ∷ past) before events)
 all-events third ask start before [] = refl

@@ -1,3 +1,4 @@
+pub mod DueLemmas
 pub mod EpochLemmas
 pub mod EventLemmas
 pub mod SlotLemmas

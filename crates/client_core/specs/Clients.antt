@@ -1,6 +1,6 @@
--- A client: the want of each id, and what its calls, a datagram and a tick make of them (RFC 6887, sections 8.1 to 8.5).
--- Times are in milliseconds.
-use Rattle.std.specs.Prelude.{ℕ, ◌≡◌, ◌+◌, ◌*◌, ◌/◌, ◌^◌, ◌<◌, ◌==◌, nat_le, min, max, bytes_eq, Bool, false, List, [], ◌∷◌, map, length, position, is_none, slice_set, replicate, Option, Some, None, option_map, if◌then◌else◌}
+-- A client: the want of each id, and what its calls, a datagram and a tick make of them (RFC 6887, sections 8.1 to 8.5 and
+-- 14.1.3). Times are in milliseconds.
+use Rattle.std.specs.Prelude.{ℕ, ◌≡◌, ◌+◌, ◌-◌, ◌*◌, ◌/◌, ◌^◌, ◌<◌, ◌==◌, ◌&&◌, not, nat_le, nat_lt, min, max, bytes_eq, Bool, false, List, [], ◌∷◌, map, length, position, is_none, slice_set, replicate, Option, Some, None, option_map, if◌then◌else◌}
 use Rattle.pcp_base.specs.declared.addresses.Address.{Address}
 use Rattle.pcp_base.specs.declared.asks.Ask.{Ask}
 use Rattle.pcp_base.specs.declared.datagrams.Datagram.{Datagram}
@@ -9,7 +9,6 @@ use Rattle.client_core.specs.declared.epochs.HeardEpoch.{HeardEpoch}
 use Rattle.client_core.specs.declared.events.HeldLease.{HeldLease}
 use Rattle.client_core.specs.declared.events.Event.{Event}
 use Rattle.client_core.specs.declared.events.Event.TheVariants as Events
-use Rattle.client_core.specs.declared.slots.TheConstants.{MOST_WANTS}
 use Rattle.client_core.specs.declared.meanings.Notice.{Notice}
 use Rattle.client_core.specs.declared.meanings.Notice.TheVariants as Notices
 use Rattle.client_core.specs.declared.meanings.Meaning.{Meaning}
@@ -31,13 +30,21 @@ pub record ClientView : Type 0 where
   pub last : ℕ
   -- the epoch heard last
   pub heard : Option HeardEpoch
+  -- when an invalid epoch last moved what is due
+  pub moved : Option ℕ
   -- the want of each id
   pub wants : List (Option WantView)
 
 -- a client that wants nothing
 abbrev pub idle : Address → Address → ClientView
-idle server own =
-    record { server = server; own = own; last = 0; heard = None; wants = replicate MOST_WANTS None }
+idle server own = record {
+  server = server;
+  own = own;
+  last = 0;
+  heard = None;
+  moved = None;
+  wants = replicate 64 None;
+}
 
 -- a time that is smaller than the last one handed in counts as that one
 abbrev pub counted : ClientView → ℕ → ℕ
@@ -84,6 +91,10 @@ after_end c id now = record c {
   wants = happened_at c.wants id (Events.Ended (counted c now));
 }
 
+-- A want that is given up is gone at once; nothing is asked.
+abbrev pub after_forget : ClientView → ℕ → ClientView
+after_forget c id = record c { wants = slice_set c.wants id None }
+
 -- what a datagram says to a client; nothing where it isn't from its server, or no response
 abbrev pub meaning_of : ClientView → Datagram → Meaning
 meaning_of c datagram =
@@ -94,14 +105,23 @@ meaning_of c datagram =
 abbrev pub heard_epoch_at : ℕ → ℕ → HeardEpoch
 heard_epoch_at epoch at = heard_epoch epoch (at / 1000)
 
--- After an invalid epoch all wants are asked for at once.
-abbrev pub after_epoch : ClientView → ℕ → ℕ → ClientView
-after_epoch c epoch at = record c {
+-- whether this is less than five seconds behind the invalid epoch that last moved what is due
+abbrev pub is_soon : Option ℕ → ℕ → Bool
+is_soon None at = false
+is_soon (Some before) at = nat_lt (at - before) 5000
+
+abbrev pub moves : ClientView → ℕ → ℕ → Bool
+moves c epoch at = not (is_valid c.heard (heard_epoch_at epoch at)) && not (is_soon c.moved at)
+
+-- After an invalid epoch all wants are asked for anew, all at one time, as the word says; but another one within five
+-- seconds moves nothing (section 14.1.3).
+abbrev pub after_epoch : ClientView → ℕ → ℕ → ℕ → ClientView
+after_epoch c epoch at word = record c {
   last = at;
   heard = Some (heard_epoch_at epoch at);
+  moved = if moves c epoch at then Some at else c.moved;
   wants =
-      if is_valid c.heard (heard_epoch_at epoch at) then c.wants
-      else map (happened (Events.Invalid at)) c.wants;
+      if moves c epoch at then map (happened (Events.Invalid at word)) c.wants else c.wants;
 }
 
 -- what is said beside the epoch
@@ -109,7 +129,7 @@ abbrev pub with_notice : List (Option WantView) → ℕ → ℕ → Notice → L
 with_notice wants at word Notices.Epoch = wants
 with_notice wants at word (Notices.Grants id grant) =
     happened_at wants id (Events.Taken at word grant)
-with_notice wants at word (Notices.Refuses id seconds) =
+with_notice wants at word (Notices.Refuses id code seconds) =
     happened_at wants id (Events.Refused at seconds)
 with_notice wants at word (Notices.Removes id) = slice_set wants id None
 
@@ -118,7 +138,7 @@ after_notice c at word notice = record c { wants = with_notice c.wants at word n
 
 abbrev pub after_meaning : ClientView → ℕ → ℕ → Meaning → ClientView
 after_meaning c at word Nothing = record c { last = at }
-after_meaning c at word (Says epoch notice) = after_notice (after_epoch c epoch at) at word notice
+after_meaning c at word (Says epoch notice) = after_notice (after_epoch c epoch at word) at word notice
 
 -- what a datagram makes of a client
 abbrev pub after_heard : ClientView → Datagram → ℕ → ℕ → ClientView
@@ -128,7 +148,7 @@ after_heard c datagram now word = after_meaning c (counted c now) word (meaning_
 abbrev pub what_of : Notice → What
 what_of Notices.Epoch = Whats.Told
 what_of (Notices.Grants id grant) = Whats.Taken id
-what_of (Notices.Refuses id seconds) = Whats.ErrorFor id seconds
+what_of (Notices.Refuses id code seconds) = Whats.ErrorFor id code seconds
 what_of (Notices.Removes id) = Whats.Taken id
 
 abbrev pub epoch_found : Bool → EpochFound
@@ -205,5 +225,5 @@ request_due c now = request_for c (first_due c.wants (counted c now))
 
 -- what holds of each client
 pub record IsClient (c : ClientView) : Type 0 where
-  pub room : length c.wants ≡ MOST_WANTS
+  pub room : length c.wants ≡ 64
   pub last : c.last < 1000 * 2 ^ 40

@@ -1,15 +1,14 @@
--- What a want is after its events, read off their list (RFC 6887, sections 8.1.1, 8.3, 8.5 and 11.2.1). The list has the
--- latest event first; times are in milliseconds.
+-- What a want is after its events, read off their list (RFC 6887, sections 8.1.1, 8.3, 8.5, 11.2.1 and 14.1.3). The
+-- list has the latest event first; times are in milliseconds.
 use Rattle.std.specs.Prelude.{ℕ, ◌≡◌, ◌+◌, ◌-◌, ◌*◌, ◌/◌, ◌%◌, ◌^◌, max, Bool, true, false, List, [], ◌∷◌, fold, Option, Some, None, if◌then◌else◌}
 use Rattle.pcp_base.specs.declared.addresses.Address.{Address}
 use Rattle.pcp_base.specs.declared.asks.Ask.{Ask}
-use Rattle.client_core.specs.declared.events.TheConstants.{SHORTEST_ERROR, LEAST_GAP_MS}
 use Rattle.client_core.specs.declared.events.HeldLease.{HeldLease}
 use Rattle.client_core.specs.declared.events.Grant.{Grant}
 use Rattle.client_core.specs.declared.events.Event.{Event}
 use Rattle.client_core.specs.declared.events.Event.TheVariants.{Sent, Taken, Refused, Ended, Dropped, Invalid}
 use Rattle.client_core.specs.Waits.{wait_after}
-use Rattle.client_core.specs.Wants.{WantView, after_all, begun_want, by_end, deletion_of, due, lasting, lease_of, next_ask, suggesting}
+use Rattle.client_core.specs.Wants.{WantView, after_all, anew_at, begun_want, by_end, deletion_of, due, lasting, lease_of, next_ask, suggesting}
 
 -- The lease: that of the last success, until it is dropped.
 abbrev pub lease_by : List Event → Option HeldLease
@@ -19,7 +18,7 @@ lease_by (Dropped ∷ before) = None
 lease_by (Sent at word ∷ before) = lease_by before
 lease_by (Refused at seconds ∷ before) = lease_by before
 lease_by (Ended at ∷ before) = lease_by before
-lease_by (Invalid at ∷ before) = lease_by before
+lease_by (Invalid at word ∷ before) = lease_by before
 
 -- whether it is to be deleted
 abbrev pub is_ended : List Event → Bool
@@ -29,7 +28,7 @@ is_ended (Sent at word ∷ before) = is_ended before
 is_ended (Taken at word grant ∷ before) = is_ended before
 is_ended (Refused at seconds ∷ before) = is_ended before
 is_ended (Dropped ∷ before) = is_ended before
-is_ended (Invalid at ∷ before) = is_ended before
+is_ended (Invalid at word ∷ before) = is_ended before
 
 -- what is asked for: as at first, with the port and the address of the last success as the suggestion
 abbrev pub suggestion_by : Ask → List Event → Ask
@@ -40,7 +39,7 @@ suggestion_by ask (Sent at word ∷ before) = suggestion_by ask before
 suggestion_by ask (Refused at seconds ∷ before) = suggestion_by ask before
 suggestion_by ask (Ended at ∷ before) = suggestion_by ask before
 suggestion_by ask (Dropped ∷ before) = suggestion_by ask before
-suggestion_by ask (Invalid at ∷ before) = suggestion_by ask before
+suggestion_by ask (Invalid at word ∷ before) = suggestion_by ask before
 
 abbrev pub next_ask_by : Ask → List Event → Ask
 next_ask_by ask events =
@@ -88,19 +87,20 @@ renewal_after r word =
 abbrev pub time_after : Option Renewing → ℕ → ℕ → ℕ → ℕ
 time_after None at wait word = at + wait
 time_after (Some r) at wait word =
-    max (at + LEAST_GAP_MS) (renewal_after (record r { sent = r.sent + 1 }) word)
+    max (at + 4000) (renewal_after (record r { sent = r.sent + 1 }) word)
 
--- When it is asked for next, but for the end of its lease: at once where it is wanted, is to be deleted, or an epoch was
--- invalid; after an error when its time is over; else by the waits, or the renewals. Without its lease, when it was due.
+-- When it is asked for next, but for the end of its lease: at once where it is wanted or is to be deleted; within five
+-- seconds where an epoch was invalid; after an error when its time is over; else by the waits, or the renewals. Without
+-- its lease, when it was due.
 abbrev pub time_by : ℕ → List Event → ℕ
 time_by start [] = start
 time_by start (Sent at word ∷ before) =
     time_after (renewing_by before) at (wait_after (wait_by before) word) word
 time_by start (Taken at word grant ∷ before) =
     renewal_after (record { at = at; grant = grant; sent = 0 }) word
-time_by start (Refused at seconds ∷ before) = at + 1000 * max SHORTEST_ERROR seconds
+time_by start (Refused at seconds ∷ before) = at + 1000 * max 4 seconds
 time_by start (Ended at ∷ before) = at
-time_by start (Invalid at ∷ before) = at
+time_by start (Invalid at word ∷ before) = anew_at at word
 time_by start (Dropped ∷ before) =
     if waits_out_error before then time_by start before
     else by_end (lease_by before) (time_by start before)

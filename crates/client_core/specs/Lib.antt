@@ -1,4 +1,5 @@
 pub mod Clients
+pub mod Dues
 pub mod EpochTests
 pub mod EventFolds
 pub mod Meanings

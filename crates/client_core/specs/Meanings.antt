@@ -1,6 +1,6 @@
 -- What a response says to the wants of a client: which want it is for (RFC 6887, sections 8.3, 11.4 and 12.4), and what it
 -- grants or refuses.
-use Rattle.std.specs.Prelude.{ℕ, ◌==◌, ◌&&◌, min, not, bytes_eq, Bool, true, false, List, position, slice_index_or, Option, Some, None, if◌then◌else◌}
+use Rattle.std.specs.Prelude.{ℕ, ◌==◌, ◌&&◌, min, not, bytes_eq, Bool, true, false, List, [], ◌∷◌, position, unwrap_or, slice_index_or, Option, Some, None, if◌then◌else◌}
 use Rattle.pcp_base.specs.declared.addresses.Address.{Address}
 use Rattle.pcp_base.specs.declared.addresses.Nonce.{Nonce}
 use Rattle.pcp_base.specs.declared.leases.Endpoint.{Endpoint}
@@ -11,9 +11,10 @@ use Rattle.pcp_base.specs.Protocols.{protocol_number}
 use Rattle.pcp_codec.specs.declared.requests.Common.{Common}
 use Rattle.pcp_codec.specs.declared.requests.Body.{Body}
 use Rattle.pcp_codec.specs.declared.requests.Body.TheVariants.{Announce, Map, Peer}
+use Rattle.pcp_options.specs.declared.options.Item.{Item}
+use Rattle.pcp_options.specs.declared.options.Item.TheVariants.{ThirdParty, PreferFailure, Filter, PortSet}
 use Rattle.pcp_options.specs.declared.responses.Response.{Response}
 use Rattle.pcp_options.specs.Asking.{third_of}
-use Rattle.client_core.specs.declared.events.TheConstants.{LONGEST_ERROR, NOTHING_GRANTED}
 use Rattle.client_core.specs.declared.events.Grant.{Grant}
 use Rattle.client_core.specs.declared.meanings.Notice.TheVariants as Notices
 use Rattle.client_core.specs.declared.meanings.Meaning.{Meaning}
@@ -48,19 +49,36 @@ abbrev pub answers : Response → Option WantView → Bool
 answers r None = false
 answers r (Some w) = same_key w.ask r.body && same_third w.third (third_of r.items)
 
--- what a success of these data grants
-abbrev pub grant_of : ℕ → Common → Grant
-grant_of lifetime c = record { lifetime = lifetime; address = c.address; external = c.external }
+-- the size of the set of ports that a response tells (RFC 7753): 1 where it has no PORT_SET
+abbrev pub size_in : Item → Option ℕ
+size_in (PortSet set) = Some set.size
+size_in (ThirdParty address) = None
+size_in PreferFailure = None
+size_in (Filter filter) = None
 
--- What a response says to a want. An error lasts at most 1800 seconds. A success with lifetime 0 removes an ending want,
--- and is an error of 30 seconds for any other. One with another lifetime says nothing to an ending want.
+abbrev pub set_size : List Item → ℕ
+set_size [] = 1
+set_size (item ∷ items) = unwrap_or (size_in item) (set_size items)
+
+-- what a success with these data grants
+abbrev pub grant_of : Response → Common → Grant
+grant_of r c = record {
+  lifetime = r.lifetime;
+  address = c.address;
+  external = c.external;
+  count = set_size r.items;
+}
+
+-- What a response says to a want. An error is told with its code, and lasts at most 1800 seconds. A success with lifetime
+-- 0 removes an ending want, and is an error of 30 seconds for any other. One with another lifetime says nothing to an
+-- ending want.
 abbrev pub said_to : Response → Common → ℕ → Bool → Meaning
 said_to r c id ending =
     if not (code_number r.code == 0)
-    then Says r.epoch (Notices.Refuses id (min r.lifetime LONGEST_ERROR))
+    then Says r.epoch (Notices.Refuses id r.code (min r.lifetime 1800))
     else if ending then (if r.lifetime == 0 then Says r.epoch (Notices.Removes id) else Nothing)
-    else if r.lifetime == 0 then Says r.epoch (Notices.Refuses id NOTHING_GRANTED)
-    else Says r.epoch (Notices.Grants id (grant_of r.lifetime c))
+    else if r.lifetime == 0 then Says r.epoch (Notices.Refuses id r.code 30)
+    else Says r.epoch (Notices.Grants id (grant_of r c))
 
 abbrev pub said_at : Response → Common → ℕ → Option WantView → Meaning
 said_at r c id None = Nothing

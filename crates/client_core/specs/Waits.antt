@@ -1,11 +1,10 @@
 -- How long a client waits for an answer before it asks again (RFC 6887, section 8.1.1; the rounding is our own). Times
 -- are in milliseconds.
 use Rattle.std.specs.Prelude.{ℕ, ◌+◌, ◌-◌, ◌*◌, ◌/◌, ◌%◌, ◌==◌, min, if◌then◌else◌}
-use Rattle.client_core.specs.declared.waits.TheConstants.{FIRST_BASE_MS, LONGEST_BASE_MS}
 
 -- the base of the wait that follows one, where 0 stands for none
 abbrev pub next_base : ℕ → ℕ
-next_base previous = if previous == 0 then FIRST_BASE_MS else min (2 * previous) LONGEST_BASE_MS
+next_base previous = if previous == 0 then 3000 else min (2 * previous) 1024000
 
 -- a base with up to a tenth of it more or less, by a number from 0 to 2000 of which 1000 is the middle
 abbrev pub spread : ℕ → ℕ → ℕ

@@ -1,12 +1,10 @@
--- One want of a client, and what each event makes of it (RFC 6887, sections 8.1.1, 8.3, 8.5, 11.2.1 and 15; the rounding
--- is our own). Times are in milliseconds.
+-- One want of a client, and what each event makes of it (RFC 6887, sections 8.1.1, 8.3, 8.5, 11.2.1, 14.1.3 and 15; the
+-- rounding is our own). Times are in milliseconds.
 use Rattle.std.specs.Prelude.{ℕ, ◌+◌, ◌-◌, ◌*◌, ◌/◌, ◌%◌, ◌^◌, ◌<◌, ◌≤◌, nat_le, min, max, Bool, true, false, List, [], Option, Some, None, fold, if◌then◌else◌, ⊤}
 use Rattle.pcp_base.specs.declared.addresses.Address.{Address}
 use Rattle.pcp_base.specs.declared.asks.Ask.{Ask}
 use Rattle.pcp_base.specs.declared.asks.Ask.TheVariants as Asks
 use Rattle.pcp_options.specs.Requests.{CanBeWritten, request_text}
-use Rattle.client_core.specs.declared.waits.TheConstants.{LONGEST_WAIT_MS}
-use Rattle.client_core.specs.declared.events.TheConstants.{LONGEST_LEASE, SHORTEST_ERROR, LEAST_GAP_MS}
 use Rattle.client_core.specs.declared.events.HeldLease.{HeldLease}
 use Rattle.client_core.specs.declared.events.Grant.{Grant}
 use Rattle.client_core.specs.declared.events.Event.{Event}
@@ -82,9 +80,9 @@ suggesting (Asks.Peer ask) port address = Asks.Peer (record ask { port = port; a
 suggesting (Asks.Known refusal) port address = Asks.Known refusal
 suggesting Asks.Announce port address = Asks.Announce
 
--- how long a grant lasts
+-- how long a grant lasts: as it tells, and at most a day
 abbrev pub lasting : Grant → ℕ
-lasting grant = 1000 * min grant.lifetime LONGEST_LEASE
+lasting grant = 1000 * min grant.lifetime 86400
 
 -- When a lease that ends at this time is renewed: when this part of its lifetime is left, less up to a quarter of that
 -- (section 11.2.1). Of the j-th renewal it is the lifetime divided by 2^j.
@@ -103,12 +101,16 @@ after_sent w at word Error =
     record w { reason = Wait (wait_after 0 word); time = at + wait_after 0 word }
 after_sent w at word (Renewal part) = record w {
   reason = Renewal (part / 2);
-  time = max (at + LEAST_GAP_MS) (renewal_at (lease_end w.lease) (part / 2) word);
+  time = max (at + 4000) (renewal_at (lease_end w.lease) (part / 2) word);
 }
 
 abbrev pub lease_of : ℕ → Grant → HeldLease
-lease_of at grant =
-    record { address = grant.address; external = grant.external; until_ms = at + lasting grant }
+lease_of at grant = record {
+  address = grant.address;
+  external = grant.external;
+  count = grant.count;
+  until_ms = at + lasting grant;
+}
 
 abbrev pub after_taken : WantView → ℕ → ℕ → Grant → WantView
 after_taken w at word grant = record {
@@ -133,15 +135,19 @@ after_dropped w = record w {
   time = (without_lease w.reason w.lease w.time).1;
 }
 
+-- When a want is asked for anew after an invalid epoch: within five seconds, as the word says (section 14.1.3).
+abbrev pub anew_at : ℕ → ℕ → ℕ
+anew_at at word = at + 5000 * (word % 65536) / 65536
+
 -- what an event makes of a want
 abbrev pub after : WantView → Event → WantView
 after w (Sent at word) = after_sent w at word w.reason
 after w (Taken at word grant) = after_taken w at word grant
 after w (Refused at seconds) =
-    record w { reason = Error; time = at + 1000 * max SHORTEST_ERROR seconds }
+    record w { reason = Error; time = at + 1000 * max 4 seconds }
 after w (Ended at) = record w { ending = true; reason = Wait 0; time = at }
 after w Dropped = after_dropped w
-after w (Invalid at) = record w { reason = Wait 0; time = at }
+after w (Invalid at word) = record w { reason = Wait 0; time = anew_at at word }
 
 -- what its events make of a want, in order
 abbrev pub after_all : WantView → List Event → WantView
@@ -154,15 +160,15 @@ IsTimely (Taken at word grant) = at < 1000 * 2 ^ 40
 IsTimely (Refused at seconds) = at < 1000 * 2 ^ 40
 IsTimely (Ended at) = at < 1000 * 2 ^ 40
 IsTimely Dropped = ⊤
-IsTimely (Invalid at) = at < 1000 * 2 ^ 40
+IsTimely (Invalid at word) = at < 1000 * 2 ^ 40
 
 -- what holds of each want that is kept
 abbrev pub IsReason : Reason → Type 0
-IsReason (Wait wait) = wait ≤ LONGEST_WAIT_MS
-IsReason (Renewal part) = part ≤ 1000 * LONGEST_LEASE
+IsReason (Wait wait) = wait ≤ 1126400
+IsReason (Renewal part) = part ≤ 1000 * 86400
 IsReason Error = ⊤
 
 pub record IsWant (w : WantView) : Type 0 where
   pub ask : CanBeWritten w.ask
   pub reason : IsReason w.reason
-  pub lease : lease_end w.lease ≤ 1000 * 2 ^ 40 + 1000 * LONGEST_LEASE
+  pub lease : lease_end w.lease ≤ 1000 * 2 ^ 40 + 1000 * 86400

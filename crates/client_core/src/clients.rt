@@ -1,18 +1,18 @@
-//! The client (RFC 6887, sections 8.1 to 8.5, 11.2 and 12.2).
+//! The client (RFC 6887, sections 8.1 to 8.5, 11.2, 12.2 and 14.1.3).
 ghost use Rattle.std.specs.Prelude.{◌≡◌, ℕ, ◌/◌, ◌*◌, ◌^◌, ◌<◌, Some, IfOk, IfSome, OnOk, OnErr, MatchResult, length, map, is_some};
-ghost use Rattle.client_core.specs.declared.slots.TheConstants.{MOST_WANTS};
 ghost use Rattle.client_core.specs.EpochTests.{is_valid};
 ghost use Rattle.client_core.specs.Wants.{CanBeWanted};
 ghost use Rattle.client_core.specs.Meanings.{want_at};
-ghost use Rattle.client_core.specs.Clients.{after_asked, after_end, after_epoch, after_heard, after_meaning, after_notice, after_tick, after_want, counted, dropped_in, epoch_found, first_due, free_id, heard_epoch_at, heard_of, heard_with, held_by, idle, meaning_of, request_due, request_for, request_in, want_count};
+ghost use Rattle.client_core.specs.Dues.{TicksFrom, next_due};
+ghost use Rattle.client_core.specs.Clients.{after_asked, after_end, after_epoch, after_forget, after_heard, after_meaning, after_notice, after_tick, after_want, counted, dropped_in, epoch_found, first_due, free_id, heard_epoch_at, heard_of, heard_with, held_by, idle, is_soon, meaning_of, request_due, request_for, request_in, want_count};
 
 use crate::epochs::EpochTest;
 use crate::errors::WantRefused;
-use crate::events::{Event, HeldLease};
+use crate::events::{ANEW_WITHIN_MS, Event, HeldLease};
 use crate::meanings::{EpochFound, Heard, Meaning, Notice, What, said_by, what_of};
 use crate::slots::{
-    MOST_WANTS, after_asked, after_epoch, empty_slots, first_due, free_slot, happen_at, is_kept,
-    lease_at, request_in, with_notice,
+    MOST_WANTS, after_asked, empty_slots, first_due, free_slot, happen_at, happen_to_all, is_kept,
+    lease_at, least_next, remove_at, request_in, with_notice,
 };
 use crate::wants::Want;
 use pcp_base::{Address, Ask, Datagram, Memory, Octets};
@@ -29,6 +29,7 @@ pub struct Client {
     own: Address,
     last_ms: u64,
     test: EpochTest,
+    moved_ms: Option<u64>,
     slots: Vec<Option<Want>>,
 }
 
@@ -42,6 +43,7 @@ impl Model for Client {
       own = c.own;
       last = c.last_ms;
       heard = c.test;
+      moved = c.moved_ms;
       wants = c.slots.items;
     } };
 
@@ -50,6 +52,7 @@ impl Model for Client {
       own = c.own;
       last = c.last_ms;
       heard = c.test;
+      moved = c.moved_ms;
       wants = c.slots.items;
     }) };
 }
@@ -65,6 +68,7 @@ impl Client {
             own,
             last_ms: 0,
             test: EpochTest::new(),
+            moved_ms: None,
             slots,
         })
     }
@@ -83,8 +87,8 @@ impl Client {
         requires time { now_ms < 1000 * 2 ^ 40 }
         ensures answer { MatchResult result (λ id. free_id self.old ≡ Some id)
             (λ refused. refused ≡ WantRefused.Full) }
-        ensures room { OnOk result (want_count self.old < MOST_WANTS) }
-        ensures full { OnErr result (want_count self.old ≡ MOST_WANTS) }
+        ensures room { OnOk result (want_count self.old < 64) }
+        ensures full { OnErr result (want_count self.old ≡ 64) }
         ensures after { IfOk result (λ id.
             self.new ≡ after_want self.old id third ask now_ms) }
         ensures err { OnErr result (self.new ≡ self.old) }
@@ -114,10 +118,24 @@ impl Client {
         there
     }
 
+    /// Gives the want of this id up, if there is one: it is gone at once with its lease, and nothing is
+    /// asked. Its id is free then. Whether there was one.
+    pub fn forget(&mut self, id: u32) -> bool
+        ensures there { result ≡ is_some (want_at self.old.wants id) }
+        ensures after { self.new ≡ after_forget self.old id }
+    {
+        let id = id as usize;
+        let there = is_kept(&self.slots, id);
+        remove_at(&mut self.slots, id);
+        there
+    }
+
     /// Takes a datagram that came, with a random word. The epoch of a response of the server that is for
-    /// ANNOUNCE, or says something to a want, is tested; after an invalid one all wants are asked for at
-    /// once, and then what it says is taken (RFC 6887, sections 8.3 and 8.5). Any other datagram is not
-    /// the client's, and changes the last time alone. After `Memory` nothing changed.
+    /// ANNOUNCE, or says something to a want, is tested; after an invalid one all wants are asked for anew
+    /// within [`ANEW_WITHIN_MS`], all at one time, as the word says, with 0 at once; another invalid one
+    /// within that time moves nothing. Then what it says is taken (RFC 6887, sections 8.3, 8.5 and
+    /// 14.1.3). Any other datagram is not the client's, and changes the last time alone. After `Memory`
+    /// nothing changed.
     pub fn heard(
         &mut self,
         alloc: Global,
@@ -158,6 +176,22 @@ impl Client {
         lease_at(&self.slots, id as usize)
     }
 
+    /// From when on a tick does something, in milliseconds: it gives a request, or drops a lease that is
+    /// over. None where no want is kept. Until then a caller may sleep, unless a datagram comes.
+    pub fn next_due(&self) -> Option<u64>
+        ensures value { result ≡ next_due self.now }
+        ensures ticks { TicksFrom result self.now }
+    {
+        self.least_next()
+    }
+
+    /// The least time at which a want is asked for or loses its lease.
+    fn least_next(&self) -> Option<u64>
+        ensures { result ≡ next_due self.now }
+    {
+        least_next(&self.slots)
+    }
+
     /// The time that counts where this one is handed in.
     fn counted(&self, now_ms: u64) -> u64
         requires { now_ms < 1000 * 2 ^ 40 }
@@ -190,7 +224,7 @@ impl Client {
         match meaning {
             Meaning::Nothing => self.take_nothing(at_ms),
             Meaning::Says(epoch, notice) => {
-                let valid = self.hear(epoch, at_ms);
+                let valid = self.hear(epoch, at_ms, word);
                 self.take_notice(at_ms, word, notice);
                 Heard {
                     epoch: epoch_found(valid),
@@ -214,14 +248,17 @@ impl Client {
     }
 
     /// Takes an epoch, and whether it is valid.
-    fn hear(&mut self, epoch: u32, at_ms: u64) -> bool
+    fn hear(&mut self, epoch: u32, at_ms: u64, word: u32) -> bool
         requires { at_ms < 1000 * 2 ^ 40 }
         ensures valid { result ≡ is_valid self.old.heard (heard_epoch_at epoch at_ms) }
-        ensures after { self.new ≡ after_epoch self.old epoch at_ms }
+        ensures after { self.new ≡ after_epoch self.old epoch at_ms word }
     {
         self.last_ms = at_ms;
         let valid = self.test.hear(epoch, at_ms / 1000);
-        after_epoch(&mut self.slots, valid, at_ms);
+        if !valid && !is_soon(self.moved_ms, at_ms) {
+            self.moved_ms = Some(at_ms);
+            happen_to_all(&mut self.slots, Event::Invalid { at_ms, word });
+        }
         valid
     }
 
@@ -260,6 +297,16 @@ impl Client {
     {
         self.last_ms = at_ms;
         after_asked(&mut self.slots, at_ms, word, id);
+    }
+}
+
+/// Whether this is less than [`ANEW_WITHIN_MS`] behind the invalid epoch that last moved what is due.
+fn is_soon(moved_ms: Option<u64>, at_ms: u64) -> bool
+    ensures { result ≡ is_soon moved_ms at_ms }
+{
+    match moved_ms {
+        Some(before) => at_ms.saturating_sub(before) < ANEW_WITHIN_MS,
+        None => false,
     }
 }
 

@@ -17,6 +17,10 @@ pub const NOTHING_GRANTED: u32 = 30;
 /// How long after a renewal the next one is sent at the earliest, in milliseconds (RFC 6887, section 11.2.1).
 pub const LEAST_GAP_MS: u64 = 4_000;
 
+/// Within how many milliseconds after an invalid epoch all is asked for anew; and for how long another one
+/// moves nothing (RFC 6887, section 14.1.3).
+pub const ANEW_WITHIN_MS: u64 = 5_000;
+
 /// A lease that a client holds.
 #[derive(Clone, Copy, Debug, PartialEq, Eq)]
 pub struct HeldLease {
@@ -24,6 +28,8 @@ pub struct HeldLease {
     pub address: Address,
     /// The external port; of several the first.
     pub external: u16,
+    /// How many ports, from the first on: 1 but for a set (RFC 7753).
+    pub count: u16,
     /// When it ends, in the client's milliseconds.
     pub until_ms: u64,
 }
@@ -35,8 +41,10 @@ pub struct Grant {
     pub lifetime: u32,
     /// The external address.
     pub address: Address,
-    /// The external port.
+    /// The external port; of several the first.
     pub external: u16,
+    /// How many ports.
+    pub count: u16,
 }
 
 /// What happens to a want that is kept. Times are in the client's milliseconds.
@@ -52,6 +60,6 @@ pub enum Event {
     Ended { at_ms: u64 },
     /// Its lease is over.
     Dropped,
-    /// The server tells an epoch by which it lost its leases.
-    Invalid { at_ms: u64 },
+    /// The server tells an epoch by which it lost its leases; with this random word.
+    Invalid { at_ms: u64, word: u32 },
 }

@@ -18,9 +18,10 @@ pub use clients::Client;
 pub use epochs::EpochTest;
 pub use errors::WantRefused;
 pub use events::{
-    HeldLease, LEAST_GAP_MS, LONGEST_ERROR, LONGEST_LEASE, NOTHING_GRANTED, SHORTEST_ERROR,
+    ANEW_WITHIN_MS, HeldLease, LEAST_GAP_MS, LONGEST_ERROR, LONGEST_LEASE, NOTHING_GRANTED,
+    SHORTEST_ERROR,
 };
 pub use laws::{losses_are_heard, wants_follow_their_events};
-pub use meanings::{EpochFound, Heard, What};
+pub use meanings::{EpochFound, Heard, What, set_size};
 pub use slots::MOST_WANTS;
 pub use waits::{FIRST_BASE_MS, LONGEST_BASE_MS, LONGEST_WAIT_MS, next_wait};

@@ -1,13 +1,12 @@
 //! What a datagram says to a client (RFC 6887, sections 8.3 and 8.5).
 ghost use Rattle.std.specs.Prelude.{◌≡◌, ◌<◌, [], ◌∷◌, IfSome, length, position};
-ghost use Rattle.client_core.specs.declared.slots.TheConstants.{MOST_WANTS};
 ghost use Rattle.pcp_options.specs.Asking.{third_of};
-ghost use Rattle.client_core.specs.Meanings.{answers, grant_of, said_at, said_by, said_of, said_to, same_common, same_key, same_third, want_at};
+ghost use Rattle.client_core.specs.Meanings.{answers, grant_of, said_at, said_by, said_of, said_to, same_common, same_key, same_third, set_size, size_in, want_at};
 ghost use Rattle.client_core.specs.Clients.{what_of};
 
 use crate::events::{Grant, LONGEST_ERROR, NOTHING_GRANTED};
 use crate::wants::Want;
-use pcp_base::{Address, Ask, Endpoint, Nonce};
+use pcp_base::{Address, Ask, Code, Endpoint, Nonce};
 use pcp_codec::{Body, Common};
 use pcp_options::{Item, Response};
 
@@ -31,9 +30,9 @@ pub enum What {
     Told,
     /// That the want of this id has its lease, or that its lease is deleted, and the want is removed.
     Taken(u32),
-    /// That the want of this id has an error, with the lifetime in seconds that counts: at most
-    /// [`LONGEST_ERROR`], and [`NOTHING_GRANTED`] for a success that grants nothing.
-    ErrorFor(u32, u32),
+    /// That the want of this id has an error, with its code and the lifetime in seconds that counts: at most
+    /// [`LONGEST_ERROR`]; or the code of a success, and [`NOTHING_GRANTED`], for one that grants nothing.
+    ErrorFor(u32, Code, u32),
 }
 
 /// What came of a datagram.
@@ -50,8 +49,8 @@ pub enum Notice {
     Epoch,
     /// The want of this id is granted this.
     Grants(u32, Grant),
-    /// The want of this id is refused, with the lifetime in seconds that counts.
-    Refuses(u32, u32),
+    /// The want of this id is refused, with the code, and the lifetime in seconds that counts.
+    Refuses(u32, Code, u32),
     /// The want of this id, which was ending, has no lease any more.
     Removes(u32),
 }
@@ -67,7 +66,7 @@ pub enum Meaning {
 
 /// What a response says to these wants.
 pub(crate) fn said_by(slots: &[Option<Want>], response: &Response) -> Meaning
-    requires { length slots.now ≡ MOST_WANTS }
+    requires { length slots.now ≡ 64 }
     ensures { result ≡ said_by slots.now response.now response.now.body }
 {
     match &response.body {
@@ -94,7 +93,7 @@ fn said_of(
     common: &Common,
     id: Option<usize>,
 ) -> Meaning
-    requires room { length slots.now ≡ MOST_WANTS }
+    requires room { length slots.now ≡ 64 }
     requires there { IfSome id (λ id. id < length slots.now) }
     ensures { result ≡ said_of slots.now response.now common.now id }
 {
@@ -122,7 +121,7 @@ fn said_to(response: &Response, common: &Common, id: u32, ending: bool) -> Meani
     if response.code.number() != 0 {
         return Meaning::Says(
             epoch,
-            Notice::Refuses(id, response.lifetime.min(LONGEST_ERROR)),
+            Notice::Refuses(id, response.code, response.lifetime.min(LONGEST_ERROR)),
         );
     }
     if ending {
@@ -133,22 +132,43 @@ fn said_to(response: &Response, common: &Common, id: u32, ending: bool) -> Meani
         };
     }
     if response.lifetime == 0 {
-        return Meaning::Says(epoch, Notice::Refuses(id, NOTHING_GRANTED));
+        return Meaning::Says(epoch, Notice::Refuses(id, response.code, NOTHING_GRANTED));
     }
-    Meaning::Says(
-        epoch,
-        Notice::Grants(id, grant_of(response.lifetime, common)),
-    )
+    Meaning::Says(epoch, Notice::Grants(id, grant_of(response, common)))
 }
 
-/// What a success of these data grants.
-fn grant_of(lifetime: u32, common: &Common) -> Grant
-    ensures { result ≡ grant_of lifetime common.now }
+/// What a success with these data grants.
+fn grant_of(response: &Response, common: &Common) -> Grant
+    ensures { result ≡ grant_of response.now common.now }
 {
     Grant {
-        lifetime,
+        lifetime: response.lifetime,
         address: common.address,
         external: common.external,
+        count: set_size(response.items.items()),
+    }
+}
+
+/// The size of the set of ports that the options of a response tell (RFC 7753): 1 where it has no PORT_SET.
+pub fn set_size(items: &[Item]) -> u16
+    ensures { result ≡ set_size items.now }
+{
+    for item in items {
+        if let Some(size) = size_in(item) {
+            return size;
+        }
+    }
+    1
+}
+
+fn size_in(item: &Item) -> Option<u16>
+    ensures { result ≡ size_in item.now }
+{
+    match item {
+        Item::PortSet(set) => Some(set.size),
+        Item::ThirdParty(_address) => None,
+        Item::PreferFailure => None,
+        Item::Filter(_filter) => None,
     }
 }
 
@@ -243,7 +263,7 @@ pub(crate) fn what_of(word: Notice) -> What
     match word {
         Notice::Epoch => What::Told,
         Notice::Grants(id, _grant) => What::Taken(id),
-        Notice::Refuses(id, seconds) => What::ErrorFor(id, seconds),
+        Notice::Refuses(id, code, seconds) => What::ErrorFor(id, code, seconds),
         Notice::Removes(id) => What::Taken(id),
     }
 }

@@ -1,8 +1,8 @@
 //! The wants of a client, each in the slot of its id.
-ghost use Rattle.std.specs.Prelude.{◌≡◌, ◌*◌, ◌^◌, ◌<◌, IfOk, IfSome, None, Some, is_none, is_some, length, map, option_map, position, replicate, slice_set, if◌then◌else◌};
-ghost use Rattle.client_core.specs.declared.events.Event.TheVariants as Events;
+ghost use Rattle.std.specs.Prelude.{◌≡◌, ◌*◌, ◌^◌, ◌<◌, IfOk, IfSome, None, Some, is_none, is_some, length, map, option_map, position, replicate, slice_set};
 ghost use Rattle.client_core.specs.Meanings.{want_at};
 ghost use Rattle.client_core.specs.Clients.{after_asked, dropped_in, due_in, first_at, first_due, happened, happened_at, is_due_at, is_over_in, lease_in, least, least_due, request_in, with_notice};
+ghost use Rattle.client_core.specs.Dues.{least_next, next_in};
 ghost use Rattle.client_core.specs.Wants.{IsTimely};
 
 use crate::events::{Event, HeldLease};
@@ -126,6 +126,27 @@ fn least_due(slots: &[Option<Want>]) -> Option<u64>
     time
 }
 
+/// The least time at which a want is asked for or loses its lease.
+pub(crate) fn least_next(slots: &[Option<Want>]) -> Option<u64>
+    ensures { result ≡ least_next slots.now }
+{
+    let mut time = None;
+    for slot in slots {
+        time = least(time, next_in(slot));
+    }
+    time
+}
+
+/// When the want in a slot is asked for or loses its lease.
+fn next_in(slot: &Option<Want>) -> Option<u64>
+    ensures { result ≡ next_in slot.now }
+{
+    match slot {
+        Some(want) => Some(want.next_time()),
+        None => None,
+    }
+}
+
 /// The lesser of two times that there may be.
 fn least(a: Option<u64>, b: Option<u64>) -> Option<u64>
     ensures { result ≡ least a b }
@@ -168,17 +189,6 @@ fn is_over(slot: &Option<Want>, at_ms: u64) -> bool
     }
 }
 
-/// After an invalid epoch all wants are asked for at once.
-pub(crate) fn after_epoch(slots: &mut [Option<Want>], valid: bool, at_ms: u64)
-    requires { at_ms < 1000 * 2 ^ 40 }
-    ensures { slots.new
-        ≡ (if valid then slots.old else map (happened (Events.Invalid at_ms)) slots.old) }
-{
-    if !valid {
-        happen_to_all(slots, Event::Invalid { at_ms });
-    }
-}
-
 /// What is said beside the epoch happens to its want.
 pub(crate) fn with_notice(slots: &mut [Option<Want>], at_ms: u64, word: u32, notice: Notice)
     requires { at_ms < 1000 * 2 ^ 40 }
@@ -191,7 +201,7 @@ pub(crate) fn with_notice(slots: &mut [Option<Want>], at_ms: u64, word: u32, not
             id as usize,
             Event::Taken { at_ms, word, grant },
         ),
-        Notice::Refuses(id, seconds) => {
+        Notice::Refuses(id, _code, seconds) => {
             happen_at(slots, id as usize, Event::Refused { at_ms, seconds });
         }
         Notice::Removes(id) => remove_at(slots, id as usize),
@@ -199,7 +209,7 @@ pub(crate) fn with_notice(slots: &mut [Option<Want>], at_ms: u64, word: u32, not
 }
 
 /// Removes the want of this id, if there is one.
-fn remove_at(slots: &mut [Option<Want>], id: usize)
+pub(crate) fn remove_at(slots: &mut [Option<Want>], id: usize)
     ensures { slots.new ≡ slice_set slots.old id None }
 {
     if id < slots.len() {

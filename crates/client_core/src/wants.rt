@@ -1,12 +1,14 @@
-//! One want of a client (RFC 6887, sections 8.1.1, 8.3, 8.5, 11.2.1 and 15).
+//! One want of a client (RFC 6887, sections 8.1.1, 8.3, 8.5, 11.2.1, 14.1.3 and 15).
 ghost use Rattle.std.specs.Prelude.{◌≡◌, ◌+◌, ◌*◌, ◌^◌, ◌<◌, ◌≤◌, Option, Some, [], IfOk, if◌then◌else◌};
 ghost use Rattle.pcp_options.specs.Requests.{CanBeWritten, request_text};
 ghost use Rattle.client_core.specs.declared.reasons.Reason.TheVariants as Reasons;
 ghost use Rattle.client_core.specs.declared.events.Event.TheVariants as Events;
 ghost use Rattle.client_core.specs.declared.events.TheConstants.{LONGEST_LEASE};
-ghost use Rattle.client_core.specs.Wants.{CanBeWanted, IsReason, IsTimely, after, after_sent, begun_want, by_end, deletion_of, due, due_by, is_over, is_over_by, lasting, lease_end, lease_of, next_ask, next_request, renewal_at, suggesting, without_lease};
+ghost use Rattle.client_core.specs.Wants.{CanBeWanted, IsReason, IsTimely, after, after_sent, anew_at, begun_want, by_end, deletion_of, due, due_by, is_over, is_over_by, lasting, lease_end, lease_of, next_ask, next_request, renewal_at, suggesting, without_lease};
 
-use crate::events::{Event, Grant, HeldLease, LEAST_GAP_MS, LONGEST_LEASE, SHORTEST_ERROR};
+use crate::events::{
+    ANEW_WITHIN_MS, Event, Grant, HeldLease, LEAST_GAP_MS, LONGEST_LEASE, SHORTEST_ERROR,
+};
 use crate::reasons::Reason;
 use crate::waits::next_wait;
 use pcp_base::{Address, Ask, FilterList, MapAsk, Memory, Octets, PeerAsk};
@@ -100,6 +102,13 @@ impl Want {
         due_by(self.reason, self.lease, self.time_ms)
     }
 
+    /// When it is asked for next, or loses its lease, whichever comes first.
+    pub(crate) fn next_time(&self) -> u64
+        ensures { result ≡ by_end self.now.lease self.now.time }
+    {
+        by_end(self.lease, self.time_ms)
+    }
+
     /// Whether its lease is over at this time.
     pub(crate) fn is_over(&self, at_ms: u64) -> bool
         ensures { result ≡ is_over self.now at_ms }
@@ -137,7 +146,7 @@ impl Want {
             }
             Event::Ended { at_ms } => self.after_ended(at_ms),
             Event::Dropped => self.after_dropped(),
-            Event::Invalid { at_ms } => self.next(Reason::Wait(0), at_ms),
+            Event::Invalid { at_ms, word } => self.next(Reason::Wait(0), anew_at(at_ms, word)),
         }
     }
 
@@ -210,6 +219,7 @@ impl Want {
             lease: Some(HeldLease {
                 address: grant.address,
                 external: grant.external,
+                count: grant.count,
                 until_ms: at_ms + lasting,
             }),
             reason: Reason::Renewal(part),
@@ -271,6 +281,14 @@ fn by_end(lease: Option<HeldLease>, time_ms: u64) -> u64
         Some(lease) => time_ms.min(lease.until_ms),
         None => time_ms,
     }
+}
+
+/// When a want is asked for anew after an invalid epoch.
+fn anew_at(at_ms: u64, word: u32) -> u64
+    requires { at_ms < 1000 * 2 ^ 40 }
+    ensures { result ≡ anew_at at_ms word }
+{
+    at_ms + ANEW_WITHIN_MS * u64::from(word % 65_536) / 65_536
 }
 
 /// How many milliseconds a grant lasts.
