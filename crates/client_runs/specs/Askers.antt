@@ -21,9 +21,9 @@ abbrev pub answer_by : What → Option Response → Option Response
 answer_by NotMine r = None
 answer_by Told r = None
 answer_by (Taken id) r = r
-answer_by (ErrorFor id lifetime) r = r
+answer_by (ErrorFor id code lifetime) r = r
 
--- a client with its want; the word of a renewal is 0, since none comes
+-- a client with its want; the word is 0, since no renewal comes, and after an invalid epoch it asks at once
 abbrev pub wanting : Asking ClientView
 wanting = record {
   answer = λ c d time. answer_by (heard_of c d time).what (response_of d.octets);

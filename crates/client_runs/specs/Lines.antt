@@ -1,13 +1,12 @@
 -- The line that a client's command prints for a response, and the status of its call then (our own).
-use Rattle.std.specs.Prelude.{ℕ, ◌==◌, ◌&&◌, not, nat_lt, Bool, List, [], ◌∷◌, ◌++◌, Option, Some, None, unwrap_or, codes, decimal, if◌then◌else◌}
+use Rattle.std.specs.Prelude.{ℕ, ◌==◌, ◌&&◌, not, nat_lt, Bool, List, [], ◌∷◌, ◌++◌, codes, decimal, if◌then◌else◌}
 use Rattle.pcp_base.specs.AddressTexts.{address_text}
 use Rattle.pcp_base.specs.Codes.{code_number}
 use Rattle.pcp_codec.specs.declared.requests.Body.{Body}
 use Rattle.pcp_codec.specs.declared.requests.Body.TheVariants as Bodies
 use Rattle.pcp_codec.specs.declared.requests.Common.{Common}
-use Rattle.pcp_options.specs.declared.options.Item.{Item}
-use Rattle.pcp_options.specs.declared.options.Item.TheVariants as OptionItems
 use Rattle.pcp_options.specs.declared.responses.Response.{Response}
+use Rattle.client_core.specs.Meanings.{set_size}
 use Rattle.client_commands.specs.declared.commands.ClientCommand.{ClientCommand}
 use Rattle.client_commands.specs.declared.commands.ClientCommand.TheVariants.{Map, Peer, Announce}
 use Rattle.tool_commands.specs.declared.statuses.ToolStatus.{ToolStatus}
@@ -16,17 +15,6 @@ use Rattle.tool_commands.specs.declared.statuses.ToolStatus.TheVariants.{Done, R
 -- a number after a space
 abbrev pub spaced : ℕ → List ℕ
 spaced n = codes " " ++ decimal n
-
--- the size that a reply tells: 1 where it has no PORT_SET
-abbrev pub size_in : Item → Option ℕ
-size_in (OptionItems.PortSet set) = Some set.size
-size_in (OptionItems.ThirdParty address) = None
-size_in OptionItems.PreferFailure = None
-size_in (OptionItems.Filter filter) = None
-
-abbrev pub set_size : List Item → ℕ
-set_size [] = 1
-set_size (item ∷ items) = unwrap_or (size_in item) (set_size items)
 
 -- The size stands last where more ports than one were asked for.
 abbrev pub size_field : ClientCommand → Response → List ℕ

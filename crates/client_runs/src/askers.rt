@@ -46,7 +46,7 @@ impl Asker for Client {
         datagram: &Datagram,
         now_ms: u64,
     ) -> Result<Option<Response>, Memory> {
-        // The word is that of a renewal, and none comes.
+        // No renewal comes; and after an invalid epoch one who waits for an answer asks at once.
         let heard = self.heard(alloc, datagram, now_ms, 0)?;
         answer_by(alloc, heard.what, datagram.octets.items())
     }
@@ -69,7 +69,7 @@ fn answer_by(alloc: Global, what: What, octets: &[u8]) -> Result<Option<Response
         What::NotMine => Ok(None),
         What::Told => Ok(None),
         What::Taken(_id) => response_of(alloc, octets),
-        What::ErrorFor(_id, _lifetime) => response_of(alloc, octets),
+        What::ErrorFor(_id, _code, _lifetime) => response_of(alloc, octets),
     }
 }
 

@@ -1,11 +1,12 @@
 //! The line that a command prints for a response, and the status of its call then.
 ghost use Rattle.std.specs.Prelude.{◌≡◌, ◌++◌, IfOk, OnOk, codes};
-ghost use Rattle.client_runs.specs.Lines.{granted_text, grants, is_success, line_of, refusal_text, set_size, size_field, size_in, spaced, status_of, success_text, text_of};
+ghost use Rattle.client_runs.specs.Lines.{granted_text, grants, is_success, line_of, refusal_text, size_field, spaced, status_of, success_text, text_of};
 
 use client_commands::ClientCommand;
+use client_core::set_size;
 use pcp_base::Memory;
 use pcp_codec::{Body, Common};
-use pcp_options::{Item, Response};
+use pcp_options::Response;
 use std::alloc::Global;
 use tool_commands::ToolStatus;
 
@@ -128,29 +129,6 @@ fn push_size(
         }
         ClientCommand::Peer(_target, _wanted) => Ok(()),
         ClientCommand::Announce(_target) => Ok(()),
-    }
-}
-
-/// The size that a reply tells: 1 where it has no PORT_SET.
-fn set_size(items: &[Item]) -> u16
-    ensures { result ≡ set_size items.now }
-{
-    for item in items {
-        if let Some(size) = size_in(item) {
-            return size;
-        }
-    }
-    1
-}
-
-fn size_in(item: &Item) -> Option<u16>
-    ensures { result ≡ size_in item.now }
-{
-    match item {
-        Item::PortSet(set) => Some(set.size),
-        Item::ThirdParty(_address) => None,
-        Item::PreferFailure => None,
-        Item::Filter(_filter) => None,
     }
 }
 
