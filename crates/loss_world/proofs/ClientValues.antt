@@ -30,8 +30,7 @@ use Rattle.client_core.specs.declared.meanings.Notice.{Notice}
 use Rattle.client_core.specs.declared.meanings.Notice.TheVariants as Notices
 use Rattle.client_core.specs.declared.reasons.Reason.{Reason}
 use Rattle.client_core.specs.declared.reasons.Reason.TheVariants.{Wait, Renewal, Error}
-use Rattle.client_core.specs.Clients.{ClientView, after_asked, after_end, after_epoch, after_heard, after_meaning, after_tick, after_want, counted, dropped_in, first_due, happened, happened_at, heard_epoch_at, meaning_of, request_due, request_for, request_in, with_notice}
-use Rattle.client_core.specs.EpochTests.{is_valid}
+use Rattle.client_core.specs.Clients.{ClientView, after_asked, after_end, after_epoch, after_heard, after_meaning, after_tick, after_want, counted, dropped_in, first_due, happened, happened_at, meaning_of, moves, request_due, request_for, request_in, with_notice}
 use Rattle.client_core.specs.Meanings.{want_at}
 use Rattle.client_core.specs.Wants.{WantView, after, after_sent, begun_want, deletion_of, is_over, next_ask, suggesting}
 use Rattle.loss_world.specs.Disclosure.{HasCommon}
@@ -54,7 +53,7 @@ EventIsValue (Sent at word) = ⊤
 EventIsValue (Refused at seconds) = ⊤
 EventIsValue (Ended at) = ⊤
 EventIsValue Dropped = ⊤
-EventIsValue (Invalid at) = ⊤
+EventIsValue (Invalid at word) = ⊤
 
 suggested : (ask : Ask) (port : ℕ) (address : Address) → AreOctets address.0 → IsAskValue ask
     → IsAskValue (suggesting ask port address)
@@ -74,7 +73,7 @@ after-value w (Taken at word grant) v h = (h.0, suggested w.ask grant.external g
 after-value w (Refused at seconds) v h = h
 after-value w (Ended at) v h = h
 after-value w Dropped v h = h
-after-value w (Invalid at) v h = h
+after-value w (Invalid at word) v h = h
 
 slot-value : (e : Event) (x : Option WantView) → EventIsValue e → SlotIsValue x → SlotIsValue (happened e x)
 slot-value e None v h = tt
@@ -102,7 +101,7 @@ all-values f g (x ∷ xs) h = (g x h.0, all-values f g xs h.1)
 abbrev NoticeIsValue : Notice → Type 0
 NoticeIsValue Notices.Epoch = ⊤
 NoticeIsValue (Notices.Grants id grant) = AreOctets grant.address.0
-NoticeIsValue (Notices.Refuses id seconds) = ⊤
+NoticeIsValue (Notices.Refuses id code seconds) = ⊤
 NoticeIsValue (Notices.Removes id) = ⊤
 
 common-of : (body : Body) (c : Common) → OctetsBody body → HasCommon body c → AreOctets c.address.0
@@ -120,28 +119,28 @@ notice-value : OctetsAreRead → (octets : List ℕ) (wants : List (Option WantV
     → AreOctets octets → Granting octets wants (Says epoch said) → NoticeIsValue said
 notice-value law octets wants epoch Notices.Epoch are g = tt
 notice-value law octets wants epoch (Notices.Grants id grant) are g = granted-value law octets wants id grant are g
-notice-value law octets wants epoch (Notices.Refuses id seconds) are g = tt
+notice-value law octets wants epoch (Notices.Refuses id code seconds) are g = tt
 notice-value law octets wants epoch (Notices.Removes id) are g = tt
 
 with-value : (wants : List (Option WantView)) (at word : ℕ) (said : Notice) → NoticeIsValue said
     → AllByRecursion SlotIsValue wants → AllByRecursion SlotIsValue (with_notice wants at word said)
 with-value wants at word Notices.Epoch v h = h
 with-value wants at word (Notices.Grants id grant) v h = event-value wants id (Taken at word grant) v h
-with-value wants at word (Notices.Refuses id seconds) v h = event-value wants id (Refused at seconds) tt h
+with-value wants at word (Notices.Refuses id code seconds) v h = event-value wants id (Refused at seconds) tt h
 with-value wants at word (Notices.Removes id) v h = All-set SlotIsValue wants id None h tt
 
-epoch-value : (c : ClientView) (epoch at : ℕ) → AllByRecursion SlotIsValue c.wants
-    → AllByRecursion SlotIsValue (after_epoch c epoch at).wants
-epoch-value c epoch at h =
-    cond_both (is_valid c.heard (heard_epoch_at epoch at)) c.wants (map (happened (Invalid at)) c.wants) (AllByRecursion SlotIsValue)
-    (λ _. h) (λ _. all-values (happened (Invalid at)) (λ x k. slot-value (Invalid at) x tt k) c.wants h)
+epoch-value : (c : ClientView) (epoch at word : ℕ) → AllByRecursion SlotIsValue c.wants
+    → AllByRecursion SlotIsValue (after_epoch c epoch at word).wants
+epoch-value c epoch at word h =
+    cond_both (moves c epoch at) (map (happened (Invalid at word)) c.wants) c.wants (AllByRecursion SlotIsValue)
+    (λ _. all-values (happened (Invalid at word)) (λ x k. slot-value (Invalid at word) x tt k) c.wants h) (λ _. h)
 
 meaning-value : OctetsAreRead → (octets : List ℕ) (c : ClientView) (at word : ℕ) (m : Meaning)
     → Granting octets c.wants m → AreOctets octets → AllByRecursion SlotIsValue c.wants
     → AllByRecursion SlotIsValue (after_meaning c at word m).wants
 meaning-value law octets c at word Nothing g are h = h
 meaning-value law octets c at word (Says epoch said) g are h =
-    with-value (after_epoch c epoch at).wants at word said (notice-value law octets c.wants epoch said are g) (epoch-value c epoch at h)
+    with-value (after_epoch c epoch at word).wants at word said (notice-value law octets c.wants epoch said are g) (epoch-value c epoch at word h)
 
 pub heard-value : OctetsAreRead → (c : ClientView) (d : Datagram) (now word : ℕ) → AreOctets d.octets
     → AllByRecursion SlotIsValue c.wants → AllByRecursion SlotIsValue (after_heard c d now word).wants

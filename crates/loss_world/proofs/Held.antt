@@ -28,14 +28,12 @@ use Rattle.client_core.specs.declared.events.Event.{Event}
 use Rattle.client_core.specs.declared.events.Event.TheVariants.{Sent, Taken, Refused, Ended, Dropped, Invalid}
 use Rattle.client_core.specs.declared.events.Grant.{Grant}
 use Rattle.client_core.specs.declared.events.HeldLease.{HeldLease}
-use Rattle.client_core.specs.declared.events.TheConstants.{LONGEST_ERROR, NOTHING_GRANTED}
 use Rattle.client_core.specs.declared.meanings.Meaning.{Meaning}
 use Rattle.client_core.specs.declared.meanings.Meaning.TheVariants.{Nothing, Says}
 use Rattle.client_core.specs.declared.meanings.Notice.{Notice}
 use Rattle.client_core.specs.declared.meanings.Notice.TheVariants as Notices
-use Rattle.client_core.specs.Clients.{ClientView, after_asked, after_end, after_epoch, after_heard, after_meaning, after_tick, after_want, with_notice, counted, dropped_in, first_due, happened, happened_at, meaning_of, heard_epoch_at}
+use Rattle.client_core.specs.Clients.{ClientView, after_asked, after_end, after_epoch, after_heard, after_meaning, after_tick, after_want, with_notice, counted, dropped_in, first_due, happened, happened_at, meaning_of, moves}
 use Rattle.client_core.specs.Meanings.{answers, grant_of, said_at, said_by, said_in, said_of, said_to, same_common, same_key, same_third, want_at}
-use Rattle.client_core.specs.EpochTests.{is_valid}
 use Rattle.client_core.specs.Wants.{WantView, after, after_sent, after_taken, begun_want, is_over, lease_of, suggesting}
 use Rattle.loss_world.proofs.HouseFacts.{All-set}
 use Rattle.loss_world.specs.Disclosure.{HasCommon, IsAskFor}
@@ -92,7 +90,7 @@ IsNoSuccess (Sent at word) = ⊤
 IsNoSuccess (Refused at seconds) = ⊤
 IsNoSuccess (Ended at) = ⊤
 IsNoSuccess Dropped = ⊤
-IsNoSuccess (Invalid at) = ⊤
+IsNoSuccess (Invalid at word) = ⊤
 
 pub event-holds : (T : Option Address → Common → Type 0) (w : WantView) (e : Event) → IsNoSuccess e → WantHolds T w → WantHolds T (after w e)
 event-holds T w (Sent at word) n h = sent-holds T w at word w.reason h
@@ -100,7 +98,7 @@ event-holds T w (Taken at word grant) n h = absurd n
 event-holds T w (Refused at seconds) n h = same-holds T w (after w (Refused at seconds)) refl refl refl h
 event-holds T w (Ended at) n h = same-holds T w (after w (Ended at)) refl refl refl h
 event-holds T w Dropped n h = λ l e. absurd cc
-event-holds T w (Invalid at) n h = same-holds T w (after w (Invalid at)) refl refl refl h
+event-holds T w (Invalid at word) n h = same-holds T w (after w (Invalid at word)) refl refl refl h
 
 pub slot-holds : (T : Option Address → Common → Type 0) (x : Option WantView) (e : Event) → IsNoSuccess e → SlotHolds T x → SlotHolds T (happened e x)
 slot-holds T None e n h = tt
@@ -165,13 +163,13 @@ suggested (Asks.Known refusal) endpoint nonce port address h = absurd h
 suggested Asks.Announce endpoint nonce port address h = absurd h
 
 -- the want that a success is for holds what it grants
-pub taken-holds : (T : Option Address → Common → Type 0) (w : WantView) (r : Response) (common : Common) (at word lifetime : ℕ) → answers r (Some w) ≡ true →
-    HasCommon r.body common → T (third_of r.items) common → WantHolds T (after_taken w at word (grant_of lifetime common))
-taken-holds T w r common at word lifetime h has told l e =
+pub taken-holds : (T : Option Address → Common → Type 0) (w : WantView) (r : Response) (common : Common) (at word : ℕ) → answers r (Some w) ≡ true →
+    HasCommon r.body common → T (third_of r.items) common → WantHolds T (after_taken w at word (grant_of r common))
+taken-holds T w r common at word h has told l e =
     let a = both-true (same_key w.ask r.body) (same_third w.third (third_of r.items)) h in
     let f = key-for w.ask r.body a.0 in
     let third = third-same w.third (third_of r.items) a.1 in
-    let same : lease_of at (grant_of lifetime common) ≡ l = cc in
+    let same : lease_of at (grant_of r common) ≡ l = cc in
     let one = f.one common has in
     record {
       endpoint = f.endpoint;
@@ -223,25 +221,25 @@ pub record IsGrantOf (octets : List ℕ) (wants : List (Option WantView)) (id : 
   pub answers_it : answers response (Some want) ≡ true
   pub common : Common
   pub has : HasCommon response.body common
-  pub grant_is : grant ≡ grant_of response.lifetime common
+  pub grant_is : grant ≡ grant_of response common
 
 abbrev pub Granting : List ℕ → List (Option WantView) → Meaning → Type 0
 Granting octets wants Nothing = ⊤
 Granting octets wants (Says epoch Notices.Epoch) = ⊤
 Granting octets wants (Says epoch (Notices.Grants id grant)) = IsGrantOf octets wants id grant
-Granting octets wants (Says epoch (Notices.Refuses id seconds)) = ⊤
+Granting octets wants (Says epoch (Notices.Refuses id code seconds)) = ⊤
 Granting octets wants (Says epoch (Notices.Removes id)) = ⊤
 
 to-want : (octets : List ℕ) (wants : List (Option WantView)) (r : Response) (c : Common) (id : ℕ) (w : WantView) → response_of octets ≡ Some r → HasCommon r.body c → want_at wants id ≡ Some w → answers r (Some w) ≡ true →
     Granting octets wants (said_to r c id w.ending)
 to-want octets wants r c id w read has there is =
-    cond_both (not (code_number r.code == 0)) (Says r.epoch (Notices.Refuses id (min r.lifetime LONGEST_ERROR)))
-    (cond w.ending (cond (r.lifetime == 0) (Says r.epoch (Notices.Removes id)) Nothing) (cond (r.lifetime == 0) (Says r.epoch (Notices.Refuses id NOTHING_GRANTED)) (Says r.epoch (Notices.Grants id (grant_of r.lifetime c)))))
+    cond_both (not (code_number r.code == 0)) (Says r.epoch (Notices.Refuses id r.code (min r.lifetime 1800)))
+    (cond w.ending (cond (r.lifetime == 0) (Says r.epoch (Notices.Removes id)) Nothing) (cond (r.lifetime == 0) (Says r.epoch (Notices.Refuses id r.code 30)) (Says r.epoch (Notices.Grants id (grant_of r c)))))
     (Granting octets wants) (λ _. tt)
-    (λ code. cond_both w.ending (cond (r.lifetime == 0) (Says r.epoch (Notices.Removes id)) Nothing) (cond (r.lifetime == 0) (Says r.epoch (Notices.Refuses id NOTHING_GRANTED)) (Says r.epoch (Notices.Grants id (grant_of r.lifetime c))))
+    (λ code. cond_both w.ending (cond (r.lifetime == 0) (Says r.epoch (Notices.Removes id)) Nothing) (cond (r.lifetime == 0) (Says r.epoch (Notices.Refuses id r.code 30)) (Says r.epoch (Notices.Grants id (grant_of r c))))
     (Granting octets wants)
     (λ _. cond_both (r.lifetime == 0) (Says r.epoch (Notices.Removes id)) Nothing (Granting octets wants) (λ _. tt) (λ _. tt))
-    (λ _. cond_both (r.lifetime == 0) (Says r.epoch (Notices.Refuses id NOTHING_GRANTED)) (Says r.epoch (Notices.Grants id (grant_of r.lifetime c))) (Granting octets wants) (λ _. tt)
+    (λ _. cond_both (r.lifetime == 0) (Says r.epoch (Notices.Refuses id r.code 30)) (Says r.epoch (Notices.Grants id (grant_of r c))) (Granting octets wants) (λ _. tt)
     (λ lasts. record {
       response = r;
       read = read;
@@ -307,32 +305,32 @@ AreTold T octets =
 taken-at : (T : Option Address → Common → Type 0) (octets : List ℕ) (wants ys : List (Option WantView)) (id at word : ℕ) (grant : Grant) (g : IsGrantOf octets wants id grant) (w : WantView) →
     want_at ys id ≡ Some w → answers g.response (Some w) ≡ true → AreTold T octets → AllByRecursion (SlotHolds T) ys → AllByRecursion (SlotHolds T) (happened_at ys id (Taken at word grant))
 taken-at T octets wants ys id at word grant g w there is told h =
-    let held = taken-holds T w g.response g.common at word g.response.lifetime is g.has (told g.response g.common g.read g.success g.lasts g.has) in
+    let held = taken-holds T w g.response g.common at word is g.has (told g.response g.common g.read g.success g.lasts g.has) in
     All-set (SlotHolds T) ys id (happened (Taken at word grant) (want_at ys id)) h
     (subst (λ x. SlotHolds T (happened (Taken at word grant) x)) (sym there) (subst (λ x. WantHolds T (after_taken w at word x)) (sym g.grant_is) held))
 
 word-holds : (T : Option Address → Common → Type 0) (octets : List ℕ) (c : ClientView) (epoch at word : ℕ) (said : Notice) → Granting octets c.wants (Says epoch said) → AreTold T octets → AllByRecursion (SlotHolds T) c.wants →
-    AllByRecursion (SlotHolds T) (with_notice (after_epoch c epoch at).wants at word said)
+    AllByRecursion (SlotHolds T) (with_notice (after_epoch c epoch at word).wants at word said)
 word-holds T octets c epoch at word said g told h =
-    cond_both (is_valid c.heard (heard_epoch_at epoch at)) c.wants (map (happened (Invalid at)) c.wants) (λ ys. AllByRecursion (SlotHolds T) (with_notice ys at word said))
-    (λ _. plain said g) (λ _. asked said g)
+    cond_both (moves c epoch at) (map (happened (Invalid at word)) c.wants) c.wants (λ ys. AllByRecursion (SlotHolds T) (with_notice ys at word said))
+    (λ _. asked said g) (λ _. plain said g)
   where
-    begun : AllByRecursion (SlotHolds T) (map (happened (Invalid at)) c.wants)
-    begun = All-mapped T (happened (Invalid at)) (λ x k. slot-holds T x (Invalid at) tt k) c.wants h
+    begun : AllByRecursion (SlotHolds T) (map (happened (Invalid at word)) c.wants)
+    begun = All-mapped T (happened (Invalid at word)) (λ x k. slot-holds T x (Invalid at word) tt k) c.wants h
 
     plain : (said : Notice) → Granting octets c.wants (Says epoch said) → AllByRecursion (SlotHolds T) (with_notice c.wants at word said)
     plain Notices.Epoch g = h
     plain (Notices.Grants id grant) g = taken-at T octets c.wants c.wants id at word grant g g.want g.there g.answers_it told h
-    plain (Notices.Refuses id seconds) g = event-at T c.wants id (Refused at seconds) tt h
+    plain (Notices.Refuses id code seconds) g = event-at T c.wants id (Refused at seconds) tt h
     plain (Notices.Removes id) g = All-set (SlotHolds T) c.wants id None h tt
 
-    asked : (said : Notice) → Granting octets c.wants (Says epoch said) → AllByRecursion (SlotHolds T) (with_notice (map (happened (Invalid at)) c.wants) at word said)
+    asked : (said : Notice) → Granting octets c.wants (Says epoch said) → AllByRecursion (SlotHolds T) (with_notice (map (happened (Invalid at word)) c.wants) at word said)
     asked Notices.Epoch g = begun
     asked (Notices.Grants id grant) g =
-        taken-at T octets c.wants (map (happened (Invalid at)) c.wants) id at word grant g (after g.want (Invalid at))
-        (mapped-at (happened (Invalid at)) c.wants id refl ∙ ap (happened (Invalid at)) g.there) g.answers_it told begun
-    asked (Notices.Refuses id seconds) g = event-at T (map (happened (Invalid at)) c.wants) id (Refused at seconds) tt begun
-    asked (Notices.Removes id) g = All-set (SlotHolds T) (map (happened (Invalid at)) c.wants) id None begun tt
+        taken-at T octets c.wants (map (happened (Invalid at word)) c.wants) id at word grant g (after g.want (Invalid at word))
+        (mapped-at (happened (Invalid at word)) c.wants id refl ∙ ap (happened (Invalid at word)) g.there) g.answers_it told begun
+    asked (Notices.Refuses id code seconds) g = event-at T (map (happened (Invalid at word)) c.wants) id (Refused at seconds) tt begun
+    asked (Notices.Removes id) g = All-set (SlotHolds T) (map (happened (Invalid at word)) c.wants) id None begun tt
 
 meaning-holds : (T : Option Address → Common → Type 0) (octets : List ℕ) (c : ClientView) (at word : ℕ) (m : Meaning) → Granting octets c.wants m → AreTold T octets → AllByRecursion (SlotHolds T) c.wants →
     AllByRecursion (SlotHolds T) (after_meaning c at word m).wants

@@ -98,7 +98,7 @@ abbrev held_of : Option ClientHost → Option HeldLease
 held_of None = None
 held_of (Some h) = held_by h.client 0
 
-pub lease-is-held : held_of (slice_get (run (begun (beginning_by 1)) first).clients 0) ≡ Some (record { address = host 9; external = 5000; until_ms = 5200000 })
+pub lease-is-held : held_of (slice_get (run (begun (beginning_by 1)) first).clients 0) ≡ Some (record { address = host 9; external = 5000; count = 1; until_ms = 5200000 })
 unfolding verdict_of_datagram verdict_of decide_map pick next_inside
 lease-is-held = refl
 
@@ -106,7 +106,7 @@ lease-is-held = refl
 abbrev moved : List Event
 moved = Wants 0 None (asking 80) ∷ ClientTicks 0 0 ∷ ToServer 0 ∷ ToClient 0 0 0 ∷ Fails 0 (Renumbers (host 8)) ∷ ToClient 0 0 0 ∷ []
 
-pub lease-is-moved : held_of (slice_get (run (begun (beginning_by 1)) moved).clients 0) ≡ Some (record { address = host 8; external = 5000; until_ms = 5200000 })
+pub lease-is-moved : held_of (slice_get (run (begun (beginning_by 1)) moved).clients 0) ≡ Some (record { address = host 8; external = 5000; count = 1; until_ms = 5200000 })
 unfolding verdict_of_datagram verdict_of decide_map pick next_inside
 lease-is-moved = refl
 

@@ -13,7 +13,6 @@ use Rattle.client_core.specs.declared.meanings.Meaning.{Meaning}
 use Rattle.client_core.specs.declared.meanings.Meaning.TheVariants.{Nothing, Says}
 use Rattle.client_core.specs.declared.meanings.Notice.{Notice}
 use Rattle.client_core.specs.declared.meanings.Notice.TheVariants as Notices
-use Rattle.client_core.specs.declared.events.TheConstants.{LONGEST_ERROR, NOTHING_GRANTED}
 use Rattle.client_core.specs.Clients.{ClientView, counted, meaning_of, request_in, request_for, request_due, first_due}
 use Rattle.client_core.specs.Meanings.{answers, grant_of, said_at, said_by, said_in, said_of, said_to, want_at}
 use Rattle.client_core.specs.Wants.{WantView, next_ask}
@@ -27,13 +26,13 @@ SaysOf r (Says epoch word) = r.epoch ≡ epoch
 
 to-want : (r : Response) (c : Common) (id : ℕ) (ending : Bool) → SaysOf r (said_to r c id ending)
 to-want r c id ending =
-    cond_both (not (code_number r.code == 0)) (Says r.epoch (Notices.Refuses id (min r.lifetime LONGEST_ERROR)))
-    (cond ending (cond (r.lifetime == 0) (Says r.epoch (Notices.Removes id)) Nothing) (cond (r.lifetime == 0) (Says r.epoch (Notices.Refuses id NOTHING_GRANTED)) (Says r.epoch (Notices.Grants id (grant_of r.lifetime c)))))
+    cond_both (not (code_number r.code == 0)) (Says r.epoch (Notices.Refuses id r.code (min r.lifetime 1800)))
+    (cond ending (cond (r.lifetime == 0) (Says r.epoch (Notices.Removes id)) Nothing) (cond (r.lifetime == 0) (Says r.epoch (Notices.Refuses id r.code 30)) (Says r.epoch (Notices.Grants id (grant_of r c)))))
     (SaysOf r) (λ _. refl)
-    (λ _. cond_both ending (cond (r.lifetime == 0) (Says r.epoch (Notices.Removes id)) Nothing) (cond (r.lifetime == 0) (Says r.epoch (Notices.Refuses id NOTHING_GRANTED)) (Says r.epoch (Notices.Grants id (grant_of r.lifetime c))))
+    (λ _. cond_both ending (cond (r.lifetime == 0) (Says r.epoch (Notices.Removes id)) Nothing) (cond (r.lifetime == 0) (Says r.epoch (Notices.Refuses id r.code 30)) (Says r.epoch (Notices.Grants id (grant_of r c))))
     (SaysOf r)
     (λ _. cond_both (r.lifetime == 0) (Says r.epoch (Notices.Removes id)) Nothing (SaysOf r) (λ _. refl) (λ _. tt))
-    (λ _. cond_both (r.lifetime == 0) (Says r.epoch (Notices.Refuses id NOTHING_GRANTED)) (Says r.epoch (Notices.Grants id (grant_of r.lifetime c))) (SaysOf r) (λ _. refl) (λ _. refl)))
+    (λ _. cond_both (r.lifetime == 0) (Says r.epoch (Notices.Refuses id r.code 30)) (Says r.epoch (Notices.Grants id (grant_of r c))) (SaysOf r) (λ _. refl) (λ _. refl)))
 
 to-slot : (r : Response) (c : Common) (id : ℕ) (w : Option WantView) → SaysOf r (said_at r c id w)
 to-slot r c id None = tt
