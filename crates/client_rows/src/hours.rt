@@ -50,6 +50,27 @@ fn a_mapping_is_kept(rt: HostRuntime) -> Result<(), Fail> {
     Ok(())
 }
 
+// Whether a host that sleeps until something is due asks at the same times.
+fn sleeps(alloc: Global) -> Result<bool, Fail> {
+    let mut keeper = begun(alloc)?;
+    for turn in 0..6u32 {
+        let second = turn.wrapping_mul(1800);
+        if keeper.next_due() != Some(1000 * u64::from(second)) {
+            return Ok(false);
+        }
+        if !is_asked(&mut keeper, alloc, second, second)? {
+            return Ok(false);
+        }
+    }
+    Ok(true)
+}
+
+#[test]
+fn a_host_sleeps(rt: HostRuntime) -> Result<(), Fail> {
+    assert!(rt; sleeps(rt.alloc())?);
+    Ok(())
+}
+
 #[test]
 fn a_loss_is_mended(rt: HostRuntime) -> Result<(), Fail> {
     let alloc = rt.alloc();

@@ -39,34 +39,39 @@ impl Keeper {
         }
     }
 
-    /// The request that is due, for UDP port 5351 of the server. A host asks a few times a second, each time
-    /// with a random word.
+    /// From when on `due` does something: until then a host may sleep, unless a datagram comes.
+    pub fn next_due(&self) -> Option<u64> {
+        self.client.next_due()
+    }
+
+    /// The request that is due, for UDP port 5351 of the server. A host asks with a random word each time.
     pub fn due(&mut self, alloc: Global, now_ms: u64, word: u32) -> Result<Option<Octets>, Memory>
         requires { now_ms < 1000 * 2 ^ 40 }
     {
         self.client.tick(alloc, now_ms, word)
     }
 
-    /// Hears a datagram, from whomever it came; what isn't the server's says nothing.
+    /// Hears a datagram, from whomever it came; what isn't the server's says nothing. Gives what it said, also
+    /// an error with its code.
     pub fn hear(
         &mut self,
         alloc: Global,
         datagram: &Datagram,
         now_ms: u64,
         word: u32,
-    ) -> Result<(), Memory>
+    ) -> Result<What, Memory>
         requires { now_ms < 1000 * 2 ^ 40 }
     {
         let heard = self.client.heard(alloc, datagram, now_ms, word)?;
         // The server lost its leases (RFC 6887, section 8.5): what it granted may be another host's by now. The
-        // client asks anew at the next `due`.
+        // client asks anew within five seconds.
         if heard.epoch == EpochFound::Invalid {
             self.confirmed = false;
         }
         if let What::Taken(_id) = heard.what {
             self.confirmed = true;
         }
-        Ok(())
+        Ok(heard.what)
     }
 
     /// The external address and port for others to use; none while there is no lease, or one that the server

@@ -6,12 +6,12 @@ ghost use Rattle.client_core.specs.Wants.{CanBeWanted};
 
 use crate::clients::{FILTER, NONCE, NONE, OWN, REPLY, REQUEST, endpoint, joined};
 use EpochFound::{Invalid, Unread, Valid};
-use Step::{Announced, Ends, Hears, Holds, Ticks, Wants};
+use Step::{Announced, Ends, Forgets, Hears, Holds, IsDue, Ticks, Wants};
 use What::{ErrorFor, NotMine, Taken, Told};
 use client_core::{
     Client, EpochFound, EpochTest, Heard, LONGEST_WAIT_MS, WantRefused, What, next_wait,
 };
-use pcp_base::{Address, Ask, Datagram, Filter, FilterList, MapAsk, Octets};
+use pcp_base::{Address, Ask, Code, Datagram, Filter, FilterList, MapAsk, Octets};
 use std::alloc::{AllocError, Global};
 use std::test::Fail;
 
@@ -36,10 +36,14 @@ enum Step {
     Ticks(u32, Option<Port>),
     // It hears a reply for this port, with a code and an epoch, and is given this word.
     Hears(u32, u8, u32, Port, EpochFound, What),
-    // It hears this epoch announced.
-    Announced(u32, EpochFound),
+    // It is given this word, and hears this epoch announced.
+    Announced(u32, u32, EpochFound),
     // The want of this id is to end, where there is one.
     Ends(u32, bool),
+    // The want of this id is given up, where there is one.
+    Forgets(u32, bool),
+    // When a tick does something next.
+    IsDue(Option<u64>),
     // Until when, in milliseconds, the want of this id holds which port of which address 192.0.2.x.
     Holds(u32, Option<(u64, u16, u8)>),
 }
@@ -197,7 +201,8 @@ fn holds(client: &Client, id: u32, lease: &Option<(u64, u16, u8)>) -> bool {
     let Some((until, port, last)) = lease else {
         return false;
     };
-    held.until_ms == *until && held.external == *port && held.address == external(*last)
+    (held.until_ms, held.external, held.count) == (*until, *port, 1)
+        && held.address == external(*last)
 }
 
 // Whether this comes of a step at a time in milliseconds.
@@ -213,12 +218,14 @@ fn is_so(client: &mut Client, alloc: Global, now: u32, step: &Step) -> Result<bo
             let heard = hears(client, alloc, now, *word, SERVER, octets)?;
             Ok(heard.epoch == *found && heard.what == *what)
         }
-        Announced(epoch, found) => {
+        Announced(word, epoch, found) => {
             let octets = announced(alloc, *epoch)?;
-            let heard = hears(client, alloc, now, 0, SERVER, octets)?;
+            let heard = hears(client, alloc, now, *word, SERVER, octets)?;
             Ok(heard.epoch == *found && heard.what == Told)
         }
         Ends(id, there) => Ok(client.end(*id, u64::from(now)) == *there),
+        Forgets(id, there) => Ok(client.forget(*id) == *there),
+        IsDue(time) => Ok(client.next_due() == *time),
         Holds(id, lease) => Ok(holds(client, *id, lease)),
     }
 }
@@ -317,13 +324,13 @@ static UPDATE: [(u32, Step); 7] = [
 ];
 
 static FALLEN_EPOCH: [(u32, Step); 2] = [
-    (1_600_000, Announced(600, Valid)),
-    (2_003_000, Announced(3, Invalid)),
+    (1_600_000, Announced(0, 600, Valid)),
+    (2_003_000, Announced(0, 3, Invalid)),
 ];
 
 static LOW_EPOCH: [(u32, Step); 2] = [
-    (2_000_000, Announced(2, Valid)),
-    (2_003_000, Announced(3, Valid)),
+    (2_000_000, Announced(0, 2, Valid)),
+    (2_003_000, Announced(0, 3, Valid)),
 ];
 
 // After an invalid epoch both wants are asked for at once, as they were granted.
@@ -340,7 +347,7 @@ static TWO_WANTS: [(u32, Step); 13] = [
         0,
         Hears(0, 0, 10, Port(5001, 3600, 1025, 1), Valid, Taken(1)),
     ),
-    (100_000, Announced(3, Invalid)),
+    (100_000, Announced(0, 3, Invalid)),
     (100_000, Ticks(1000, Some(Port(5000, 3600, 1024, 1)))),
     (100_000, Ticks(1000, Some(Port(5001, 3600, 1025, 1)))),
     (100_000, Ticks(0, None)),
@@ -381,28 +388,188 @@ static ERRORS: [(u32, Step); 13] = [
     (0, Ticks(1000, Some(Port(5000, 3600, 0, 0)))),
     (
         0,
-        Hears(0, 8, 10, Port(5000, 30, 0, 0), Valid, ErrorFor(0, 30)),
+        Hears(
+            0,
+            8,
+            10,
+            Port(5000, 30, 0, 0),
+            Valid,
+            ErrorFor(0, Code::NoResources, 30),
+        ),
     ),
     (29_999, Ticks(1000, None)),
     (30_000, Ticks(1000, Some(Port(5000, 3600, 0, 0)))),
     (
         30_000,
-        Hears(0, 2, 40, Port(5000, 5000, 0, 0), Valid, ErrorFor(0, 1800)),
+        Hears(
+            0,
+            2,
+            40,
+            Port(5000, 5000, 0, 0),
+            Valid,
+            ErrorFor(0, Code::NotAuthorized, 1800),
+        ),
     ),
     (1_829_999, Ticks(1000, None)),
     (1_830_000, Ticks(1000, Some(Port(5000, 3600, 0, 0)))),
     (
         1_830_000,
-        Hears(0, 8, 1840, Port(5000, 0, 0, 0), Valid, ErrorFor(0, 0)),
+        Hears(
+            0,
+            8,
+            1840,
+            Port(5000, 0, 0, 0),
+            Valid,
+            ErrorFor(0, Code::NoResources, 0),
+        ),
     ),
     (1_833_999, Ticks(1000, None)),
     (1_834_000, Ticks(1000, Some(Port(5000, 3600, 0, 0)))),
     (
         1_834_000,
-        Hears(0, 0, 1844, Port(5000, 0, 0, 0), Valid, ErrorFor(0, 30)),
+        Hears(
+            0,
+            0,
+            1844,
+            Port(5000, 0, 0, 0),
+            Valid,
+            ErrorFor(0, Code::Success, 30),
+        ),
     ),
     (1_863_999, Ticks(1000, None)),
 ];
+
+// After an invalid epoch what is wanted is due within five seconds, as the word says; another invalid one in
+// this time is told and moves nothing, and behind it one moves it again.
+static SPREAD: [(u32, Step); 15] = [
+    (0, Wants(5000, 0)),
+    (0, Ticks(0, Some(Port(5000, 3600, 0, 0)))),
+    (
+        0,
+        Hears(0, 0, 10, Port(5000, 3600, 1024, 1), Valid, Taken(0)),
+    ),
+    (0, IsDue(Some(1_800_000))),
+    (100_000, Announced(32_768, 3, Invalid)),
+    (100_000, IsDue(Some(102_500))),
+    (101_000, Announced(0, 1, Invalid)),
+    (102_499, Ticks(1000, None)),
+    (102_500, Ticks(1000, Some(Port(5000, 3600, 1024, 1)))),
+    (102_500, IsDue(Some(105_500))),
+    (104_999, Announced(0, 60, Invalid)),
+    (104_999, IsDue(Some(105_500))),
+    (105_000, Announced(65_535, 0, Invalid)),
+    (105_000, Ticks(1000, None)),
+    (105_000, IsDue(Some(109_999))),
+];
+
+// A want that is given up asks for nothing more, and its id is free.
+static FORGOTTEN: [(u32, Step); 13] = [
+    (0, IsDue(None)),
+    (0, Wants(5000, 0)),
+    (0, Wants(5001, 1)),
+    (0, Ticks(1000, Some(Port(5000, 3600, 0, 0)))),
+    (0, Ticks(1000, Some(Port(5001, 3600, 0, 0)))),
+    (
+        0,
+        Hears(0, 0, 10, Port(5000, 3600, 1024, 1), Valid, Taken(0)),
+    ),
+    (2_000, Forgets(0, true)),
+    (2_000, Holds(0, None)),
+    (2_000, Forgets(0, false)),
+    (2_000, IsDue(Some(3_000))),
+    (3_000, Ticks(1000, Some(Port(5001, 3600, 0, 0)))),
+    (3_000, Ticks(1000, None)),
+    (3_000, Wants(5002, 0)),
+];
+
+// In an error's time the lease ends, and is dropped then.
+static ENDS_IN_AN_ERROR: [(u32, Step); 12] = [
+    (0, Wants(5000, 0)),
+    (0, Ticks(0, Some(Port(5000, 3600, 0, 0)))),
+    (0, Hears(0, 0, 10, Port(5000, 12, 1024, 1), Valid, Taken(0))),
+    (0, IsDue(Some(6_000))),
+    (6_000, Ticks(0, Some(Port(5000, 3600, 1024, 1)))),
+    (
+        6_000,
+        Hears(
+            0,
+            8,
+            16,
+            Port(5000, 30, 0, 0),
+            Valid,
+            ErrorFor(0, Code::NoResources, 30),
+        ),
+    ),
+    (6_000, IsDue(Some(12_000))),
+    (11_999, Ticks(0, None)),
+    (11_999, Holds(0, Some((12_000, 1024, 1)))),
+    (12_000, Ticks(0, None)),
+    (12_000, Holds(0, None)),
+    (12_000, IsDue(Some(36_000))),
+];
+
+#[test]
+fn times_that_are_told(rt: HostRuntime) -> Result<(), Fail> {
+    let alloc = rt.alloc();
+    let runs: [&[(u32, Step)]; 3] = [&SPREAD, &FORGOTTEN, &ENDS_IN_AN_ERROR];
+    for (i, steps) in runs.iter().enumerate() {
+        let other = first_other(alloc, steps)?;
+        assert!(rt; other.is_none(), "run {i}, step {other:?}");
+    }
+    Ok(())
+}
+
+// By how many milliseconds the want of a client of its own waits behind an invalid epoch, by this word.
+fn waits_behind(alloc: Global, word: u32) -> Result<u64, Fail> {
+    let mut client = Client::new(alloc, SERVER, OWN)?;
+    let _id = wants(&mut client, alloc, 0, 5000)?;
+    for (now, epoch) in [(0, 600), (100_000, 3)] {
+        let octets = announced(alloc, epoch)?;
+        let _heard = hears(&mut client, alloc, now, word, SERVER, octets)?;
+    }
+    let due = client.next_due().ok_or("none")?;
+    Ok(due.saturating_sub(100_000))
+}
+
+// How many of 1,000 clients, each with a word of its own, ask in each of the five seconds behind one.
+fn spread(alloc: Global) -> Result<[u32; 5], Fail> {
+    let mut counts = [0u32; 5];
+    for i in 0..1000u32 {
+        let wait = waits_behind(alloc, i.wrapping_mul(2_654_435_761))?;
+        let second = usize::try_from(wait / 1000).unwrap_or(5);
+        let count = counts.get_mut(second).ok_or("late")?;
+        *count = count.wrapping_add(1);
+    }
+    Ok(counts)
+}
+
+#[test]
+fn clients_dont_ask_at_once(rt: HostRuntime) -> Result<(), Fail> {
+    let counts = spread(rt.alloc())?;
+    let even = counts.iter().all(|count| (190..=210).contains(count));
+    assert!(rt; even, "{counts:?}");
+    Ok(())
+}
+
+// PORT_SET of five ports from 6000 on.
+static FIVE: [u8; 12] = [130, 0, 0, 5, 0, 5, 0x17, 0x70, 0, 0, 0, 0];
+
+// How many ports a want holds that was granted with these options.
+fn held_with(alloc: Global, options: &[u8]) -> Result<Option<u16>, Fail> {
+    let mut client = Client::new(alloc, SERVER, OWN)?;
+    let id = wants(&mut client, alloc, 0, 5000)?;
+    let mut octets = reply(alloc, 0, 10, &Port(5000, 3600, 1024, 1))?;
+    octets.extend_from_slice(options)?;
+    let _heard = hears(&mut client, alloc, 0, 0, SERVER, octets)?;
+    Ok(client.held(id).map(|held| held.count))
+}
+
+#[test]
+fn sets_of_ports(rt: HostRuntime) -> Result<(), Fail> {
+    let alloc = rt.alloc();
+    assert!(rt; held_with(alloc, &FIVE)? == Some(5) && held_with(alloc, b"")? == Some(1));
+    Ok(())
+}
 
 #[test]
 fn wants_over_time(rt: HostRuntime) -> Result<(), Fail> {
