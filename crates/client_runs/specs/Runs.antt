@@ -7,7 +7,6 @@ use Rattle.pcp_io.specs.declared.inboxes.InboxItem.TheVariants as Items
 use Rattle.pcp_options.specs.declared.responses.Response.{Response}
 use Rattle.client_runs.specs.declared.tries.Unanswered.{Unanswered}
 use Rattle.client_runs.specs.declared.tries.Unanswered.TheVariants.{LinkFault, Memory, EntropyFault, Silence, Turns, Stopped}
-use Rattle.client_runs.specs.declared.turns.TheConstants.{MOST_TURNS}
 
 -- Who asks, in a state of its own: the response that a datagram at a time is as an answer, what any other datagram makes of
 -- the state, which request is due at a time, and what a tick with a word makes of it.
@@ -112,9 +111,9 @@ module _ {S : Type 0} (a : Asking S) (limit : ℕ) (state : S) (time : ℕ) wher
   abbrev pub Ends : Run → Result Response Unanswered → Type 0
   Ends run (Ok response) = EndsInTurn run (Ok response)
   Ends run (Err Silence) = EndsInTurn run (Err Silence)
-  Ends run (Err Turns) = (run.last ≡ []) × (length run.turns ≡ MOST_TURNS)
-  Ends run (Err Stopped) = (run.last ≡ []) × (length run.turns < MOST_TURNS)
-  Ends run (Err LinkFault) = (run.last ≡ []) × (length run.turns < MOST_TURNS)
+  Ends run (Err Turns) = (run.last ≡ []) × (length run.turns ≡ 200000)
+  Ends run (Err Stopped) = (run.last ≡ []) × (length run.turns < 200000)
+  Ends run (Err LinkFault) = (run.last ≡ []) × (length run.turns < 200000)
   Ends run (Err EntropyFault) = length run.last ≤ 1
   Ends run (Err Memory) = length run.last ≤ 1
 
@@ -122,7 +121,7 @@ module _ {S : Type 0} (a : Asking S) (limit : ℕ) (state : S) (time : ℕ) wher
     pub goes_on :
         GoesOn a limit run.words (begun a limit run.words state time) run.turns
     pub ends : Ends run how
-    pub few : length (all_turns run) ≤ MOST_TURNS
+    pub few : length (all_turns run) ≤ 200000
     -- One more word may have been drawn where memory was wanting.
     pub drawn : (length run.words ≡ (reached run).drawn)
         ⊎ ((how ≡ Err Memory) × (length run.words ≡ (reached run).drawn + 1))
