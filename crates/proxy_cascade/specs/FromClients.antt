@@ -33,7 +33,6 @@ use Rattle.cascade_ties.specs.declared.ties.Tie.{Tie}
 use Rattle.cascade_ties.specs.declared.ties.Tied.{Tied}
 use Rattle.cascade_ties.specs.declared.ties.Waiting.{Waiting}
 use Rattle.cascade_ties.specs.Ties.{local_for, tie_of, with_change, with_tie}
-use Rattle.proxy_cascade.specs.declared.asking.TheConstants.{MOST_TIES}
 use Rattle.proxy_cascade.specs.Cascades.{Cascade, Step, at, for_itself, told_epoch}
 
 -- ---- texts
@@ -164,7 +163,7 @@ abbrev pub for_new : Cascade → Datagram → List Item → MapAsk → Step Prox
 for_new c d items ask = unwrap_or (first_case (
     record { applies = ask.lifetime == 0; result = gone c d items ask }
     ∷ record {
-      applies = nat_le MOST_TIES (length c.ties.each);
+      applies = nat_le 4096 (length c.ties.each);
       result = answered c d (Refused (parsed NoResources));
     }
     ∷ [])) (for_local c d items ask (local_for c.ties ask.endpoint))

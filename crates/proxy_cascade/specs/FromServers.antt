@@ -13,7 +13,6 @@ use Rattle.pcp_codec.specs.declared.requests.Common.{Common}
 use Rattle.pcp_options.specs.declared.responses.Response.{Response}
 use Rattle.pcp_options.specs.Replies.{success_text}
 use Rattle.client_core.specs.declared.epochs.HeardEpoch.{HeardEpoch}
-use Rattle.client_core.specs.declared.events.TheConstants.{LONGEST_LEASE}
 use Rattle.client_core.specs.EpochTests.{heard_epoch, is_valid}
 use Rattle.proxy_core.specs.declared.epochs.Heard.{Heard}
 use Rattle.proxy_core.specs.declared.outs.TheConstants.{CLIENTS_PORT}
@@ -70,7 +69,7 @@ ended tie = record { tie = tie; waiting = None }
 
 -- the lifetime that is told: a day at most
 abbrev pub told_lifetime : ℕ → ℕ
-told_lifetime lifetime = min lifetime LONGEST_LEASE
+told_lifetime lifetime = min lifetime 86400
 
 -- the tie as it is granted
 abbrev pub granted : Tie → Common → ℕ → ℕ → Tie

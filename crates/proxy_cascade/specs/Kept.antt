@@ -7,7 +7,6 @@ use Rattle.cascade_ties.specs.declared.ties.Tie.{Tie}
 use Rattle.cascade_ties.specs.declared.ties.Tied.{Tied}
 use Rattle.cascade_ties.specs.declared.ties.Waiting.{Waiting}
 use Rattle.cascade_ties.specs.Ties.{Ties, TiesDiffer, tie_of}
-use Rattle.proxy_cascade.specs.declared.asking.TheConstants.{MOST_TIES}
 use Rattle.proxy_cascade.specs.declared.terms.CascadeTerms.{CascadeTerms}
 use Rattle.proxy_cascade.specs.Cascades.{Cascade}
 
@@ -18,7 +17,7 @@ HasHead (Some w) = HEAD_OCTETS ≤ length w.request
 
 -- few ties that differ, and requests that were read
 pub record AreKept (ties : List Tied) : Type 0 where
-  pub few : length ties ≤ MOST_TIES
+  pub few : length ties ≤ 4096
   pub differ : TiesDiffer ties
   pub heads : AllByRecursion (λ t. HasHead t.waiting) ties
 
