@@ -1,8 +1,9 @@
 -- How 'each two images of the sides since the start have P' goes on.
-use Rattle.std.proofs.Common.{◌≡◌, inl, inr, ℕ, List, [], ◌∷◌, ◌++◌, refl, subst}
+use Rattle.std.proofs.Common.{◌≡◌, inl, inr, ℕ, List, [], ◌∷◌, ◌++◌, ◌∙◌, OnOk, Result, refl, subst}
+use Rattle.std.proofs.lemmas.Result.{on_ok_weaker}
 use Rattle.lease_disk.specs.declared.disks.DiskPair.{DiskPair}
 use Rattle.lease_disk.specs.Moments.{LeavesOnly}
-use Rattle.lease_disk.specs.Pairs.{HoldsNow, OnOneSide, Leads, PairLeavesOnly}
+use Rattle.lease_disk.specs.Pairs.{HoldsNow, OnOneSide, Leads, PairIsQuiet, PairLeavesOnly}
 use Rattle.lease_disk.proofs.CallLemmas.{weaker}
 
 module _ {D : Type 0} (moment : D → ℕ) (left_since : D → ℕ → List ℕ → Type 0) (may_leave : D → List ℕ → Type 0) where
@@ -43,3 +44,12 @@ module _ {D : Type 0} (moment : D → ℕ) (left_since : D → ℕ → List ℕ 
   pub pair_weaker : (old new : DiskPair D) (P Q : List ℕ → List ℕ → Type 0) → PairLeavesOnly moment left_since may_leave old new P → ((x y : List ℕ) → P x y → Q x y)
       → PairLeavesOnly moment left_since may_leave old new Q
   pair_weaker old new P Q run gives = record { starts = λ x y left_a left_b. gives x y (run.starts x y left_a left_b); stretches = run.stretches; lead = weaker_leads P Q gives old run.stretches new run.lead }
+
+module _ {D : Type 0} (faults : D → ℕ) (old mid new : DiskPair D) (one : PairIsQuiet faults old mid) where
+  -- the counts stand still in two calls
+  pub quiet_on : PairIsQuiet faults mid new → PairIsQuiet faults old new
+  quiet_on two = record { still_a = two.still_a ∙ one.still_a; still_b = two.still_b ∙ one.still_b }
+
+  -- so they do where the second one ends well
+  pub quiet_then : {T E : Type 0} (result : Result T E) → OnOk result (PairIsQuiet faults mid new) → OnOk result (PairIsQuiet faults old new)
+  quiet_then result = on_ok_weaker result quiet_on

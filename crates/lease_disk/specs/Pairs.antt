@@ -38,3 +38,8 @@ pub record PairHasCause {D : Type 0} (faults : D → ℕ) (old new : DiskPair D)
   pub later_a : faults old.a ≤ faults new.a
   pub later_b : faults old.b ≤ faults new.b
   pub risen : fails → HasRisen (faults old.a) (faults new.a) ⊎ HasRisen (faults old.b) (faults new.b)
+
+-- the counts of faults of the sides stand still
+pub record PairIsQuiet {D : Type 0} (faults : D → ℕ) (old new : DiskPair D) : Type 0 where
+  pub still_a : faults new.a ≡ faults old.a
+  pub still_b : faults new.b ≡ faults old.b
