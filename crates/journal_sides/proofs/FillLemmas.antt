@@ -35,7 +35,7 @@ pub record HasFilled {D : Type 0} (tells : Type 0) (seen : D → List ℕ) (may_
   pub octets : tells → take filled piece ≡ take filled (drop place (seen old))
   pub seen_still : tells → seen now ≡ seen old
   pub read : IsRead moment left_since may_leave old now
-  pub later : faults old ≤ faults now
+  pub quiet : faults now ≡ faults old
 
 -- n octets more
 pub filled_more : (octets piece slice : List ℕ) (place filled n : ℕ) → filled ≤ length piece → take filled piece ≡ take filled (drop place octets) → take n slice ≡ take n (drop (place + filled) octets)

@@ -4,6 +4,7 @@ pub mod FillLemmas
 pub mod FrameLaws
 pub mod HiddenLaws
 pub mod JudgeLemmas
+pub mod QuietLemmas
 pub mod RecordTextLaws
 pub mod SideLaws
 pub mod SideWalks

@@ -19,7 +19,7 @@ pub record IsWalking {D : Type 0} (tells : Type 0) (seen : D → List ℕ) (may_
   pub begun : 14 < place → s.started ≡ true
   pub still : tells → seen now ≡ seen old
   pub read : IsRead moment left_since may_leave old now
-  pub later : faults old ≤ faults now
+  pub quiet : faults now ≡ faults old
   pub is_ready : ready
 
 pub starts_walk : (f : Format) (s : State) (octets : List ℕ) → s ≡ empty_state → HasFrames f empty_state s octets (14 - 14)

@@ -5,6 +5,7 @@ pub mod Heads
 pub mod Journals
 pub mod Judging
 pub mod Laws
+pub mod Quiet
 pub mod Reads
 pub mod Settled
 pub mod Shut

@@ -1,8 +1,9 @@
 //! Judging both sides of a journal.
 ghost use Rattle.std.specs.Prelude.{◌≡◌, ◌≤◌, Err, length, IfOk};
 ghost use Rattle.pcp_io.specs.Faults.{HasRisen};
-ghost use Rattle.lease_disk.specs.Pairs.{PairHasCause};
+ghost use Rattle.lease_disk.specs.Pairs.{PairHasCause, PairIsQuiet};
 ghost use Rattle.journal_sides.specs.declared.errors.JournalFault.TheVariants.{Disk};
+ghost use Rattle.journal_sides.specs.Quiet.{UnlessDisk};
 ghost use Rattle.journal_sides.specs.Reads.{ArePairRead, AreSeenStill};
 ghost use Rattle.journal_sides.specs.Verdicts.{AreFound, IsFoundBegun, IsFoundInReach, IsFoundReplaying, IsFoundWithNext};
 
@@ -49,6 +50,7 @@ pub fn judge<D: LeaseDisk, R: Replay>(
     ensures read { ArePairRead D.moment D.left_since D.may_leave pair.old pair.new }
     ensures seen { D.tells → AreSeenStill D.seen pair.old pair.new }
     ensures cause { PairHasCause D.faults pair.old pair.new (result ≡ Err Disk) }
+    ensures quiet { UnlessDisk result (PairIsQuiet D.faults pair.old pair.new) }
     ensures lasting { R.lasting replay.new ≡ R.lasting replay.old }
 {
     let mut buffer = piece_of(alloc, PIECE)?;

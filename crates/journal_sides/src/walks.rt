@@ -6,6 +6,7 @@ ghost use Rattle.journal_sides.specs.declared.layout.TheConstants.{LONGEST_FRAME
 ghost use Rattle.journal_sides.specs.declared.errors.JournalFault.TheVariants.{Disk};
 ghost use Rattle.journal_sides.specs.Formats.{FitsBy, apply_by, IsReplaying};
 ghost use Rattle.journal_sides.specs.Judging.{IsSideJudged, Replayed, ReplaysOn};
+ghost use Rattle.journal_sides.specs.Quiet.{UnlessDisk};
 ghost use Rattle.journal_sides.specs.Reads.{IsRead};
 ghost use Rattle.journal_sides.specs.Verdicts.{IsJudgedBegun, IsJudgedInReach, IsJudgedWithNext};
 ghost use Rattle.journal_sides.specs.Walks.{BatchMeans, PieceMeans, TurnMeans, WalkMeans};
@@ -86,6 +87,7 @@ pub fn fill<D: LeaseDisk>(disk: &mut D, place: u64, piece: &mut [u8]) -> Result<
     ensures read { IsRead D.moment D.left_since D.may_leave disk.old disk.new }
     ensures seen { D.tells → D.seen disk.new ≡ D.seen disk.old }
     ensures cause { HasCause (D.faults disk.old) (D.faults disk.new) result }
+    ensures quiet { OnOk result (D.faults disk.new ≡ D.faults disk.old) }
 {
     let mut filled = 0;
     while filled < piece.len() {
@@ -242,6 +244,7 @@ fn walk<D: LeaseDisk, R: Replay>(
     ensures seen { D.tells → D.seen disk.new ≡ D.seen disk.old }
     ensures later { D.faults disk.old ≤ D.faults disk.new }
     ensures cause { result ≡ Err Disk → HasRisen (D.faults disk.old) (D.faults disk.new) }
+    ensures quiet { UnlessDisk result (D.faults disk.new ≡ D.faults disk.old) }
     ensures lasting { R.lasting replay.new ≡ R.lasting replay.old }
 {
     let mut place = SIDE_HEAD as u64;
@@ -283,6 +286,7 @@ pub(crate) fn judge_side<D: LeaseDisk, R: Replay>(
     ensures seen { D.tells → D.seen disk.new ≡ D.seen disk.old }
     ensures later { D.faults disk.old ≤ D.faults disk.new }
     ensures cause { result ≡ Err Disk → HasRisen (D.faults disk.old) (D.faults disk.new) }
+    ensures quiet { UnlessDisk result (D.faults disk.new ≡ D.faults disk.old) }
     ensures lasting { R.lasting replay.new ≡ R.lasting replay.old }
 {
     let size = disk.len()?;

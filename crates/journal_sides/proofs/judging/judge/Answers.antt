@@ -25,5 +25,12 @@ returns-in-Good-Good-2 g c =
       };
       seen = λ told. record { a = third.ensures.seen told ∙ c.in_ok-a.ensures.seen told; b = c.in_ok-b.ensures.seen told };
       cause = record { later_a = omega (arith, c.in_ok-a.ensures.later, third.ensures.later); later_b = c.in_ok-b.ensures.later; risen = λ e. absurd (cc e) };
+      quiet = record {
+        done = record {
+          still_a = third.ensures.quiet.done ∙ c.in_ok-a.ensures.quiet.done;
+          still_b = c.in_ok-b.ensures.quiet.done;
+        };
+        starved = λ e. absurd (cc e);
+      };
       lasting = search rules;
     }

@@ -23,5 +23,5 @@ loop-filled-preserved g c =
           (take-append-le n ys (post_of at k piece) c.in_ok-count.ensures.bound ∙ (c.in_ok-count.ensures.reads told).front ∙ ap (λ (l : List ℕ). take n (drop (c.args.place + at) l)) (so_far.seen_still told));
       seen_still = λ told. c.in_ok-count.ensures.unchanged told ∙ so_far.seen_still told;
       read = read_more d.may_leave d.moment d.left_since laws.counts_now laws.only_now c.args.disk.now c.loop-filled.disk c.read_at.new.self so_far.read c.read_at.ensures.still c.read_at.ensures.time c.read_at.ensures.crash c.read_at.ensures.images;
-      later = omega (arith, so_far.later, c.read_at.ensures.cause.later);
+      quiet = c.in_ok-count.ensures.quiet ∙ so_far.quiet;
     }

@@ -94,7 +94,7 @@ loop-place-preserved g c =
           (goes_on_walking c.args.format octets piece place wanted so_far.past reads before means.mid used c.in_ok-used.ensures.within (so_far.frames told all) means.frames);
       still = λ told. c.in_ok-count.ensures.seen told ∙ so_far.still told;
       read = read_both d.may_leave d.moment d.left_since g.met.D.LeaseDisk.counts_now g.met.D.LeaseDisk.only_now c.args.disk.now c.loop-place.disk c.fill.new.disk so_far.read c.in_ok-count.ensures.read;
-      later = omega (arith, so_far.later, c.fill.ensures.cause.later);
+      quiet = c.in_ok-count.ensures.quiet ∙ so_far.quiet;
       is_ready = (c.in_ok-used.ensures.ready, c.walk_piece.ensures.lasting ∙ so_far.is_ready.1);
     }
 
