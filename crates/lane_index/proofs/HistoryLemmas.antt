@@ -2,12 +2,13 @@
 use Rattle.std.proofs.Common.{◌≡◌, ℕ, ◌+◌, ◌<◌, ◌≤◌, ◌==◌, Bool, true, false, List, [], ◌∷◌, ◌++◌, length, refl, ap, sym, subst, ◌∙◌, arith, inl, length-append, append_assoc, None}
 use Rattle.std.proofs.lemmas.List.{append-nil}
 use Rattle.std.proofs.lemmas.Bool.Decides.{nat_tests}
+use Rattle.std.specs.Bool.{OnTrue}
 use mathlib.Core.List.{IsPrefix}
 use prog.Atomic.{either}
 use Rattle.logbook.specs.Pages.{Cell, cell, keeps, no_nib, step, Moves, Goes}
 use Rattle.lane_index.specs.declared.history.HistoryEntry.{HistoryEntry}
 use Rattle.lane_index.specs.declared.history.HistoryEntry.TheVariants.{Began, Added}
-use Rattle.lane_index.specs.Histories.{IsLengthCounted, Adds, opening_in, added_in, HasBeginning}
+use Rattle.lane_index.specs.Histories.{IsLengthCounted, Adds, TellsLength, opening_in, added_in, HasBeginning}
 
 -- ---- beginnings
 
@@ -74,6 +75,34 @@ adds_moves v es ask old new len more cs log kept pre away =
     let P : List Cell → Type 0 = λ c. (0 < length c) × ((cell c 0).1 ≡ true) × Goes IsLengthCounted shown moved 0 (v, (no_nib, None)) (λ n. either (n == old) new n) (Adds es (step 0 old new ask) (v, (no_nib, None))) c log in
     subst P (sym kept.words) (omega arith, refl, adds_goes log v es ask old new len more pre (length log == old) refl)
 
+-- whatever the book is, a step that changes nothing finds the length of all
+pub counts_moves : (v : List HistoryEntry) (ask : HistoryEntry) → Moves IsLengthCounted shown moved 0 (v, (no_nib, None)) (λ n. n) (TellsLength (step 0 0 0 ask) (v, (no_nib, None)))
+counts_moves v ask cs log kept pre away =
+    let P : List Cell → Type 0 = λ c. (0 < length c) × ((cell c 0).1 ≡ true) × Goes IsLengthCounted shown moved 0 (v, (no_nib, None)) (λ n. n) (TellsLength (step 0 0 0 ask) (v, (no_nib, None))) c log in
+    let all : log ≡ log ++ [] = sym (append-nil log) in
+    subst P (sym kept.words) (
+      omega arith,
+      refl,
+      (
+        keeps,
+        [],
+        None,
+        tt,
+        record { words = ap (λ (l : List HistoryEntry). (length l, true) ∷ (0, true) ∷ []) all },
+        inl (refl, refl),
+        ap length all,
+      ),
+    )
+
+-- what was seen begins what is as long as all
+pub covered : (seen here both all : List HistoryEntry) (found count : ℕ) → IsPrefix here both → IsPrefix seen both → IsPrefix both all → found ≡ length all → count ≡ length here
+    → (b : Bool) → (found == count) ≡ b → OnTrue b (IsPrefix seen here)
+covered seen here both all found count mine theirs more counted long true is =
+    let same : found ≡ count = grind (arith, nat_tests) in
+    let whole : here ≡ all = prefix_whole here all (prefix_trans here both all mine more) (omega (arith, counted, long, same)) in
+    subst (λ (l : List HistoryEntry). IsPrefix seen l) (sym whole) (prefix_trans seen both all theirs more)
+covered seen here both all found count mine theirs more counted long false is = tt
+
 -- ---- what is read of a history
 
 pub records-append : (xs ys : List HistoryEntry) → added_in (xs ++ ys) ≡ added_in xs ++ added_in ys
@@ -93,3 +122,7 @@ begins-append (Added r ∷ xs) ys h = absurd h
 
 pub records-prefix : (xs ys : List HistoryEntry) → IsPrefix xs ys → IsPrefix (added_in xs) (added_in ys)
 records-prefix xs ys p = (added_in p.0, sym (records-append xs p.0) ∙ ap added_in p.1)
+
+-- a beginning begins with the same state
+pub opening-prefix : (xs ys : List HistoryEntry) → HasBeginning xs → IsPrefix xs ys → opening_in xs ≡ opening_in ys
+opening-prefix xs ys begins p = sym (opening-append xs p.0 begins) ∙ ap opening_in p.1

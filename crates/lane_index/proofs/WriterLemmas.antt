@@ -57,6 +57,10 @@ told-whole h shown book log w is pre mine whole =
     ∙ (ap (λ l. told_records h.index (added_in l)) whole
     ∙ ap (λ (k : WriterKnowledge). told_records k.index k.published) (whole-view h shown h.log w is pre refl))
 
+-- all that was pushed
+pub pushed-of : (h : IndexHistory) (shown : List HistoryEntry) (w : WriterKnowledge) → view_of h shown ≡ w → IsPrefix shown h.log → added_in h.log ≡ w.published ++ w.pending
+pushed-of h shown w is pre = ap (λ (k : WriterKnowledge). k.published) (whole-view h shown h.log w is pre refl)
+
 pub same-copy : (x y : Replica) → x.index ≡ y.index → x.last ≡ y.last → x.seen ≡ y.seen → x.count ≡ y.count → x ≡ y
 same-copy x y i l f c =
     ap (λ z. record x { index = z }) i

@@ -29,6 +29,10 @@ abbrev pub Adds : List HistoryEntry → Step HistoryEntry → View HistoryEntry 
     → View HistoryEntry ℕ → Type 0
 Adds entries s v found w = MatchBool (found == s.old) (w.0 ≡ v.0 ++ entries) (Unit {0})
 
+-- the number found is the length of the whole history, all of which was then seen
+abbrev pub TellsLength : Step HistoryEntry → View HistoryEntry ℕ → ℕ → View HistoryEntry ℕ → Type 0
+TellsLength s v found w = found ≡ length w.0
+
 abbrev pub opening_leases : List MapLease → List PeerLease → ℕ → OpeningLeases
 opening_leases maps peers last = record { maps = maps; peers = peers; last = last }
 

@@ -4,6 +4,7 @@ ghost use Rattle.std.specs.Prelude.{◌≡◌, ◌+◌, ◌<◌, ◌^◌, ◌++�
 ghost use Rattle.std.specs.Bool.{OnTrue, OnFalse};
 ghost use Rattle.lane_index.specs.declared.history.HistoryEntry.TheVariants.{Added};
 ghost use Rattle.lane_index.specs.Histories.{only_opening};
+ghost use mathlib.Core.List.{IsPrefix};
 
 use logbook::{Gain, Offer, Plain, Play, Rule, Seen, Start, Word};
 use pcp_base::{Change, MapLease, Moment, PeerLease, Record};
@@ -87,6 +88,15 @@ impl<B: Adding> Plain<Record, HistoryEntry, u64> for Add<B> {
     ghost ask = { λ kept. Added kept };
 
     ghost state = { λ kept. None };
+}
+
+/// A step that counts the entries.
+pub struct Count;
+
+impl Play<HistoryEntry, u64> for Count {
+    ghost use Rattle.lane_index.specs.Histories.{TellsLength};
+
+    ghost then = { TellsLength };
 }
 
 pub(crate) type SeenHistory = Seen<HistoryEntry, u64, HistoryRule>;
@@ -208,6 +218,26 @@ impl History {
         ensures { (result.book ≡ self.now.index) × (result.log ≡ self.now.log) }
     {
         self.seen.again()
+    }
+
+    /// Whether its word counts no more than it has here. Then nobody has seen more of it.
+    pub(crate) fn covers(&self, seen: &SeenHistory) -> bool
+        requires { seen.now.book ≡ self.now.index }
+        ensures { OnTrue result (IsPrefix seen.now.log self.now.log) }
+    {
+        let mut both = self.seen.again();
+        both.learn(seen);
+        let blank = Record {
+            moment: Moment::of(0).unwrap(),
+            change: Change::Mark,
+        };
+        let mut offer: Offer<HistoryEntry, u64, HistoryRule, Nothing> = both.plain::<
+            Nothing,
+            Record,
+            Add<Brand>,
+        >(&blank);
+        let found = self.word.load::<Count, Nothing>(&mut both, &mut offer);
+        found == self.count
     }
 
     /// How many entries it has.

@@ -160,6 +160,22 @@ impl LaneWriter {
         }
     }
 
+    /// What a lane of its own index knows begins what was pushed, and began with the same state.
+    /// This is learnt of the history, which is asked again where another had added to it: nobody
+    /// but the writer does.
+    pub fn meet<R: Wait>(&self, rt: &R, lane: &Lane)
+        requires { lane.now.index ≡ self.now.index }
+        ensures opening { lane.now.opening ≡ self.now.opening }
+        ensures known { IsPrefix lane.now.known (self.now.published ++ self.now.pending) }
+    {
+        for _ in rt.forever() {
+            if self.history.covers(&lane.seen) {
+                return;
+            }
+        }
+        unreachable!()
+    }
+
     /// Ends it, and waits for a lookup that still has a copy. From then on lookups of its lane find
     /// no copy, and try for ever.
     pub fn end<R: Wait>(self, rt: &R) {
