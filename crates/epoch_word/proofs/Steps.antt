@@ -10,7 +10,7 @@ use Rattle.std.proofs.Math.Nat.{div-le_self}
 use Rattle.atomic_table.specs.Table.{State, Me, Step, keeps, Allows, Splits, Joins, opening}
 use Rattle.atomic_table.proofs.Lists.{at_set, at_snoc, set_here, set_else, set_again, at_longer}
 use Rattle.epoch_word.specs.declared.views.WordView.{WordView}
-use Rattle.epoch_word.specs.Rule.{IsBelow, word_view, first_word_view, keeper_word_view, newcomer_word_view, new_share, shares, HasGreatest, joined_word_view, spent_word_view, TellsRaise, TellsMoment, TellsShare}
+use Rattle.epoch_word.specs.Rule.{IsBelow, first_word_view, keeper_word_view, newcomer_word_view, new_share, shares, HasGreatest, joined_word_view, spent_word_view, TellsRaise, TellsMoment, TellsShare}
 
 at_within : {A : Type 0} (l : List A) (i : ℕ) (a : A) → get_elem? l i ≡ some a → i < length l
 at_within [] i a e = absurd (some-ne-none a (sym e))
@@ -82,7 +82,7 @@ module _ {S : Type 0} (first : ℕ) where
       top = max n k
 
       w : WordView
-      w = word_view (max v.raised st.first) v.heard v.share
+      w = record v { raised = max v.raised st.first }
 
       whole : shares (set s.views id w) ≡ 18446744073709551615
       whole = let a = shares_set s.views id v w at in let b : shares s.views ≡ 18446744073709551615 = r.whole in omega arith
@@ -107,7 +107,7 @@ module _ {S : Type 0} (first : ℕ) where
   tells slots id me st s r _ at _ =
       let v : WordView = me.0 in
       let n : ℕ = get_or s.words 0 0 in
-      let w : WordView = word_view v.raised n v.share in
+      let w : WordView = record v { heard = n; asked = v.asked + 1 } in
       let a = shares_set s.views id v w at in
       let b : shares s.views ≡ 18446744073709551615 = r.whole in
       let mine = r.each id v at in (

@@ -42,8 +42,9 @@ impl Model for EpochWord {
     ghost view = { λ e. e.table.shared.table_id };
 }
 
-/// What one caller knows of a word: the greatest moment that was raised with this seat, and the
-/// greatest that it was told. It has a share of the right to raise, which alone takes octets.
+/// What one caller knows of a word: the greatest moment that was raised with this seat, the greatest
+/// that it was told, and how often it asked. It has a share of the right to raise, which alone takes
+/// octets.
 #[derive(Drop)]
 pub struct EpochSeat {
     seat: Seat<u8, WordView>,
@@ -57,7 +58,8 @@ impl Model for EpochSeat {
     ghost Value = { SeatKnowledge };
 
     ghost view = { λ e.
-        seat_knowledge e.seat.table_id e.seat.me.0.raised e.seat.me.0.heard e.share };
+        seat_knowledge e.seat.table_id e.seat.me.0.raised e.seat.me.0.heard
+        e.seat.me.0.asked e.share };
 
     ghost invariant = { λ e.
         (e.seat.me.1 ≡ []) × (e.share ≡ e.seat.me.0.share) × (0 < e.share) };
@@ -65,9 +67,10 @@ impl Model for EpochSeat {
 
 impl EpochWord {
     /// A word that stands at the first moment, and the first seat, which counts as having raised
-    /// that and been told it, and has the whole share. The one error is want of memory.
+    /// that and been told it, has never asked, and has the whole share. The one error is want of
+    /// memory.
     pub fn new(alloc: Global, first: Moment) -> Result<(EpochWord, EpochSeat), Memory>
-        ensures { IfOk result (λ made. made.1 ≡ seat_knowledge made.0 first first FIRST_SHARE) }
+        ensures { IfOk result (λ made. made.1 ≡ seat_knowledge made.0 first first 0 FIRST_SHARE) }
     {
         let moment = first.get();
         let (table, seat) = Table::of_words(alloc, &[moment], &moment)?;
@@ -90,10 +93,11 @@ impl EpochWord {
     }
 
     /// Where the word stands: the greatest of the first moment and all that were raised so far. The
-    /// seat must be of this word. It takes no memory and waits for nobody.
+    /// word is asked in this call, once. The seat must be of this word. It takes no memory and waits
+    /// for nobody.
     pub fn told(&self, seat: &mut EpochSeat) -> Moment
         requires word { seat.old.word ≡ self.now }
-        ensures seat { seat.new ≡ record seat.old { heard = result } }
+        ensures seat { seat.new ≡ record seat.old { heard = result; asked = seat.old.asked + 1 } }
         ensures raised { seat.old.raised ≤ result }
         ensures heard { seat.old.heard ≤ result }
     {
@@ -101,9 +105,9 @@ impl EpochWord {
         Moment::of(seconds).unwrap()
     }
 
-    /// Another seat, which knows as much and gets a part of this one's share: 2^32, but at most a
-    /// half. The seat must be of this word. It takes no memory. It is refused, as for want of memory,
-    /// where the share can't be divided any more.
+    /// Another seat, which knows as much, has never asked, and gets a part of this one's share: 2^32,
+    /// but at most a half. The seat must be of this word. It takes no memory. It is refused, as for
+    /// want of memory, where the share can't be divided any more.
     pub fn split(&self, _alloc: Global, seat: &mut EpochSeat) -> Result<EpochSeat, Memory>
         requires word { seat.old.word ≡ self.now }
         ensures ok { IfOk result (AreSplit seat.old seat.new) }
@@ -119,14 +123,15 @@ impl EpochWord {
         Ok(EpochSeat { seat: other, share })
     }
 
-    /// Takes in what another seat knows, and its share. Both must be of this word. It takes no
-    /// memory and waits for nobody.
+    /// Takes in what another seat knows, how often it asked, and its share. Both must be of this
+    /// word. It takes no memory and waits for nobody.
     pub fn join(&self, seat: &mut EpochSeat, other: EpochSeat)
         requires word { seat.old.word ≡ self.now }
         requires other { other.word ≡ self.now }
         ensures word { seat.new.word ≡ seat.old.word }
         ensures raised { seat.new.raised ≡ max seat.old.raised other.raised }
         ensures heard { seat.new.heard ≡ max seat.old.heard other.heard }
+        ensures asked { seat.new.asked ≡ seat.old.asked + other.asked }
         ensures share { seat.new.share ≡ seat.old.share + other.share }
     {
         let EpochSeat { seat: other, share } = other;

@@ -11,6 +11,9 @@ pub struct WordView {
     /// The greatest moment that it was told.
     pub heard: u64,
 
+    /// How often it asked the word.
+    pub asked: u64,
+
     /// Its part of the right to raise the word. Without one it may raise nothing.
     pub share: u64,
 }
