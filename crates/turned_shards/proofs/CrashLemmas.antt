@@ -82,6 +82,18 @@ module _ (x : Served) (opening : State) (ds : List (List Entry)) where
         stands = inr (doubt, is, stands);
       }
 
+  -- behind no entries
+  none-behind : (first more : List Entry) (a b : List ℕ) → [] ≡ first ++ more →
+      StandsBehind x opening ds first a b → StandsForState opening a b
+  none-behind [] more a b same (inl stands) = stands
+  none-behind [] more a b same (inr (doubt, is, stands)) = absurd (cc is.fault)
+  none-behind (e ∷ es) more a b same stands =
+      absurd (let never : [] ≡ e ∷ es ++ more = same in cc)
+
+  -- no entry can be in doubt behind a history without entries
+  pub along-none : (a b : List ℕ) → StandsAlong x opening ds [] a b → StandsForState opening a b
+  along-none a b is = none-behind is.first is.more a b is.log_is is.stands
+
 -- ---- a call more
 
 module _ {D : Type 0} (tells : Type 0) (moment : D → ℕ) (left_since : D → ℕ → List ℕ → Type 0)

@@ -10,7 +10,7 @@ use Rattle.pcp_base.specs.declared.records.Record.{Record}
 use Rattle.pcp_base.specs.Apply.{apply_all}
 use Rattle.pcp_base.specs.States.{State}
 use Rattle.lease_disk.specs.Pairs.{HoldsNow}
-use Rattle.lease_disk.proofs.PairLemmas.{pair_started}
+use Rattle.lease_disk.proofs.PairLemmas.{pair_started, pair_weaker}
 use Rattle.journal_sides.specs.declared.errors.JournalFault.{JournalFault}
 use Rattle.journal_sides.specs.declared.errors.JournalFault.TheVariants.{Disk, Memory}
 use Rattle.journal_sides.specs.Journals.{StandsFor as StandsForState, StandsForWithOrWithout}
@@ -25,7 +25,7 @@ use Rattle.turned_shards.specs.Inside.{fresh_shard}
 use Rattle.turned_shards.specs.Shards.{StandsFor, served_by}
 use Rattle.turned_shards.specs.Turnings.{MayBegin, StandsStill, first_lane, first_writer}
 use Rattle.turned_shards.specs.Turnings.{opening_of}
-use Rattle.turned_shards.proofs.CrashLemmas.{along-whole}
+use Rattle.turned_shards.proofs.CrashLemmas.{along-none, along-whole}
 use Rattle.turned_shards.proofs.Standing.{unsure-by}
 
 -- the address at a place
@@ -134,12 +134,16 @@ module _ {D : Type 0} (tells : Type 0) (seen : D → List ℕ) (moment : D → �
 
   -- what stands for a history without entries has the state that was opened
   pub still-of : (o : Opening D) (s : Shard D) → StandsFor tells seen moment left_since may_leave counts o s [] →
-      StandsStill tells may_leave counts o.book s.book
+      StandsStill tells moment left_since may_leave counts o.book s.book
   still-of o s stands = record {
     state = sym stands.leads.state;
     images = λ told x y leaves_a leaves_b. or-without s.book.state o.book.state s.book.unsure x y
         (sym stands.leads.state) (none-unsure o s stands)
         (stands.book.images told x y leaves_a leaves_b);
+    moments = λ told. pair_weaker moment left_since may_leave o.book.journal.pair
+        s.book.journal.pair (StandsAlong (served_by o) o.book.state stands.kept.doubts [])
+        (StandsForState o.book.state) (stands.kept.moments told)
+        (along-none (served_by o) o.book.state stands.kept.doubts);
     later_a = stands.risen.later_a;
     later_b = stands.risen.later_b;
   }

@@ -6,7 +6,7 @@ use Rattle.pcp_base.specs.declared.datagrams.Entry.{Entry}
 use Rattle.pcp_base.specs.Configs.{IsConfig}
 use Rattle.pcp_base.specs.States.{State}
 use Rattle.lease_disk.specs.declared.disks.DiskPair.{DiskPair}
-use Rattle.lease_disk.specs.Pairs.{HoldsNow}
+use Rattle.lease_disk.specs.Pairs.{HoldsNow, PairLeavesOnly}
 use Rattle.journal_sides.specs.Journals.{StandsFor as StandsForState, StandsForWithOrWithout}
 use Rattle.lease_store.specs.LeaseTerms.{terms_of}
 use Rattle.lane_index.specs.Lanes.{LaneKnowledge, WriterKnowledge, lane_of, opening_state}
@@ -48,11 +48,14 @@ module _ {D : Type 0} where
     pub settled : book.fault ≡ None
 
   -- The book that was opened stood behind a turn, and nothing was noted there. It has its state,
-  -- each image of its pair stands for that, and no count of the pair has fallen.
-  pub record StandsStill (tells : Type 0) (may_leave : D → List ℕ → Type 0) (faults : D → ℕ)
-      (opened book : BookView D) : Type 0 where
+  -- each image of its pair stands for that, now and at each moment since, and no count of the pair
+  -- has fallen.
+  pub record StandsStill (tells : Type 0) (moment : D → ℕ) (left_since : D → ℕ → List ℕ → Type 0)
+      (may_leave : D → List ℕ → Type 0) (faults : D → ℕ) (opened book : BookView D) : Type 0 where
     pub state : book.state ≡ opened.state
     pub images : tells → HoldsNow may_leave (StandsForState opened.state) book.journal.pair
+    pub moments : tells → PairLeavesOnly moment left_since may_leave opened.journal.pair
+        book.journal.pair (StandsForState opened.state)
     pub later_a : faults opened.journal.pair.a ≤ faults book.journal.pair.a
     pub later_b : faults opened.journal.pair.b ≤ faults book.journal.pair.b
 

@@ -157,7 +157,7 @@ pub fn untake<D: LeaseDisk + Drop, R: Wait>(
     pass: Pass<Shard<D>>,
 ) -> Book<D>
     requires pass { pass ≡ new_pass turn.id (2 ^ 64 - 1) [] }
-    ensures { StandsStill D.tells D.may_leave D.faults turn.key.book result }
+    ensures { StandsStill D.tells D.moment D.left_since D.may_leave D.faults turn.key.book result }
 {
     book_of(rt, turn.into_value(pass))
 }

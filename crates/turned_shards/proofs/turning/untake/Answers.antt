@@ -15,5 +15,5 @@ returns g c =
     let stands : StandsFor d.tells d.seen d.moment d.left_since d.may_leave d.faults o s [] =
     subst (λ (log : List Entry). StandsFor d.tells d.seen d.moment d.left_since d.may_leave d.faults o s log)
     empty c.into_value.ensures.value in
-    subst (λ (b : BookView g.row.D.Denot). StandsStill d.tells d.may_leave d.faults o.book b)
-    (sym c.book_of.ensures) (still-of d.tells d.seen d.moment d.left_since d.may_leave d.faults o s stands)
+    subst (λ (b : BookView g.row.D.Denot). StandsStill d.tells d.moment d.left_since d.may_leave
+    d.faults o.book b) (sym c.book_of.ensures) (still-of d.tells d.seen d.moment d.left_since d.may_leave d.faults o s stands)
