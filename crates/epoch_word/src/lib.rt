@@ -42,9 +42,9 @@ impl Model for EpochWord {
     ghost view = { λ e. e.table.shared.table_id };
 }
 
-/// What one caller knows of a word: the greatest moment that was raised with this seat, the greatest
-/// that it was told, and how often it asked. It has a share of the right to raise, which alone takes
-/// octets.
+/// What one caller knows of a word: the greatest moment that was raised with this seat, the
+/// greatest that it was told, and how often it asked. It has a share of the right to raise, which
+/// alone takes octets.
 #[derive(Drop)]
 pub struct EpochSeat {
     seat: Seat<u8, WordView>,
@@ -93,8 +93,8 @@ impl EpochWord {
     }
 
     /// Where the word stands: the greatest of the first moment and all that were raised so far. The
-    /// word is asked in this call, once. The seat must be of this word. It takes no memory and waits
-    /// for nobody.
+    /// word is asked in this call, once. The seat must be of this word. It takes no memory and
+    /// waits for nobody.
     pub fn told(&self, seat: &mut EpochSeat) -> Moment
         requires word { seat.old.word ≡ self.now }
         ensures seat { seat.new ≡ record seat.old { heard = result; asked = seat.old.asked + 1 } }
@@ -105,9 +105,9 @@ impl EpochWord {
         Moment::of(seconds).unwrap()
     }
 
-    /// Another seat, which knows as much, has never asked, and gets a part of this one's share: 2^32,
-    /// but at most a half. The seat must be of this word. It takes no memory. It is refused, as for
-    /// want of memory, where the share can't be divided any more.
+    /// Another seat, which knows as much, has never asked, and gets a part of this one's share:
+    /// 2^32, but at most a half. The seat must be of this word. It takes no memory. It is refused,
+    /// as for want of memory, where the share can't be divided any more.
     pub fn split(&self, _alloc: Global, seat: &mut EpochSeat) -> Result<EpochSeat, Memory>
         requires word { seat.old.word ≡ self.now }
         ensures ok { IfOk result (AreSplit seat.old seat.new) }

@@ -1,5 +1,5 @@
 -- The house's calls, as its workers see them.
-use Rattle.std.proofs.Common.{◌≡◌, ℕ, List, [], Result, Ok, Err, IfOk, refl, sym, subst, inl, inr}
+use Rattle.std.proofs.Common.{◌≡◌, ◌≢◌, ℕ, List, [], Result, Ok, Err, IfOk, refl, sym, subst, inl, inr}
 use Rattle.pcp_base.specs.declared.datagrams.Datagram.{Datagram}
 use Rattle.pcp_base.specs.declared.datagrams.Entry.{Entry}
 use Rattle.pcp_base.specs.declared.errors.Memory.{Memory}
@@ -10,7 +10,7 @@ use Rattle.lease_house.specs.declared.faults.HouseFault.{HouseFault}
 use Rattle.job_workers.specs.HouseCalls.{AnswersBatchOf, IsTold, LosesAllOf, RefusesBatchOf, RefusesLossOf, SplitsOff, StaysPass}
 use Rattle.turned_shards.specs.declared.openings.Opening.{Opening}
 use Rattle.turned_shards.specs.declared.passes.HousePass.{HousePass}
-use Rattle.shared_house.specs.HouseCalls.{BeginsAt, HearsHouse, HouseView, IsPassOf, LosesHouse, RefusesAt, RefusesHouse, ServesHouse, SplitsHouse, batch_behind, before_own, loss_behind, raised_behind, raised_by_loss}
+use Rattle.shared_house.specs.HouseCalls.{AsksTheWord, BeginsAt, HearsHouse, HouseView, IsPassOf, LosesHouse, RefusesAt, RefusesHouse, ServesHouse, SplitsHouse, batch_behind, before_own, loss_behind, raised_behind, raised_by_loss}
 use Rattle.house_workers.specs.HouseCallsOf.{IsOpeningOf, IsServingPass, NotesOwn, OpensWith, calls_of, fault_behind}
 
 module _ {D : Type 0} (tells : Type 0) (seen : D → List ℕ) (moment : D → ℕ)
@@ -59,11 +59,19 @@ module _ {D : Type 0} (tells : Type 0) (seen : D → List ℕ) (moment : D → �
     notes_of : (now : ℕ) (o : Opening D) (wanted : List Entry → List Entry) (raised : List Entry → ℕ → ℕ) (old new : HousePass D) (cause : JournalFault)
         → RefusesHouse o tells seen moment left_since may_leave faults now wanted raised old new cause
         → (own : List Entry) × NotesOwn tells seen moment left_since may_leave faults now o wanted raised old new own cause
-    notes_of now o wanted raised old new JournalFaults.Disk r =
-        (fault_behind o (before_own o old r.adds.others r.adds.settling), record { refuses = r; own_is = refl })
-    notes_of now o wanted raised old new JournalFaults.Memory (inl r) = ([], inl (record { refuses = r; own_is = refl }))
-    notes_of now o wanted raised old new JournalFaults.Memory (inr r) =
-        (wanted (before_own o old r.adds.others r.adds.settling), inr (record { refuses = r; own_is = refl }))
+        × (cause ≡ JournalFaults.Memory → own ≢ [] → AsksTheWord old.epoch new.epoch)
+    notes_of now o wanted raised old new JournalFaults.Disk r = (
+      fault_behind o (before_own o old r.adds.others r.adds.settling),
+      record { refuses = r; own_is = refl },
+      λ disk some. absurd (cc (disk)),
+    )
+    notes_of now o wanted raised old new JournalFaults.Memory (inl r) =
+        ([], inl (record { refuses = r; own_is = refl }), λ memory some. absurd (some refl))
+    notes_of now o wanted raised old new JournalFaults.Memory (inr (r, asks)) = (
+      wanted (before_own o old r.adds.others r.adds.settling),
+      inr (record { refuses = r; own_is = refl }),
+      λ memory some. asks,
+    )
 
     refuses_batch_here : (house : HouseView D) (now : ℕ) (batch : List Datagram) (old new : HousePass D) (fault : HouseFault)
         → IsServingPass house old → IsPassOf house new → new.shard ≡ old.shard
@@ -76,7 +84,7 @@ module _ {D : Type 0} (tells : Type 0) (seen : D → List ℕ) (moment : D → �
         let notes = notes_of now is.is.turn.key (λ log. batch_behind is.is.turn.key log now new.epoch.heard batch) (raised_behind is.is.turn.key) old new refuses.0 refuses.2 in
         record {
           own = notes.0;
-          refuses = record { opening = is.is.turn.key; opens = opens; cause = refuses.0; fault_is = refuses.1; notes = notes.1 };
+          refuses = record { opening = is.is.turn.key; opens = opens; cause = refuses.0; fault_is = refuses.1; notes = notes.1; asks = notes.2 };
           stays = stays house old new is new_is same;
         }
 
@@ -91,7 +99,7 @@ module _ {D : Type 0} (tells : Type 0) (seen : D → List ℕ) (moment : D → �
         let notes = notes_of now is.is.turn.key (λ log. loss_behind is.is.turn.key log now new.epoch.heard) (raised_by_loss is.is.turn.key now) old new refuses.0 refuses.2 in
         record {
           own = notes.0;
-          refuses = record { opening = is.is.turn.key; opens = opens; cause = refuses.0; fault_is = refuses.1; notes = notes.1 };
+          refuses = record { opening = is.is.turn.key; opens = opens; cause = refuses.0; fault_is = refuses.1; notes = notes.1; asks = notes.2 };
           stays = stays house old new is new_is same;
         }
 

@@ -1,5 +1,5 @@
 -- A house of many threads, as its workers see it (our own).
-use Rattle.std.specs.Prelude.{◌≡◌, ◌⊎◌, ℕ, List, [], ◌∷◌}
+use Rattle.std.specs.Prelude.{◌≡◌, ◌≢◌, ◌⊎◌, ℕ, List, [], ◌∷◌}
 use Rattle.pcp_base.specs.declared.datagrams.Datagram.{Datagram}
 use Rattle.pcp_base.specs.declared.datagrams.Entry.{Entry}
 use Rattle.journal_sides.specs.declared.errors.JournalFault.{JournalFault}
@@ -12,7 +12,7 @@ use Rattle.job_workers.specs.HouseCalls.{HouseCalls}
 use Rattle.turned_shards.specs.declared.openings.Opening.{Opening}
 use Rattle.turned_shards.specs.declared.passes.HousePass.{HousePass}
 use Rattle.turned_shards.specs.BatchEntries.{fault_at}
-use Rattle.shared_house.specs.HouseCalls.{BeginsAt, HearsHouse, HouseView, IsPassOf, LosesHouse, RefusesWith, ServesHouse, SplitsHouse, batch_behind, before_own, loss_behind, raised_behind, raised_by_loss}
+use Rattle.shared_house.specs.HouseCalls.{AsksTheWord, BeginsAt, HearsHouse, HouseView, IsPassOf, LosesHouse, RefusesWith, ServesHouse, SplitsHouse, batch_behind, before_own, loss_behind, raised_behind, raised_by_loss}
 
 module _ {D : Type 0} where
   -- the history of the external address at this place began with the house's configuration
@@ -77,7 +77,8 @@ module _ {D : Type 0} (tells : Type 0) (seen : D → List ℕ) (moment : D → �
         NotesHere now opening (λ log. []) (raised_behind opening) old new own
         ⊎ NotesHere now opening wanted raised old new own
 
-    -- a batch was refused
+    -- A batch was refused. Entries of its own, but for a fault, are by what the word told in this
+    -- call.
     pub record RefusesBatchHere (house : HouseView D) (now : ℕ) (batch : List Datagram)
         (old new : HousePass D) (own : List Entry) (fault : HouseFault) : Type 0 where
       pub opening : Opening D
@@ -87,8 +88,9 @@ module _ {D : Type 0} (tells : Type 0) (seen : D → List ℕ) (moment : D → �
       pub notes : NotesOwn now opening
           (λ log. batch_behind opening log now new.epoch.heard batch)
           (raised_behind opening) old new own cause
+      pub asks : cause ≡ JournalFaults.Memory → own ≢ [] → AsksTheWord old.epoch new.epoch
 
-    -- a loss was refused
+    -- so it is where a loss was refused
     pub record RefusesLossHere (house : HouseView D) (now : ℕ) (old new : HousePass D)
         (own : List Entry) (fault : HouseFault) : Type 0 where
       pub opening : Opening D
@@ -98,6 +100,7 @@ module _ {D : Type 0} (tells : Type 0) (seen : D → List ℕ) (moment : D → �
       pub notes : NotesOwn now opening
           (λ log. loss_behind opening log now new.epoch.heard)
           (raised_by_loss opening now) old new own cause
+      pub asks : cause ≡ JournalFaults.Memory → own ≢ [] → AsksTheWord old.epoch new.epoch
 
     abbrev pub calls_of : HouseView D → HouseCalls (HousePass D)
     calls_of house = record {

@@ -1,7 +1,7 @@
 -- Calls on a held shard, one after the other, and between a take and a give.
 use Rattle.std.specs.Prelude.{is_err, Result, Ok, Err, OnOk, OnErr, IfOk, IfErr}
 use Rattle.std.specs.List.{range_with_len}
-use Rattle.std.proofs.Common.{◌≡◌, ◌∙◌, ℕ, ◌≤◌, max, List, [], ◌∷◌, ◌++◌, inl, inr, true, false}
+use Rattle.std.proofs.Common.{◌≡◌, ◌∙◌, ℕ, ◌+◌, ◌≤◌, max, List, [], ◌∷◌, ◌++◌, inl, inr, true, false}
 use Rattle.std.proofs.Common.{Bool, length, map, refl, ap, sym, subst, arith}
 use Rattle.std.proofs.lemmas.List.{append-nil}
 use Rattle.pcp_base.specs.declared.configs.Config.{Config}
@@ -25,7 +25,8 @@ use Rattle.turned_shards.specs.BatchEntries.{asked_in, entries_along, fault_at, 
 use Rattle.shared_house.specs.HeldCalls.{FailsHeld, FailsWith, HearsAndRaises, HearsMore, LosesHeld}
 use Rattle.shared_house.specs.HeldCalls.{NotesBehind, NotesOwn, RefusesHeld, RefusesLoss}
 use Rattle.shared_house.specs.HeldCalls.{ServesHeld, SettlesHeld, raised_to}
-use Rattle.shared_house.specs.HouseCalls.{AddsTo, Hears, IsSettling, LosesHouse, MaySettle, Notes}
+use Rattle.shared_house.specs.HouseCalls.{AddsTo, AsksTheWord, Hears, IsSettling, LosesHouse}
+use Rattle.shared_house.specs.HouseCalls.{MayAskTheWord, MaySettle, Notes}
 use Rattle.shared_house.specs.HouseCalls.{RefusesHouse, RefusesWith, ServesHouse, batch_behind}
 use Rattle.shared_house.specs.HouseCalls.{before_own, loss_behind, raised_behind, raised_by_loss}
 use Rattle.turned_shards.specs.Publishing.{IsWithLane, told_of}
@@ -69,17 +70,46 @@ note-none p =
 
 -- what a seat raised and then was told
 raises-told : (raised base : ℕ) (p q r : SeatKnowledge) → raised ≡ max p.raised base →
-    q ≡ raised_to base p → r ≡ record q { heard = r.heard } → q.heard ≤ r.heard → Hears raised p r
+    q ≡ raised_to base p → r ≡ record q { heard = r.heard; asked = r.asked } →
+    q.heard ≤ r.heard → Hears raised p r
 raises-told raised base p q r is first then later =
     let here : q.heard ≡ p.heard = ap (λ (k : SeatKnowledge). k.heard) first in
     record {
-      same = then ∙ ap (λ (k : SeatKnowledge). record k { heard = r.heard }) first
-          ∙ ap (λ (n : ℕ). record p { raised = n; heard = r.heard }) (sym is);
+      same = then ∙ ap (λ (k : SeatKnowledge). record k { heard = r.heard; asked = r.asked }) first
+          ∙ ap (λ (n : ℕ). record p { raised = n; heard = r.heard; asked = r.asked }) (sym is);
       heard = omega (arith, here, later);
     }
 
+-- the seat that was told
+told-once : (q r : SeatKnowledge) → HearsMore q r →
+    r ≡ record q { heard = r.heard; asked = r.asked }
+told-once q r hears =
+    let once : r.asked ≡ q.asked + 1 = ap (λ (k : SeatKnowledge). k.asked) hears.same in
+    hears.same ∙ ap (λ (n : ℕ). record q { heard = r.heard; asked = n }) (sym once)
+
+-- the word was asked once behind what was raised, or not at all
+asks-then : (base : ℕ) (p q r : SeatKnowledge) → q ≡ raised_to base p → r.asked ≡ q.asked + 1 →
+    AsksTheWord p r
+asks-then base p q r first then = then ∙ ap (λ (k : SeatKnowledge). k.asked + 1) first
+
+asks-nothing : (base : ℕ) (p q : SeatKnowledge) → q ≡ raised_to base p → MayAskTheWord p q
+asks-nothing base p q first = inr (
+  ap (λ (k : SeatKnowledge). k.asked) first,
+  ap (λ (k : SeatKnowledge). k.heard) first,
+)
+
+asks-more : (base : ℕ) (p q r : SeatKnowledge) → q ≡ raised_to base p → HearsMore q r →
+    AsksTheWord p r
+asks-more base p q r first hears =
+    asks-then base p q r first (ap (λ (k : SeatKnowledge). k.asked) hears.same)
+
+asks-and-raises : (base m : ℕ) (p q r : SeatKnowledge) → q ≡ raised_to base p →
+    HearsAndRaises q r m → AsksTheWord p r
+asks-and-raises base m p q r first hears =
+    asks-then base p q r first (ap (λ (k : SeatKnowledge). k.asked) hears.same)
+
 told-raised : (base : ℕ) (p q r : SeatKnowledge) → q ≡ raised_to base p →
-    r ≡ record q { heard = r.heard } → q.raised ≤ r.heard → r.raised ≤ r.heard
+    r ≡ record q { heard = r.heard; asked = r.asked } → q.raised ≤ r.heard → r.raised ≤ r.heard
 told-raised base p q r first then told =
     let same : r.raised ≡ q.raised = ap (λ (k : SeatKnowledge). k.raised) then in
     omega (arith, same, told)
@@ -232,9 +262,10 @@ module _ {D : Type 0} (tells : Type 0) (seen : D → List ℕ) (moment : D → �
         told = told ∙ ap (λ (l : List Entry). map reply_in l) are;
         hears = raises-told (raised_behind o log p.epoch.raised)
             s.book.state.base p.epoch q.epoch r.epoch (raised-as o s log p.epoch.raised here)
-            raised hears.same hears.heard;
-        raised = told-raised s.book.state.base p.epoch q.epoch r.epoch raised hears.same
-            hears.raised;
+            raised (told-once q.epoch r.epoch hears) hears.heard;
+        asks = asks-more s.book.state.base p.epoch q.epoch r.epoch raised hears;
+        raised = told-raised s.book.state.base p.epoch q.epoch r.epoch raised
+            (told-once q.epoch r.epoch hears) hears.raised;
       }
 
   fails-with : (o : Opening D) (now : ℕ) (s : Shard D) (p q r : HousePass D) (es : List Entry)
@@ -242,8 +273,9 @@ module _ {D : Type 0} (tells : Type 0) (seen : D → List ℕ) (moment : D → �
       Stands o s (p.history.seen ++ done.settling) →
       NotesOwn es q r → es ≡ own (p.history.seen ++ done.settling) →
       Hears (raised (p.history.seen ++ done.settling) p.epoch.raised) p.epoch r.epoch →
+      MayAskTheWord p.epoch r.epoch →
       FailsWith tells seen moment left_since may_leave counts o now own raised p r
-  fails-with o now s p q r es own raised done here notes are hears =
+  fails-with o now s p q r es own raised done here notes are hears asks =
       record {
         notes = record {
           settling = done.settling;
@@ -252,6 +284,7 @@ module _ {D : Type 0} (tells : Type 0) (seen : D → List ℕ) (moment : D → �
               notes are;
         };
         hears = hears;
+        asks = asks;
       }
 
   -- the fault of the call is noted
@@ -260,15 +293,16 @@ module _ {D : Type 0} (tells : Type 0) (seen : D → List ℕ) (moment : D → �
       (done : Settled o now p q s) → Stands o s (p.history.seen ++ done.settling) →
       NotesOwn (faults_of s.moment s.base fault) q r →
       Hears (raised_behind o (p.history.seen ++ done.settling) p.epoch.raised) p.epoch r.epoch →
+      MayAskTheWord p.epoch r.epoch →
       FailsHeld tells seen moment left_since may_leave counts o now own raised p r fault
-  fails-noted o now s p q r own raised Disk done here notes hears =
+  fails-noted o now s p q r own raised Disk done here notes hears asks =
       fails-with o now s p q r (fault_at s.moment s.base ∷ [])
       (λ (log : List Entry). fault_at (moment_after o.book.state log)
       (base_after o.book.state log) ∷ []) (raised_behind o) done here notes
-      (fault-behind o s (p.history.seen ++ done.settling) here) hears
-  fails-noted o now s p q r own raised Memory done here notes hears =
+      (fault-behind o s (p.history.seen ++ done.settling) here) hears asks
+  fails-noted o now s p q r own raised Memory done here notes hears asks =
       inl (fails-with o now s p q r [] (λ (log : List Entry). [])
-      (raised_behind o) done here notes refl hears)
+      (raised_behind o) done here notes refl hears asks)
 
   -- what was asked is noted, and memory was wanting for what comes after that
   fails-after : (o : Opening D) (now : ℕ) (s : Shard D) (p q r : HousePass D)
@@ -276,22 +310,27 @@ module _ {D : Type 0} (tells : Type 0) (seen : D → List ℕ) (moment : D → �
       (done : Settled o now p q s) → Stands o s (p.history.seen ++ done.settling) →
       fault ≡ Memory → NotesOwn (own (p.history.seen ++ done.settling)) q r →
       Hears (raised (p.history.seen ++ done.settling) p.epoch.raised) p.epoch r.epoch →
+      AsksTheWord p.epoch r.epoch →
       FailsHeld tells seen moment left_since may_leave counts o now own raised p r fault
-  fails-after o now s p q r own raised Disk done here is notes hears = absurd cc
-  fails-after o now s p q r own raised Memory done here is notes hears =
-      inr (fails-with o now s p q r (own (p.history.seen ++ done.settling))
-      own raised done here notes refl hears)
+  fails-after o now s p q r own raised Disk done here is notes hears asks = absurd cc
+  fails-after o now s p q r own raised Memory done here is notes hears asks =
+      inr (
+        fails-with o now s p q r (own (p.history.seen ++ done.settling))
+            own raised done here notes refl hears (inl asks),
+        asks,
+      )
 
   fails-by : (o : Opening D) (now : ℕ) (s : Shard D) (p q r : HousePass D)
       (own : List Entry → List Entry) (fault : JournalFault) (done : Settled o now p q s) →
       Stands o s (p.history.seen ++ done.settling) →
       RefusesHeld s (own (p.history.seen ++ done.settling)) q r fault →
       Hears (raised_behind o (p.history.seen ++ done.settling) p.epoch.raised) p.epoch r.epoch →
+      AsksTheWord p.epoch r.epoch →
       FailsHeld tells seen moment left_since may_leave counts o now own (raised_behind o) p r fault
-  fails-by o now s p q r own fault done here (inl notes) hears =
-      fails-noted o now s p q r own (raised_behind o) fault done here notes hears
-  fails-by o now s p q r own fault done here (inr (same, notes)) hears =
-      fails-after o now s p q r own (raised_behind o) fault done here same notes hears
+  fails-by o now s p q r own fault done here (inl notes) hears asks =
+      fails-noted o now s p q r own (raised_behind o) fault done here notes hears (inl asks)
+  fails-by o now s p q r own fault done here (inr (same, notes)) hears asks =
+      fails-after o now s p q r own (raised_behind o) fault done here same notes hears asks
 
   -- a settled shard, and then one whose batch is refused
   pub fails-held : (o : Opening D) (config : Config) (now : ℕ) (batch : List Datagram) (s : Shard D)
@@ -311,13 +350,15 @@ module _ {D : Type 0} (tells : Type 0) (seen : D → List ℕ) (moment : D → �
       fails-by o now s p q r (λ (l : List Entry). batch_behind o l now r.epoch.heard batch)
       fault done here (subst (λ (es : List Entry). RefusesHeld s es q r fault) are refused)
       (raises-told (raised_behind o log p.epoch.raised) s.book.state.base p.epoch q.epoch r.epoch
-      (raised-as o s log p.epoch.raised here) raised hears.same hears.heard)
+      (raised-as o s log p.epoch.raised here) raised (told-once q.epoch r.epoch hears) hears.heard)
+      (asks-more s.book.state.base p.epoch q.epoch r.epoch raised hears)
 
   unsettled-with : (o : Opening D) (now : ℕ) (p q : HousePass D) (es : List Entry)
       (own : List Entry → List Entry) → NotesOwn es p q → es ≡ own (p.history.seen ++ []) →
       Hears (raised_behind o (p.history.seen ++ []) p.epoch.raised) p.epoch q.epoch →
+      MayAskTheWord p.epoch q.epoch →
       FailsWith tells seen moment left_since may_leave counts o now own (raised_behind o) p q
-  unsettled-with o now p q es own notes are hears =
+  unsettled-with o now p q es own notes are hears asks =
       record {
         notes = record {
           settling = [];
@@ -326,6 +367,7 @@ module _ {D : Type 0} (tells : Type 0) (seen : D → List ℕ) (moment : D → �
               ∙ ap (after_note true (own (p.history.seen ++ []))) (sym (note-none p.history));
         };
         hears = hears;
+        asks = asks;
       }
 
   -- the settling was refused
@@ -348,13 +390,16 @@ module _ {D : Type 0} (tells : Type 0) (seen : D → List ℕ) (moment : D → �
           s.book.state.base p.epoch q.epoch q.epoch
           (raised-as o s (p.history.seen ++ []) p.epoch.raised here) still refl (omega arith)
 
+      asks : MayAskTheWord p.epoch q.epoch
+      asks = asks-nothing t.book.state.base p.epoch q.epoch raised
+
       by : (f : JournalFault) → NotesOwn (faults_of s.moment s.base f) p q →
           FailsHeld tells seen moment left_since may_leave counts o now own up p q f
       by Disk n = unsettled-with o now p q (fault_at s.moment s.base ∷ [])
           (λ (log : List Entry). fault_at (moment_after o.book.state log)
           (base_after o.book.state log) ∷ []) n
-          (fault-behind o s (p.history.seen ++ []) here) hears
-      by Memory n = inl (unsettled-with o now p q [] (λ (log : List Entry). []) n refl hears)
+          (fault-behind o s (p.history.seen ++ []) here) hears asks
+      by Memory n = inl (unsettled-with o now p q [] (λ (log : List Entry). []) n refl hears asks)
 
   -- the settling is noted, and memory was wanting to publish what waits
   pub unshown-held : (o : Opening D) (now : ℕ) (s : Shard D) (p q : HousePass D)
@@ -370,6 +415,7 @@ module _ {D : Type 0} (tells : Type 0) (seen : D → List ℕ) (moment : D → �
       (subst (λ (f : JournalFault). NotesOwn (faults_of s.moment s.base f) q q) (sym is) none)
       (raises-told (raised_behind o log p.epoch.raised) s.book.state.base p.epoch q.epoch q.epoch
       (raised-as o s log p.epoch.raised here) raised refl (omega arith))
+      (asks-nothing s.book.state.base p.epoch q.epoch raised)
 
   -- ---- a loss
 
@@ -385,10 +431,13 @@ module _ {D : Type 0} (tells : Type 0) (seen : D → List ℕ) (moment : D → �
   twice-raised raised base m p q r is first then =
       let here : q.heard ≡ p.heard = ap (λ (k : SeatKnowledge). k.heard) first in
       let later = then.heard in
+      let once : r.asked ≡ p.asked + 1 = asks-and-raises base m p q r first then in
       record {
         same = then.same
-            ∙ ap (λ (k : SeatKnowledge). record k { raised = max k.raised m; heard = r.heard })
-            first ∙ ap (λ (n : ℕ). record p { raised = n; heard = r.heard }) (sym is);
+            ∙ ap (λ (k : SeatKnowledge).
+            record k { raised = max k.raised m; heard = r.heard; asked = k.asked + 1 }) first
+            ∙ ap (λ (n : ℕ). record p { raised = n; heard = r.heard; asked = p.asked + 1 }) (sym is)
+            ∙ ap (λ (n : ℕ). record p { raised = raised; heard = r.heard; asked = n }) (sym once);
         heard = omega (arith, here, later);
       }
 
@@ -429,6 +478,7 @@ module _ {D : Type 0} (tells : Type 0) (seen : D → List ℕ) (moment : D → �
         hears = twice-raised (max (raised_behind o log p.epoch.raised) m)
             s.book.state.base m p.epoch q.epoch r.epoch (ap (λ (n : ℕ). max n m) grown)
             raised twice;
+        asks = asks-and-raises s.book.state.base m p.epoch q.epoch r.epoch raised twice;
         raised = omega (arith, grown, first, told);
       }
 
@@ -451,6 +501,8 @@ module _ {D : Type 0} (tells : Type 0) (seen : D → List ℕ) (moment : D → �
       (twice-raised (raised_behind o log p.epoch.raised)
       s.book.state.base s.book.state.base p.epoch q.epoch r.epoch is raised
       (subst (HearsAndRaises q.epoch r.epoch) base hears))
+      (inl (asks-and-raises s.book.state.base t.book.state.base p.epoch q.epoch r.epoch raised
+      hears))
 
   -- or whose loss is noted, and isn't published
   lost-held : (o : Opening D) (now : ℕ) (s t : Shard D) (p q r : HousePass D)
@@ -483,6 +535,7 @@ module _ {D : Type 0} (tells : Type 0) (seen : D → List ℕ) (moment : D → �
       (subst (λ (l : List Entry). NotesOwn l q r) are notes)
       (twice-raised (max (raised_behind o log p.epoch.raised) m)
       s.book.state.base m p.epoch q.epoch r.epoch (ap (λ (n : ℕ). max n m) grown) raised twice)
+      (asks-and-raises s.book.state.base m p.epoch q.epoch r.epoch raised twice)
 
   -- a settled shard, and then one whose loss is refused
   pub refuses-loss : (o : Opening D) (now : ℕ) (s t : Shard D) (p q r : HousePass D)
@@ -545,6 +598,7 @@ module _ {D : Type 0} (tells : Type 0) (seen : D → List ℕ) (moment : D → �
             log serves.told;
         hears = subst (λ (l : List Entry). Hears (raised_behind o l p.epoch.raised) p.epoch q.epoch)
             log serves.hears;
+        asks = serves.asks;
         raised = serves.raised;
         published = shown ∙ ap (λ (n : PassKnowledge Entry). told_of o n.seen) (sym given);
       }
@@ -570,6 +624,7 @@ module _ {D : Type 0} (tells : Type 0) (seen : D → List ℕ) (moment : D → �
             (λ (l : List Entry). Hears
             (max (raised_behind o l p.epoch.raised) (max now (moment_after o.book.state l)))
             p.epoch q.epoch) log loses.hears;
+        asks = loses.asks;
         raised = subst (λ (l : List Entry). raised_behind o l p.epoch.raised ≤ q.epoch.heard)
             log loses.raised;
         published = shown ∙ ap (λ (n : PassKnowledge Entry). told_of o n.seen) (sym given);
@@ -590,6 +645,7 @@ module _ {D : Type 0} (tells : Type 0) (seen : D → List ℕ) (moment : D → �
             p h q k own more fails.notes given legal;
         hears = subst (λ (l : List Entry). Hears (raised l p.epoch.raised) p.epoch q.epoch)
             log fails.hears;
+        asks = fails.asks;
       }
 
   -- a call that is refused
@@ -608,5 +664,5 @@ module _ {D : Type 0} (tells : Type 0) (seen : D → List ℕ) (moment : D → �
   refuses-house o now p h q k own raised Memory more (inl fails) given legal =
       inl (refuses-with o now p h q k (λ (log : List Entry). [])
       (raised_behind o) more fails given legal)
-  refuses-house o now p h q k own raised Memory more (inr fails) given legal =
-      inr (refuses-with o now p h q k own raised more fails given legal)
+  refuses-house o now p h q k own raised Memory more (inr (fails, asks)) given legal =
+      inr (refuses-with o now p h q k own raised more fails given legal, asks)

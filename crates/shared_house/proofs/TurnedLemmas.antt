@@ -97,16 +97,17 @@ module _ {D : Type 0} (config : Config) where
 
 -- ---- out of turns
 
-module _ {D : Type 0} (tells : Type 0) (may_leave : D → List ℕ → Type 0) (faults : D → ℕ) where
+module _ {D : Type 0} (tells : Type 0) (moment : D → ℕ) (left_since : D → ℕ → List ℕ → Type 0)
+    (may_leave : D → List ℕ → Type 0) (faults : D → ℕ) where
   abbrev pub IsOut : TurnName (Opening D) → BookView D → Type 0
-  IsOut t b = StandsStill tells may_leave faults t.key.book b
+  IsOut t b = StandsStill tells moment left_since may_leave faults t.key.book b
 
   -- the turns behind these were taken apart
   pub record AreApartFrom (turns left : List (TurnName (Opening D))) (passes : List (HousePass D))
       (old now : List (BookView D)) : Type 0 where
     pub unshared : AreUnshared left passes
     pub takes : (out : List (BookView D)) → AllZip IsOut left out →
-        TakesApart tells may_leave faults turns old (out ++ now)
+        TakesApart tells moment left_since may_leave faults turns old (out ++ now)
 
   pub none-apart : (turns : List (TurnName (Opening D))) (passes : List (HousePass D))
       (old : List (BookView D)) → AreUnshared turns passes → AreApartFrom turns turns passes old old
@@ -138,38 +139,43 @@ module _ {D : Type 0} (tells : Type 0) (may_leave : D → List ℕ → Type 0) (
             let longer : AllZip IsOut left (out ++ b ∷ []) =
             subst (λ (l : List (TurnName (Opening D))). AllZip IsOut l (out ++ b ∷ []))
             (sym left_is) (zip-push IsOut fewer out t b each out_is) in
-            subst (λ (bs : List (BookView D)). TakesApart tells may_leave faults turns old bs)
+            subst (λ (bs : List (BookView D)).
+            TakesApart tells moment left_since may_leave faults turns old bs)
             (append_assoc out (b ∷ []) now ∙ ap (λ (bs : List (BookView D)). out ++ bs) (sym put))
             (so.takes (out ++ b ∷ []) longer);
       }
 
   pub all-apart : (turns left : List (TurnName (Opening D))) (passes : List (HousePass D))
       (old now : List (BookView D)) → left ≡ [] → AreApartFrom turns left passes old now →
-      TakesApart tells may_leave faults turns old now
+      TakesApart tells moment left_since may_leave faults turns old now
   all-apart turns left passes old now none so =
       so.takes [] (subst (λ (l : List (TurnName (Opening D))). AllZip IsOut l []) (sym none) tt)
 
   -- ---- and back
 
   come-back : (ts : List (TurnName (Opening D))) (bs out : List (BookView D)) →
-      AllZip IsKeyed ts bs → AllZip IsOut ts out → AllZip (ComesBack tells may_leave faults) bs out
+      AllZip IsKeyed ts bs → AllZip IsOut ts out →
+      AllZip (ComesBack tells moment left_since may_leave faults) bs out
   come-back [] [] [] keyed each = tt
   come-back [] [] (c ∷ cs) keyed each = absurd each
   come-back [] (b ∷ bs) out keyed each = absurd keyed
   come-back (t ∷ ts) [] out keyed each = absurd keyed
   come-back (t ∷ ts) (b ∷ bs) [] keyed each = absurd each
   come-back (t ∷ ts) (b ∷ bs) (c ∷ cs) keyed each = (
-    inr (subst (λ (o : BookView D). StandsStill tells may_leave faults o c) keyed.0 each.0),
+    inr (subst (λ (o : BookView D). StandsStill tells moment left_since may_leave faults o c)
+        keyed.0 each.0),
     come-back ts bs cs keyed.1 each.1,
   )
 
-  same-back : (bs : List (BookView D)) → AllZip (ComesBack tells may_leave faults) bs bs
-  same-back bs = zip-same (ComesBack tells may_leave faults) (λ (b : BookView D). inl refl) bs
+  same-back : (bs : List (BookView D)) →
+      AllZip (ComesBack tells moment left_since may_leave faults) bs bs
+  same-back bs = zip-same (ComesBack tells moment left_since may_leave faults)
+      (λ (b : BookView D). inl refl) bs
 
   -- nothing was done with the books
   pub untouched-back : (books : List (BookView D)) (spare pairs : List (DiskPair D)) →
       pairs ≡ map (λ b. b.journal.pair) books ++ spare →
-      ComeBack tells may_leave faults books spare pairs
+      ComeBack tells moment left_since may_leave faults books spare pairs
   untouched-back books spare pairs is = record { left = books; each = same-back books; back = is }
 
   -- a book wasn't put behind a turn; those before it came out of theirs
@@ -177,24 +183,25 @@ module _ {D : Type 0} (tells : Type 0) (may_leave : D → List ℕ → Type 0) (
       (made : Turned D) (seats left : List SeatKnowledge) (spare pairs : List (DiskPair D))
       (b c : BookView D) → rest ≡ b ∷ more → c ≡ b → again ≡ c ∷ more →
       AreTurnedTo config all rest k made seats left →
-      TakesApart tells may_leave faults made.turns.items again apart →
+      TakesApart tells moment left_since may_leave faults made.turns.items again apart →
       pairs ≡ map (λ b. b.journal.pair) apart ++ spare →
-      ComeBack tells may_leave faults all spare pairs
+      ComeBack tells moment left_since may_leave faults all spare pairs
   stopped-back config all rest more again apart k made seats left spare pairs b c rest_is same
       again_is so takes back =
       let again_same : again ≡ rest = again_is ∙ ap (λ (x : BookView D). x ∷ more) same
       ∙ sym rest_is in
       let keyed = begin-keyed config 0 so.done made.turns.items made.passes.items made.lanes.items
       so.begun in
-      let first : AllZip (ComesBack tells may_leave faults) so.done takes.out =
+      let first : AllZip (ComesBack tells moment left_since may_leave faults) so.done takes.out =
       come-back made.turns.items so.done takes.out keyed takes.each in
       record {
         left = takes.out ++ rest;
         each = subst
-            (λ (bs : List (BookView D)). AllZip (ComesBack tells may_leave faults) bs
-            (takes.out ++ rest)) (sym so.split)
-            (zip-behind (ComesBack tells may_leave faults) so.done rest takes.out rest first
-            (same-back rest));
+            (λ (bs : List (BookView D)).
+            AllZip (ComesBack tells moment left_since may_leave faults) bs (takes.out ++ rest))
+            (sym so.split)
+            (zip-behind (ComesBack tells moment left_since may_leave faults) so.done rest
+            takes.out rest first (same-back rest));
         back = back ∙ ap (λ (bs : List (BookView D)). map (λ b. b.journal.pair) bs ++ spare)
             (takes.new_is ∙ ap (λ (bs : List (BookView D)). takes.out ++ bs) again_same);
       }

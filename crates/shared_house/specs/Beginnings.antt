@@ -65,16 +65,17 @@ module _ {D : Type 0} where
     pub begins : BeginsWith config books founds begun
 
   -- A book comes back as it was opened, or it stood behind a turn.
-  abbrev pub ComesBack : Type 0 → (D → List ℕ → Type 0) → (D → ℕ) → (opened book : BookView D)
-      → Type 0
-  ComesBack tells may_leave faults opened book =
-      (book ≡ opened) ⊎ StandsStill tells may_leave faults opened book
+  abbrev pub ComesBack : Type 0 → (D → ℕ) → (D → ℕ → List ℕ → Type 0) → (D → List ℕ → Type 0)
+      → (D → ℕ) → (opened book : BookView D) → Type 0
+  ComesBack tells moment left_since may_leave faults opened book =
+      (book ≡ opened) ⊎ StandsStill tells moment left_since may_leave faults opened book
 
   -- The pairs of opened books come back in their order, before the spare ones.
-  pub record ComeBack (tells : Type 0) (may_leave : D → List ℕ → Type 0) (faults : D → ℕ)
-      (books : List (BookView D)) (spare pairs : List (DiskPair D)) : Type 0 where
+  pub record ComeBack (tells : Type 0) (moment : D → ℕ) (left_since : D → ℕ → List ℕ → Type 0)
+      (may_leave : D → List ℕ → Type 0) (faults : D → ℕ) (books : List (BookView D))
+      (spare pairs : List (DiskPair D)) : Type 0 where
     pub left : List (BookView D)
-    pub each : AllZip (ComesBack tells may_leave faults) books left
+    pub each : AllZip (ComesBack tells moment left_since may_leave faults) books left
     pub back : pairs ≡ map (λ b. b.journal.pair) left ++ spare
 
   -- All journals were opened, and then no memory was found for a turn, or for what else a house
@@ -86,7 +87,7 @@ module _ {D : Type 0} where
     pub spare : List (DiskPair D)
     pub opened : OpensAll tells seen moment left_since may_leave faults config m config.externals
         old books spare
-    pub back : ComeBack tells may_leave faults books spare new
+    pub back : ComeBack tells moment left_since may_leave faults books spare new
 
   -- All pairs come back in their order: a journal wasn't opened, or no memory was found before the
   -- first one was or after the last one.

@@ -1,6 +1,7 @@
 -- A call behind the turn of an external address, while its shard is held (our own; for private
 -- contracts).
-use Rattle.std.specs.Prelude.{◌≡◌, ◌⊎◌, ◌≤◌, ℕ, max, true, false, List, [], ◌∷◌, ◌++◌, map, None}
+use Rattle.std.specs.Prelude.{◌≡◌, ◌⊎◌, ◌≤◌, ◌+◌, ℕ, max, true, false, List, [], ◌∷◌, ◌++◌}
+use Rattle.std.specs.Prelude.{map, None}
 use Rattle.pcp_base.specs.declared.datagrams.Datagram.{Datagram}
 use Rattle.pcp_base.specs.declared.datagrams.Entry.{Entry}
 use Rattle.journal_sides.specs.declared.errors.JournalFault.{JournalFault}
@@ -14,23 +15,24 @@ use Rattle.turned_shards.specs.declared.openings.Opening.{Opening}
 use Rattle.turned_shards.specs.declared.passes.HousePass.{HousePass}
 use Rattle.turned_shards.specs.declared.shards.Shard.{Shard}
 use Rattle.turned_shards.specs.BatchEntries.{fault_at, reply_in}
-use Rattle.shared_house.specs.HouseCalls.{Hears, IsSettling, MaySettle, batch_behind, loss_behind}
-use Rattle.shared_house.specs.HouseCalls.{raised_behind, raised_by_loss}
+use Rattle.shared_house.specs.HouseCalls.{AsksTheWord, Hears, IsSettling, MayAskTheWord, MaySettle}
+use Rattle.shared_house.specs.HouseCalls.{batch_behind, loss_behind, raised_behind, raised_by_loss}
 use Rattle.turned_shards.specs.ShardCalls.{faults_of}
 
 -- with this base raised
 abbrev pub raised_to : ℕ → SeatKnowledge → SeatKnowledge
 raised_to base seat = record seat { raised = max seat.raised base }
 
--- the word told no less than before, and than what was raised
+-- the word was asked once, and told no less than before, and than what was raised
 pub record HearsMore (old new : SeatKnowledge) : Type 0 where
-  pub same : new ≡ record old { heard = new.heard }
+  pub same : new ≡ record old { heard = new.heard; asked = old.asked + 1 }
   pub heard : old.heard ≤ new.heard
   pub raised : old.raised ≤ new.heard
 
 -- so it did, and then this base was raised
 pub record HearsAndRaises (old new : SeatKnowledge) (base : ℕ) : Type 0 where
-  pub same : new ≡ record old { raised = max old.raised base; heard = new.heard }
+  pub same : new
+      ≡ record old { raised = max old.raised base; heard = new.heard; asked = old.asked + 1 }
   pub heard : old.heard ≤ new.heard
   pub raised : old.raised ≤ new.heard
 
@@ -89,6 +91,7 @@ module _ {D : Type 0} where
       pub hears :
           Hears (raised_behind o (old.history.seen ++ notes.settling) old.epoch.raised)
           old.epoch new.epoch
+      pub asks : AsksTheWord old.epoch new.epoch
       pub raised : new.epoch.raised ≤ new.epoch.heard
 
     pub record LosesHeld (now : ℕ) (old new : HousePass D) (count : ℕ) : Type 0 where
@@ -100,6 +103,7 @@ module _ {D : Type 0} where
       pub hears : Hears
           (raised_by_loss o now (old.history.seen ++ notes.settling) old.epoch.raised)
           old.epoch new.epoch
+      pub asks : AsksTheWord old.epoch new.epoch
       pub raised : raised_behind o (old.history.seen ++ notes.settling) old.epoch.raised
           ≤ new.epoch.heard
 
@@ -109,6 +113,7 @@ module _ {D : Type 0} where
           old new own
       pub hears : Hears (raised (old.history.seen ++ notes.settling) old.epoch.raised)
           old.epoch new.epoch
+      pub asks : MayAskTheWord old.epoch new.epoch
 
     abbrev pub FailsHeld : ℕ → (own : List Entry → List Entry) → (raised : List Entry → ℕ → ℕ)
         → (old new : HousePass D) → JournalFault → Type 0
@@ -116,4 +121,5 @@ module _ {D : Type 0} where
         (λ log. fault_at (moment_after o.book.state log) (base_after o.book.state log) ∷ [])
         (raised_behind o) old new
     FailsHeld now own raised old new Memory =
-        FailsWith now (λ log. []) (raised_behind o) old new ⊎ FailsWith now own raised old new
+        FailsWith now (λ log. []) (raised_behind o) old new
+        ⊎ (FailsWith now own raised old new × AsksTheWord old.epoch new.epoch)

@@ -73,12 +73,22 @@ pub record Notes (old new : PassKnowledge Entry) (others settling own : List Ent
 
 -- The seat has raised this much, and was told no less than before.
 pub record Hears (raised : ℕ) (old new : SeatKnowledge) : Type 0 where
-  pub same : new ≡ record old { raised = raised; heard = new.heard }
+  pub same : new ≡ record old { raised = raised; heard = new.heard; asked = new.asked }
   pub heard : old.heard ≤ new.heard
 
--- The word told this moment: no less than it told before, and than what was raised.
+-- the word was asked in this call, once
+abbrev pub AsksTheWord : (old new : SeatKnowledge) → Type 0
+AsksTheWord old new = new.asked ≡ old.asked + 1
+
+-- so it was, or it wasn't asked, and told nothing
+abbrev pub MayAskTheWord : (old new : SeatKnowledge) → Type 0
+MayAskTheWord old new =
+    AsksTheWord old new ⊎ ((new.asked ≡ old.asked) × (new.heard ≡ old.heard))
+
+-- The word was asked in this call, once, and told this moment: no less than it told before, and
+-- than what was raised.
 pub record HearsHouse (old new : SeatKnowledge) (told : ℕ) : Type 0 where
-  pub new_is : new ≡ record old { heard = told }
+  pub new_is : new ≡ record old { heard = told; asked = old.asked + 1 }
   pub heard : old.heard ≤ told
   pub raised : old.raised ≤ told
 
@@ -136,8 +146,8 @@ module _ {D : Type 0} (o : Opening D) where
   module _ (tells : Type 0) (seen : D → List ℕ) (moment : D → ℕ)
       (left_since : D → ℕ → List ℕ → Type 0) (may_leave : D → List ℕ → Type 0)
       (faults : D → ℕ) where
-    -- The batch is answered, with the base that the word told, after that of the external address
-    -- was raised.
+    -- The batch is answered, with the base that the word told in this call, after that of the
+    -- external address was raised.
     pub record ServesHouse (now : ℕ) (batch : List Datagram) (old new : HousePass D)
         (replies : List Datagram) (lane : ToldRecords) : Type 0 where
       pub adds : AddsTo (IsSettling tells seen moment left_since may_leave faults now) old new
@@ -147,16 +157,18 @@ module _ {D : Type 0} (o : Opening D) where
       pub hears :
           Hears (raised_behind (before_own old adds.others adds.settling) old.epoch.raised)
           old.epoch new.epoch
+      pub asks : AsksTheWord old.epoch new.epoch
       pub raised : new.epoch.raised ≤ new.epoch.heard
       pub published : lane ≡ told_of o new.history.seen
 
     -- A disk failed: a fault is the call's own entry. Or memory was wanting: nothing is, or what
-    -- was asked, with what that raises.
+    -- was asked, by what the word told in this call, with what that raises.
     pub record RefusesWith (now : ℕ) (own : List Entry → List Entry)
         (raised : List Entry → ℕ → ℕ) (old new : HousePass D) : Type 0 where
       pub adds : AddsTo (MaySettle tells seen moment left_since may_leave faults now) old new own
       pub hears : Hears (raised (before_own old adds.others adds.settling) old.epoch.raised)
           old.epoch new.epoch
+      pub asks : MayAskTheWord old.epoch new.epoch
 
     abbrev pub RefusesHouse : ℕ → (own : List Entry → List Entry) → (raised : List Entry → ℕ → ℕ)
         → (old new : HousePass D) → JournalFault → Type 0
@@ -164,7 +176,8 @@ module _ {D : Type 0} (o : Opening D) where
         (λ log. fault_at (moment_after o.book.state log) (base_after o.book.state log) ∷ [])
         raised_behind old new
     RefusesHouse now own raised old new Memory =
-        RefusesWith now (λ log. []) raised_behind old new ⊎ RefusesWith now own raised old new
+        RefusesWith now (λ log. []) raised_behind old new
+        ⊎ (RefusesWith now own raised old new × AsksTheWord old.epoch new.epoch)
 
     -- The leases are lost, and the moment of the loss is raised.
     pub record LosesHouse (now : ℕ) (old new : HousePass D) (count : ℕ) (lane : ToldRecords)
@@ -178,6 +191,7 @@ module _ {D : Type 0} (o : Opening D) where
       pub hears : Hears
           (raised_by_loss now (before_own old adds.others adds.settling) old.epoch.raised)
           old.epoch new.epoch
+      pub asks : AsksTheWord old.epoch new.epoch
       pub raised : raised_behind (before_own old adds.others adds.settling) old.epoch.raised
           ≤ new.epoch.heard
       pub published : lane ≡ told_of o new.history.seen
@@ -212,4 +226,5 @@ module _ {D : Type 0} where
     pub room : new.history.room ≡ old.history.room + other.history.room
     pub raised : new.epoch.raised ≡ max old.epoch.raised other.epoch.raised
     pub heard : new.epoch.heard ≡ max old.epoch.heard other.epoch.heard
+    pub asked : new.epoch.asked ≡ old.epoch.asked + other.epoch.asked
     pub share : new.epoch.share ≡ old.epoch.share + other.epoch.share

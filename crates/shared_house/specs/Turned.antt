@@ -52,8 +52,10 @@ module _ {D : Type 0} where
       AllZip (λ t p. p.history ≡ new_pass t.id (2 ^ 64 - 1) []) turns passes
 
   -- books came out of turns, and stand before others
-  pub record TakesApart (tells : Type 0) (may_leave : D → List ℕ → Type 0) (faults : D → ℕ)
-      (turns : List (TurnName (Opening D))) (old new : List (BookView D)) : Type 0 where
+  pub record TakesApart (tells : Type 0) (moment : D → ℕ) (left_since : D → ℕ → List ℕ → Type 0)
+      (may_leave : D → List ℕ → Type 0) (faults : D → ℕ) (turns : List (TurnName (Opening D)))
+      (old new : List (BookView D)) : Type 0 where
     pub out : List (BookView D)
-    pub each : AllZip (λ t b. StandsStill tells may_leave faults t.key.book b) turns out
+    pub each : AllZip
+        (λ t b. StandsStill tells moment left_since may_leave faults t.key.book b) turns out
     pub new_is : new ≡ out ++ old

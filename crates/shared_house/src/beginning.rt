@@ -71,7 +71,7 @@ fn prepare<D: LeaseDisk + Drop>(
     requires books { AllByRecursion (IsBook D.tells D.seen D.may_leave) books.now }
     ensures fresh { IfOk result (λ prepared. prepared.fresh ≡ is_fresh founds.now books.now) }
     ensures seats { IfOk result (λ prepared. AreSeats (length books.now)
-        (seat_knowledge prepared.word (first_base books.now) (first_base books.now) (2 ^ 64 - 1))
+        (seat_knowledge prepared.word (first_base books.now) (first_base books.now) 0 (2 ^ 64 - 1))
         prepared.seats.items) }
     ensures updates { IfOk result (λ prepared. prepared.updates.items
         ≡ flat_map (book_updates (first_base books.now)) books.now) }
@@ -108,8 +108,8 @@ fn begin_with<D: LeaseDisk + Drop, R: Wait>(
     ensures config { IfOk result (λ begun. begun.house.config ≡ config) }
     ensures spare { IfOk result (λ begun. begun.house.spare ≡ opened.spare.items) }
     ensures begun { IfOk result (BeginsWith config opened.books.items opened.founds.items) }
-    ensures back { IfErr result (λ pairs. ComeBack D.tells D.may_leave D.faults
-        opened.books.items opened.spare.items pairs.items) }
+    ensures back { IfErr result (λ pairs. ComeBack D.tells D.moment D.left_since D.may_leave
+        D.faults opened.books.items opened.spare.items pairs.items) }
 {
     let Opened {
         books,

@@ -95,7 +95,7 @@ fn put_book<D: LeaseDisk + Drop>(books: &mut Vec<Book<D>>, book: Book<D>)
 fn take_apart<D: LeaseDisk + Drop, R: Wait>(rt: &R, made: Turned<D>, books: &mut Vec<Book<D>>)
     requires unshared { AreUnshared made.turns.items made.passes.items }
     requires room { length made.turns.items + length books.old.items ≤ vec_capacity books.old }
-    ensures { TakesApart D.tells D.may_leave D.faults made.turns.items
+    ensures { TakesApart D.tells D.moment D.left_since D.may_leave D.faults made.turns.items
         books.old.items books.new.items }
 {
     let Turned {
@@ -137,8 +137,8 @@ pub(crate) fn turn_all<D: LeaseDisk + Drop, R: Wait>(
     ensures seats { IfOk result
         (λ made. map (λ p. p.epoch) made.0.passes.items ≡ seats.items) }
     ensures spare { IfOk result (λ made. made.1 ≡ spare) }
-    ensures back { IfErr result (λ pairs. ComeBack D.tells D.may_leave D.faults
-        books.items spare.items pairs.items) }
+    ensures back { IfErr result (λ pairs. ComeBack D.tells D.moment D.left_since D.may_leave
+        D.faults books.items spare.items pairs.items) }
 {
     let mut books = books;
     let mut seats = seats;

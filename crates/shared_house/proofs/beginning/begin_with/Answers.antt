@@ -34,7 +34,7 @@ prepare-requires-clause-books g c =
 pub returns-in_default-clause-back : goal.returns-in_default-clause-back
 returns-in_default-clause-back g c =
     let d = g.D.LeaseDisk in
-    untouched-back d.tells d.may_leave d.faults c.args.opened.books.items c.args.opened.spare.items
+    untouched-back d.tells d.moment d.left_since d.may_leave d.faults c.args.opened.books.items c.args.opened.spare.items
     c.hand_back.result.items c.hand_back.ensures
 
 pub invariant_of-result : goal.invariant_of-result
@@ -70,10 +70,10 @@ returns-in-Ok-turn_all-clause-begun g c =
     let same : c.deref.result.now ≡ books = c.deref.ensures.value in
     let same_founds : c.deref-2.result.now ≡ founds = c.deref-2.ensures.value in
     let first = first_base books in
-    let seats : AreSeats (length books) (seat_knowledge ready.word first first (2 ^ 64 - 1))
+    let seats : AreSeats (length books) (seat_knowledge ready.word first first 0 (2 ^ 64 - 1))
     ready.seats.items =
     subst (λ (bs : List (BookView g.row.D.Denot)). AreSeats (length bs)
-    (seat_knowledge ready.word (first_base bs) (first_base bs) (2 ^ 64 - 1)) ready.seats.items)
+    (seat_knowledge ready.word (first_base bs) (first_base bs) 0 (2 ^ 64 - 1)) ready.seats.items)
     same c.in-Ok.ensures.seats in
     let seated = c.in-Ok-turn_all.ensures.seats in
     record {

@@ -26,7 +26,7 @@ untake-requires g c =
     let t_is : c.pop.result ≡ Some c.unwrap-turn.result = search rules in
     let p_is : c.pop-in-loop.result ≡ Some c.unwrap-history.result = search rules in
     record {
-      pass = (last-unshared d.tells d.may_leave d.faults c.loop.turns.items c.pop.new.self.items
+      pass = (last-unshared d.tells d.moment d.left_since d.may_leave d.faults c.loop.turns.items c.pop.new.self.items
           c.loop.passes.items c.pop-in-loop.new.self.items c.unwrap-turn.result
           c.unwrap-history.result
           (popped c.loop.turns.items c.pop.new.self.items c.pop.result c.unwrap-turn.result
@@ -50,7 +50,7 @@ loop-preserved g c =
     let one = length-append c.pop.new.self.items (c.unwrap-turn.result ∷ []) in
     let put = ap length c.put_book.ensures.items in
     record {
-      so = one-apart d.tells d.may_leave d.faults c.args.made.turns.items c.loop.turns.items
+      so = one-apart d.tells d.moment d.left_since d.may_leave d.faults c.args.made.turns.items c.loop.turns.items
           c.pop.new.self.items c.loop.passes.items c.pop-in-loop.new.self.items
           c.args.books.now.items c.loop.books.items c.put_book.new.books.items
           c.unwrap-turn.result c.unwrap-history.result c.untake.result left_is passes_is
@@ -80,6 +80,6 @@ returns g c =
     (let a = c.loop.invariant.left in let b = c.loop-test.false in
     let e : c.len-end.result ≡ length c.args.made.turns.items = search rules in
     omega (arith, a, b, e)) in
-    all-apart d.tells d.may_leave d.faults c.args.made.turns.items c.loop.turns.items
+    all-apart d.tells d.moment d.left_since d.may_leave d.faults c.args.made.turns.items c.loop.turns.items
     c.loop.passes.items c.args.books.now.items c.loop.books.items
     (none-left c.loop.turns.items none) c.loop.invariant.so

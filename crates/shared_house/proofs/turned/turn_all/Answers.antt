@@ -11,7 +11,7 @@ use Rattle.shared_house.proofs.turned.turn_all.Goals as goal
 pub returns-in-Err-clause-back : goal.returns-in-Err-clause-back
 returns-in-Err-clause-back g c =
     let d = g.D.LeaseDisk in
-    untouched-back d.tells d.may_leave d.faults c.args.books.items c.args.spare.items
+    untouched-back d.tells d.moment d.left_since d.may_leave d.faults c.args.books.items c.args.spare.items
     c.hand_back.result.items c.hand_back.ensures
 
 pub loop-place-init : goal.loop-place-init
@@ -63,7 +63,7 @@ hand_back-requires-in-Err-next g c =
     let many = zip-length IsKeyed made.turns.items so.done
     (begin-keyed c.args.config.now 0 so.done made.turns.items made.passes.items made.lanes.items
     so.begun) in
-    let out = zip-length (IsOut d.tells d.may_leave d.faults)
+    let out = zip-length (IsOut d.tells d.moment d.left_since d.may_leave d.faults)
     c.turn_next-next.new.made.turns.items takes.out takes.each in
     let all = ap length takes.new_is ∙ length-append takes.out c.put_book.new.books.items in
     let done = so.count in
@@ -80,10 +80,10 @@ returns-in-Err-next-clause-back g c =
     let rest_is = first_removed c.loop-place.books.items c.remove-book.new.self.items
     c.remove-book.result some c.remove-book.ensures.value c.remove-book.ensures.items in
     let takes =
-    subst (λ (m : Turned g.row.D.Denot). TakesApart d.tells d.may_leave d.faults m.turns.items
+    subst (λ (m : Turned g.row.D.Denot). TakesApart d.tells d.moment d.left_since d.may_leave d.faults m.turns.items
     c.put_book.new.books.items c.take_apart.new.books.items)
     c.in-Err-next.ensures.same c.take_apart.ensures in
-    stopped-back d.tells d.may_leave d.faults c.args.config.now c.args.books.items
+    stopped-back d.tells d.moment d.left_since d.may_leave d.faults c.args.config.now c.args.books.items
     c.loop-place.books.items c.remove-book.new.self.items c.put_book.new.books.items
     c.take_apart.new.books.items c.loop-place.place c.loop-place.made
     c.args.seats.items c.loop-place.seats.items c.args.spare.items
