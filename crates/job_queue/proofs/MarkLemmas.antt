@@ -67,9 +67,9 @@ count_marks : (f : Job → Bool) (xs : List Job) → count_by (λ (b : Bool). b)
 count_marks f xs = sym (length-filter (λ (b : Bool). b) (map f xs)) ∙ kept_marks f xs
 
 -- so many of the last marks are those of what the queue held
-pub held_noise : (route : Option JobsRoute) (put items : List Job) (held count : ℕ) → length items ≡ held → held ≤ MOST_JOBS → IsLastOf items put
-    → count ≡ count_by (λ (m : Bool). m) (last_of held (noise_marks route put)) → HeldNoise route put count
-held_noise route put items held count size few last is =
+pub held_noise : (taken : List Job) (route : Option JobsRoute) (put items : List Job) (held count : ℕ) → length items ≡ held → held ≤ MOST_JOBS → IsLastOf taken items put
+    → count ≡ count_by (λ (m : Bool). m) (last_of held (noise_marks route put)) → HeldNoise taken route put count
+held_noise taken route put items held count size few last is =
     let f : Job → Bool = is_noise_job route in
     let parts : map f put ≡ map f last.before ++ map f items = ap (map f) last.parted ∙ map-append f last.before items in
     let marks : last_of held (noise_marks route put) ≡ map f items =

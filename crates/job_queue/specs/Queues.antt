@@ -14,8 +14,23 @@ use Rattle.job_queue.specs.declared.jobs.JobsView.{JobsView}
 use Rattle.job_queue.specs.declared.jobs.TheConstants.{MOST_JOBS}
 
 abbrev pub jobs_view : Bool → Bool → Option JobsRoute → List Job → List Job → JobsView
-jobs_view puts takes route put taken =
-    record { puts = puts; takes = takes; route = route; put = put; taken = taken }
+jobs_view puts takes route put taken = record {
+  puts = puts;
+  takes = takes;
+  route = route;
+  put = put;
+  taken = taken;
+  told_put = [];
+  told_taken = [];
+}
+
+-- the view is told so much of what was put and taken
+abbrev pub hearing : JobsView → List Job → List Job → JobsView
+hearing v put taken = record v { told_put = put; told_taken = taken }
+
+-- it neither puts nor takes, and was told so much
+abbrev pub told_view : List Job → List Job → JobsView
+told_view put taken = hearing (jobs_view false false None [] []) put taken
 
 -- the job is one for this external address
 abbrev pub IsJobFor : Option JobsRoute → Job → Type 0
@@ -24,10 +39,13 @@ IsJobFor (Some r) (Packet d) = route_of r.config d ≡ r.shard
 IsJobFor (Some r) Lose = Unit {0}
 
 -- One pass at most puts, and it has the list of what was put; one takes, and has that of what was taken.
+-- What a pass was told are first parts of these.
 pub record FitsEnd (putter taker : ℕ) (route : Option JobsRoute) (put taken : List Job) (seat : ℕ)
     (v : JobsView) : Type 0 where
   pub puts : v.puts ≡ true → (seat ≡ putter) × (v.route ≡ route) × (v.put ≡ put)
   pub takes : v.takes ≡ true → (seat ≡ taker) × (v.route ≡ route) × (v.taken ≡ taken)
+  pub told_put : IsPrefix v.told_put put
+  pub told_taken : IsPrefix v.told_taken taken
 
 -- What was put is what was taken and then what the queue holds. All are jobs for one external address.
 pub record AreInOrder (items : List Job) (views : List JobsView) : Type 0 where
@@ -41,16 +59,22 @@ pub record AreInOrder (items : List Job) (views : List JobsView) : Type 0 where
   pub ends : (seat : ℕ) (v : JobsView) → get_elem? views seat ≡ some v →
       FitsEnd putter taker route put taken seat v
 
--- the items are the last of what was put
-pub record IsLastOf (items put : List Job) : Type 0 where
+-- the items are the last of what was put, and what stands before them begins with what was taken
+pub record IsLastOf (taken items put : List Job) : Type 0 where
   pub before : List Job
   pub parted : put ≡ before ++ items
+  pub behind : IsPrefix taken before
 
--- at some moment the last of what was put filled the queue
-pub record WasFull (put : List Job) : Type 0 where
+-- at some moment after these were taken the last of what was put filled the queue
+pub record WasFull (taken put : List Job) : Type 0 where
   pub items : List Job
   pub full : length items ≡ MOST_JOBS
-  pub last : IsLastOf items put
+  pub last : IsLastOf taken items put
+
+-- the items are what is left behind what was taken
+pub record IsRestOf (v : JobsView) (items : List Job) : Type 0 where
+  pub all : v.puts ≡ true → v.put ≡ v.taken ++ items
+  pub told : IsPrefix v.told_put (v.taken ++ items)
 
 -- ---- noise
 
@@ -60,11 +84,13 @@ is_noise_job None job = false
 is_noise_job (Some r) (Packet d) = is_noise r.config d
 is_noise_job (Some r) Lose = false
 
--- at some moment the last of what was put, which the queue held, had so many jobs that are noise
-pub record HeldNoise (route : Option JobsRoute) (put : List Job) (count : ℕ) : Type 0 where
+-- at some moment after these were taken the last of what was put, which the queue held, had so many jobs
+-- that are noise
+pub record HeldNoise (taken : List Job) (route : Option JobsRoute) (put : List Job) (count : ℕ)
+    : Type 0 where
   pub items : List Job
   pub few : length items ≤ MOST_JOBS
-  pub last : IsLastOf items put
+  pub last : IsLastOf taken items put
   pub noise : length (filter (is_noise_job route) items) ≡ count
 
 -- the last so many
@@ -92,6 +118,12 @@ pub record TakerKnowledge : Type 0 where
   pub knows_put : Bool
   pub put : List Job
   -- all that was taken
+  pub taken : List Job
+
+-- first parts of what was put and of what was taken
+pub record QueueNews : Type 0 where
+  pub queue : TableId
+  pub put : List Job
   pub taken : List Job
 
 -- nothing was put and nothing taken

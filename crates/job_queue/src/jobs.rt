@@ -39,6 +39,10 @@ pub struct JobsView {
     pub route: Option<JobsRoute>,
     pub put: LinkedList<Job>,
     pub taken: LinkedList<Job>,
+    /// What it was told of what others put: a first part of it.
+    pub told_put: LinkedList<Job>,
+    /// What it was told of what others took: a first part of it.
+    pub told_taken: LinkedList<Job>,
 }
 
 /// The rule of a queue: what was put is what was taken and then what the queue holds.
@@ -93,35 +97,69 @@ impl Join<JobsView> for Meets {
     ghost spent = { jobs_view false false None [] [] };
 }
 
+// Another pass is told what was put, by the one that puts.
+struct TellsPut;
+
+impl Split<JobsView> for TellsPut {
+    ghost use Rattle.std.specs.Prelude.{[]};
+    ghost use Rattle.job_queue.specs.Queues.{told_view};
+
+    ghost left = { λ v. v };
+
+    ghost right = { λ v. told_view v.put [] };
+}
+
+// Another pass is told what was taken, by the one that takes.
+struct TellsTaken;
+
+impl Split<JobsView> for TellsTaken {
+    ghost use Rattle.std.specs.Prelude.{[]};
+    ghost use Rattle.job_queue.specs.Queues.{told_view};
+
+    ghost left = { λ v. v };
+
+    ghost right = { λ v. told_view [] v.taken };
+}
+
+// What another pass was told is told to this one.
+struct Hears;
+
+impl Join<JobsView> for Hears {
+    ghost use Rattle.std.specs.Prelude.{[]};
+    ghost use Rattle.job_queue.specs.Queues.{hearing, told_view};
+
+    ghost both = { λ v w. hearing v w.told_put w.told_taken };
+
+    ghost spent = { told_view [] [] };
+}
+
 // A job is put behind the others; where it isn't, the queue is full.
 struct Puts;
 
 impl Outcome<Job, JobsView> for Puts {
-    ghost use Rattle.job_queue.specs.Queues.{jobs_view};
-
-    ghost then = { λ v x w. w ≡ jobs_view v.puts v.takes v.route (v.put ++ x ∷ []) v.taken };
+    ghost then = { λ v x w. w ≡ record v { put = v.put ++ x ∷ [] } };
 }
 
 impl Lesson<Job, JobsView> for Puts {
     ghost use Rattle.job_queue.specs.Queues.{IsLastOf};
 
-    ghost fact = { λ v items. IsLastOf items v.put };
+    ghost fact = { λ v items. IsLastOf v.told_taken items v.put };
 }
 
 // The first job is taken; where none is, the queue holds none.
 struct Takes;
 
 impl Outcome<Job, JobsView> for Takes {
-    ghost use Rattle.job_queue.specs.Queues.{IsJobFor, jobs_view};
+    ghost use Rattle.job_queue.specs.Queues.{IsJobFor};
 
     ghost then = { λ v x w.
-        (w ≡ jobs_view v.puts v.takes v.route v.put (v.taken ++ x ∷ [])) × IsJobFor v.route x };
+        (w ≡ record v { taken = v.taken ++ x ∷ [] }) × IsJobFor v.route x };
 }
 
 impl Lesson<Job, JobsView> for Takes {
-    ghost use Rattle.std.specs.Prelude.{◌≡◌, ◌++◌, true};
+    ghost use Rattle.job_queue.specs.Queues.{IsRestOf};
 
-    ghost fact = { λ v items. v.puts ≡ true → v.put ≡ v.taken ++ items };
+    ghost fact = { λ v items. IsRestOf v items };
 }
 
 /// A queue of jobs, of which one thread puts and one takes. To contracts it is a name.
@@ -192,8 +230,31 @@ impl Model for Taker {
     ghost invariant = { λ t. (t.pass.me.1 ≡ []) × (t.pass.me.0.client.takes ≡ true) };
 }
 
+/// What was put into a queue and taken out of it at moments that have passed: first parts of what is by
+/// now. It has no octets; it ties what a call answers to what happened before that call.
+#[derive(Drop)]
+pub struct News {
+    pass: Pass<Job, JobsView>,
+}
+
+impl Model for News {
+    ghost use Rattle.std.specs.Prelude.{◌≡◌, []};
+    ghost use Rattle.job_queue.specs.Queues.{QueueNews};
+
+    ghost Value = { QueueNews };
+
+    ghost view = { λ n. record {
+      queue = n.pass.table_id;
+      put = n.pass.me.0.client.told_put;
+      taken = n.pass.me.0.client.told_taken;
+    } };
+
+    ghost invariant = { λ n. n.pass.me.1 ≡ [] };
+}
+
 impl JobQueue {
-    ghost use Rattle.job_queue.specs.Queues.{AreEnds, HasMet, HeldNoise, IsJobFor, MayBeEmpty, is_noise_job};
+    ghost use Rattle.job_queue.specs.Queues.{AreEnds, HasMet, HeldNoise, IsJobFor, MayBeEmpty, WasFull, is_noise_job};
+    ghost use mathlib.Core.List.{IsPrefix};
 
     /// An empty queue of jobs for this external address, and its two ends.
     pub fn new(
@@ -227,46 +288,76 @@ impl JobQueue {
         ))
     }
 
+    /// News of all that was put by now.
+    pub fn news_of_put(&self, putter: &mut Putter) -> News
+        requires { putter.old.queue ≡ self.now }
+        ensures news { result ≡ record { queue = self.now; put = putter.old.put; taken = [] } }
+        ensures unchanged { putter.new ≡ putter.old }
+    {
+        let pass = self.queue.another::<TellsPut>(&mut putter.pass);
+        News { pass }
+    }
+
+    /// News of all that was taken by now.
+    pub fn news_of_taken(&self, taker: &mut Taker) -> News
+        requires { taker.old.queue ≡ self.now }
+        ensures news { result ≡ record { queue = self.now; put = []; taken = taker.old.taken } }
+        ensures unchanged { taker.new ≡ taker.old }
+    {
+        let pass = self.queue.another::<TellsTaken>(&mut taker.pass);
+        News { pass }
+    }
+
     /// Puts a job behind the others, and notes whether it is noise. It comes back only where the queue
-    /// held `MOST_JOBS` at a moment of this call.
+    /// held `MOST_JOBS` at a moment of this call, which came after these news.
     pub fn put<R: Wait>(
         &self,
         rt: &R,
         putter: &mut Putter,
+        news: News,
         job: Job,
         is_noise: bool,
     ) -> Result<(), Job>
         requires queue { putter.old.queue ≡ self.now }
+        requires news { news.queue ≡ self.now }
         requires job { IsJobFor putter.old.route job }
         requires noise { is_noise ≡ is_noise_job putter.old.route job }
         ensures put { OnOk result
             (putter.new ≡ record putter.old { put = putter.old.put ++ job ∷ [] }) }
-        ensures full { IfErr result (λ back.
-            (back ≡ job) × (putter.new ≡ putter.old) × WasFull putter.old.put) }
+        ensures full { IfErr result (λ back. (back ≡ job) × (putter.new ≡ putter.old)
+            × WasFull news.taken putter.old.put) }
     {
+        self.queue.absorb::<Hears>(&mut putter.pass, news.pass);
         self.queue.push_as::<Puts, R>(rt, &mut putter.pass, job)?;
         putter.marks.push(is_noise);
         Ok(())
     }
 
-    /// How many of the jobs that the queue held at a moment of this call are noise.
-    pub fn noise_held<R: Wait>(&self, rt: &R, putter: &mut Putter) -> usize
-        requires { putter.old.queue ≡ self.now }
-        ensures held { HeldNoise putter.old.route putter.old.put result }
+    /// How many of the jobs that the queue held at a moment of this call are noise. That moment came
+    /// after these news.
+    pub fn noise_held<R: Wait>(&self, rt: &R, putter: &mut Putter, news: News) -> usize
+        requires queue { putter.old.queue ≡ self.now }
+        requires news { news.queue ≡ self.now }
+        ensures held { HeldNoise news.taken putter.old.route putter.old.put result }
         ensures unchanged { putter.new ≡ putter.old }
     {
+        self.queue.absorb::<Hears>(&mut putter.pass, news.pass);
         let held = self.queue.len_as::<Puts, R>(rt, &mut putter.pass);
         putter.marks.count_last(held)
     }
 
-    /// Takes the first job. There is none only where the queue was empty at a moment of this call.
-    pub fn take<R: Wait>(&self, rt: &R, taker: &mut Taker) -> Option<Job>
-        requires { taker.old.queue ≡ self.now }
+    /// Takes the first job. There is none only where the queue was empty at a moment of this call, which
+    /// came after these news: then all that they say was put had been taken.
+    pub fn take<R: Wait>(&self, rt: &R, taker: &mut Taker, news: News) -> Option<Job>
+        requires queue { taker.old.queue ≡ self.now }
+        requires news { news.queue ≡ self.now }
         ensures taken { IfSome result (λ job.
             (taker.new ≡ record taker.old { taken = taker.old.taken ++ job ∷ [] })
             × IsJobFor taker.old.route job) }
-        ensures none { IfNone result ((taker.new ≡ taker.old) × MayBeEmpty taker.old) }
+        ensures none { IfNone result ((taker.new ≡ taker.old) × MayBeEmpty taker.old
+            × IsPrefix news.put taker.old.taken) }
     {
+        self.queue.absorb::<Hears>(&mut taker.pass, news.pass);
         self.queue.pop_as::<Takes, R>(rt, &mut taker.pass)
     }
 

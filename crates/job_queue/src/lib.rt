@@ -7,4 +7,4 @@ mod jobs;
 mod marks;
 
 pub use batches::{Batch, MOST_BATCH};
-pub use jobs::{Job, JobQueue, JobsRoute, JobsView, MOST_JOBS, Putter, Taker};
+pub use jobs::{Job, JobQueue, JobsRoute, JobsView, MOST_JOBS, News, Putter, Taker};
