@@ -135,7 +135,7 @@ module _ {D : Type 0} (tells : Type 0) (seen : D → List ℕ) (moment : D → �
         let ends = serves.ends.count in
         let inside : place < length serves.ends.ended = omega (arith, turns, ends) in
         let pair : slice_get serves.ends.ended place ≡ Some now =
-        first_of tells seen moment left_since may_leave faults serves.ends.ended begun.house.spare place now inside
+        first_of serves.ends.ended begun.house.spare place now inside
         (subst (λ (l : List (DiskPair D)). slice_get l place ≡ Some now) serves.ends.back back) in
         let last : HousePass D = get_or serves.ended place one.1.new.pass in
         let ended = serves.ends.each place seat.1 one.1.new.pass last now seat.3 passed (slice_get-get_or serves.ended place one.1.new.pass few) pair in

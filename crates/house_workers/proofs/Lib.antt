@@ -7,5 +7,7 @@ pub mod FullLemmas
 pub mod NoteLemmas
 pub mod OrderLemmas
 pub mod OwnLemmas
+pub mod PromisedLemmas
+pub mod RaiseLemmas
 pub mod ReplyLemmas
 pub mod UnsentLemmas

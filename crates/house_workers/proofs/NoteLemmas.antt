@@ -64,15 +64,35 @@ rising_range from at zero to h k = omega (arith, h, k)
 rising_range from at (suc n) to h k =
     (h, rising_range (at + 1) (at + 1) n to (omega arith) (omega (arith, k)))
 
-rising_from : (from after : ℕ) (ns : List ℕ) (to : ℕ) → from ≤ after → AreRising after ns to → AreRising from ns to
+pub rising_from : (from after : ℕ) (ns : List ℕ) (to : ℕ) → from ≤ after → AreRising after ns to → AreRising from ns to
 rising_from from after [] to h k = omega (arith, h, k)
 rising_from from after (n ∷ ns) to h k =
     let first = k.0 in
     (omega (arith, h, first), k.1)
 
-rising_append : (from : ℕ) (ns : List ℕ) (mid : ℕ) (ms : List ℕ) (to : ℕ) → AreRising from ns mid → AreRising mid ms to → AreRising from (ns ++ ms) to
+pub rising_append : (from : ℕ) (ns : List ℕ) (mid : ℕ) (ms : List ℕ) (to : ℕ) → AreRising from ns mid → AreRising mid ms to → AreRising from (ns ++ ms) to
 rising_append from [] mid ms to h k = rising_from from mid ms to h k
 rising_append from (n ∷ ns) mid ms to h k = (h.0, rising_append (n + 1) ns mid ms to h.1 k)
+
+-- the first of them is no later than their end
+pub rising_within : (from : ℕ) (ns : List ℕ) (to : ℕ) → AreRising from ns to → from ≤ to
+rising_within from [] to h = h
+rising_within from (n ∷ ns) to h =
+    let first = h.0 in
+    let rest = rising_within (n + 1) ns to h.1 in
+    omega (arith, first, rest)
+
+pub rising_to : (from : ℕ) (ns : List ℕ) (to later : ℕ) → to ≤ later → AreRising from ns to → AreRising from ns later
+rising_to from [] to later h k = omega (arith, h, k)
+rising_to from (n ∷ ns) to later h k = (k.0, rising_to (n + 1) ns to later h k.1)
+
+-- two parts of them, one behind the other
+pub rising_parts : (from : ℕ) (ns ms : List ℕ) (to : ℕ) → AreRising from (ns ++ ms) to
+    → (mid : ℕ) × AreRising from ns mid × AreRising mid ms to
+rising_parts from [] ms to h = (from, omega arith, h)
+rising_parts from (n ∷ ns) ms to h =
+    let rest = rising_parts (n + 1) ns ms to h.1 in
+    (rest.0, (h.0, rest.1), rest.2)
 
 -- ---- what a pass noted
 

@@ -1,5 +1,5 @@
 -- What a crash leaves of the journals of a house that was served (our own).
-use Rattle.std.specs.Prelude.{◌≡◌, ◌⊎◌, ℕ, List, [], ◌++◌, Some}
+use Rattle.std.specs.Prelude.{◌≡◌, ◌⊎◌, ℕ, List, [], ◌++◌, length, Some}
 use Rattle.std.specs.List.{AllZip, slice_get}
 use Rattle.pcp_base.specs.declared.addresses.Address.{Address}
 use Rattle.pcp_base.specs.declared.configs.External.{External}
@@ -11,32 +11,33 @@ use Rattle.lease_disk.specs.Pairs.{HoldsNow, PairLeavesOnly}
 use Rattle.journal_sides.specs.Journals.{StandsForWithOrWithout}
 use Rattle.shard_book.specs.Addresses.{renumbering}
 use Rattle.shard_book.specs.Openings.{OpensBook}
-use Rattle.job_workers.specs.Works.{WorkCall}
 use Rattle.lease_histories.specs.Entries.{Served}
 use Rattle.lease_histories.specs.Legal.{records_of, state_after}
 use Rattle.turned_shards.specs.declared.openings.Opening.{Opening}
 use Rattle.turned_shards.specs.Crashes.{IsInDoubt, StandsAlong}
 use Rattle.turned_shards.specs.Shards.{served_by}
-use Rattle.house_workers.specs.OwnEntries.{answered_in}
+use Rattle.house_workers.specs.OwnEntries.{AreRising}
 
--- The entries of all answered batches stand in the history, and each two images of the pair stand for
--- the state to which the history leads, or for that with all that is in doubt.
+-- The entries of all answered batches stand in the history, in order and each in a place of its own,
+-- and each two images of the pair stand for the state to which the history leads, or for that with all
+-- that is in doubt.
 pub record KeepsAcknowledged {D : Type 0} (tells : Type 0) (may_leave : D → List ℕ → Type 0)
-    (o : Opening D) (calls : List WorkCall) (history : List Entry) (pair : DiskPair D)
+    (o : Opening D) (answered : List Entry) (history : List Entry) (pair : DiskPair D)
     : Type 0 where
   pub places : List ℕ
-  pub there : AllZip (λ place e. slice_get history place ≡ Some e) places (answered_in calls)
+  pub rising : AreRising 0 places (length history)
+  pub there : AllZip (λ place e. slice_get history place ≡ Some e) places answered
   pub doubt : List Entry
   pub images : tells → HoldsNow may_leave
       (StandsForWithOrWithout (state_after o.book.state history) (records_of doubt)) pair
 
--- From a call's start on each two images of a pair are what an opening at m leaves; from the opening on
--- they stand for the state after some first entries of the history, or for that and what was in doubt
--- behind these.
+-- From a call's start on each two images of a pair are what this opening at m leaves; from then on they
+-- stand for the state after some first entries of the history, or for that and what was in doubt behind
+-- these.
 pub record KeepsServed {D : Type 0} (tells : Type 0) (seen : D → List ℕ) (moment : D → ℕ)
     (left_since : D → ℕ → List ℕ → Type 0) (may_leave : D → List ℕ → Type 0) (m : ℕ)
-    (x : External) (history : List Entry) (before now : DiskPair D) : Type 0 where
-  pub opening : Opening D
+    (x : External) (opening : Opening D) (history : List Entry) (before now : DiskPair D)
+    : Type 0 where
   pub opens : tells → OpensBook seen moment left_since may_leave m x.address before
       opening.book.journal.pair
   pub doubts : List (List Entry)

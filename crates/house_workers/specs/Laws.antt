@@ -1,9 +1,11 @@
 -- What holds of the run of an external address (our own).
-use Rattle.std.specs.Prelude.{◌≡◌, ℕ, ◌*◌, ◌<◌, ◌≤◌, List, Ok, Result, Some}
+use Rattle.std.specs.Prelude.{◌≡◌, ◌⊎◌, ℕ, ◌*◌, ◌<◌, ◌≤◌, List, Ok, Result, Some}
 use Rattle.std.specs.List.{AllByRecursion, slice_get, sum_by}
 use Rattle.pcp_base.specs.declared.configs.Config.{Config}
 use Rattle.pcp_base.specs.declared.configs.External.{External}
 use Rattle.pcp_base.specs.declared.datagrams.Entry.{Entry}
+use Rattle.pcp_base.specs.declared.records.Record.{Record}
+use Rattle.pcp_base.specs.Apply.{apply_all}
 use Rattle.pcp_base.specs.States.{State}
 use Rattle.pcp_announce.specs.declared.doors.Group.{Group}
 use Rattle.lease_disk.specs.declared.disks.DiskPair.{DiskPair}
@@ -19,7 +21,7 @@ use Rattle.job_workers.specs.Works.{unsent_in}
 use Rattle.job_dispatch.specs.Dispatches.{Dispatched}
 use Rattle.request_workers.specs.declared.faults.ServeFault.{ServeFault}
 use Rattle.request_workers.specs.Counts.{Counts}
-use Rattle.request_workers.specs.Served.{IsShardRun, ShardRun}
+use Rattle.request_workers.specs.Served.{IsShardRun, ShardRun, out_of}
 use Rattle.turned_shards.specs.declared.openings.Opening.{Opening}
 use Rattle.turned_shards.specs.declared.passes.HousePass.{HousePass}
 use Rattle.turned_shards.specs.Crashes.{StandsAlong}
@@ -29,13 +31,21 @@ use Rattle.shared_house.specs.HouseCalls.{HouseView}
 use Rattle.shared_house.specs.declared.beginning.Begun.{Begun}
 use Rattle.turned_shards.specs.Turnings.{EndsOne}
 use Rattle.house_workers.specs.Crashes.{IsRecovered, KeepsAcknowledged, KeepsServed}
-use Rattle.house_workers.specs.HouseCallsOf.{calls_of}
+use Rattle.house_workers.specs.HouseCallsOf.{IsOpeningOf, calls_of}
 use Rattle.house_workers.specs.OwnEntries.{HandsReplies, NotesInOrder, StandInOrder, answered_in, own_in}
+use Rattle.house_workers.specs.Promised.{AreServedAsPromised}
+use Rattle.house_workers.specs.Raised.{IsMomentOf, RaisesBases}
 use Rattle.house_workers.specs.ServingAll.{Edges, ServesToEnd}
 
 -- jobs were dropped at a full queue only where at least `MOST_JOBS` were put, which were all taken
 abbrev pub IsFilled : TallyRow → Type 0
 IsFilled row = 0 < row.full → MOST_JOBS ≤ row.taken
+
+-- The base of a state is that with which its records began, or the moment of one of them that rebases.
+abbrev pub BasesAreMoments : Type 0
+BasesAreMoments = (opening : State) (records : List Record) →
+    ((apply_all opening records).base ≡ opening.base)
+    ⊎ IsMomentOf opening records (apply_all opening records).base
 
 module _ (D : Type 0) (tells : Type 0) (seen : D → List ℕ) (moment : D → ℕ)
     (left_since : D → ℕ → List ℕ → Type 0) (may_leave : D → List ℕ → Type 0) (faults : D → ℕ)
@@ -60,7 +70,7 @@ module _ (D : Type 0) (tells : Type 0) (seen : D → List ℕ) (moment : D → �
     abbrev pub RepliesAreOfOwnEntries : Type 0
     RepliesAreOfOwnEntries = (house : HouseView D) (shard : ℕ) (ds : List Dispatched)
         (r : ShardRun (HousePass D)) → (is : IsRunOf house shard ds r) →
-        HandsReplies (answered_in is.works.calls) r.old r.new
+        HandsReplies (answered_in is.works.calls) (out_of r.old) (out_of r.new)
 
     -- Its row counts the jobs that were put for it, what its calls did with them, and what was
     -- dropped.
@@ -118,7 +128,7 @@ module _ (D : Type 0) (tells : Type 0) (seen : D → List ℕ) (moment : D → �
         (r : ShardRun (HousePass D)) → (is : IsRunOf house shard ds r) →
         (o : Opening D) (ended : HousePass D) (pair : DiskPair D) →
         EndsOne tells seen moment left_since may_leave faults o r.new.pass ended pair →
-        KeepsAcknowledged tells may_leave o is.works.calls ended.history.seen pair
+        KeepsAcknowledged tells may_leave o (answered_in is.works.calls) ended.history.seen pair
 
     -- A house that was opened, served and ended, whatever serving answered: at each moment since the
     -- call's start a crash leaves of the pair of each external address what is said here, along the
@@ -133,7 +143,19 @@ module _ (D : Type 0) (tells : Type 0) (seen : D → List ℕ) (moment : D → �
         (place : ℕ) (x : External) (p now : DiskPair D) (last : HousePass D) →
         slice_get config.externals place ≡ Some x → slice_get before place ≡ Some p →
         slice_get pairs place ≡ Some now → slice_get serves.ended place ≡ Some last →
-        KeepsServed tells seen moment left_since may_leave m x last.history.seen p now
+        (o : Opening D)
+        × KeepsServed tells seen moment left_since may_leave m x o last.history.seen p now
+
+    -- And so each external address was served as it is promised.
+    abbrev pub PromisesAreKept : Type 0
+    PromisesAreKept = (config : Config) (groups : List Group) (port m : ℕ)
+        (before pairs : List (DiskPair D)) (begun : Begun D) (old new : Edges)
+        (result : Result (List TallyRow) ServeFault) →
+        Begins tells seen moment left_since may_leave faults config m before begun →
+        ServesToEnd tells seen moment left_since may_leave faults config groups port begun old new
+        result pairs →
+        AreServedAsPromised tells seen moment left_since may_leave faults config m before pairs
+        old.outs new.outs
 
     -- What an opening finds of sides that a crash has left.
     abbrev pub CrashesAreRecovered : Type 0
@@ -143,3 +165,12 @@ module _ (D : Type 0) (tells : Type 0) (seen : D → List ℕ) (moment : D → �
         StandsAlong served opening doubts log (seen pair.a) (seen pair.b) →
         OpensOne tells seen moment left_since may_leave faults config m x pair book →
         IsRecovered served opening doubts log m x.address book.state
+
+    -- What its pass has raised at the end is what it had raised before, or a base of its history. The
+    -- other moments that a word holds are those of its first passes (`word_is_the_greatest`).
+    abbrev pub RaisedMomentsAreBases : Type 0
+    RaisedMomentsAreBases = (house : HouseView D) (shard : ℕ) (ds : List Dispatched)
+        (r : ShardRun (HousePass D)) → IsRunOf house shard ds r →
+        (o : Opening D) → IsOpeningOf house r.old.pass o →
+        RaisesBases o.book.state r.new.pass.history.seen r.old.pass.epoch.raised
+        r.new.pass.epoch.raised

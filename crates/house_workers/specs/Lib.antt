@@ -2,4 +2,6 @@ pub mod Crashes
 pub mod HouseCallsOf
 pub mod Laws
 pub mod OwnEntries
+pub mod Promised
+pub mod Raised
 pub mod ServingAll

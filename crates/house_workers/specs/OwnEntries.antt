@@ -6,13 +6,13 @@ use Rattle.pcp_base.specs.declared.configs.Config.{Config}
 use Rattle.pcp_base.specs.declared.datagrams.Entry.{Entry}
 use Rattle.pcp_base.specs.declared.records.Change.TheVariants as Changes
 use Rattle.pcp_base.specs.declared.records.Record.{Record}
-use Rattle.pcp_io.specs.Sends.{sent_with}
 use Rattle.lease_histories.specs.Entries.{entry_kind, request_of}
 use Rattle.lease_house.specs.declared.faults.HouseFault.TheVariants as HouseFaults
 use Rattle.job_queue.specs.declared.jobs.Job.{Job}
 use Rattle.job_queue.specs.declared.jobs.Job.TheVariants as Jobs
-use Rattle.job_workers.specs.Sends.{Handed, taken_of}
-use Rattle.job_workers.specs.Works.{Lost, Refused, Replied, WorkCall, WorkResult, WorkState}
+use Rattle.job_workers.specs.Sends.{Handed, HandsAll}
+use Rattle.job_workers.specs.Stations.{OutState}
+use Rattle.job_workers.specs.Works.{Lost, Refused, Replied, WorkCall, WorkResult}
 use Rattle.turn_lock.specs.Passes.{PassKnowledge}
 use Rattle.turned_shards.specs.BatchEntries.{reply_in}
 use Rattle.turned_shards.specs.FaultCounts.{is_of_fault}
@@ -33,12 +33,11 @@ abbrev pub answered_in : List WorkCall → List Entry
 answered_in calls = flat_map (λ c. answered_by c.result c.own) calls
 
 -- The replies of these entries were handed to the outbox, in order, each once. It took those whose
--- send was Ok.
-pub record HandsReplies {P : Type 0} (entries : List Entry) (old new : WorkState P)
-    : Type 0 where
+-- send was Ok, and its count of faults has risen by as many as the others are.
+pub record HandsReplies (entries : List Entry) (old new : OutState) : Type 0 where
   pub handed : List Handed
   pub replies : map (λ h. h.reply) handed ≡ map reply_in entries
-  pub sent : new.sent ≡ sent_with old.sent (taken_of handed)
+  pub all : HandsAll handed old.sent new.sent old.faults new.faults
 
 -- ---- places
 

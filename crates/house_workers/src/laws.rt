@@ -1,5 +1,5 @@
 //! What holds of the run of an external address. A proof that needs a law calls its function.
-ghost use Rattle.house_workers.specs.Laws.{AcknowledgedEntriesAreKept, CrashesAreAlongHistories, CrashesAreRecovered, FaultedRowsHaveCauses, FaultsAreCounted, FullQueuesWereFilled, JobsAreCounted, OwnEntriesAreInOrder, OwnEntriesAreNoted, RepliesAreOfOwnEntries, UnsentAreCounted};
+ghost use Rattle.house_workers.specs.Laws.{AcknowledgedEntriesAreKept, BasesAreMoments, CrashesAreAlongHistories, CrashesAreRecovered, FaultedRowsHaveCauses, FaultsAreCounted, FullQueuesWereFilled, JobsAreCounted, OwnEntriesAreInOrder, OwnEntriesAreNoted, PromisesAreKept, RaisedMomentsAreBases, RepliesAreOfOwnEntries, UnsentAreCounted};
 
 use lease_disk::LeaseDisk;
 use lease_house::crashes_are_found;
@@ -64,6 +64,14 @@ pub fn crashes_are_along_histories<D: LeaseDisk>()
     ensures { CrashesAreAlongHistories D D.tells D.seen D.moment D.left_since D.may_leave D.faults }
 {}
 
+/// What is promised of a server's answers holds of each external address, from the call's start to its end and
+/// whatever it answers: its journal was opened, and one history that keeps the promises was served from the
+/// state that was found there; a crash at any moment leaves the state after some first entries of it; and the
+/// outbox was handed replies of entries that stand in it, all of which the journal has at the end.
+pub fn promises_are_kept<D: LeaseDisk>()
+    ensures { PromisesAreKept D D.tells D.seen D.moment D.left_since D.may_leave D.faults }
+{}
+
 /// What an opening finds of sides that a crash has left along a history: the state after some first
 /// entries, or that with what was in doubt behind them, and then perhaps a Renumber.
 pub fn crashes_are_recovered<D: LeaseDisk>()
@@ -71,3 +79,11 @@ pub fn crashes_are_recovered<D: LeaseDisk>()
 {
     crashes_are_found::<D>();
 }
+
+/// A worker raises the epoch word to bases of the history of its external address and to no other moment: each
+/// is the base of what the journal was found to be, or the moment of a record behind it, of a Start, of a
+/// Lose, or of a Renumber to another address.
+pub fn raised_moments_are_bases<D: LeaseDisk>()
+    ensures raised { RaisedMomentsAreBases D D.tells D.seen D.moment D.left_since D.may_leave D.faults }
+    ensures bases { BasesAreMoments }
+{}

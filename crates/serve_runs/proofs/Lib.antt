@@ -1,3 +1,4 @@
+mod AnswerLemmas
 mod HandLemmas
 pub mod ServingLemmas
 pub mod UpdateLemmas

@@ -23,6 +23,7 @@ use Rattle.request_workers.specs.declared.faults.ServeFault.{ServeFault}
 use Rattle.request_workers.specs.declared.faults.ServeFault.TheVariants as ServeFaults
 use Rattle.shared_house.specs.declared.beginning.Begun.{Begun}
 use Rattle.shared_house.specs.Beginnings.{Begins, RefusesBegin, first_base}
+use Rattle.house_workers.specs.Promised.{AreServedAsPromised}
 use Rattle.house_workers.specs.ServingAll.{Edges, ServesToEnd}
 use Rattle.serve_runs.specs.TallyTexts.{rows_text}
 use Rattle.serve_runs.specs.Updates.{HandsEach}
@@ -131,8 +132,8 @@ module _ {W I D : Type 0} where
 
   -- ---- where a house is served
 
-  -- The house was opened at the second of the dispatcher's clock, and served to its end; then the
-  -- tally was told, and the first disk that was lost.
+  -- The house was opened at the second of the dispatcher's clock, and served to its end, each external
+  -- address as it is promised; then the tally was told, and the first disk that was lost.
   pub record EndsServed (disks : DiskMeanings D) (lost : D → Bool) (config : Config)
       (before now : ServeState W I D) (status : Status) : Type 0 where
     pub start : ℕ
@@ -144,6 +145,8 @@ module _ {W I D : Type 0} where
     pub tally : Result (List TallyRow) ServeFault
     pub serves : SendsAndServes disks config begun begins.books
         (record before.edges { clocks = clocks }) now.edges tally now.pairs
+    pub promised : AreServedAsPromised disks.tells disks.seen disks.moment disks.left_since
+        disks.may_leave disks.faults config start before.pairs now.pairs serves.outs now.edges.outs
     pub told : IsToldTo lost tally now.pairs before.out now.out before.held now.held status
 
   -- how a `serve` of this configuration ended

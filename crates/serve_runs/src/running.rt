@@ -8,6 +8,7 @@ ghost use Rattle.server_commands.specs.declared.statuses.Status.TheVariants as S
 ghost use Rattle.serve_commands.specs.Words.{IsServeWords};
 ghost use Rattle.serve_commands.specs.declared.commands.ServePlan.{ServePlan};
 ghost use Rattle.pcp_server.specs.Outsides.{disks_by};
+ghost use Rattle.serve_runs.specs.Answers.{AnswersByCause};
 ghost use Rattle.serve_runs.specs.Served.{IsLostAt, Serves};
 
 use crate::serving::serve_config;
@@ -208,6 +209,41 @@ pub fn run_serve<
         (inbox.new ≡ inbox.old) ⊎ IsLostAt D.lost result.1.items shard }
     ensures config_reads { C.faults config.old ≤ C.faults config.new }
     ensures writes { W.faults out.old ≤ W.faults out.new }
+
+    // So each answer has its cause, and where no count rises it is Done, Memory, or a refusal of the words or
+    // of the configuration.
+    ensures causes { AnswersByCause
+        (disks_by D.tells D.seen D.moment D.left_since D.may_leave D.faults) D.lost
+        (map string_bytes words.now) (C.left config.old) (C.left config.new)
+        (record { source = C.faults config.old; sink = W.faults out.old })
+        (record { source = C.faults config.new; sink = W.faults out.new })
+        (record {
+          out = out.old;
+          held = W.held out.old;
+          inbox = inbox.old;
+          pairs = disks.items;
+          edges = record {
+            left = I.left inbox.old;
+            faults = I.faults inbox.old;
+            outs = outs_told O.sent O.faults outs.old;
+            links = links_told L.asks L.answers L.faults lanes.old;
+            clocks = map T.times clocks.old;
+          };
+        })
+        (record {
+          out = out.new;
+          held = W.held out.new;
+          inbox = inbox.new;
+          pairs = result.1.items;
+          edges = record {
+            left = I.left inbox.new;
+            faults = I.faults inbox.new;
+            outs = outs_told O.sent O.faults outs.new;
+            links = links_told L.asks L.answers L.faults lanes.new;
+            clocks = map T.times clocks.new;
+          };
+        })
+        result.0 }
 {
     match serve_of(words) {
         Some(_plan) => serve_by(

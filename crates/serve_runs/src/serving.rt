@@ -14,7 +14,7 @@ ghost use Rattle.serve_runs.specs.Served.{GivesStart, IsLostAt, ServesConfig, Se
 
 use crate::telling::tell_tally;
 use crate::updates::send_updates;
-use house_workers::{faulted_rows_have_causes, serve_all};
+use house_workers::{faulted_rows_have_causes, promises_are_kept, serve_all};
 use job_workers::Tally;
 use lane_loops::moment_of;
 use lease_disk::{DiskPair, LeaseDisk};
@@ -174,6 +174,7 @@ pub(crate) fn serve_config<
                 rt, alloc, begun, config, inbox, outs, lanes, clocks, gate, board,
             );
             faulted_rows_have_causes::<D>();
+            promises_are_kept::<D>();
             (tell_tally(alloc, tally, &disks, out), disks)
         }
         Err(refused) => (unopened_as(refused.fault), refused.disks),

@@ -12,6 +12,8 @@ returns-in-Ok-clause-served g c = inr (record {
   begins = c.in-Ok.ensures.begun;
   tally = c.serve_house-tally.result.0;
   serves = c.serve_house-tally.ensures.serves _ _ c.in-Ok.ensures.begun;
+  promised = c.promises_are_kept.ensures _ _ _ _ _ _ _ _ _ _ c.in-Ok.ensures.begun
+      (c.serve_house-tally.ensures.serves _ _ c.in-Ok.ensures.begun).served;
   told = told-of g.D.LeaseDisk.lost c.serve_house-tally.result.0 _ c.serve_house-tally.result.1.items _ _ _ _ _ c.deref.ensures.value c.tell_tally.ensures.told;
 })
 
