@@ -37,7 +37,7 @@ InPlace P k [] = Unit {0}
 InPlace P k (p ∷ ps) = (P p × (p.shard ≡ k)) × InPlace P (k + 1) ps
 
 module _ {D : Type 0} (config : Config) where
-  passes-count : (k : ℕ) (bs : List (BookView D)) (ts : List (TurnName (Opening D))) (ps : List (HousePass D)) (ls : List LaneKnowledge) → BeginAll config k bs ts ps ls → length ps ≡ length bs
+  pub passes-count : (k : ℕ) (bs : List (BookView D)) (ts : List (TurnName (Opening D))) (ps : List (HousePass D)) (ls : List LaneKnowledge) → BeginAll config k bs ts ps ls → length ps ≡ length bs
   passes-count k [] [] [] [] all = refl
   passes-count k [] [] [] (z ∷ ls) all = absurd all
   passes-count k [] [] (y ∷ ps) ls all = absurd all
@@ -83,7 +83,7 @@ module _ {D : Type 0} (config : Config) where
   in_place P k (w ∷ bs) (x ∷ ts) (y ∷ ps) [] all is = absurd all
   in_place P k (w ∷ bs) (x ∷ ts) (y ∷ ps) (z ∷ ls) all is = ((is.0, all.0.shard), in_place P (k + 1) bs ts ps ls all.1 is.1)
 
-books-count : {D : Type 0} (tells : Type 0) (seen : D → List ℕ) (moment : D → ℕ) (left_since : D → ℕ → List ℕ → Type 0) (may_leave : D → List ℕ → Type 0) (faults : D → ℕ)
+pub books-count : {D : Type 0} (tells : Type 0) (seen : D → List ℕ) (moment : D → ℕ) (left_since : D → ℕ → List ℕ → Type 0) (may_leave : D → List ℕ → Type 0) (faults : D → ℕ)
     (config : Config) (m : ℕ) (xs : List External) (pairs : List (DiskPair D)) (bs : List (BookView D)) (spare : List (DiskPair D))
     → OpensAll tells seen moment left_since may_leave faults config m xs pairs bs spare → length bs ≡ length xs
 books-count tells seen moment left_since may_leave faults config m [] pairs [] spare all = refl
@@ -140,7 +140,7 @@ module _ {D : Type 0} (tells : Type 0) (seen : D → List ℕ) (moment : D → �
     count_back house config groups port fresh old new (Err ServeFaults.Threads) h = h.served.count
     count_back house config groups port fresh old new (Err ServeFaults.Memory) h = ap (λ (s : BegunState (HousePass D)). length s.passes) h
 
-    pass_at : (house : HouseView D) (k : ℕ) (ps : List (HousePass D)) (i : ℕ) (p : HousePass D)
+    pub pass_at : (house : HouseView D) (k : ℕ) (ps : List (HousePass D)) (i : ℕ) (p : HousePass D)
         → ArePasses (calls_of tells seen moment left_since may_leave faults house) k ps → slice_get ps i ≡ Some p
         → IsServingPass house p × (p.shard ≡ k + i)
     pass_at house k [] i p h there = absurd cc

@@ -18,6 +18,7 @@ use Rattle.request_workers.specs.declared.faults.ServeFault.{ServeFault}
 use Rattle.request_workers.specs.declared.faults.ServeFault.TheVariants as ServeFaults
 use Rattle.request_workers.specs.BegunHouses.{AnswersBegun, ServesBegun}
 use Rattle.request_workers.specs.Parts.{BegunState}
+use Rattle.request_workers.specs.Passes.{SplitsFirst}
 use Rattle.request_workers.specs.Served.{AreShardRuns, IsShardRun, ShardRun, out_of}
 use Rattle.turned_shards.specs.declared.passes.HousePass.{HousePass}
 use Rattle.turned_shards.specs.Shards.{served_by}
@@ -56,29 +57,63 @@ run_there house shard ds (r ∷ rs) (suc i) runs small = run_there house (shard 
 there_mapped : {X Y : Type 0} (f : X → Y) (xs : List X) (i : ℕ) (x : X) → slice_get xs i ≡ Some x → slice_get (map f xs) i ≡ Some (f x)
 there_mapped f xs i x there = slice_get-map f xs i ∙ ap (option_map f) there
 
--- a run whose outbox told this, and whose pass stands there at the end
-record HasWorked {P : Type 0} (house : HouseCalls P) (passes : List P) (place : ℕ) (out_before out_now : OutState) : Type 0 where
-  shard : ℕ
-  ds : List Dispatched
-  run : ShardRun P
-  is : IsShardRun house shard ds run
-  before : out_before ≡ out_of run.old
-  now : out_now ≡ out_of run.new
-  pass : slice_get passes place ≡ Some run.new.pass
+-- a run whose pass stood there when all began, and stands there at the end
+pub record HasRun {P : Type 0} (house : HouseCalls P) (first passes : List P) (place : ℕ) : Type 0 where
+  pub shard : ℕ
+  pub ds : List Dispatched
+  pub run : ShardRun P
+  pub is : IsShardRun house shard ds run
+  pub kept : List P
+  pub asking : P
+  pub splits : SplitsFirst house first kept asking
+  pub began : slice_get kept place ≡ Some run.old.pass
+  pub pass : slice_get passes place ≡ Some run.new.pass
+
+-- whose outbox told this
+record HasWorked {P : Type 0} (house : HouseCalls P) (first passes : List P) (place : ℕ) (out_before out_now : OutState)
+    : Type 0 where
+  one : HasRun house first passes place
+  before : out_before ≡ out_of one.run.old
+  now : out_now ≡ out_of one.run.new
+
+run_at : {P : Type 0} (house : HouseCalls P) (config : Config) (groups : List Group) (port : ℕ) (fresh : Bool) (old new : BegunState P)
+    (read : Result (Unit {0}) RunFault) (rows : List TallyRow) (place : ℕ)
+    → (served : ServesBegun house config groups port fresh old new read rows) → place < length config.externals
+    → (one : HasRun house old.passes new.passes place)
+    × (slice_get served.served.before.outs place ≡ Some (out_of one.run.old))
+    × (slice_get served.served.after.outs place ≡ Some (out_of one.run.new))
+run_at {P} house config groups port fresh old new read rows place served within =
+    let p = served.served in
+    let runs = p.serves.runs in
+    let count = p.parts_were.out_count in
+    let many = ap length runs.outs_were ∙ length-map runs.shards (λ (r : ShardRun P). out_of r.old) in
+    let run = run_there house 0 runs.runs.dispatched runs.shards place runs.each (omega (arith, within, count, many)) in
+    let r : ShardRun P = run.1 in (
+      record {
+        shard = run.0;
+        ds = runs.runs.dispatched;
+        run = r;
+        is = run.2;
+        kept = served.passes;
+        asking = served.asking;
+        splits = served.splits;
+        began = ap (λ (l : List P). slice_get l place) runs.seated_were ∙ there_mapped (λ (x : ShardRun P). x.old.pass) runs.shards place r run.3;
+        pass = ap (λ (l : List P). slice_get l place) runs.passes_are ∙ there_mapped (λ (x : ShardRun P). x.new.pass) runs.shards place r run.3;
+      },
+      ap (λ (l : List OutState). slice_get l place) runs.outs_were ∙ there_mapped (λ (x : ShardRun P). out_of x.old) runs.shards place r run.3,
+      ap (λ (l : List OutState). slice_get l place) runs.outs_are ∙ there_mapped (λ (x : ShardRun P). out_of x.new) runs.shards place r run.3,
+    )
 
 worked_at : {P : Type 0} (house : HouseCalls P) (config : Config) (groups : List Group) (port : ℕ) (fresh : Bool) (old new : BegunState P)
     (read : Result (Unit {0}) RunFault) (rows : List TallyRow) (place : ℕ) (out_before out_now : OutState)
     → ServesBegun house config groups port fresh old new read rows → place < length config.externals
     → slice_get old.outs place ≡ Some out_before → slice_get new.outs place ≡ Some out_now
-    → HasWorked house new.passes place out_before out_now
+    → HasWorked house old.passes new.passes place out_before out_now
 worked_at {P} house config groups port fresh old new read rows place out_before out_now served within sent told =
     let p = served.served in
-    let runs = p.serves.runs in
     let count = p.parts_were.out_count in
     let count_now = p.parts_are.out_count in
-    let many = ap length runs.outs_were ∙ length-map runs.shards (λ (r : ShardRun P). out_of r.old) in
-    let run = run_there house 0 runs.runs.dispatched runs.shards place runs.each (omega (arith, within, count, many)) in
-    let r : ShardRun P = run.1 in
+    let run = run_at house config groups port fresh old new read rows place served within in
     let was : slice_get p.before.outs place ≡ Some out_before =
     in_front p.before.outs p.spare.outs (p.before.out ∷ []) place out_before (omega (arith, within, count))
     (subst (λ (l : List OutState). slice_get l place ≡ Some out_before) p.parts_were.outs sent) in
@@ -86,15 +121,9 @@ worked_at {P} house config groups port fresh old new read rows place out_before 
     in_front p.after.outs p.spare.outs (p.after.out ∷ []) place out_now (omega (arith, within, count_now))
     (subst (λ (l : List OutState). slice_get l place ≡ Some out_now) p.parts_are.outs told) in
     record {
-      shard = run.0;
-      ds = runs.runs.dispatched;
-      run = r;
-      is = run.2;
-      before = some_of out_before (out_of r.old) (sym was ∙ (ap (λ (l : List OutState). slice_get l place) runs.outs_were
-          ∙ there_mapped (λ (x : ShardRun P). out_of x.old) runs.shards place r run.3));
-      now = some_of out_now (out_of r.new) (sym is ∙ (ap (λ (l : List OutState). slice_get l place) runs.outs_are
-          ∙ there_mapped (λ (x : ShardRun P). out_of x.new) runs.shards place r run.3));
-      pass = ap (λ (l : List P). slice_get l place) runs.passes_are ∙ there_mapped (λ (x : ShardRun P). x.new.pass) runs.shards place r run.3;
+      one = run.0;
+      before = some_of out_before (out_of run.0.run.old) (sym was ∙ run.1);
+      now = some_of out_now (out_of run.0.run.new) (sym is ∙ run.2);
     }
 
 -- so it was, or nothing was served
@@ -102,7 +131,7 @@ worked : {P : Type 0} (house : HouseCalls P) (config : Config) (groups : List Gr
     (result : Result (List TallyRow) ServeFault) (place : ℕ) (out_before out_now : OutState)
     → AnswersBegun house config groups port fresh old new result → place < length config.externals
     → slice_get old.outs place ≡ Some out_before → slice_get new.outs place ≡ Some out_now
-    → (new ≡ old) ⊎ HasWorked house new.passes place out_before out_now
+    → (new ≡ old) ⊎ HasWorked house old.passes new.passes place out_before out_now
 worked house config groups port fresh old new (Ok rows) place out_before out_now h within sent told =
     inr (worked_at house config groups port fresh old new _ rows place out_before out_now h within sent told)
 worked house config groups port fresh old new (Err ServeFaults.Read) place out_before out_now h within sent told =
@@ -110,6 +139,19 @@ worked house config groups port fresh old new (Err ServeFaults.Read) place out_b
 worked house config groups port fresh old new (Err ServeFaults.Threads) place out_before out_now h within sent told =
     inr (worked_at house config groups port fresh old new _ h.rows place out_before out_now h.served within sent told)
 worked house config groups port fresh old new (Err ServeFaults.Memory) place out_before out_now h within sent told = inl h
+
+-- the same without outboxes
+pub ran : {P : Type 0} (house : HouseCalls P) (config : Config) (groups : List Group) (port : ℕ) (fresh : Bool) (old new : BegunState P)
+    (result : Result (List TallyRow) ServeFault) (place : ℕ)
+    → AnswersBegun house config groups port fresh old new result → place < length config.externals
+    → (new ≡ old) ⊎ HasRun house old.passes new.passes place
+ran house config groups port fresh old new (Ok rows) place h within =
+    inr (run_at house config groups port fresh old new _ rows place h within).0
+ran house config groups port fresh old new (Err ServeFaults.Read) place h within =
+    inr (run_at house config groups port fresh old new _ h.rows place h.served within).0
+ran house config groups port fresh old new (Err ServeFaults.Threads) place h within =
+    inr (run_at house config groups port fresh old new _ h.rows place h.served within).0
+ran house config groups port fresh old new (Err ServeFaults.Memory) place h within = inl h
 
 module _ {D : Type 0} (tells : Type 0) (seen : D → List ℕ) (moment : D → ℕ)
     (left_since : D → ℕ → List ℕ → Type 0) (may_leave : D → List ℕ → Type 0) (faults : D → ℕ)
@@ -132,28 +174,28 @@ module _ {D : Type 0} (tells : Type 0) (seen : D → List ℕ) (moment : D → �
     }
 
     -- where its worker ran
-    worked_for : (begun : Begun D) (passes : List (HousePass D)) (config : Config) (m place : ℕ) (x : External) (p now : DiskPair D) (last : HousePass D)
+    worked_for : (begun : Begun D) (first passes : List (HousePass D)) (config : Config) (m place : ℕ) (x : External) (p now : DiskPair D) (last : HousePass D)
         (out_before out_now : OutState)
-        → (w : HasWorked (calls_of tells seen moment left_since may_leave faults begun.house) passes place out_before out_now)
-        → IsOpenedAndEnded tells seen moment left_since may_leave faults config m place x p now w.run.new.pass last
+        → (w : HasWorked (calls_of tells seen moment left_since may_leave faults begun.house) first passes place out_before out_now)
+        → IsOpenedAndEnded tells seen moment left_since may_leave faults config m place x p now w.one.run.new.pass last
         → IsServedAsPromised tells seen moment left_since may_leave faults config m place x p now out_before out_now
-    worked_for begun passes config m place x p now last out_before out_now w whole =
-        let does = w.is.works.does in
-        let calls = w.is.works.calls in
-        let told : HandsReplies (answered_in calls) (out_of w.run.old) (out_of w.run.new) =
-        replies_along tells seen moment left_since may_leave faults begun.house calls w.run.old w.run.new does in
+    worked_for begun first passes config m place x p now last out_before out_now w whole =
+        let does = w.one.is.works.does in
+        let calls = w.one.is.works.calls in
+        let told : HandsReplies (answered_in calls) (out_of w.one.run.old) (out_of w.one.run.new) =
+        replies_along tells seen moment left_since may_leave faults begun.house calls w.one.run.old w.one.run.new does in
         record {
           opening = whole.o;
           served = whole.served;
           opened = whole.opened;
           history = last.history.seen;
           promises = whole.ends.promises;
-          crash = kept_of tells seen moment left_since may_leave faults m x whole.o p now config w.run.new.pass last whole.opened whole.ends;
+          crash = kept_of tells seen moment left_since may_leave faults m x whole.o p now config w.one.run.new.pass last whole.opened whole.ends;
           answered = answered_in calls;
           replies = subst (λ (s : OutState). HandsReplies (answered_in calls) s out_now) (sym w.before)
-              (subst (λ (s : OutState). HandsReplies (answered_in calls) (out_of w.run.old) s) (sym w.now) told);
-          acknowledged = acknowledged tells seen moment left_since may_leave faults whole.o calls w.run.old.pass w.run.new.pass last now
-              (noted_along tells seen moment left_since may_leave faults begun.house calls w.run.old w.run.new does) whole.ends;
+              (subst (λ (s : OutState). HandsReplies (answered_in calls) (out_of w.one.run.old) s) (sym w.now) told);
+          acknowledged = acknowledged tells seen moment left_since may_leave faults whole.o calls w.one.run.old.pass w.one.run.new.pass last now
+              (noted_along tells seen moment left_since may_leave faults begun.house calls w.one.run.old w.one.run.new does) whole.ends;
         }
 
     pub promised_at : PromisesAreKept D tells seen moment left_since may_leave faults
@@ -183,5 +225,5 @@ module _ {D : Type 0} (tells : Type 0) (seen : D → List ℕ) (moment : D → �
               unserved config m place x p now q last out_before out_now (some_of out_now out_before (sym still ∙ sent))
               (whole q (slice_get-get_or then place first.0 few))
               )
-          | inr w ↦ worked_for begun then config m place x p now last out_before out_now w (whole w.run.new.pass w.pass)
+          | inr w ↦ worked_for begun begun.passes.items then config m place x p now last out_before out_now w (whole w.one.run.new.pass w.one.pass)
         ]

@@ -1,32 +1,54 @@
 -- What a seat has raised by a worker's calls.
-use Rattle.std.proofs.Common.{◌≡◌, ◌∙◌, ◌⊎◌, inl, inr, ℕ, ◌/◌, ◌≤◌, ◌<◌, max, ltb, Bool, true, false, cond, List, [], ◌∷◌, ◌++◌, Some, refl, sym, ap, subst, append_assoc, arith}
-use Rattle.std.specs.List.{slice_get}
+use Rattle.std.proofs.Common.{◌≡◌, ◌∙◌, ◌⊎◌, inl, inr, ℕ, zero, suc, ◌+◌, ◌/◌, ◌≤◌, ◌<◌, max, ltb, Bool, true, false, cond, List, [], ◌∷◌, ◌++◌, length, Some, refl, sym, ap, subst, append_assoc, arith}
+use Rattle.std.specs.List.{AllByRecursion, slice_get}
 use Rattle.std.proofs.lemmas.Grind.{common_steps}
 use Rattle.std.proofs.lemmas.List.{append-nil}
 use Rattle.std.proofs.lemmas.List.Elements.{filter_map-append}
 use Rattle.std.proofs.lemmas.List.Sums.{fold-append}
+use Rattle.std.proofs.lemmas.Option.{slice_get_within}
 use mathlib.Core.List.{IsPrefix}
 use Rattle.pcp_base.specs.declared.datagrams.Entry.{Entry}
 use Rattle.pcp_base.specs.declared.records.Record.{Record}
 use Rattle.pcp_base.specs.Apply.{apply, apply_all, rebases}
 use Rattle.pcp_base.specs.States.{State}
+use Rattle.pcp_base.proofs.Members.{All-weaker}
+use Rattle.lease_disk.specs.declared.disks.DiskPair.{DiskPair}
 use Rattle.journal_sides.specs.declared.errors.JournalFault.{JournalFault}
 use Rattle.journal_sides.specs.declared.errors.JournalFault.TheVariants as JournalFaults
 use Rattle.lease_histories.specs.Legal.{base_after, moment_after, records_of, state_after}
 use Rattle.job_queue.specs.declared.jobs.Job.{Job}
 use Rattle.job_workers.specs.Works.{DoesCalls, IsOfHouse, Lost, Refused, Replied, WorkCall, WorkResult, WorkState}
+use Rattle.request_workers.specs.Parts.{BegunState}
+use Rattle.request_workers.specs.Passes.{SplitsFirst}
 use Rattle.turn_lock.specs.Passes.{TurnName}
 use Rattle.turned_shards.specs.declared.openings.Opening.{Opening}
 use Rattle.turned_shards.specs.declared.passes.HousePass.{HousePass}
 use Rattle.turned_shards.specs.BatchEntries.{loss_at}
-use Rattle.shared_house.specs.HouseCalls.{AddsTo, Hears, HouseView, before_own, loss_behind, raised_behind, raised_by_loss}
+use Rattle.turned_shards.specs.Turnings.{EndsOne}
+use Rattle.shared_house.specs.declared.beginning.Begun.{Begun}
+use Rattle.shared_house.specs.Beginnings.{first_base}
+use Rattle.shared_house.specs.Seats.{Knows}
+use Rattle.shared_house.specs.HouseCalls.{AddsTo, BeginsAt, Hears, HouseView, before_own, loss_behind, raised_behind, raised_by_loss}
 use Rattle.house_workers.specs.HouseCallsOf.{IsOpeningOf, NotesHere, NotesOwn, calls_of}
-use Rattle.house_workers.specs.Laws.{BasesAreMoments}
+use Rattle.house_workers.specs.Laws.{BasesAreMoments, HousesRaiseBases}
 use Rattle.house_workers.specs.Raised.{IsBaseAlong, IsMomentOf, RaisesBases}
+use Rattle.house_workers.proofs.EndLemmas.{books-count, count_back, pass_at, passes-count}
 use Rattle.house_workers.proofs.OwnLemmas.{noted_along}
+use Rattle.house_workers.proofs.PromisedLemmas.{HasRun, ran}
 
 one-turn : {X : Type 0} (x y : X) → Some x ≡ Some y → x ≡ y
 one-turn x y e = cc
+
+-- what stands there
+one-there : {X : Type 0} (xs : List X) (i : ℕ) → i < length xs → (x : X) × (slice_get xs i ≡ Some x)
+one-there [] i small = absurd (omega (arith, small))
+one-there (x ∷ xs) zero small = (x, refl)
+one-there (x ∷ xs) (suc i) small = one-there xs i (omega (arith, small))
+
+all-there : {X : Type 0} (P : X → Type 0) (xs : List X) (i : ℕ) (x : X) → AllByRecursion P xs → slice_get xs i ≡ Some x → P x
+all-there P [] i x all there = absurd cc
+all-there P (y ∷ xs) zero x all there = subst P (one-turn y x there) all.0
+all-there P (y ∷ xs) (suc i) x all there = all-there P xs i x all.1 there
 
 -- ---- bases along a history
 
@@ -221,3 +243,77 @@ module _ {D : Type 0} (tells : Type 0) (seen : D → List ℕ) (moment : D → �
         raised-then o.book.state mid.history.seen b.pass.history.seen a.pass.epoch.raised mid.epoch.raised b.pass.epoch.raised rest.seen
         (call-raises house (c.time / 1000) a.pass mid c.jobs c.own c.result o is does.1.by_house)
         (raises-along house cs does.0 b o (stays-opening house a.pass mid o does.1.stays.place is) does.2)
+
+    -- ---- a house
+
+    -- what its first passes have raised
+    abbrev HasRaised : ℕ → HousePass D → Type 0
+    HasRaised first p = p.epoch.raised ≡ first
+
+    -- a pass was split off the first of them
+    kept-raised : (house : HouseView D) (first : ℕ) (old kept : List (HousePass D)) (asking : HousePass D)
+        → SplitsFirst (calls_of tells seen moment left_since may_leave faults house) old kept asking
+        → AllByRecursion (HasRaised first) old → AllByRecursion (HasRaised first) kept
+    kept-raised house first old kept asking splits all =
+        let were : AllByRecursion (HasRaised first) (splits.first ∷ splits.rest) =
+        subst (AllByRecursion (HasRaised first)) splits.old_is all in
+        let same : splits.kept.epoch.raised ≡ splits.first.epoch.raised =
+        ap (λ k. (record splits.kept { epoch = k }).epoch.raised) splits.splits.splits.epoch.kept_is in
+        subst (AllByRecursion (HasRaised first)) (sym splits.new_is) (same ∙ were.0, were.1)
+
+    ran-raises : (begun : Begun D) (first : ℕ) (passes : List (HousePass D)) (place : ℕ) (o : Opening D)
+        → AllByRecursion (HasRaised first) begun.passes.items → BeginsAt begun.house place o
+        → (one : HasRun (calls_of tells seen moment left_since may_leave faults begun.house) begun.passes.items passes place)
+        → RaisesBases o.book.state one.run.new.pass.history.seen first one.run.new.pass.epoch.raised
+    ran-raises begun first passes place o all begins one =
+        let old : HousePass D = one.run.old.pass in
+        let is = pass_at tells seen moment left_since may_leave faults begun.house 0 one.kept place old one.splits.passes one.began in
+        let at : old.shard ≡ place = is.1 ∙ (let e : 0 + place ≡ place = omega arith in e) in
+        let opens : BeginsAt begun.house old.shard o =
+        (begins.0, subst (λ n. slice_get begun.house.turns n ≡ Some begins.0) (sym at) begins.1, begins.2) in
+        let raised : old.epoch.raised ≡ first = all-there (HasRaised first) one.kept place old
+        (kept-raised begun.house first begun.passes.items one.kept one.asking one.splits all) one.began in
+        subst (λ n. RaisesBases o.book.state one.run.new.pass.history.seen n one.run.new.pass.epoch.raised) raised
+        (raises-along begun.house one.is.works.calls one.run.old one.run.new o
+        (record { begins = opens; config = is.0.opens o opens }) one.is.works.does)
+
+    -- so it is of the pass with which its turn ended
+    ended-raises : (o : Opening D) (first : ℕ) (old last : HousePass D) (pair : DiskPair D)
+        → EndsOne tells seen moment left_since may_leave faults o old last pair
+        → RaisesBases o.book.state old.history.seen first old.epoch.raised
+        → RaisesBases o.book.state last.history.seen first last.epoch.raised
+    ended-raises o first old last pair ends raises =
+        let same : last.epoch.raised ≡ old.epoch.raised = ap (λ k. (record last { epoch = k }).epoch.raised) ends.epoch in
+        raised-then o.book.state old.history.seen last.history.seen first old.epoch.raised last.epoch.raised
+        (ends.others, sym ends.knows) raises (inl same)
+
+    pub house-raises : HousesRaiseBases D tells seen moment left_since may_leave faults
+    house-raises config groups port m before pairs begun old new result begins serves place o last opens came =
+        let first : ℕ = first_base begins.books in
+        let then : List (HousePass D) = serves.then.passes in
+        let seats = slice_get_within serves.ended place last came in
+        let counts = serves.ends.count_passes in
+        let back = count_back tells seen moment left_since may_leave faults begun.house config groups port begun.fresh _ serves.then result serves.answers in
+        let many = passes-count config 0 begins.books begun.house.turns begun.passes.items begun.lanes.items begins.begins.each in
+        let books = books-count tells seen moment left_since may_leave faults config m config.externals before begins.books begun.house.spare begins.opened in
+        let within : place < length config.externals = omega (arith, seats, counts, back, many, books) in
+        let turns = slice_get_within begun.house.turns place opens.0 opens.1 in
+        let ends = serves.ends.count in
+        let pair = one-there serves.ends.ended place (omega (arith, turns, ends)) in
+        let all : AllByRecursion (HasRaised first) begun.passes.items =
+        All-weaker (λ (p : HousePass D). Knows begun.house.word first first p.epoch) (HasRaised first)
+        (λ p h. h.raised_is) begun.passes.items begins.begins.epochs in
+        let whole : (q : HousePass D) → slice_get then place ≡ Some q → RaisesBases o.book.state q.history.seen first q.epoch.raised
+        → RaisesBases o.book.state last.history.seen first last.epoch.raised =
+        λ q passed raises. ended-raises o first q last pair.0
+        (subst (λ (k : Opening D). EndsOne tells seen moment left_since may_leave faults k q last pair.0) opens.2
+        (serves.ends.each place opens.0 q last pair.0 opens.1 passed came pair.1)) raises in
+        elim (ran (calls_of tells seen moment left_since may_leave faults begun.house) config groups port begun.fresh _ serves.then result place serves.answers within) [
+          | inl same ↦ (
+              let q = one-there then place (omega (arith, seats, counts)) in
+              let still : slice_get begun.passes.items place ≡ Some q.0 =
+              subst (λ (s : BegunState (HousePass D)). slice_get s.passes place ≡ Some q.0) same q.1 in
+              whole q.0 q.1 (inl (all-there (HasRaised first) begun.passes.items place q.0 all still))
+              )
+          | inr one ↦ whole one.run.new.pass one.pass (ran-raises begun first then place o all opens one)
+        ]

@@ -26,8 +26,8 @@ use Rattle.turned_shards.specs.declared.openings.Opening.{Opening}
 use Rattle.turned_shards.specs.declared.passes.HousePass.{HousePass}
 use Rattle.turned_shards.specs.Crashes.{StandsAlong}
 use Rattle.turned_shards.specs.FaultCounts.{HaveRisenBy}
-use Rattle.shared_house.specs.Beginnings.{Begins}
-use Rattle.shared_house.specs.HouseCalls.{HouseView}
+use Rattle.shared_house.specs.Beginnings.{Begins, first_base}
+use Rattle.shared_house.specs.HouseCalls.{BeginsAt, HouseView}
 use Rattle.shared_house.specs.declared.beginning.Begun.{Begun}
 use Rattle.turned_shards.specs.Turnings.{EndsOne}
 use Rattle.house_workers.specs.Crashes.{IsRecovered, KeepsAcknowledged, KeepsServed}
@@ -166,11 +166,24 @@ module _ (D : Type 0) (tells : Type 0) (seen : D → List ℕ) (moment : D → �
         OpensOne tells seen moment left_since may_leave faults config m x pair book →
         IsRecovered served opening doubts log m x.address book.state
 
-    -- What its pass has raised at the end is what it had raised before, or a base of its history. The
-    -- other moments that a word holds are those of its first passes (`word_is_the_greatest`).
+    -- What its pass has raised at the end is what it had raised before, or a base of its history.
     abbrev pub RaisedMomentsAreBases : Type 0
     RaisedMomentsAreBases = (house : HouseView D) (shard : ℕ) (ds : List Dispatched)
         (r : ShardRun (HousePass D)) → IsRunOf house shard ds r →
         (o : Opening D) → IsOpeningOf house r.old.pass o →
         RaisesBases o.book.state r.new.pass.history.seen r.old.pass.epoch.raised
         r.new.pass.epoch.raised
+
+    -- Of a house that was opened, served and ended: what the pass of each external address has raised is
+    -- the greatest base that the openings found, or a base of its own history. So the epoch word, which
+    -- is the greatest of all that was raised (`word_is_the_greatest`), is such a base.
+    abbrev pub HousesRaiseBases : Type 0
+    HousesRaiseBases = (config : Config) (groups : List Group) (port m : ℕ)
+        (before pairs : List (DiskPair D)) (begun : Begun D) (old new : Edges)
+        (result : Result (List TallyRow) ServeFault) →
+        (begins : Begins tells seen moment left_since may_leave faults config m before begun) →
+        (serves : ServesToEnd tells seen moment left_since may_leave faults config groups port begun
+        old new result pairs) →
+        (place : ℕ) (o : Opening D) (last : HousePass D) →
+        BeginsAt begun.house place o → slice_get serves.ended place ≡ Some last →
+        RaisesBases o.book.state last.history.seen (first_base begins.books) last.epoch.raised

@@ -1,5 +1,5 @@
 //! What holds of the run of an external address. A proof that needs a law calls its function.
-ghost use Rattle.house_workers.specs.Laws.{AcknowledgedEntriesAreKept, BasesAreMoments, CrashesAreAlongHistories, CrashesAreRecovered, FaultedRowsHaveCauses, FaultsAreCounted, FullQueuesWereFilled, JobsAreCounted, OwnEntriesAreInOrder, OwnEntriesAreNoted, PromisesAreKept, RaisedMomentsAreBases, RepliesAreOfOwnEntries, UnsentAreCounted};
+ghost use Rattle.house_workers.specs.Laws.{AcknowledgedEntriesAreKept, BasesAreMoments, CrashesAreAlongHistories, CrashesAreRecovered, FaultedRowsHaveCauses, FaultsAreCounted, FullQueuesWereFilled, HousesRaiseBases, JobsAreCounted, OwnEntriesAreInOrder, OwnEntriesAreNoted, PromisesAreKept, RaisedMomentsAreBases, RepliesAreOfOwnEntries, UnsentAreCounted};
 
 use lease_disk::LeaseDisk;
 use lease_house::crashes_are_found;
@@ -80,10 +80,13 @@ pub fn crashes_are_recovered<D: LeaseDisk>()
     crashes_are_found::<D>();
 }
 
-/// A worker raises the epoch word to bases of the history of its external address and to no other moment: each
-/// is the base of what the journal was found to be, or the moment of a record behind it, of a Start, of a
-/// Lose, or of a Renumber to another address.
+/// The epoch word is raised to bases and to no other moment. What a worker raised by its calls is the base of its
+/// history after some first entries (`raised`); so the pass of each external address has raised, at the end, the
+/// greatest base that the openings found, or a base of its own history (`houses`). Each base is the one with
+/// which the records began, or the moment of one of them, of a Start, of a Lose, or of a Renumber to another
+/// address (`bases`).
 pub fn raised_moments_are_bases<D: LeaseDisk>()
     ensures raised { RaisedMomentsAreBases D D.tells D.seen D.moment D.left_since D.may_leave D.faults }
+    ensures houses { HousesRaiseBases D D.tells D.seen D.moment D.left_since D.may_leave D.faults }
     ensures bases { BasesAreMoments }
 {}

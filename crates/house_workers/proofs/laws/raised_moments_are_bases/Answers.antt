@@ -1,4 +1,4 @@
-use Rattle.house_workers.proofs.RaiseLemmas.{bases-are-moments, raises-along}
+use Rattle.house_workers.proofs.RaiseLemmas.{bases-are-moments, house-raises, raises-along}
 use Rattle.house_workers.proofs.laws.raised_moments_are_bases.Goals as goal
 
 pub returns-clause-raised : goal.returns-clause-raised
@@ -8,3 +8,7 @@ returns-clause-raised g c house shard ds r is o opens =
 
 pub returns-clause-bases : goal.returns-clause-bases
 returns-clause-bases g c = bases-are-moments
+
+pub returns-clause-houses : goal.returns-clause-houses
+returns-clause-houses g c =
+    house-raises g.D.LeaseDisk.tells g.D.LeaseDisk.seen g.D.LeaseDisk.moment g.D.LeaseDisk.left_since g.D.LeaseDisk.may_leave g.D.LeaseDisk.faults
