@@ -58,7 +58,7 @@ there_mapped : {X Y : Type 0} (f : X → Y) (xs : List X) (i : ℕ) (x : X) → 
 there_mapped f xs i x there = slice_get-map f xs i ∙ ap (option_map f) there
 
 -- a run whose pass stood there when all began, and stands there at the end
-pub record HasRun {P : Type 0} (house : HouseCalls P) (first passes : List P) (place : ℕ) : Type 0 where
+pub record RanThere {P : Type 0} (house : HouseCalls P) (first passes : List P) (place : ℕ) : Type 0 where
   pub shard : ℕ
   pub ds : List Dispatched
   pub run : ShardRun P
@@ -72,14 +72,14 @@ pub record HasRun {P : Type 0} (house : HouseCalls P) (first passes : List P) (p
 -- whose outbox told this
 record HasWorked {P : Type 0} (house : HouseCalls P) (first passes : List P) (place : ℕ) (out_before out_now : OutState)
     : Type 0 where
-  one : HasRun house first passes place
+  one : RanThere house first passes place
   before : out_before ≡ out_of one.run.old
   now : out_now ≡ out_of one.run.new
 
 run_at : {P : Type 0} (house : HouseCalls P) (config : Config) (groups : List Group) (port : ℕ) (fresh : Bool) (old new : BegunState P)
     (read : Result (Unit {0}) RunFault) (rows : List TallyRow) (place : ℕ)
     → (served : ServesBegun house config groups port fresh old new read rows) → place < length config.externals
-    → (one : HasRun house old.passes new.passes place)
+    → (one : RanThere house old.passes new.passes place)
     × (slice_get served.served.before.outs place ≡ Some (out_of one.run.old))
     × (slice_get served.served.after.outs place ≡ Some (out_of one.run.new))
 run_at {P} house config groups port fresh old new read rows place served within =
@@ -144,7 +144,7 @@ worked house config groups port fresh old new (Err ServeFaults.Memory) place out
 pub ran : {P : Type 0} (house : HouseCalls P) (config : Config) (groups : List Group) (port : ℕ) (fresh : Bool) (old new : BegunState P)
     (result : Result (List TallyRow) ServeFault) (place : ℕ)
     → AnswersBegun house config groups port fresh old new result → place < length config.externals
-    → (new ≡ old) ⊎ HasRun house old.passes new.passes place
+    → (new ≡ old) ⊎ RanThere house old.passes new.passes place
 ran house config groups port fresh old new (Ok rows) place h within =
     inr (run_at house config groups port fresh old new _ rows place h within).0
 ran house config groups port fresh old new (Err ServeFaults.Read) place h within =

@@ -34,7 +34,7 @@ use Rattle.house_workers.specs.Laws.{BasesAreMoments, HousesRaiseBases}
 use Rattle.house_workers.specs.Raised.{IsBaseAlong, IsMomentOf, RaisesBases}
 use Rattle.house_workers.proofs.EndLemmas.{books-count, count_back, pass_at, passes-count}
 use Rattle.house_workers.proofs.OwnLemmas.{noted_along}
-use Rattle.house_workers.proofs.PromisedLemmas.{HasRun, ran}
+use Rattle.house_workers.proofs.PromisedLemmas.{RanThere, ran}
 
 one-turn : {X : Type 0} (x y : X) → Some x ≡ Some y → x ≡ y
 one-turn x y e = cc
@@ -263,7 +263,7 @@ module _ {D : Type 0} (tells : Type 0) (seen : D → List ℕ) (moment : D → �
 
     ran-raises : (begun : Begun D) (first : ℕ) (passes : List (HousePass D)) (place : ℕ) (o : Opening D)
         → AllByRecursion (HasRaised first) begun.passes.items → BeginsAt begun.house place o
-        → (one : HasRun (calls_of tells seen moment left_since may_leave faults begun.house) begun.passes.items passes place)
+        → (one : RanThere (calls_of tells seen moment left_since may_leave faults begun.house) begun.passes.items passes place)
         → RaisesBases o.book.state one.run.new.pass.history.seen first one.run.new.pass.epoch.raised
     ran-raises begun first passes place o all begins one =
         let old : HousePass D = one.run.old.pass in

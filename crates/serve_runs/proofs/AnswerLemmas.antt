@@ -17,7 +17,7 @@ use Rattle.pcp_server.specs.Statuses.{unopened_as, unread_as}
 use Rattle.job_workers.specs.declared.tallies.TallyRow.{TallyRow}
 use Rattle.request_workers.specs.declared.faults.ServeFault.{ServeFault}
 use Rattle.request_workers.specs.declared.faults.ServeFault.TheVariants as ServeFaults
-use Rattle.serve_runs.specs.Answers.{AnswersByCause, AnswersWithoutFault, HasCause, IsDone, IsNoFault, NothingFails, StreamFaults}
+use Rattle.serve_runs.specs.Answers.{AnswersByCause, AnswersWithoutFault, CauseOf, IsServedToStop, IsNoFault, NothingFails, StreamFaults}
 use Rattle.serve_runs.specs.Served.{IsLostAt, IsToldTo, ServeState, Serves, ServesConfig, ended_as, first_lost}
 
 -- ---- what is told once there is a configuration
@@ -105,7 +105,7 @@ module _ {W I D : Type 0} (disks : DiskMeanings D) (lost : D → Bool) (words : 
       told-served lost ends.tally now.pairs before.out now.out before.held now.held status ends.told
 
   abbrev Caused : Status → Type 0
-  Caused = HasCause disks lost words source_before source_now faults_before faults_now before now
+  Caused = CauseOf disks lost words source_before source_now faults_before faults_now before now
 
   abbrev Answered : Status → Type 0
   Answered = Serves disks lost source_before source_now before now

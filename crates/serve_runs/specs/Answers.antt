@@ -24,7 +24,7 @@ module _ {W I D : Type 0} (disks : DiskMeanings D) (lost : D → Bool) (words : 
     (before now : ServeState W I D) where
   -- The house was served until the inbox stopped, and the tally is written. No disk that refused
   -- jobs is lost.
-  pub record IsDone : Type 0 where
+  pub record IsServedToStop : Type 0 where
     pub config : Config
     pub accepted : Accepts source_before source_now config
     pub served : EndsServed disks lost config before now Statuses.Done
@@ -38,17 +38,17 @@ module _ {W I D : Type 0} (disks : DiskMeanings D) (lost : D → Bool) (words : 
     pub how : (now.inbox ≡ before.inbox) ⊎ IsLostAt lost now.pairs shard
 
   -- A fault is answered only where a count of faults rose. Where memory was wanting no clause says.
-  abbrev pub HasCause : Status → Type 0
-  HasCause Statuses.Done = IsDone
-  HasCause Statuses.WordsRefused = (plan : ServePlan) → ¬ (IsServeWords words plan)
-  HasCause (Statuses.ConfigRefused cause) = RefusesConfig source_before source_now cause
-  HasCause (Statuses.ScriptRefused line) = ⊥
-  HasCause Statuses.ReadFault =
+  abbrev pub CauseOf : Status → Type 0
+  CauseOf Statuses.Done = IsServedToStop
+  CauseOf Statuses.WordsRefused = (plan : ServePlan) → ¬ (IsServeWords words plan)
+  CauseOf (Statuses.ConfigRefused cause) = RefusesConfig source_before source_now cause
+  CauseOf (Statuses.ScriptRefused line) = ⊥
+  CauseOf Statuses.ReadFault =
       HasRisen faults_before.source faults_now.source
       ⊎ HasRisen before.edges.faults now.edges.faults
-  HasCause Statuses.WriteFault = HasRisen faults_before.sink faults_now.sink
-  HasCause (Statuses.DiskFault shard) = HasFailedAt shard
-  HasCause Statuses.Memory = ⊤
+  CauseOf Statuses.WriteFault = HasRisen faults_before.sink faults_now.sink
+  CauseOf (Statuses.DiskFault shard) = HasFailedAt shard
+  CauseOf Statuses.Memory = ⊤
 
   -- no count rose in the call, nor stands at its end
   pub record NothingFails : Type 0 where
@@ -71,5 +71,5 @@ module _ {W I D : Type 0} (disks : DiskMeanings D) (lost : D → Bool) (words : 
         (status ≡ Statuses.Done) ⊎ (status ≡ Statuses.Memory)
 
   pub record AnswersByCause (status : Status) : Type 0 where
-    pub cause : HasCause status
+    pub cause : CauseOf status
     pub without_fault : NothingFails → AnswersWithoutFault status
