@@ -4,7 +4,7 @@ ghost use Rattle.pcp_base.specs.declared.records.Record.{Record};
 ghost use Rattle.pcp_base.specs.Apply.{apply_all};
 ghost use Rattle.pcp_base.specs.Fits.{AllFit};
 ghost use Rattle.pcp_base.specs.States.{State};
-ghost use Rattle.lease_disk.specs.Pairs.{PairHasCause, PairLeavesOnly};
+ghost use Rattle.lease_disk.specs.Pairs.{PairHasCause, PairIsQuiet, PairLeavesOnly};
 ghost use Rattle.journal_sides.specs.declared.formats.Format.TheVariants.{Second};
 ghost use Rattle.journal_sides.specs.declared.walks.Standing.{Standing};
 ghost use Rattle.journal_sides.specs.Journals.{StandsForWithOrWithout};
@@ -43,6 +43,7 @@ pub(crate) fn put_frames<D: LeaseDisk>(
         ≡ of_side (other side) (D.seen pair.old.a) (D.seen pair.old.b)) }
     ensures most { OnOk result (end + 1 + length frames.now ≤ 2 ^ 62) }
     ensures cause { PairHasCause D.faults pair.old pair.new (IsErr result) }
+    ensures quiet { OnOk result (PairIsQuiet D.faults pair.old pair.new) }
 {
     write_side(pair, side, end + 1, frames)?;
     write_side(pair, side, end, &[1])?;

@@ -1,7 +1,7 @@
 //! Letting one side take over from the other.
 ghost use Rattle.std.specs.Prelude.{◌≡◌, ◌<◌, ◌≤◌, ◌^◌, ℕ, [], ◌∷◌, get_or, length, IfOk, OnOk, IsErr};
 ghost use Rattle.pcp_base.specs.States.{State};
-ghost use Rattle.lease_disk.specs.Pairs.{PairHasCause, PairLeavesOnly};
+ghost use Rattle.lease_disk.specs.Pairs.{PairHasCause, PairIsQuiet, PairLeavesOnly};
 ghost use Rattle.journal_sides.specs.declared.formats.Format.TheVariants.{Second};
 ghost use Rattle.journal_sides.specs.declared.walks.Standing.{Standing};
 ghost use Rattle.lease_journal.specs.Compactions.{TakesOver};
@@ -31,6 +31,7 @@ fn retire_side<D: LeaseDisk>(pair: &mut DiskPair<D>, side: Side) -> Result<(), F
         (of_side (other side) (D.seen pair.new.a) (D.seen pair.new.b)
         ≡ of_side (other side) (D.seen pair.old.a) (D.seen pair.old.b)) }
     ensures cause { PairHasCause D.faults pair.old pair.new (IsErr result) }
+    ensures quiet { OnOk result (PairIsQuiet D.faults pair.old pair.new) }
 {
     write_side(pair, side, 0, &[0])?;
     cut_side(pair, side, 1)
@@ -69,6 +70,7 @@ pub(crate) fn take_over<D: LeaseDisk>(
     ensures most { IfOk result (λ size. size ≤ 2 ^ 62) }
     ensures within { OnOk result (length text.now < 2 ^ 62) }
     ensures cause { PairHasCause D.faults pair.old pair.new (IsErr result) }
+    ensures quiet { OnOk result (PairIsQuiet D.faults pair.old pair.new) }
 {
     let size = begin_side(pair, side.other(), text)?;
     retire_side(pair, side)?;

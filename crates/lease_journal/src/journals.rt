@@ -49,7 +49,7 @@ impl<D: LeaseDisk> Journal<D> {
     ghost use Rattle.pcp_base.specs.Fits.{AllFit};
     ghost use Rattle.pcp_base.specs.Records.{IsWellFormedRecord};
     ghost use Rattle.pcp_base.specs.States.{State, empty_state};
-    ghost use Rattle.lease_disk.specs.Pairs.{PairHasCause, PairLeavesOnly};
+    ghost use Rattle.lease_disk.specs.Pairs.{PairHasCause, PairIsQuiet, PairLeavesOnly};
     ghost use Rattle.journal_sides.specs.declared.errors.JournalFault.TheVariants.{Disk, Memory};
     ghost use Rattle.journal_sides.specs.declared.formats.Format.TheVariants.{Second};
     ghost use Rattle.journal_sides.specs.declared.layout.TheConstants.{MOST_APPENDED};
@@ -57,6 +57,7 @@ impl<D: LeaseDisk> Journal<D> {
     ghost use Rattle.journal_sides.specs.Frames.{frames_octets};
     ghost use Rattle.journal_sides.specs.Journals.{StandsFor, StandsForWithOrWithout};
     ghost use Rattle.lease_journal.specs.Openings.{FoundMeans, HasStarted, IsClearedUnless, IsStillOrShut, LeavesOld, Opens, ViewMeans, ViewReplays};
+    ghost use Rattle.journal_sides.specs.Quiet.{UnlessDisk};
     ghost use Rattle.journal_sides.specs.Reads.{ArePairRead, AreSeenStill};
     ghost use Rattle.journal_sides.specs.Texts.{AreTexts, records_in};
     ghost use Rattle.lease_journal.specs.Views.{IsFilled, IsSettled};
@@ -94,6 +95,7 @@ impl<D: LeaseDisk> Journal<D> {
         ensures memory { result ≡ Err Memory → self.new ≡ self.old }
         ensures doubt { result ≡ Err Disk → self.new.unread ≡ true }
         ensures cause { PairHasCause D.faults self.old.pair self.new.pair (result ≡ Err Disk) }
+        ensures quiet { UnlessDisk result (PairIsQuiet D.faults self.old.pair self.new.pair) }
     {
         let frames = frames_of(alloc, batch)?;
         self.unread = true;
@@ -187,6 +189,7 @@ impl<D: LeaseDisk> Journal<D> {
         ensures first_length { OnOk result (self.new.first_length ≡ self.new.standing.length) }
         ensures doubt { IsErr result → self.new.unread ≡ true }
         ensures cause { PairHasCause D.faults self.old.pair self.new.pair (result ≡ Err Disk) }
+        ensures quiet { UnlessDisk result (PairIsQuiet D.faults self.old.pair self.new.pair) }
         ensures lasting { R.lasting replay.new ≡ R.lasting replay.old }
     {
         self.unread = true;
@@ -262,6 +265,7 @@ impl<D: LeaseDisk> Journal<D> {
         ensures memory { result ≡ Err Memory → self.new ≡ self.old }
         ensures doubt { result ≡ Err Disk → self.new.unread ≡ true }
         ensures cause { PairHasCause D.faults self.old.pair self.new.pair (result ≡ Err Disk) }
+        ensures quiet { UnlessDisk result (PairIsQuiet D.faults self.old.pair self.new.pair) }
     {
         let generation = self.standing.generation + 1;
         let text = hidden_of(alloc, generation, snapshot)?;

@@ -3,7 +3,7 @@ ghost use Rattle.std.specs.Prelude.{◌≡◌, ◌⊎◌, ◌<◌, ◌≤◌, �
 ghost use Rattle.pcp_io.specs.Faults.{HasCause};
 ghost use Rattle.pcp_base.specs.declared.records.Record.{Record};
 ghost use Rattle.pcp_base.specs.Records.{IsWellFormedRecord};
-ghost use Rattle.lease_disk.specs.Pairs.{PairHasCause, PairLeavesOnly};
+ghost use Rattle.lease_disk.specs.Pairs.{PairHasCause, PairIsQuiet, PairLeavesOnly};
 ghost use Rattle.journal_sides.specs.declared.errors.JournalFault.TheVariants.{Disk};
 ghost use Rattle.journal_sides.specs.declared.formats.Format.TheVariants.{Second};
 ghost use Rattle.journal_sides.specs.declared.sides.Side.TheVariants.{A};
@@ -12,6 +12,7 @@ ghost use Rattle.journal_sides.specs.Formats.{HasNext, IsReplaying};
 ghost use Rattle.journal_sides.specs.Journals.{IsBlank, IsDamaged, IsStarting, IsStartingAnew, fresh_state};
 ghost use Rattle.journal_sides.specs.Judging.{IsSideJudged};
 ghost use Rattle.lease_journal.specs.Openings.{FoundMeans, HasStarted, IsNew, IsShutAnew, IsStillOrShut, LeavesOld, MayOpen, Opens};
+ghost use Rattle.journal_sides.specs.Quiet.{UnlessDisk};
 ghost use Rattle.journal_sides.specs.Reads.{ArePairRead, AreSeenStill, IsRead};
 ghost use Rattle.journal_sides.specs.Settled.{IsSettledBy, IsInReach};
 ghost use Rattle.journal_sides.specs.Shut.{IsHidden, IsShut, hidden_text};
@@ -43,6 +44,7 @@ fn front_of<D: LeaseDisk>(disk: &mut D) -> Result<Front, Failed>
     ensures read { IsRead D.moment D.left_since D.may_leave disk.old disk.new }
     ensures seen { D.tells → D.seen disk.new ≡ D.seen disk.old }
     ensures cause { HasCause (D.faults disk.old) (D.faults disk.new) result }
+    ensures quiet { OnOk result (D.faults disk.new ≡ D.faults disk.old) }
 {
     let size = disk.len()?;
     let mut gate = [0];
@@ -70,6 +72,7 @@ fn front_of_side<D: LeaseDisk>(pair: &mut DiskPair<D>, side: Side) -> Result<Fro
     ensures read { ArePairRead D.moment D.left_since D.may_leave pair.old pair.new }
     ensures seen { D.tells → AreSeenStill D.seen pair.old pair.new }
     ensures cause { PairHasCause D.faults pair.old pair.new (IsErr result) }
+    ensures quiet { OnOk result (PairIsQuiet D.faults pair.old pair.new) }
 {
     match side {
         Side::A => front_of(&mut pair.a),
@@ -94,6 +97,7 @@ fn shut_again<D: LeaseDisk>(pair: &mut DiskPair<D>, side: Side, size: u64) -> Re
         → OnOk result (AreDurable D.seen D.may_leave pair.new) }
     ensures most { IfOk result (λ now. now ≤ 2 ^ 62) }
     ensures cause { PairHasCause D.faults pair.old pair.new (IsErr result) }
+    ensures quiet { OnOk result (PairIsQuiet D.faults pair.old pair.new) }
 {
     write_side(pair, side, 1, &[0])?;
     Ok(size.max(2))
@@ -118,6 +122,7 @@ fn shut_front<D: LeaseDisk>(pair: &mut DiskPair<D>, side: Side, front: Front) ->
         → OnOk result (AreDurable D.seen D.may_leave pair.new) }
     ensures most { IfOk result (λ size. size ≤ 2 ^ 62) }
     ensures cause { PairHasCause D.faults pair.old pair.new (IsErr result) }
+    ensures quiet { OnOk result (PairIsQuiet D.faults pair.old pair.new) }
 {
     if front.is_shut {
         return shut_again(pair, side, front.size);
@@ -138,6 +143,7 @@ fn prepare<D: LeaseDisk>(pair: &mut DiskPair<D>, side: Side) -> Result<u64, Fail
         → OnOk result (AreDurable D.seen D.may_leave pair.new) }
     ensures most { IfOk result (λ size. size ≤ 2 ^ 62) }
     ensures cause { PairHasCause D.faults pair.old pair.new (IsErr result) }
+    ensures quiet { OnOk result (PairIsQuiet D.faults pair.old pair.new) }
 {
     let front = front_of_side(pair, side)?;
     shut_front(pair, side, front)
@@ -154,6 +160,7 @@ fn shut_beside<D: LeaseDisk>(pair: &mut DiskPair<D>, side: Side) -> Result<(), F
     ensures durable { D.tells → AreDurable D.seen D.may_leave pair.old
         → OnOk result (AreDurable D.seen D.may_leave pair.new) }
     ensures cause { PairHasCause D.faults pair.old pair.new (IsErr result) }
+    ensures quiet { OnOk result (PairIsQuiet D.faults pair.old pair.new) }
 {
     let front = front_of_side(pair, side)?;
     if front.size == 0 {
@@ -189,6 +196,7 @@ pub(crate) fn begin_side<D: LeaseDisk>(
     ensures most { IfOk result (λ size. size ≤ 2 ^ 62) }
     ensures within { OnOk result (length text.now < 2 ^ 62) }
     ensures cause { PairHasCause D.faults pair.old pair.new (IsErr result) }
+    ensures quiet { OnOk result (PairIsQuiet D.faults pair.old pair.new) }
 {
     let size = prepare(pair, side)?;
     write_side(pair, side, 1, text)?;
@@ -226,6 +234,7 @@ fn start<D: LeaseDisk, R: Replay>(
         → OnOk result (D.seen pair.new.b ≡ D.seen pair.old.b) }
     ensures reach { IfOk result IsInReach }
     ensures cause { PairHasCause D.faults pair.old pair.new (result ≡ Err Disk) }
+    ensures quiet { UnlessDisk result (PairIsQuiet D.faults pair.old pair.new) }
     ensures lasting { R.lasting replay.new ≡ R.lasting replay.old }
 {
     let start = Record {
@@ -266,6 +275,7 @@ fn start_blank<D: LeaseDisk, R: Replay>(
         → OnOk result (IsShutAnew (D.seen pair.old.b) (D.seen pair.new.b)) }
     ensures reach { IfOk result IsInReach }
     ensures cause { PairHasCause D.faults pair.old pair.new (result ≡ Err Disk) }
+    ensures quiet { UnlessDisk result (PairIsQuiet D.faults pair.old pair.new) }
     ensures lasting { R.lasting replay.new ≡ R.lasting replay.old }
 {
     shut_beside(pair, Side::B)?;
@@ -292,6 +302,7 @@ fn shut_judged<D: LeaseDisk>(
     ensures durable { D.tells → AreDurable D.seen D.may_leave pair.old
         → OnOk result (AreDurable D.seen D.may_leave pair.new) }
     ensures cause { PairHasCause D.faults pair.old pair.new (IsErr result) }
+    ensures quiet { OnOk result (PairIsQuiet D.faults pair.old pair.new) }
 {
     if let Judged::Closed = judged {
         return shut_beside(pair, side);
@@ -313,6 +324,7 @@ fn shut_all<D: LeaseDisk>(pair: &mut DiskPair<D>, a: Judged, b: Judged) -> Resul
     ensures durable { D.tells → AreDurable D.seen D.may_leave pair.old
         → OnOk result (AreDurable D.seen D.may_leave pair.new) }
     ensures cause { PairHasCause D.faults pair.old pair.new (IsErr result) }
+    ensures quiet { OnOk result (PairIsQuiet D.faults pair.old pair.new) }
 {
     match b {
         Judged::Good(_) => {
@@ -332,6 +344,7 @@ fn sync_both<D: LeaseDisk>(pair: &mut DiskPair<D>) -> Result<(), Failed>
     ensures seen { D.tells → OnOk result (AreSeenStill D.seen pair.old pair.new) }
     ensures durable { OnOk result (AreDurable D.seen D.may_leave pair.new) }
     ensures cause { PairHasCause D.faults pair.old pair.new (IsErr result) }
+    ensures quiet { OnOk result (PairIsQuiet D.faults pair.old pair.new) }
 {
     pair.a.sync()?;
     pair.b.sync()?;
@@ -363,6 +376,7 @@ fn start_anew<D: LeaseDisk, R: Replay>(
         → OnOk result (IsShutAnew (D.seen pair.old.b) (D.seen pair.new.b)) }
     ensures reach { IfOk result IsInReach }
     ensures cause { PairHasCause D.faults pair.old pair.new (result ≡ Err Disk) }
+    ensures quiet { UnlessDisk result (PairIsQuiet D.faults pair.old pair.new) }
     ensures lasting { R.lasting replay.new ≡ R.lasting replay.old }
 {
     shut_all(pair, a, b)?;
@@ -415,6 +429,7 @@ fn start_by<D: LeaseDisk, R: Replay>(
         (λ opened. IsReplaying opened.standing.format R.replaying R.replaying_first
         replay.new) }
     ensures cause { PairHasCause D.faults pair.old pair.new (result ≡ Err Disk) }
+    ensures quiet { UnlessDisk result (PairIsQuiet D.faults pair.old pair.new) }
     ensures lasting { R.lasting replay.new ≡ R.lasting replay.old }
 {
     match verdict {
@@ -472,6 +487,7 @@ pub(crate) fn open<D: LeaseDisk, R: Replay>(
         → Opens D.seen D.moment D.left_since D.may_leave m pair.old pair.new
         ⊎ LeavesOld D.moment D.left_since D.may_leave pair.old pair.new }
     ensures cause { PairHasCause D.faults pair.old pair.new (result ≡ Err Disk) }
+    ensures quiet { UnlessDisk result (PairIsQuiet D.faults pair.old pair.new) }
     ensures lasting { R.lasting replay.new ≡ R.lasting replay.old }
 {
     sync_both(pair)?;

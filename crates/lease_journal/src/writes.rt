@@ -4,7 +4,7 @@ ghost use Rattle.pcp_io.specs.Faults.{HasCause};
 ghost use Rattle.lease_disk.specs.Contents.{after_write};
 ghost use Rattle.lease_disk.specs.Images.{CutOrNot, Only, Torn};
 ghost use Rattle.lease_disk.specs.Moments.{LeavesOnly};
-ghost use Rattle.lease_disk.specs.Pairs.{PairHasCause, PairLeavesOnly};
+ghost use Rattle.lease_disk.specs.Pairs.{PairHasCause, PairIsQuiet, PairLeavesOnly};
 ghost use Rattle.journal_sides.specs.Writes.{AreDurable, ChangesSide};
 
 use journal_sides::Side;
@@ -21,6 +21,7 @@ fn write_durably<D: LeaseDisk>(disk: &mut D, place: u64, piece: &[u8]) -> Result
     ensures durable { OnOk result (Only (D.seen disk.new) (D.may_leave disk.new)) }
     ensures most { OnOk result (place + length piece.now ≤ 2 ^ 62) }
     ensures cause { HasCause (D.faults disk.old) (D.faults disk.new) result }
+    ensures quiet { OnOk result (D.faults disk.new ≡ D.faults disk.old) }
 {
     disk.write_at(place, piece)?;
     disk.sync()?;
@@ -35,6 +36,7 @@ fn cut_durably<D: LeaseDisk>(disk: &mut D, size: u64) -> Result<(), Failed>
     ensures cut { D.tells → OnOk result (D.seen disk.new ≡ take size (D.seen disk.old)) }
     ensures durable { OnOk result (Only (D.seen disk.new) (D.may_leave disk.new)) }
     ensures cause { HasCause (D.faults disk.old) (D.faults disk.new) result }
+    ensures quiet { OnOk result (D.faults disk.new ≡ D.faults disk.old) }
 {
     disk.cut(size)?;
     disk.sync()
@@ -58,6 +60,7 @@ pub(crate) fn write_side<D: LeaseDisk>(
         → OnOk result (AreDurable D.seen D.may_leave pair.new) }
     ensures most { OnOk result (place + length piece.now ≤ 2 ^ 62) }
     ensures cause { PairHasCause D.faults pair.old pair.new (IsErr result) }
+    ensures quiet { OnOk result (PairIsQuiet D.faults pair.old pair.new) }
 {
     match side {
         Side::A => write_durably(&mut pair.a, place, piece),
@@ -80,6 +83,7 @@ pub(crate) fn cut_side<D: LeaseDisk>(
     ensures durable { AreDurable D.seen D.may_leave pair.old
         → OnOk result (AreDurable D.seen D.may_leave pair.new) }
     ensures cause { PairHasCause D.faults pair.old pair.new (IsErr result) }
+    ensures quiet { OnOk result (PairIsQuiet D.faults pair.old pair.new) }
 {
     match side {
         Side::A => cut_durably(&mut pair.a, size),

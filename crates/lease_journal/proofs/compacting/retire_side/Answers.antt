@@ -1,6 +1,6 @@
 use Rattle.std.proofs.Common.{◌∙◌}
 use Rattle.std.proofs.lemmas.Result.{on_ok_weaker}
-use Rattle.lease_disk.proofs.PairLemmas.{pair_goes_on, pair_weaker}
+use Rattle.lease_disk.proofs.PairLemmas.{pair_goes_on, pair_weaker, quiet_then}
 use Rattle.journal_sides.specs.Journals.{StandsFor}
 use Rattle.lease_journal.proofs.CompactLaws.{cut_gate, retired_cut, retired_shut, retires_cut, retires_torn}
 use Rattle.lease_journal.proofs.OpeningLaws.{on_ok_both}
@@ -48,6 +48,9 @@ returns-clause-cut g c = λ told.
 
 pub returns-clause-cause : goal.returns-clause-cause
 returns-clause-cause g c = cause_on g.D.LeaseDisk.faults c.args.pair.now c.write_side.new.pair c.cut_side.new.pair _ _ c.in_ok-write_side.ensures.cause c.cut_side.ensures.cause
+
+pub returns-clause-quiet : goal.returns-clause-quiet
+returns-clause-quiet g c = quiet_then g.D.LeaseDisk.faults c.args.pair.now c.write_side.new.pair c.cut_side.new.pair c.in_ok-write_side.ensures.quiet c.cut_side.result c.cut_side.ensures.quiet
 
 pub returns-clause-beside : goal.returns-clause-beside
 returns-clause-beside g c = λ told. on_ok_weaker c.cut_side.result (λ cut. cut.unchanged ∙ (c.in_ok-write_side.ensures.written told).unchanged) (c.cut_side.ensures.cut told)

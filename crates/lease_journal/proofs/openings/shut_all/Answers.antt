@@ -1,6 +1,6 @@
 use Rattle.std.proofs.Common.{List, ℕ, sym, subst, rules}
 use Rattle.std.proofs.lemmas.Result.{on_ok_weaker}
-use Rattle.lease_disk.proofs.PairLemmas.{pair_goes_on, pair_weaker}
+use Rattle.lease_disk.proofs.PairLemmas.{pair_goes_on, pair_weaker, quiet_then}
 use Rattle.journal_sides.specs.Judging.{IsSideJudged}
 use Rattle.journal_sides.specs.Sides.{IsBadSide, IsClosedSide}
 use Rattle.lease_journal.specs.Openings.{IsShutAnew}
@@ -41,6 +41,7 @@ returns-in_err-shut_judged-in_default g c =
       shut = λ told broken. search rules;
       durable = λ told durable. search rules;
       cause = search rules;
+      quiet = search rules;
     }
 
 pub returns-in_ok-shut_judged-in_default : goal.returns-in_ok-shut_judged-in_default
@@ -71,6 +72,7 @@ returns-in_ok-shut_judged-in_default g c =
           on_ok_weaker c.shut_judged-in_default-2.result (λ now. subst (λ (l : List ℕ). IsShutAnew l (d.seen new.b)) shut.unchanged now.changed) (last.shut told judged);
       durable = λ told durable. last.durable told (before.durable told durable);
       cause = cause_on d.faults pair mid new _ _ before.cause last.cause;
+      quiet = quiet_then d.faults pair mid new before.quiet c.shut_judged-in_default-2.result last.quiet;
     }
 
 pub returns-in_ok-shut_judged-in-Good-clause-blank : goal.returns-in_ok-shut_judged-in-Good-clause-blank
@@ -91,3 +93,7 @@ returns-in_ok-shut_judged-in-Good-clause-shut g c = λ told broken.
     let shut = c.in_ok-shut_judged-in-Good.ensures.shut told broken.side_b in
     let judged = subst (λ (l : List ℕ). IsSideJudged 0 l c.args.a) (sym shut.unchanged) broken.side_a in
     on_ok_weaker c.shut_judged-in-Good.result (λ now. subst (λ (l : List ℕ). IsShutAnew (d.seen pair.b) l) (sym now.unchanged) shut.changed) (c.shut_judged-in-Good.ensures.shut told judged)
+
+pub returns-in_ok-shut_judged-in-Good-clause-quiet : goal.returns-in_ok-shut_judged-in-Good-clause-quiet
+returns-in_ok-shut_judged-in-Good-clause-quiet g c =
+    quiet_then g.D.LeaseDisk.faults c.args.pair.now c.shut_judged.new.pair c.shut_judged-in-Good.new.pair c.in_ok-shut_judged-in-Good.ensures.quiet c.shut_judged-in-Good.result c.shut_judged-in-Good.ensures.quiet

@@ -20,4 +20,5 @@ returns g c =
           on_ok_weaker c.write_side.result (open_anew c.args.side (d.seen pair.a) (d.seen pair.b) (d.seen new.a) (d.seen new.b) gate) (c.write_side.ensures.written told);
       durable = λ told. c.write_side.ensures.durable;
       cause = c.write_side.ensures.cause;
+      quiet = c.write_side.ensures.quiet;
     }
