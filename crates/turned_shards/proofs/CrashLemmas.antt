@@ -88,7 +88,7 @@ module _ (x : Served) (opening : State) (ds : List (List Entry)) where
   none-behind [] more a b same (inl stands) = stands
   none-behind [] more a b same (inr (doubt, is, stands)) = absurd (cc is.fault)
   none-behind (e ∷ es) more a b same stands =
-      absurd (let never : [] ≡ e ∷ es ++ more = same in cc)
+      absurd (let never : [] ≡ e ∷ (es ++ more) = same in cc)
 
   -- no entry can be in doubt behind a history without entries
   pub along-none : (a b : List ℕ) → StandsAlong x opening ds [] a b → StandsForState opening a b
