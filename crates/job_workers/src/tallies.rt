@@ -19,7 +19,7 @@ pub struct TallyRow {
     pub unsent: u64,
     /// jobs of calls that answered a fault of a disk
     pub faulted: u64,
-    /// datagrams and losses that were dropped at a full queue
+    /// datagrams that were dropped at a full queue
     pub full: u64,
     /// those that were dropped, and jobs of calls that were refused, for want of memory
     pub starved: u64,
@@ -88,7 +88,7 @@ impl TallyRow {
         }
     }
 
-    /// A job was dropped at a full queue.
+    /// A datagram was dropped at a full queue.
     pub fn count_full(&mut self)
         ensures { self.new ≡ row_full self.old }
     {

@@ -1,5 +1,5 @@
 //! The worker of an external address.
-ghost use Rattle.std.specs.Prelude.{◌≡◌, ℕ, ◌/◌, ◌<◌, ◌≤◌, List, [], length, map, Option, IsTrue};
+ghost use Rattle.std.specs.Prelude.{◌≡◌, ℕ, ◌/◌, ◌<◌, ◌≤◌, ◌++◌, ◌∷◌, List, [], length, map, Option, IfNone, IfSome, IsTrue};
 ghost use Rattle.std.specs.List.{AllByRecursion};
 ghost use Rattle.pcp_base.specs.declared.datagrams.Datagram.{Datagram};
 ghost use Rattle.pcp_io.specs.declared.clocks.TheConstants.{END_OF_TIME_MS};
@@ -64,6 +64,18 @@ impl<P> Desk<P> {
     }
 }
 
+/// Takes the first job. What was put before, nobody tells a worker but the queue.
+fn take_job<R: Wait>(rt: &R, queue: &JobQueue, taker: &mut Taker) -> Option<Job>
+    requires { taker.old.queue ≡ queue.now }
+    ensures taken { IfSome result (λ job.
+        (taker.new ≡ record taker.old { taken = taker.old.taken ++ job ∷ [] })
+        × IsJobFor taker.old.route job) }
+    ensures none { IfNone result ((taker.new ≡ taker.old) × MayBeEmpty taker.old) }
+{
+    let news = queue.news_of_taken(taker);
+    queue.take(rt, taker, news)
+}
+
 /// Takes datagrams up to a full batch, a loss, or the end of what the queue holds.
 fn gather<R: Wait>(rt: &R, queue: &JobQueue, taker: &mut Taker, batch: &mut Batch) -> Next
     requires queue { taker.old.queue ≡ queue.now }
@@ -71,7 +83,7 @@ fn gather<R: Wait>(rt: &R, queue: &JobQueue, taker: &mut Taker, batch: &mut Batc
     ensures { Gathers taker.old taker.new batch.new result }
 {
     while batch.len() < MOST_BATCH {
-        let Some(job) = queue.take(rt, taker) else {
+        let Some(job) = take_job(rt, queue, taker) else {
             return Next::Dry;
         };
         match job {
