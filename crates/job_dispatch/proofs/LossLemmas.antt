@@ -28,13 +28,13 @@ loss_is_quiet (Some r) = refl
 pub offers_put : (old mid : Port) (put : Bool) → old.waits ≡ false → put ≡ true → (put ≡ true → mid ≡ port_with old Jobs.Lose) → OffersLoss old mid put
 offers_put old mid put none is h = inl (is, none, h is)
 
-pub offers_waiting : (old mid : Port) (put : Bool) → old.waits ≡ false → put ≡ false → (put ≡ false → (mid ≡ old) × WasFull old.putter.put) → OffersLoss old (record mid { waits = true }) put
+pub offers_waiting : (old mid : Port) (put : Bool) → old.waits ≡ false → put ≡ false → (put ≡ false → (mid ≡ old) × WasFull [] old.putter.put) → OffersLoss old (record mid { waits = true }) put
 offers_waiting old mid put none is h = inr (inl (is, none, ap port_waiting (h is).0, (h is).1))
 
 pub late_put : (old mid : Port) (put : Bool) → old.waits ≡ true → put ≡ true → (put ≡ true → mid ≡ port_with old Jobs.Lose) → PutsLate old (record mid { waits = false }) put
 late_put old mid put waits is h = inl (is, waits, ap (λ (p : Port). record p { waits = false }) (h is))
 
-pub late_still : (old mid : Port) (put : Bool) → put ≡ false → (put ≡ false → (mid ≡ old) × WasFull old.putter.put) → PutsLate old mid put
+pub late_still : (old mid : Port) (put : Bool) → put ≡ false → (put ≡ false → (mid ≡ old) × WasFull [] old.putter.put) → PutsLate old mid put
 late_still old mid put is h = inr (is, (h is).0)
 
 -- ---- the port of a shard

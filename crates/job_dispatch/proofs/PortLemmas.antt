@@ -15,7 +15,7 @@ use Rattle.job_dispatch.specs.declared.noise.NoiseCounts.{NoiseCounts}
 use Rattle.job_dispatch.specs.Dispatches.{ChangesPort, Dispatched, Fate, Put, Full, Waits, Joins, Noise, Starved, Ignored, Given, Late, IsFate, IsLate, all_put_for, port_full, port_late, port_starved, port_waiting, port_with, put_by}
 use Rattle.job_dispatch.specs.Dispatching.{DispatchState, DoesStep, DoesSteps}
 use Rattle.job_dispatch.specs.Noise.{in_second}
-use Rattle.job_dispatch.specs.PortsAfter.{ArePortsAfter, IsPortAfter, put_more, row_by, waits_by}
+use Rattle.job_dispatch.specs.PortsAfter.{ArePortsAfter, IsPortAfter, put_more, row_by_step, waits_by}
 
 -- ---- none, and one after the other
 
@@ -36,7 +36,7 @@ follows shard d rest a b c x y = record {
       ∙ ap (λ (l : List Job). record a.putter { put = l })
       (append_assoc a.putter.put (all_put_for shard (d ∷ [])) (all_put_for shard rest)
       ∙ ap (λ (l : List Job). a.putter.put ++ l) (sym (put_behind shard (put_by shard d) rest d refl))));
-  row = y.row ∙ ap (λ r. fold (row_by shard) r rest) x.row;
+  row = y.row ∙ ap (λ r. fold (row_by_step shard) r rest) x.row;
   waits = y.waits ∙ ap (λ w. fold (waits_by shard) w rest) x.waits;
 }
 

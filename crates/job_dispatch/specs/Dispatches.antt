@@ -112,11 +112,11 @@ IsFate config noise item (Put shard job) old new =
     × (is_noise_for config shard job ≡ true → noise.put < 1000)
 IsFate config noise item (Full shard job) old new =
     IsJobOf config item shard job × IsPacket item
-    × ((port : Port) × ChangesPort shard port (port_full port) old new × WasFull port.putter.put)
+    × ((port : Port) × ChangesPort shard port (port_full port) old new × WasFull [] port.putter.put)
 IsFate config noise item (Waits shard) old new =
     IsJobOf config item shard Jobs.Lose
     × ((port : Port) × ChangesPort shard port (port_waiting port) old new
-    × WasFull port.putter.put × (port.waits ≡ false))
+    × WasFull [] port.putter.put × (port.waits ≡ false))
 IsFate config noise item (Joins shard) old new =
     IsJobOf config item shard Jobs.Lose × (new ≡ old)
     × ((port : Port) × (slice_get old shard ≡ Some port) × (port.waits ≡ true))
@@ -142,7 +142,7 @@ noise_by_fate config noise Ignored = noise
 abbrev pub Offers : Bool → Job → Port → Port → NoiseCounts → NoiseCounts → Type 0
 Offers is_noise job old new noise counted =
     ((new ≡ port_with old job) × (counted ≡ (if is_noise then noise_put noise else noise)))
-    ⊎ ((new ≡ port_full old) × WasFull old.putter.put × (counted ≡ noise))
+    ⊎ ((new ≡ port_full old) × WasFull [] old.putter.put × (counted ≡ noise))
 
 -- the end of this queue, whose jobs are for this shard
 pub record IsPort (config : Config) (shard : ℕ) (queue : TableId) (port : Port) : Type 0 where
@@ -167,7 +167,7 @@ pub record OffersAt (is_noise : Bool) (shard : ℕ) (job : Job) (old new : List 
 abbrev pub OffersLoss : Port → Port → Bool → Type 0
 OffersLoss old new put =
     ((put ≡ true) × (old.waits ≡ false) × (new ≡ port_with old Jobs.Lose))
-    ⊎ (((put ≡ false) × (old.waits ≡ false) × (new ≡ port_waiting old) × WasFull old.putter.put)
+    ⊎ (((put ≡ false) × (old.waits ≡ false) × (new ≡ port_waiting old) × WasFull [] old.putter.put)
     ⊎ ((put ≡ false) × (old.waits ≡ true) × (new ≡ old)))
 
 -- so of this shard

@@ -1,5 +1,5 @@
 -- Noise that the dispatcher counts (our own): datagrams that ask for nothing that may be granted.
-use Rattle.std.specs.Prelude.{ℕ, ◌+◌, ◌/◌, ◌==◌, ◌≤◌, ◌⊎◌, if◌then◌else◌}
+use Rattle.std.specs.Prelude.{ℕ, [], ◌+◌, ◌/◌, ◌==◌, ◌≤◌, ◌⊎◌, if◌then◌else◌}
 use Rattle.job_queue.specs.Queues.{HeldNoise, PutterKnowledge}
 use Rattle.job_workers.specs.Tallies.{more}
 use Rattle.job_dispatch.specs.declared.noise.NoiseCounts.{NoiseCounts}
@@ -20,7 +20,7 @@ noise_dropped noise = record noise { dropped = more noise.dropped 1 }
 
 -- at some moment the queue held 64 jobs or more that are noise
 abbrev pub HeldMuchNoise : PutterKnowledge → Type 0
-HeldMuchNoise putter = (count : ℕ) × HeldNoise putter.route putter.put count × (64 ≤ count)
+HeldMuchNoise putter = (count : ℕ) × HeldNoise [] putter.route putter.put count × (64 ≤ count)
 
 -- why noise is dropped: 1,000 were put in this second, or its queue held much
 abbrev pub IsTooMuch : NoiseCounts → PutterKnowledge → Type 0

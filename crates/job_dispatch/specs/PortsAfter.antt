@@ -18,12 +18,12 @@ row_by_fate shard row (Noise at job) = row
 row_by_fate shard row Starved = if 0 == shard then row_starved row else row
 row_by_fate shard row Ignored = row
 
-abbrev pub row_by : ℕ → TallyRow → Dispatched → TallyRow
-row_by shard row (Given item fate) = row_by_fate shard row fate
-row_by shard row (Late at) = row
+abbrev pub row_by_step : ℕ → TallyRow → Dispatched → TallyRow
+row_by_step shard row (Given item fate) = row_by_fate shard row fate
+row_by_step shard row (Late at) = row
 
 abbrev pub dispatched_row : ℕ → List Dispatched → TallyRow
-dispatched_row shard ds = fold (row_by shard) no_jobs ds
+dispatched_row shard ds = fold (row_by_step shard) no_jobs ds
 
 -- whether a loss waits for a shard
 abbrev pub waits_by_fate : ℕ → Bool → Fate → Bool
@@ -47,7 +47,7 @@ put_more putter jobs = record putter { put = putter.put ++ jobs }
 -- whether a loss waits
 pub record IsPortAfter (shard : ℕ) (ds : List Dispatched) (old new : Port) : Type 0 where
   pub putter : new.putter ≡ put_more old.putter (all_put_for shard ds)
-  pub row : new.row ≡ fold (row_by shard) old.row ds
+  pub row : new.row ≡ fold (row_by_step shard) old.row ds
   pub waits : new.waits ≡ fold (waits_by shard) old.waits ds
 
 -- those of the external addresses from this one on

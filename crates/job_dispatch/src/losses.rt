@@ -1,5 +1,5 @@
 //! Losses of all leases of an external address: one that finds its queue full waits for room.
-ghost use Rattle.std.specs.Prelude.{◌≡◌, ◌≤◌, ◌<◌, ℕ, List, length, IsFalse, IsTrue};
+ghost use Rattle.std.specs.Prelude.{◌≡◌, ◌≤◌, ◌<◌, ℕ, List, [], length, IsFalse, IsTrue};
 ghost use Rattle.pcp_io.specs.declared.inboxes.InboxItem.TheVariants as InboxItem;
 ghost use Rattle.job_queue.specs.Queues.{WasFull};
 ghost use Rattle.job_queue.specs.declared.jobs.Job.TheVariants as Jobs;
@@ -20,14 +20,15 @@ const NAP: i64 = 1_000_000;
 fn put_loss<R: Wait>(rt: &R, queue: &JobQueue, port: &mut Port) -> bool
     requires { port.old.putter.queue ≡ queue.now }
     ensures put { IsTrue result → port.new ≡ port_with port.old Jobs.Lose }
-    ensures full { IsFalse result → (port.new ≡ port.old) × WasFull port.old.putter.put }
+    ensures full { IsFalse result → (port.new ≡ port.old) × WasFull [] port.old.putter.put }
 {
     let Port {
         putter,
         unparker,
         ..
     } = port;
-    let put = queue.put(rt, putter, Job::Lose, false);
+    let news = queue.news_of_put(putter);
+    let put = queue.put(rt, putter, news, Job::Lose, false);
     unparker.unpark();
     put.is_ok()
 }

@@ -53,7 +53,8 @@ fn offer<R: Wait>(
         unparker,
         waits: _waits,
     } = port;
-    match queue.put(rt, putter, job, is_noise) {
+    let news = queue.news_of_put(putter);
+    match queue.put(rt, putter, news, job, is_noise) {
         Ok(()) => noise.count_put(is_noise),
         Err(_) => row.count_full(),
     }
@@ -112,7 +113,8 @@ fn is_too_much<R: Wait>(rt: &R, queue: &JobQueue, port: &mut Port, noise: &Noise
     if noise.put >= MOST_NOISE_A_SECOND {
         return true;
     }
-    queue.noise_held(rt, &mut port.putter) >= MOST_NOISE
+    let news = queue.news_of_put(&mut port.putter);
+    queue.noise_held(rt, &mut port.putter, news) >= MOST_NOISE
 }
 
 /// Whether what was sifted is dropped as noise, which is then counted.
