@@ -11,7 +11,7 @@ use Rattle.job_workers.specs.Sends.{sent_count, unsent_count}
 use Rattle.job_workers.specs.Tallies.{more, no_jobs, row_full, row_starved}
 use Rattle.job_workers.specs.Works.{DoesCall, DoesCalls, IsOfHouse, Lost, Refused, Replied, WorkCall, WorkResult, WorkState, row_by, unsent_in}
 use Rattle.job_dispatch.specs.Dispatches.{Dispatched, Full, Given, Ignored, Joins, Late, Noise, Put, Starved, Waits}
-use Rattle.job_dispatch.specs.PortsAfter.{dispatched_row, row_by as row_by_step}
+use Rattle.job_dispatch.specs.PortsAfter.{dispatched_row, row_by_step}
 use Rattle.request_workers.specs.Counts.{RowsCount, counted, faulted_in, is_full, is_starved, sent_in, silent_in, starved_in}
 
 -- ---- counts that stand still at their end

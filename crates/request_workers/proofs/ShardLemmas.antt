@@ -24,7 +24,7 @@ use Rattle.job_dispatch.specs.declared.ports.Port.{Port}
 use Rattle.job_dispatch.specs.Announcing.{AnnounceState}
 use Rattle.job_dispatch.specs.Dispatches.{Dispatched, all_put_for}
 use Rattle.job_dispatch.specs.Dispatching.{DispatchState}
-use Rattle.job_dispatch.specs.PortsAfter.{ArePortsAfter, IsPortAfter, dispatched_row, row_by}
+use Rattle.job_dispatch.specs.PortsAfter.{ArePortsAfter, IsPortAfter, dispatched_row, row_by_step}
 use Rattle.request_workers.specs.declared.faults.RunFault.{RunFault}
 use Rattle.request_workers.specs.Leads.{Leads}
 use Rattle.request_workers.specs.Seats.{AreSeated, Ending, FinishesAll, IsEnding, IsSeated}
@@ -60,7 +60,7 @@ serves_one house shard ds q s p e seated worked ending port =
     let put : e.port.putter.put ≡ all_put_for shard ds =
     ap (λ (x : PutterKnowledge). x.put) port.putter ∙ ap (λ (l : List Job). l ++ all_put_for shard ds) seated.put in
     let all : worked.jobs ++ ending.jobs ≡ all_put_for shard ds = ap (λ (l : List Job). l ++ ending.jobs) (sym taken) ∙ (sym ending.all ∙ put) in
-    let counted : e.port.row ≡ dispatched_row shard ds = port.row ∙ ap (λ (r : TallyRow). fold (row_by shard) r ds) seated.counted in
+    let counted : e.port.row ≡ dispatched_row shard ds = port.row ∙ ap (λ (r : TallyRow). fold (row_by_step shard) r ds) seated.counted in
     record {
       works = subst (λ (js : List Job). Works house js (state_at s) (state_at e.done)) all
           (Works-append house worked.jobs ending.jobs (state_at s) (state_at e.left) (state_at e.done) worked.works ending.works);
