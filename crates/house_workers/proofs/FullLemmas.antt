@@ -79,7 +79,7 @@ put_count shard (Some job) d rest e = rw e (omega arith)
 
 -- ---- a full queue
 
-filled : (put : List Job) → WasFull put → MOST_JOBS ≤ length put
+filled : (put : List Job) → WasFull [] put → MOST_JOBS ≤ length put
 filled put was =
     let parts : length put ≡ length was.last.before + length was.items = ap length was.last.parted ∙ length-append was.last.before was.items in
     let full = was.full in
