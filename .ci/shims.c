@@ -1,6 +1,7 @@
-/* What `.ci/orders` puts before calls of the system. Files of the folder SHIMS say how: `step`, by how many seconds the system's time
- * is wrong; `broken`, which call of fsync from then on fails, once; `slow`, how many seconds each such call takes longer. The time since the
- * host started stays as it is. */
+/* What `.ci/orders` and `.ci/load` put before calls of the system. Files of the folder SHIMS say how: `step`, by how many seconds the
+ * system's time is wrong; `broken`, which call of fsync from then on fails, once; `slow`, how many seconds each such call takes longer, and
+ * `slower`, how many milliseconds; `syncs`, where it is there, gets an octet more by each such call. The time since the host started stays
+ * as it is. */
 #define _GNU_SOURCE
 #include <errno.h>
 #include <fcntl.h>
@@ -59,10 +60,27 @@ time_t time(time_t *place) {
     return now.tv_sec;
 }
 
+/* An octet more in the file of counted calls. */
+static void count_sync(void) {
+    const char *folder = getenv("SHIMS");
+    char path[4096];
+    int before = errno;
+    snprintf(path, sizeof path, "%s/syncs", folder ? folder : "/nowhere");
+    int file = open(path, O_WRONLY | O_APPEND | O_CLOEXEC);
+    if (file >= 0) {
+        while (write(file, ".", 1) < 0 && errno == EINTR)
+            ;
+        close(file);
+    }
+    errno = before;
+}
+
 static int synced(long call, int file) {
-    struct timespec longer = {number_in("slow"), 0};
+    long slower = number_in("slower");
+    struct timespec longer = {number_in("slow") + slower / 1000, slower % 1000 * 1000000};
     long broken = number_in("broken");
-    if (longer.tv_sec)
+    count_sync();
+    if (longer.tv_sec || longer.tv_nsec)
         nanosleep(&longer, NULL);
     if (broken && atomic_fetch_add(&syncs, 1) + 1 == broken) {
         errno = EIO;
