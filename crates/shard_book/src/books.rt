@@ -67,9 +67,10 @@ impl<D: LeaseDisk, S: LeaseStore + Drop> LeaseBook<D, S> {
     ghost use Rattle.pcp_base.specs.Asks.{IsWellFormedAsk};
     ghost use Rattle.pcp_base.specs.Reached.{IsReached};
     ghost use Rattle.lease_store.specs.Lookups.{lease_count};
-    ghost use Rattle.lease_disk.specs.Pairs.{PairHasCause};
+    ghost use Rattle.lease_disk.specs.Pairs.{PairHasCause, PairIsQuiet};
     ghost use Rattle.journal_sides.specs.declared.errors.JournalFault.TheVariants.{Disk};
     ghost use Rattle.journal_sides.specs.declared.layout.TheConstants.{MOST_APPENDED};
+    ghost use Rattle.journal_sides.specs.Quiet.{UnlessDisk};
     ghost use Rattle.shard_book.specs.Books.{IsBook};
     ghost use Rattle.shard_book.specs.Keepings.{Doubts, IsRefused, Journals, Keeps, Loses, Serves, ServesOne, batch_answers, batch_records, lose_records, dated_answer};
     ghost use Rattle.shard_book.specs.Settlings.{HasSettled, KeepsDoubt, Settles};
@@ -97,6 +98,8 @@ impl<D: LeaseDisk, S: LeaseStore + Drop> LeaseBook<D, S> {
         ensures book { IsBook D.tells D.seen D.may_leave self.new }
         ensures cause { PairHasCause D.faults self.old.journal.pair self.new.journal.pair
             (result ≡ Err Disk) }
+        ensures quiet { UnlessDisk result
+            (PairIsQuiet D.faults self.old.journal.pair self.new.journal.pair) }
     {
         self.settle_if_refused(alloc, now)?;
         self.serve(alloc, asks, now, base)
@@ -121,6 +124,8 @@ impl<D: LeaseDisk, S: LeaseStore + Drop> LeaseBook<D, S> {
         ensures book { IsBook D.tells D.seen D.may_leave self.new }
         ensures cause { PairHasCause D.faults self.old.journal.pair self.new.journal.pair
             (result ≡ Err Disk) }
+        ensures quiet { UnlessDisk result
+            (PairIsQuiet D.faults self.old.journal.pair self.new.journal.pair) }
     {
         self.settle_if_refused(alloc, now)?;
         self.serve_one(alloc, ask, now, base)
@@ -138,6 +143,8 @@ impl<D: LeaseDisk, S: LeaseStore + Drop> LeaseBook<D, S> {
         ensures book { IsBook D.tells D.seen D.may_leave self.new }
         ensures cause { PairHasCause D.faults self.old.journal.pair self.new.journal.pair
             (result ≡ Err Disk) }
+        ensures quiet { UnlessDisk result
+            (PairIsQuiet D.faults self.old.journal.pair self.new.journal.pair) }
     {
         self.settle_if_refused(alloc, now)?;
         self.forget(alloc, now)
@@ -154,6 +161,8 @@ impl<D: LeaseDisk, S: LeaseStore + Drop> LeaseBook<D, S> {
         ensures book { IsBook D.tells D.seen D.may_leave self.new }
         ensures cause { PairHasCause D.faults self.old.journal.pair self.new.journal.pair
             (result ≡ Err Disk) }
+        ensures quiet { UnlessDisk result
+            (PairIsQuiet D.faults self.old.journal.pair self.new.journal.pair) }
     {
         let Some(fault) = self.fault else {
             return Ok(Settled {
@@ -173,6 +182,8 @@ impl<D: LeaseDisk, S: LeaseStore + Drop> LeaseBook<D, S> {
         ensures book { IsBook D.tells D.seen D.may_leave self.new }
         ensures cause { PairHasCause D.faults self.old.journal.pair self.new.journal.pair
             (result ≡ Err Disk) }
+        ensures quiet { UnlessDisk result
+            (PairIsQuiet D.faults self.old.journal.pair self.new.journal.pair) }
     {
         let Some(fault) = self.fault else {
             return Ok(());
@@ -204,6 +215,8 @@ impl<D: LeaseDisk, S: LeaseStore + Drop> LeaseBook<D, S> {
         ensures book { IsBook D.tells D.seen D.may_leave self.new }
         ensures cause { PairHasCause D.faults self.old.journal.pair self.new.journal.pair
             (result ≡ Err Disk) }
+        ensures quiet { UnlessDisk result
+            (PairIsQuiet D.faults self.old.journal.pair self.new.journal.pair) }
     {
         let m = later(now, self.last);
         let told = later(base, self.base);
@@ -252,6 +265,8 @@ impl<D: LeaseDisk, S: LeaseStore + Drop> LeaseBook<D, S> {
         ensures book { IsBook D.tells D.seen D.may_leave self.new }
         ensures cause { PairHasCause D.faults self.old.journal.pair self.new.journal.pair
             (result ≡ Err Disk) }
+        ensures quiet { UnlessDisk result
+            (PairIsQuiet D.faults self.old.journal.pair self.new.journal.pair) }
     {
         let m = later(now, self.last);
         let told = later(base, self.base);
@@ -296,6 +311,8 @@ impl<D: LeaseDisk, S: LeaseStore + Drop> LeaseBook<D, S> {
         ensures book { IsBook D.tells D.seen D.may_leave self.new }
         ensures cause { PairHasCause D.faults self.old.journal.pair self.new.journal.pair
             (result ≡ Err Disk) }
+        ensures quiet { UnlessDisk result
+            (PairIsQuiet D.faults self.old.journal.pair self.new.journal.pair) }
     {
         let m = later(now, self.last);
         let lost = write_lose(alloc, &mut self.core, &mut self.journal, &mut self.texts, m);

@@ -7,7 +7,7 @@ ghost use Rattle.pcp_base.specs.Reached.{IsReached};
 ghost use Rattle.pcp_base.specs.Records.{IsWellFormedRecord};
 ghost use Rattle.pcp_base.specs.Snapshots.{snapshot};
 ghost use Rattle.pcp_base.specs.States.{State, empty_state};
-ghost use Rattle.lease_disk.specs.Pairs.{PairHasCause, PairLeavesOnly};
+ghost use Rattle.lease_disk.specs.Pairs.{PairHasCause, PairIsQuiet, PairLeavesOnly};
 ghost use Rattle.lease_journal.specs.declared.errors.Found.TheVariants.{Recovered};
 ghost use Rattle.journal_sides.specs.declared.errors.JournalFault.TheVariants.{Disk};
 ghost use Rattle.journal_sides.specs.declared.formats.Format.TheVariants.{Second};
@@ -15,6 +15,7 @@ ghost use Rattle.journal_sides.specs.declared.layout.TheConstants.{MOST_APPENDED
 ghost use Rattle.journal_sides.specs.Formats.{HasNext};
 ghost use Rattle.journal_sides.specs.Frames.{frames_octets};
 ghost use Rattle.journal_sides.specs.Journals.{StandsFor, StandsForWithOrWithout};
+ghost use Rattle.journal_sides.specs.Quiet.{UnlessDisk};
 ghost use Rattle.journal_sides.specs.Texts.{AreTexts, records_in};
 ghost use Rattle.lease_journal.specs.Views.{IsSettled};
 ghost use Rattle.shard_book.specs.Books.{IsWritable};
@@ -103,6 +104,7 @@ fn compact_by<D: LeaseDisk>(
     ensures memory { result ≡ Err JournalFault.Memory → journal.new ≡ journal.old }
     ensures cause { PairHasCause D.faults journal.old.pair journal.new.pair
         (result ≡ Err Disk) }
+    ensures quiet { UnlessDisk result (PairIsQuiet D.faults journal.old.pair journal.new.pair) }
 {
     if anew {
         return journal.compact(alloc, snapshot);
@@ -141,6 +143,7 @@ fn append_all<D: LeaseDisk>(
     ensures memory { result ≡ Err JournalFault.Memory → journal.new ≡ journal.old }
     ensures cause { PairHasCause D.faults journal.old.pair journal.new.pair
         (result ≡ Err Disk) }
+    ensures quiet { UnlessDisk result (PairIsQuiet D.faults journal.old.pair journal.new.pair) }
 {
     if records.is_empty() {
         return Ok(());
@@ -193,6 +196,7 @@ fn write<D: LeaseDisk>(
         (journal.new.standing.length ≤ journal.new.first_length + frames_octets records.now) }
     ensures cause { PairHasCause D.faults journal.old.pair journal.new.pair
         (result ≡ Err Disk) }
+    ensures quiet { UnlessDisk result (PairIsQuiet D.faults journal.old.pair journal.new.pair) }
 {
     one_journal();
     compact_by(alloc, journal, anew, snapshot)?;
@@ -243,6 +247,7 @@ pub(crate) fn commit<D: LeaseDisk>(
         (journal.new.standing.length ≤ journal.new.first_length + frames_octets records.now) }
     ensures cause { PairHasCause D.faults journal.old.pair journal.new.pair
         (result ≡ Err Disk) }
+    ensures quiet { UnlessDisk result (PairIsQuiet D.faults journal.old.pair journal.new.pair) }
 {
     one_journal();
     snapshots_stand();
@@ -278,6 +283,7 @@ pub(crate) fn use_second<D: LeaseDisk, S: LeaseStore>(
         (StandsFor (S.state core.now)) }
     ensures cause { PairHasCause D.faults journal.old.pair journal.new.pair
         (result ≡ Err Disk) }
+    ensures quiet { UnlessDisk result (PairIsQuiet D.faults journal.old.pair journal.new.pair) }
 {
     if journal.format() == 2 {
         return Ok(());
@@ -317,6 +323,7 @@ pub(crate) fn write_anew<D: LeaseDisk, S: LeaseStore>(
         (StandsFor (S.state core.now)) }
     ensures cause { PairHasCause D.faults journal.old.pair journal.new.pair
         (result ≡ Err Disk) }
+    ensures quiet { UnlessDisk result (PairIsQuiet D.faults journal.old.pair journal.new.pair) }
 {
     if found != Found::Recovered {
         return Ok(());
@@ -353,6 +360,7 @@ pub(crate) fn keep<D: LeaseDisk, S: LeaseStore>(
         (StandsForWithOrWithout (S.state core.old) (kept.now ∷ [])) }
     ensures cause { PairHasCause D.faults journal.old.pair journal.new.pair
         (result ≡ Err Disk) }
+    ensures quiet { UnlessDisk result (PairIsQuiet D.faults journal.old.pair journal.new.pair) }
 {
     one_journal();
     core.apply(alloc, kept)?;

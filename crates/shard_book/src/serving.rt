@@ -6,10 +6,11 @@ ghost use Rattle.pcp_base.specs.Apply.{apply, apply_all};
 ghost use Rattle.pcp_base.specs.Asks.{IsWellFormedAsk};
 ghost use Rattle.lease_core.specs.Decide.{decide};
 ghost use Rattle.lease_store.specs.Lookups.{lease_count};
-ghost use Rattle.lease_disk.specs.Pairs.{PairHasCause, PairLeavesOnly};
+ghost use Rattle.lease_disk.specs.Pairs.{PairHasCause, PairIsQuiet, PairLeavesOnly};
 ghost use Rattle.journal_sides.specs.declared.errors.JournalFault.TheVariants.{Disk};
 ghost use Rattle.journal_sides.specs.declared.layout.TheConstants.{MOST_APPENDED};
 ghost use Rattle.journal_sides.specs.Journals.{StandsForWithOrWithout};
+ghost use Rattle.journal_sides.specs.Quiet.{UnlessDisk};
 ghost use Rattle.shard_book.specs.Batches.{answers_at, decide_all, records_kept};
 ghost use Rattle.shard_book.specs.Books.{IsWritable};
 ghost use Rattle.shard_book.specs.Insides.{MayDecideAt, MayFollow, StandAlone};
@@ -77,6 +78,7 @@ pub(crate) fn write_batch<D: LeaseDisk, S: LeaseStore>(
     ensures terms { S.terms core.new ≡ S.terms core.old }
     ensures cause { PairHasCause D.faults journal.old.pair journal.new.pair
         (result ≡ Err Disk) }
+    ensures quiet { UnlessDisk result (PairIsQuiet D.faults journal.old.pair journal.new.pair) }
 {
     let anew = renew_if_overlong(alloc, core, journal, texts)?;
     let batch = decide_batch(alloc, core, asks, m, base)?;
@@ -131,6 +133,7 @@ pub(crate) fn write_one<D: LeaseDisk, S: LeaseStore>(
     ensures terms { S.terms core.new ≡ S.terms core.old }
     ensures cause { PairHasCause D.faults journal.old.pair journal.new.pair
         (result ≡ Err Disk) }
+    ensures quiet { UnlessDisk result (PairIsQuiet D.faults journal.old.pair journal.new.pair) }
 {
     let anew = renew_if_overlong(alloc, core, journal, texts)?;
     let mut kept = None;
@@ -184,6 +187,7 @@ pub(crate) fn write_lose<D: LeaseDisk, S: LeaseStore>(
     ensures terms { S.terms core.new ≡ S.terms core.old }
     ensures cause { PairHasCause D.faults journal.old.pair journal.new.pair
         (result ≡ Err Disk) }
+    ensures quiet { UnlessDisk result (PairIsQuiet D.faults journal.old.pair journal.new.pair) }
 {
     new_leases_need_room();
     states_are_sound();

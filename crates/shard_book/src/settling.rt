@@ -6,10 +6,11 @@ ghost use Rattle.pcp_base.specs.Fits.{AllFit};
 ghost use Rattle.pcp_base.specs.Reached.{IsReached};
 ghost use Rattle.pcp_base.specs.Snapshots.{snapshot};
 ghost use Rattle.pcp_base.specs.States.{State, empty_state};
-ghost use Rattle.lease_disk.specs.Pairs.{HoldsNow, PairHasCause, PairLeavesOnly};
+ghost use Rattle.lease_disk.specs.Pairs.{HoldsNow, PairHasCause, PairIsQuiet, PairLeavesOnly};
 ghost use Rattle.lease_journal.specs.declared.errors.Found.TheVariants.{Recovered};
 ghost use Rattle.journal_sides.specs.declared.errors.JournalFault.TheVariants.{Disk};
 ghost use Rattle.journal_sides.specs.Journals.{StandsForWithOrWithout, fresh_state};
+ghost use Rattle.journal_sides.specs.Quiet.{UnlessDisk};
 ghost use Rattle.shard_book.specs.Addresses.{renumber_at, state_anew};
 ghost use Rattle.shard_book.specs.Books.{IsBook, IsWritable};
 ghost use Rattle.shard_book.specs.Openings.{IsStartUnless};
@@ -97,6 +98,7 @@ fn begin_anew<D: LeaseDisk, S: LeaseStore>(
         (IsWritable D.tells D.seen D.may_leave journal.new (S.state core.new)) }
     ensures cause { PairHasCause D.faults journal.old.pair journal.new.pair
         (result ≡ Err Disk) }
+    ensures quiet { UnlessDisk result (PairIsQuiet D.faults journal.old.pair journal.new.pair) }
 {
     let Found::Recovered = found else {
         return Ok(Record {
@@ -148,6 +150,7 @@ fn rebuild<D: LeaseDisk, S: LeaseStore>(
         (IsWritable D.tells D.seen D.may_leave journal.new (S.state core.new)) }
     ensures cause { PairHasCause D.faults journal.old.pair journal.new.pair
         (result ≡ Err Disk) }
+    ensures quiet { UnlessDisk result (PairIsQuiet D.faults journal.old.pair journal.new.pair) }
 {
     let record = begin_anew(alloc, journal, core, found, m)?;
     new_leases_need_room();
@@ -190,6 +193,7 @@ fn read_again<D: LeaseDisk, S: LeaseStore>(
         (StandsForWithOrWithout s rs) }
     ensures cause { PairHasCause D.faults journal.old.pair journal.new.pair
         (result ≡ Err Disk) }
+    ensures quiet { UnlessDisk result (PairIsQuiet D.faults journal.old.pair journal.new.pair) }
 {
     one_journal();
     let found = journal.again(alloc, m, core)?;
@@ -250,6 +254,7 @@ fn judge<D: LeaseDisk, S: LeaseStore>(
         (IsWritable D.tells D.seen D.may_leave journal.new (S.state core.new)) }
     ensures cause { PairHasCause D.faults journal.old.pair journal.new.pair
         (result ≡ Err Disk) }
+    ensures quiet { UnlessDisk result (PairIsQuiet D.faults journal.old.pair journal.new.pair) }
 {
     let texts = texts_of_state(alloc, core)?;
     match standing_of(fault, expected, &texts) {
@@ -304,6 +309,7 @@ fn find<D: LeaseDisk, S: LeaseStore>(
         (StandsForWithOrWithout (state_of texts.now.sure) texts.now.added) }
     ensures cause { PairHasCause D.faults journal.old.pair journal.new.pair
         (result ≡ Err Disk) }
+    ensures quiet { UnlessDisk result (PairIsQuiet D.faults journal.old.pair journal.new.pair) }
 {
     snapshots_stand();
     states_are_sound();
@@ -331,6 +337,8 @@ impl<D: LeaseDisk, S: LeaseStore + Drop> LeaseBook<D, S> {
         ensures book { IsBook D.tells D.seen D.may_leave self.new }
         ensures cause { PairHasCause D.faults self.old.journal.pair self.new.journal.pair
             (result ≡ Err Disk) }
+        ensures quiet { UnlessDisk result
+            (PairIsQuiet D.faults self.old.journal.pair self.new.journal.pair) }
     {
         let m = later(now, self.last);
         let outcome = find(
@@ -366,6 +374,8 @@ impl<D: LeaseDisk, S: LeaseStore + Drop> LeaseBook<D, S> {
         ensures book { IsBook D.tells D.seen D.may_leave self.new }
         ensures cause { PairHasCause D.faults self.old.journal.pair self.new.journal.pair
             (result ≡ Err Disk) }
+        ensures quiet { UnlessDisk result
+            (PairIsQuiet D.faults self.old.journal.pair self.new.journal.pair) }
     {
         self.resume(alloc, now, fault)?;
         Ok(())
