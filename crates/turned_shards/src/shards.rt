@@ -69,10 +69,11 @@ impl<D: LeaseDisk + Drop> Shard<D> {
     ghost use Rattle.pcp_base.specs.declared.datagrams.Entry.{Entry};
     ghost use Rattle.pcp_base.specs.Asks.{IsWellFormedAsk};
     ghost use Rattle.pcp_base.specs.Configs.{IsConfig};
-    ghost use Rattle.lease_disk.specs.Pairs.{PairHasCause};
+    ghost use Rattle.lease_disk.specs.Pairs.{PairHasCause, PairIsQuiet};
     ghost use Rattle.journal_sides.specs.declared.errors.JournalFault.TheVariants.{Disk};
     ghost use Rattle.journal_sides.specs.declared.errors.JournalFault.TheVariants as Faults;
     ghost use Rattle.journal_sides.specs.declared.layout.TheConstants.{MOST_RECORDS};
+    ghost use Rattle.journal_sides.specs.Quiet.{UnlessDisk};
     ghost use Rattle.shard_book.specs.Books.{IsBook};
     ghost use Rattle.shard_book.specs.Keepings.{IsRefused, Loses, Serves, batch_records};
     ghost use Rattle.shard_book.specs.Keepings.{lose_records};
@@ -130,6 +131,8 @@ impl<D: LeaseDisk + Drop> Shard<D> {
             (StaysInDoubt D.tells D.moment D.left_since D.may_leave self.old self.new) }
         ensures cause { PairHasCause D.faults self.old.book.journal.pair self.new.book.journal.pair
             (result ≡ Err Disk) }
+        ensures quiet { UnlessDisk result
+            (PairIsQuiet D.faults self.old.book.journal.pair self.new.book.journal.pair) }
     {
         histories_grow();
         entries_come_next();
@@ -257,6 +260,8 @@ impl<D: LeaseDisk + Drop> Shard<D> {
             IfErr result (RefusesBatch config.now now base batch.now self.old self.new) }
         ensures cause { PairHasCause D.faults self.old.book.journal.pair self.new.book.journal.pair
             (result ≡ Err Disk) }
+        ensures quiet { UnlessDisk result
+            (PairIsQuiet D.faults self.old.book.journal.pair self.new.book.journal.pair) }
     {
         histories_grow();
         entries_come_next();
@@ -304,6 +309,8 @@ impl<D: LeaseDisk + Drop> Shard<D> {
         ensures book { IsBook D.tells D.seen D.may_leave self.new.book }
         ensures cause { PairHasCause D.faults self.old.book.journal.pair self.new.book.journal.pair
             (result ≡ Err Disk) }
+        ensures quiet { UnlessDisk result
+            (PairIsQuiet D.faults self.old.book.journal.pair self.new.book.journal.pair) }
     {
         let count = asks.len() as u32;
         set_batch::<D, Brand>(&mut self.doubt, &self.book, config, batch, m, base, count);
@@ -338,6 +345,8 @@ impl<D: LeaseDisk + Drop> Shard<D> {
             IfErr result (LeavesInDoubt (loss_entries now base self.old) self.old self.new) }
         ensures cause { PairHasCause D.faults self.old.book.journal.pair self.new.book.journal.pair
             (result ≡ Err Disk) }
+        ensures quiet { UnlessDisk result
+            (PairIsQuiet D.faults self.old.book.journal.pair self.new.book.journal.pair) }
     {
         histories_grow();
         entries_come_next();
