@@ -3,7 +3,9 @@ ghost use Rattle.std.specs.Prelude.{◌≡◌, ◌≤◌, ◌++◌, ℕ, [], Lis
 ghost use Rattle.std.specs.Prelude.{None, IfOk, IfErr, OnOk, OnErr};
 ghost use Rattle.pcp_base.specs.declared.datagrams.Entry.{Entry};
 ghost use Rattle.pcp_base.specs.Configs.{IsConfig};
+ghost use Rattle.lease_disk.specs.Pairs.{PairIsQuiet};
 ghost use Rattle.journal_sides.specs.declared.layout.TheConstants.{MOST_RECORDS};
+ghost use Rattle.journal_sides.specs.Quiet.{UnlessDisk};
 ghost use Rattle.lease_store.specs.Lookups.{lease_count};
 ghost use Rattle.turn_lock.specs.Passes.{after_note};
 ghost use Rattle.turned_shards.specs.BatchEntries.{reply_in};
@@ -69,6 +71,8 @@ fn settle_held<D: LeaseDisk + Drop>(
     ensures refused { IfErr result
         (λ fault. NotesOwn (faults_of held.old.moment held.old.base fault) pass.old pass.new) }
     ensures same { OnErr result (held.new.book.state ≡ held.old.book.state) }
+    ensures quiet { UnlessDisk result
+        (PairIsQuiet D.faults held.old.book.journal.pair held.new.book.journal.pair) }
 {
     let told = held.value().settle(alloc, now);
     note_added(turn, &mut pass.history, held, told.is_err());
@@ -99,6 +103,8 @@ fn settle_and_publish<D: LeaseDisk + Drop, R: Wait>(
     ensures refused { (own : List Entry → List Entry) → (raised : List Entry → ℕ → ℕ) →
         IfErr result (FailsHeld D.tells D.seen D.moment D.left_since D.may_leave D.faults
         turn.now.key now own raised pass.old pass.new) }
+    ensures quiet { UnlessDisk result
+        (PairIsQuiet D.faults held.old.book.journal.pair held.new.book.journal.pair) }
 {
     match settle_held(alloc, turn, word, pass, held, now) {
         Ok(()) => publish_rest(rt, alloc, turn, &pass.history, held),
@@ -134,6 +140,8 @@ fn answer_held<D: LeaseDisk + Drop>(
         now pass.new.epoch.heard batch.now held.old)) }
     ensures refused { IfErr result (RefusesHeld held.old (batch_entries config.now now
         pass.new.epoch.heard batch.now held.old) pass.old pass.new) }
+    ensures quiet { UnlessDisk result
+        (PairIsQuiet D.faults held.old.book.journal.pair held.new.book.journal.pair) }
 {
     let heard = word.told(&mut pass.epoch);
     let told = held.value().answer(alloc, config, batch, now, heard);
@@ -166,6 +174,8 @@ fn lose_held<D: LeaseDisk + Drop>(
     ensures refused { IfErr result
         (λ fault. NotesOwn (faults_of held.old.moment held.old.base fault) pass.old pass.new) }
     ensures same { OnErr result (held.new.book.state ≡ held.old.book.state) }
+    ensures quiet { UnlessDisk result
+        (PairIsQuiet D.faults held.old.book.journal.pair held.new.book.journal.pair) }
 {
     let heard = word.told(&mut pass.epoch);
     let told = held.value().lose(alloc, now, heard);
@@ -207,6 +217,8 @@ fn answer_and_publish<D: LeaseDisk + Drop, R: Wait>(
         (λ served. served.told ≡ told_of turn.now.key pass.new.history.seen) }
     ensures refused { IfErr result (RefusesHeld held.old (batch_entries config.now now
         pass.new.epoch.heard batch.now held.old) pass.old pass.new) }
+    ensures quiet { UnlessDisk result
+        (PairIsQuiet D.faults held.old.book.journal.pair held.new.book.journal.pair) }
 {
     let replies = match answer_held(alloc, config, turn, word, pass, held, batch, now) {
         Ok(replies) => replies,
@@ -245,6 +257,8 @@ fn lose_and_publish<D: LeaseDisk + Drop, R: Wait>(
         (λ lost. lost.1 ≡ told_of turn.now.key pass.new.history.seen) }
     ensures refused { IfErr result (RefusesLoss held.old held.new
         (loss_entries now pass.new.epoch.heard held.old) pass.old pass.new) }
+    ensures quiet { UnlessDisk result
+        (PairIsQuiet D.faults held.old.book.journal.pair held.new.book.journal.pair) }
 {
     let count = match lose_held(alloc, turn, word, pass, held, now) {
         Ok(count) => count,
@@ -287,6 +301,8 @@ fn settle_and_answer<D: LeaseDisk + Drop, R: Wait>(
         (λ log. batch_behind turn.now.key log now pass.new.epoch.heard batch.now)
         (raised_behind turn.now.key)
         pass.old pass.new) }
+    ensures quiet { UnlessDisk result
+        (PairIsQuiet D.faults held.old.book.journal.pair held.new.book.journal.pair) }
 {
     match settle_and_publish(rt, alloc, turn, word, pass, held, now) {
         Ok(()) => { answer_and_publish(rt, alloc, config, turn, word, pass, held, batch, now) }
@@ -319,6 +335,8 @@ fn settle_and_lose<D: LeaseDisk + Drop, R: Wait>(
         D.faults turn.now.key now
         (λ log. loss_behind turn.now.key log now pass.new.epoch.heard)
         (raised_by_loss turn.now.key now) pass.old pass.new) }
+    ensures quiet { UnlessDisk result
+        (PairIsQuiet D.faults held.old.book.journal.pair held.new.book.journal.pair) }
 {
     match settle_and_publish(rt, alloc, turn, word, pass, held, now) {
         Ok(()) => lose_and_publish(rt, alloc, turn, word, pass, held, now),
@@ -354,6 +372,8 @@ fn count_and_publish<D: LeaseDisk + Drop, R: Wait>(
         (λ counted. counted.1 ≡ told_of turn.now.key pass.new.history.seen) }
     ensures refused { IfErr result (RefusesHeld held.old (batch_entries config.now now
         pass.new.epoch.heard [] held.old) pass.old pass.new) }
+    ensures quiet { UnlessDisk result
+        (PairIsQuiet D.faults held.old.book.journal.pair held.new.book.journal.pair) }
 {
     let numbers = held.value().numbers(alloc, config, now).ok();
     match answer_and_publish(rt, alloc, config, turn, word, pass, held, &[], now) {
@@ -391,6 +411,8 @@ fn settle_and_count<D: LeaseDisk + Drop, R: Wait>(
         (λ log. batch_behind turn.now.key log now pass.new.epoch.heard [])
         (raised_behind turn.now.key)
         pass.old pass.new) }
+    ensures quiet { UnlessDisk result
+        (PairIsQuiet D.faults held.old.book.journal.pair held.new.book.journal.pair) }
 {
     match settle_and_publish(rt, alloc, turn, word, pass, held, now) {
         Ok(()) => count_and_publish(rt, alloc, config, turn, word, pass, held, now),

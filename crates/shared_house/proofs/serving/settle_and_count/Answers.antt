@@ -2,6 +2,7 @@ use Rattle.std.proofs.Common.{List, [], refl}
 use Rattle.pcp_base.specs.declared.datagrams.Entry.{Entry}
 use Rattle.shared_house.specs.HouseCalls.{batch_behind, raised_behind}
 use Rattle.shared_house.proofs.HeldLemmas.{fails-held, if-err-weaker, on-ok-weaker, serves-held}
+use Rattle.journal_sides.proofs.QuietLemmas.{quiet_unless}
 use Rattle.shared_house.proofs.serving.settle_and_count.Goals as goal
 
 pub returns-in-Err-clause-refused : goal.returns-in-Err-clause-refused
@@ -35,3 +36,10 @@ returns-in-Ok-clause-refused g c =
     c.args.now [] c.settle_and_publish.new.held c.args.pass.now
     c.settle_and_publish.new.pass c.count_and_publish.new.pass fault
     c.requires.batch.config_is s.settled s.held.stands s.epoch refused a.heard)
+
+pub returns-in-Ok-clause-quiet : goal.returns-in-Ok-clause-quiet
+returns-in-Ok-clause-quiet g c =
+    quiet_unless g.D.LeaseDisk.faults c.args.held.now.book.journal.pair
+    c.settle_and_publish.new.held.book.journal.pair
+    c.count_and_publish.new.held.book.journal.pair c.count_and_publish.result
+    c.in-Ok.ensures.quiet.done c.count_and_publish.ensures.quiet

@@ -2,6 +2,7 @@ use Rattle.std.proofs.Common.{List}
 use Rattle.pcp_base.specs.declared.datagrams.Entry.{Entry}
 use Rattle.shared_house.specs.HouseCalls.{loss_behind, raised_by_loss}
 use Rattle.shared_house.proofs.HeldLemmas.{if-err-weaker, if-ok-both, loses-held, refuses-loss}
+use Rattle.journal_sides.proofs.QuietLemmas.{quiet_unless}
 use Rattle.shared_house.proofs.serving.settle_and_lose.Goals as goal
 
 pub returns-in-Err-clause-refused : goal.returns-in-Err-clause-refused
@@ -34,3 +35,10 @@ returns-in-Ok-clause-refused g c =
     c.settle_and_publish.new.held c.lose_and_publish.new.held c.args.pass.now
     c.settle_and_publish.new.pass c.lose_and_publish.new.pass fault
     s.settled s.held.stands a.held.stands s.epoch refused a.heard)
+
+pub returns-in-Ok-clause-quiet : goal.returns-in-Ok-clause-quiet
+returns-in-Ok-clause-quiet g c =
+    quiet_unless g.D.LeaseDisk.faults c.args.held.now.book.journal.pair
+    c.settle_and_publish.new.held.book.journal.pair
+    c.lose_and_publish.new.held.book.journal.pair c.lose_and_publish.result
+    c.in-Ok.ensures.quiet.done c.lose_and_publish.ensures.quiet

@@ -1,8 +1,11 @@
-use Rattle.std.proofs.Common.{◌∙◌, ap, sym}
+use Rattle.std.proofs.Common.{◌∙◌, Err, Ok, Result, ap, subst, sym}
 use Rattle.turned_shards.specs.declared.shards.Shard.{Shard}
 use Rattle.shared_house.specs.HeldCalls.{raised_to}
 use Rattle.shared_house.proofs.HeldLemmas.{if-err-weaker, on-ok, settles-on, unsettled-held}
 use Rattle.shared_house.proofs.HeldLemmas.{unshown-held}
+use Rattle.lease_disk.specs.Pairs.{PairIsQuiet}
+use Rattle.journal_sides.specs.declared.errors.JournalFault.{JournalFault}
+use Rattle.journal_sides.specs.Quiet.{UnlessDisk}
 use Rattle.shared_house.proofs.serving.settle_and_publish.Goals as goal
 
 pub returns-in-Ok-clause-epoch : goal.returns-in-Ok-clause-epoch
@@ -39,3 +42,15 @@ returns-in-Err-clause-refused g c own up =
     unsettled-held d.tells d.seen d.moment d.left_since d.may_leave d.faults o c.args.now
     c.args.held.now c.settle_held.new.held c.args.pass.now q own up c.in-Err.fault
     c.requires.held.stands e.refused e.epoch e.same
+
+-- what holds whatever the answer is
+unless-always : {T A : Type 0} (result : Result T JournalFault) → A → UnlessDisk result A
+unless-always (Ok x) always = record { done = always; starved = λ is. always }
+unless-always (Err fault) always = record { done = tt; starved = λ is. always }
+
+pub returns-in-Ok-clause-quiet : goal.returns-in-Ok-clause-quiet
+returns-in-Ok-clause-quiet g c =
+    unless-always c.publish_rest.result
+    (subst (λ (s : Shard g.row.D.Denot). PairIsQuiet g.D.LeaseDisk.faults
+    c.args.held.now.book.journal.pair s.book.journal.pair)
+    (sym c.publish_rest.ensures.same) c.in-Ok.ensures.quiet.done)
