@@ -10,9 +10,9 @@ pub(crate) struct Ask {
     pub number: u16,
 }
 
-// A MAP request of 10.100.0.0 for UDP port 0, for an hour (RFC 6887, sections 7.1 and 11.1).
+// A MAP request of 10.100.0.0 for UDP port 0 (RFC 6887, sections 7.1 and 11.1).
 static MAP: [u8; 60] = [
-    0x02, 0x01, 0x00, 0x00, 0x00, 0x00, 0x0e, 0x10, 0x00, 0x00, 0x00, 0x00, 0x00, 0x00, 0x00, 0x00,
+    0x02, 0x01, 0x00, 0x00, 0x00, 0x00, 0x00, 0x00, 0x00, 0x00, 0x00, 0x00, 0x00, 0x00, 0x00, 0x00,
     0x00, 0x00, 0xff, 0xff, 0x0a, 0x64, 0x00, 0x00, 0x00, 0x00, 0x00, 0x00, 0x04, 0x05, 0x06, 0x07,
     0x08, 0x09, 0x0a, 0x0b, 0x11, 0x00, 0x00, 0x00, 0x00, 0x00, 0x00, 0x00, 0x00, 0x00, 0x00, 0x00,
     0x00, 0x00, 0x00, 0x00, 0x00, 0x00, 0xff, 0xff, 0x00, 0x00, 0x00, 0x00,
@@ -20,11 +20,24 @@ static MAP: [u8; 60] = [
 
 /// The request, for one of 50 ports of a host. Its nonce tells which one it is.
 pub(crate) fn request(alloc: Global, ask: Ask) -> Result<Datagram, Memory> {
+    request_for(alloc, ask, 3_600)
+}
+
+/// The request that ends what `request` asked for.
+pub(crate) fn deletion(alloc: Global, ask: Ask) -> Result<Datagram, Memory> {
+    request_for(alloc, ask, 0)
+}
+
+/// The request for so many seconds.
+fn request_for(alloc: Global, ask: Ask, lifetime: u16) -> Result<Datagram, Memory> {
     let second = ask.shard.saturating_add(100);
     let host = (ask.number / 50).to_be_bytes();
     let port = (5_000 + ask.number % 50).to_be_bytes();
     let number = ask.number.to_be_bytes();
+    let lifetime = lifetime.to_be_bytes();
     let mut octets = MAP;
+    octets[6] = lifetime[0];
+    octets[7] = lifetime[1];
     octets[21] = second;
     octets[22] = host[0];
     octets[23] = host[1];
