@@ -1,7 +1,8 @@
 -- A book goes behind a turn, and is taken out for good.
 use Rattle.std.specs.Option.{option_map}
 use Rattle.std.proofs.Common.{◌≡◌, ◌≢◌, ◌∙◌, ℕ, List, [], ◌++◌, Option, Some, None, inl, inr, refl}
-use Rattle.std.proofs.Common.{ap, sym, subst, arith}
+use Rattle.std.proofs.Common.{ap, sym, subst, append_assoc, arith}
+use mathlib.Core.List.{IsPrefix}
 use Rattle.pcp_base.specs.declared.addresses.Address.{Address}
 use Rattle.pcp_base.specs.declared.configs.Config.{Config}
 use Rattle.pcp_base.specs.declared.configs.External.{External}
@@ -23,8 +24,8 @@ use Rattle.turned_shards.specs.declared.shards.Shard.{Shard}
 use Rattle.turned_shards.specs.Crashes.{StandsAlong}
 use Rattle.turned_shards.specs.Inside.{fresh_shard}
 use Rattle.turned_shards.specs.Shards.{StandsFor, served_by}
-use Rattle.turned_shards.specs.Turnings.{MayBegin, StandsStill, first_lane, first_writer}
-use Rattle.turned_shards.specs.Turnings.{opening_of}
+use Rattle.turned_shards.specs.Turnings.{KnowsFirst, MayBegin, StandsStill, first_lane}
+use Rattle.turned_shards.specs.Turnings.{first_writer, opening_of}
 use Rattle.turned_shards.proofs.CrashLemmas.{along-none, along-whole}
 use Rattle.turned_shards.proofs.Standing.{unsure-by}
 
@@ -126,6 +127,21 @@ module _ {D : Type 0} (tells : Type 0) (seen : D → List ℕ) (moment : D → �
       (StandsForWithOrWithout s.book.state rs) s.book.journal.pair)
       (sym (unsure-by tells seen moment left_since may_leave counts o s log stands s.book.fault
       refl)) (stands.book.images told))
+
+  -- what begins the records that were pushed begins those of the history
+  pub knows-first : (o : Opening D) (s : Shard D) (log : List Entry) (lane : LaneKnowledge) →
+      StandsFor tells seen moment left_since may_leave counts o s log → lane.index ≡ o.lane.index →
+      lane.opening ≡ s.writer.opening → IsPrefix lane.known (s.writer.published ++ s.writer.pending) →
+      KnowsFirst o log lane
+  knows-first o s log lane stands index opening known = record {
+    index = index;
+    opening = opening ∙ stands.indexed.opening ∙ stands.indexed.leases;
+    known = (
+      known.0 ++ s.unpushed.items,
+      sym (append_assoc lane.known known.0 s.unpushed.items)
+          ∙ ap (λ (rs : List Record). rs ++ s.unpushed.items) known.1 ∙ stands.indexed.records,
+    );
+  }
 
   -- nothing is in doubt behind a history without entries
   none-unsure : (o : Opening D) (s : Shard D) → StandsFor tells seen moment left_since may_leave counts o s [] →

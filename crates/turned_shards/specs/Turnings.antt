@@ -1,6 +1,7 @@
 -- A book that goes behind a turn, and one that is taken out (our own).
 use Rattle.std.specs.Prelude.{◌≡◌, ◌≤◌, ℕ, List, [], ◌++◌, Some, None}
 use Rattle.std.specs.List.{slice_get}
+use mathlib.Core.List.{IsPrefix}
 use Rattle.pcp_base.specs.declared.configs.Config.{Config}
 use Rattle.pcp_base.specs.declared.datagrams.Entry.{Entry}
 use Rattle.pcp_base.specs.Configs.{IsConfig}
@@ -78,3 +79,9 @@ module _ {D : Type 0} where
     pub promises : KeepsPromises (served_by o) o.book.state new.history.seen
     pub images : tells → HoldsNow may_leave (StandsForWithOrWithout
         (state_after o.book.state new.history.seen) (records_of kept.doubt)) pair
+
+  -- The lane began with the leases of the opening state, and knows first records of the history.
+  pub record KnowsFirst (o : Opening D) (history : List Entry) (lane : LaneKnowledge) : Type 0 where
+    pub index : lane.index ≡ o.lane.index
+    pub opening : lane.opening ≡ first_leases o.book
+    pub known : IsPrefix lane.known (records_of history)

@@ -3,8 +3,8 @@ ghost use Rattle.std.specs.Prelude.{◌≡◌, ◌-◌, ◌^◌, ◌<◌, [], le
 ghost use Rattle.pcp_base.specs.Configs.{IsConfig};
 ghost use Rattle.lane_index.specs.Lanes.{lane_of};
 ghost use Rattle.turn_lock.specs.Passes.{new_pass};
-ghost use Rattle.turned_shards.specs.Turnings.{EndsOne, MayBegin, StandsStill, first_lane};
-ghost use Rattle.turned_shards.specs.Turnings.{first_leases, first_writer, opening_of};
+ghost use Rattle.turned_shards.specs.Turnings.{EndsOne, KnowsFirst, MayBegin, StandsStill};
+ghost use Rattle.turned_shards.specs.Turnings.{first_lane, first_leases, first_writer, opening_of};
 
 use crate::openings::Opening;
 use crate::passes::HousePass;
@@ -170,18 +170,25 @@ fn leave<D: LeaseDisk + Drop, R: Wait>(rt: &R, turn: Turn<Shard<D>>) {
     }
 }
 
-/// Takes the turn for good, and hands the pair out. The pass has then seen the whole history.
+/// Takes the turn for good, and hands the pair out. The pass has then seen the whole history, of
+/// whose records the lane knows some first ones.
 pub fn end_one<D: LeaseDisk + Drop, R: Wait>(
     rt: &R,
     turn: Turn<Shard<D>>,
     pass: &mut HousePass<D>,
+    lane: &Lane,
 ) -> DiskPair<D>
     requires turn { pass.old.history.turn ≡ turn.id }
     requires home { pass.old.history.out ≡ false }
-    ensures { EndsOne D.tells D.seen D.moment D.left_since D.may_leave D.faults turn.key pass.old pass.new result }
+    requires lane { lane.now.index ≡ turn.key.lane.index }
+    ensures ended { EndsOne D.tells D.seen D.moment D.left_since D.may_leave D.faults turn.key
+        pass.old pass.new result }
+    ensures lane { KnowsFirst turn.key pass.new.history.seen lane.now }
 {
     legal_histories_keep_promises();
     let held = turn.take(rt, &mut pass.history);
     leave(rt, turn);
-    held.keep().close(rt)
+    let shard = held.keep();
+    shard.writer.meet(rt, lane);
+    shard.close(rt)
 }
