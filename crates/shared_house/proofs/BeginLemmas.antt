@@ -12,7 +12,7 @@ use Rattle.lease_house.proofs.ListLemmas.{get-within, within-get}
 use Rattle.turned_shards.specs.declared.openings.Opening.{Opening}
 use Rattle.turned_shards.specs.declared.passes.HousePass.{HousePass}
 use Rattle.shared_house.specs.Beginnings.{BeginAll, BeginsOne}
-use Rattle.shared_house.specs.Endings.{AreAtHome}
+use Rattle.shared_house.specs.Endings.{AreAtHome, AreLanesOf}
 use Rattle.shared_house.specs.HouseCalls.{HouseView, IsHouse, IsPassOf}
 use Rattle.shared_house.specs.Seats.{Knows}
 use Rattle.shared_house.specs.Turned.{AreUnshared}
@@ -133,6 +133,42 @@ module _ {D : Type 0} (config : Config) where
   begin-keyed k (w ∷ bs) (x ∷ ts) (y ∷ ps) (z ∷ ls) all =
       (ap (λ (o : Opening D). o.book) all.0.key, begin-keyed (k + 1) bs ts ps ls all.1)
 
+  pub begin-lanes : (k : ℕ) (bs : List (BookView D)) (ts : List (TurnName (Opening D)))
+      (ps : List (HousePass D)) (ls : List LaneKnowledge) → BeginAll config k bs ts ps ls →
+      length ls ≡ length ts
+  begin-lanes k [] [] [] [] all = refl
+  begin-lanes k [] [] [] (z ∷ ls) all = absurd all
+  begin-lanes k [] [] (y ∷ ps) ls all = absurd all
+  begin-lanes k [] (x ∷ ts) ps ls all = absurd all
+  begin-lanes k (w ∷ bs) [] ps ls all = absurd all
+  begin-lanes k (w ∷ bs) (x ∷ ts) [] ls all = absurd all
+  begin-lanes k (w ∷ bs) (x ∷ ts) (y ∷ ps) [] all = absurd all
+  begin-lanes k (w ∷ bs) (x ∷ ts) (y ∷ ps) (z ∷ ls) all =
+      ap (λ (n : ℕ). suc n) (begin-lanes (k + 1) bs ts ps ls all.1)
+
+  -- the lane at a place
+  pub lane-at : (k : ℕ) (bs : List (BookView D)) (ts : List (TurnName (Opening D)))
+      (ps : List (HousePass D)) (ls : List LaneKnowledge) (i : ℕ) (t : TurnName (Opening D))
+      (l : LaneKnowledge) → BeginAll config k bs ts ps ls → slice_get ts i ≡ Some t →
+      slice_get ls i ≡ Some l → (t.key.lane ≡ l) × (l.known ≡ [])
+  lane-at k [] [] [] [] i t l all there found = absurd cc
+  lane-at k [] [] [] (z ∷ ls) i t l all there found = absurd all
+  lane-at k [] [] (y ∷ ps) ls i t l all there found = absurd all
+  lane-at k [] (x ∷ ts) ps ls i t l all there found = absurd all
+  lane-at k (w ∷ bs) [] ps ls i t l all there found = absurd all
+  lane-at k (w ∷ bs) (x ∷ ts) [] ls i t l all there found = absurd all
+  lane-at k (w ∷ bs) (x ∷ ts) (y ∷ ps) [] i t l all there found = absurd all
+  lane-at k (w ∷ bs) (x ∷ ts) (y ∷ ps) (z ∷ ls) zero t l all there found =
+      let turn : x ≡ t = cc in
+      let lane : z ≡ l = cc in (
+        ap (λ (u : TurnName (Opening D)). u.key.lane) (sym turn)
+            ∙ ap (λ (o : Opening D). o.lane) all.0.key ∙ lane,
+        ap (λ (u : LaneKnowledge). u.known) (sym lane)
+            ∙ ap (λ (u : LaneKnowledge). u.known) all.0.leases,
+      )
+  lane-at k (w ∷ bs) (x ∷ ts) (y ∷ ps) (z ∷ ls) (suc i) t l all there found =
+      lane-at (k + 1) bs ts ps ls i t l all.1 there found
+
   -- the turn at a place, and its pass
   pub record IsBegunAt (n i : ℕ) (ps : List (HousePass D)) (t : TurnName (Opening D)) : Type 0 where
     pub book : BookView D
@@ -208,6 +244,13 @@ module _ {D : Type 0} (house : HouseView D) (bs : List (BookView D)) (ps : List 
           turn_is = ap (λ (k : PassKnowledge _). k.turn) history;
           home = ap (λ (k : PassKnowledge _). k.out) history;
         };
+  }
+
+  pub are-lanes : AreLanesOf house.turns ls
+  are-lanes = record {
+    enough = let many = begin-lanes house.config 0 bs house.turns ps ls all in omega (arith, many);
+    each = λ place turn lane there found. ap (λ (k : LaneKnowledge). k.index)
+        (sym (lane-at house.config 0 bs house.turns ps ls place turn lane all there found).0);
   }
 
   pub are-passes : (raised heard : ℕ) →

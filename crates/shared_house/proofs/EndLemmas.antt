@@ -1,23 +1,35 @@
 -- The turns of a house are taken for good one after the other, the last one first.
 use Rattle.std.specs.Prelude.{slice_set}
 use Rattle.std.specs.List.{slice_get}
-use Rattle.std.proofs.Common.{◌≡◌, ◌∙◌, ℕ, zero, suc, ◌+◌, ◌<◌, List, [], ◌∷◌, ◌++◌, length, Option}
+use Rattle.std.proofs.Common.{◌≡◌, ◌⊎◌, ◌∙◌, ℕ, zero, suc, ◌+◌, ◌<◌, ◌≤◌, List, [], ◌∷◌, ◌++◌, length}
+use Rattle.std.proofs.Common.{Option}
 use Rattle.std.proofs.Common.{Some, None, inl, inr, refl, ap, sym, subst, append_assoc, arith}
 use Rattle.std.proofs.lemmas.List.{append-nil, length-append}
 use Rattle.lease_disk.specs.declared.disks.DiskPair.{DiskPair}
 use Rattle.lease_house.specs.BookCalls.{ChangesAt}
 use Rattle.lease_house.proofs.ListLemmas.{get-put, get-within, length-put, put-at, within-get}
+use Rattle.lane_index.specs.Lanes.{LaneKnowledge}
 use Rattle.turn_lock.specs.Passes.{TurnName}
 use Rattle.turned_shards.specs.declared.openings.Opening.{Opening}
 use Rattle.turned_shards.specs.declared.passes.HousePass.{HousePass}
-use Rattle.shared_house.specs.Endings.{AreAtHome, EndsAll, IsAtHome}
-use Rattle.turned_shards.specs.Turnings.{EndsOne}
+use Rattle.shared_house.specs.Endings.{AllKnowFirst, AreAtHome, AreLanesOf, EndsAll, IsAtHome}
+use Rattle.turned_shards.specs.Turnings.{EndsOne, KnowsFirst}
 
 -- an item behind others, and before others
 get-behind : {X : Type 0} (xs ys : List X) (x : X) →
     slice_get ((xs ++ x ∷ []) ++ ys) (length xs) ≡ Some x
 get-behind [] ys x = refl
 get-behind (z ∷ zs) ys x = get-behind zs ys x
+
+same-or-not : (n k : ℕ) → (n ≡ k) ⊎ ¬ (n ≡ k)
+same-or-not zero zero = inl refl
+same-or-not zero (suc k) = inr (λ e. omega (arith, e))
+same-or-not (suc n) zero = inr (λ e. omega (arith, e))
+same-or-not (suc n) (suc k) =
+    elim (same-or-not n k) [
+      | inl e ↦ inl (ap (λ (m : ℕ). suc m) e)
+      | inr other ↦ inr (λ e. other (omega (arith, e)))
+    ]
 
 module _ {D : Type 0} (tells : Type 0) (seen : D → List ℕ) (moment : D → ℕ)
     (left_since : D → ℕ → List ℕ → Type 0) (may_leave : D → List ℕ → Type 0)
@@ -183,3 +195,59 @@ module _ {D : Type 0} (tells : Type 0) (seen : D → List ℕ) (moment : D → �
       let longer = one-more left fewer t is in
       home.each (length fewer) t p (next-there all left fewer old now spare pairs t is so)
       (sym (so.before (length fewer) (omega (arith, longer))) ∙ has)
+
+  -- the lanes of the turns behind these know first records
+  abbrev pub HaveMetFrom : (all left : List (TurnName (Opening D))) (now : List (HousePass D))
+      (lanes : List LaneKnowledge) → Type 0
+  HaveMetFrom all left now lanes =
+      (place : ℕ) (turn : TurnName (Opening D)) (pass : HousePass D) (lane : LaneKnowledge) →
+      length left ≤ place → slice_get all place ≡ Some turn → slice_get now place ≡ Some pass →
+      slice_get lanes place ≡ Some lane → KnowsFirst turn.key pass.history.seen lane
+
+  pub none-met : (turns : List (TurnName (Opening D))) (now : List (HousePass D))
+      (lanes : List LaneKnowledge) → HaveMetFrom turns turns now lanes
+  none-met turns now lanes place turn pass lane behind there here found =
+      let inside = get-within turns place turn there in absurd (omega (arith, inside, behind))
+
+  pub one-met : (all left fewer : List (TurnName (Opening D))) (old now new : List (HousePass D))
+      (lanes : List LaneKnowledge) (spare pairs : List (DiskPair D)) (t : TurnName (Opening D))
+      (P : HousePass D → HousePass D → Type 0) → left ≡ fewer ++ t ∷ [] →
+      AreEndedFrom all left old now spare pairs → HaveMetFrom all left now lanes →
+      ChangesAt (length fewer) now new P →
+      ((pass : HousePass D) (lane : LaneKnowledge) → slice_get new (length fewer) ≡ Some pass →
+      slice_get lanes (length fewer) ≡ Some lane → KnowsFirst t.key pass.history.seen lane) →
+      HaveMetFrom all fewer new lanes
+  one-met all left fewer old now new lanes spare pairs t P is so met changes meets place turn pass
+      lane behind there here found =
+      elim (same-or-not place (length fewer)) [
+        | inl at ↦
+            (let same : Some t ≡ Some turn =
+            sym (next-there all left fewer old now spare pairs t is so)
+            ∙ ap (slice_get all) (sym at) ∙ there in
+            let turn_is : t ≡ turn = cc in
+            subst (λ (u : TurnName (Opening D)). KnowsFirst u.key pass.history.seen lane) turn_is
+            (meets pass lane (ap (slice_get new) (sym at) ∙ here)
+            (ap (slice_get lanes) (sym at) ∙ found)))
+        | inr other ↦
+            (let longer = one-more left fewer t is in
+            met place turn pass lane (omega (arith, longer, behind, other)) there
+            (other-left (length fewer) now changes.before changes.after place (Some pass)
+            changes.was other
+            (ap (λ (l : List (HousePass D)). slice_get l place) (sym changes.is) ∙ here)) found)
+      ]
+
+  pub all-met : (turns left : List (TurnName (Opening D))) (now : List (HousePass D))
+      (lanes : List LaneKnowledge) → left ≡ [] → HaveMetFrom turns left now lanes →
+      AllKnowFirst turns now lanes
+  all-met turns left now lanes none met place turn pass lane =
+      let empty : length left ≡ 0 = ap length none in
+      met place turn pass lane (omega (arith, empty))
+
+  -- the lane of a turn that wasn't taken yet
+  pub next-lane : (all left fewer : List (TurnName (Opening D))) (old now : List (HousePass D))
+      (lanes : List LaneKnowledge) (spare pairs : List (DiskPair D)) (t : TurnName (Opening D))
+      (lane : LaneKnowledge) → left ≡ fewer ++ t ∷ [] → AreLanesOf all lanes →
+      AreEndedFrom all left old now spare pairs → slice_get lanes (length fewer) ≡ Some lane →
+      lane.index ≡ t.key.lane.index
+  next-lane all left fewer old now lanes spare pairs t lane is are so found =
+      are.each (length fewer) t lane (next-there all left fewer old now spare pairs t is so) found

@@ -9,7 +9,7 @@ ghost use Rattle.shard_book.specs.Books.{IsBook};
 ghost use Rattle.lease_house.specs.SoloOpenings.{IsOfPlace, book_updates};
 ghost use Rattle.shared_house.specs.Beginnings.{Begins, BeginsWith, ComeBack, RefusesBegin};
 ghost use Rattle.shared_house.specs.Beginnings.{first_base};
-ghost use Rattle.shared_house.specs.Endings.{AreAtHome};
+ghost use Rattle.shared_house.specs.Endings.{AreAtHome, AreLanesOf};
 ghost use Rattle.shared_house.specs.Findings.{is_fresh, update_places};
 ghost use Rattle.shared_house.specs.HouseCalls.{IsPassOf};
 ghost use Rattle.shared_house.specs.Seats.{AreSeats};
@@ -173,6 +173,8 @@ impl<D: LeaseDisk + Drop> House<D> {
             (λ begun. AllByRecursion (IsPassOf begun.house) begun.passes.items) }
         ensures home { IfOk result
             (λ begun. AreAtHome begun.house.turns begun.passes.items) }
+        ensures lanes { IfOk result
+            (λ begun. AreLanesOf begun.house.turns begun.lanes.items) }
         ensures refused { IfErr result (λ refused. RefusesBegin D.tells D.seen D.moment
             D.left_since D.may_leave D.faults config.now m refused.fault disks.items
             refused.disks.items) }

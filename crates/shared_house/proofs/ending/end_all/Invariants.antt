@@ -1,5 +1,5 @@
 use Rattle.std.proofs.Common.{◌≡◌, ◌≤◌, ◌+◌, length, vec_capacity}
-use Rattle.shared_house.proofs.EndLemmas.{AreEndedFrom}
+use Rattle.shared_house.proofs.EndLemmas.{AreEndedFrom, HaveMetFrom}
 use Rattle.shared_house.proofs.ending.end_all.Given as goal
 
 abbrev pub invariant-loop : goal.invariant-loop
@@ -8,6 +8,8 @@ invariant-loop g l =
     record {
       so : AreEndedFrom d.tells d.seen d.moment d.left_since d.may_leave d.faults l.fn.turns.items l.turns.items
           l.fn.passes.items l.passes.items l.fn.spare.items l.pairs.items;
+      met : HaveMetFrom d.tells d.seen d.moment d.left_since d.may_leave d.faults
+          l.fn.turns.items l.turns.items l.passes.items l.fn.lanes;
       left : length l.turns.items + l.counter ≡ length l.fn.turns.items;
       room : length l.turns.items + length l.pairs.items ≤ vec_capacity l.pairs;
     }

@@ -5,7 +5,7 @@ use Rattle.lease_house.specs.SoloOpenings.{OpensAll}
 use Rattle.lease_house.proofs.HandingBack.{memory_touches_none}
 use Rattle.shared_house.specs.Beginnings.{BeginAll, BeginsWith}
 use Rattle.shared_house.specs.Turned.{AllMayBegin}
-use Rattle.shared_house.proofs.BeginLemmas.{are-at-home, are-passes}
+use Rattle.shared_house.proofs.BeginLemmas.{are-at-home, are-lanes, are-passes}
 use Rattle.shared_house.proofs.OpenedLemmas.{counted, may-begin}
 use Rattle.shared_house.proofs.houses.House.begin.Goals as goal
 
@@ -74,3 +74,14 @@ returns-in-Ok-begin_with-clause-home g c =
     begun.lanes.items) (sym c.in-Ok-begin_with.ensures.config)
     c.in-Ok-begin_with.ensures.begun.each in
     are-at-home begun.house books begun.passes.items begun.lanes.items all
+
+pub returns-in-Ok-begin_with-clause-lanes : goal.returns-in-Ok-begin_with-clause-lanes
+returns-in-Ok-begin_with-clause-lanes g c =
+    let begun = c.in-Ok-begin_with.begun in
+    let books = c.in-Ok-open_books.opened.books.items in
+    let all : BeginAll begun.house.config 0 books begun.house.turns begun.passes.items
+    begun.lanes.items =
+    subst (λ (config : Config). BeginAll config 0 books begun.house.turns begun.passes.items
+    begun.lanes.items) (sym c.in-Ok-begin_with.ensures.config)
+    c.in-Ok-begin_with.ensures.begun.each in
+    are-lanes begun.house books begun.passes.items begun.lanes.items all
