@@ -8,7 +8,7 @@ use Rattle.shard_book.specs.Books.{BookView}
 use Rattle.turned_shards.specs.declared.openings.Opening.{Opening}
 use Rattle.turned_shards.specs.declared.passes.HousePass.{HousePass}
 use Rattle.shared_house.specs.Beginnings.{BeginAll}
-use Rattle.shared_house.specs.Endings.{AreAtHome, IsAtHome}
+use Rattle.shared_house.specs.Endings.{AreAtHome, AreLanesOf, IsAtHome}
 use Rattle.shared_house.specs.HouseCalls.{BeginsAt, HouseView, IsPassOf}
 use Rattle.shared_house.specs.declared.served.Served.{Served}
 use Rattle.lease_house.specs.declared.faults.HouseFault.{HouseFault}
@@ -89,6 +89,18 @@ module _ {D : Type 0} (house : HouseView D) where
       ∙ ap (λ (l : List (HousePass D)). take (length (o ∷ r ∷ rest)) ((a ∷ []) ++ slice_set l 0 b ++ zs)) back
       ∙ ap (λ (l : List (HousePass D)). a ∷ b ∷ l) (take-front rest zs) in
       subst (ArePasses house) (sym text) done
+
+  -- so of the first lane
+  pub set-lane : (ls : List LaneKnowledge) (old new : LaneKnowledge) → slice_get ls 0 ≡ Some old → new.index ≡ old.index → AreLanesOf house.turns ls → AreLanesOf house.turns (slice_set ls 0 new)
+  set-lane [] old new there same all = absurd cc
+  set-lane (l ∷ ls) old new there same all = record { enough = all.enough; each = lane-of l new ls (let is : l ≡ old = cc in same ∙ ap (λ (k : LaneKnowledge). k.index) (sym is)) all }
+    where
+      lane-of : (l new : LaneKnowledge) (ls : List LaneKnowledge) → new.index ≡ l.index → AreLanesOf house.turns (l ∷ ls) → (i : ℕ) (t : TurnName (Opening D)) (lane : LaneKnowledge) →
+          slice_get house.turns i ≡ Some t → slice_get (new ∷ ls) i ≡ Some lane → lane.index ≡ t.key.lane.index
+      lane-of l new ls same all zero t lane there here =
+          let is : new ≡ lane = cc in
+          ap (λ (k : LaneKnowledge). k.index) (sym is) ∙ (same ∙ all.each 0 t l there refl)
+      lane-of l new ls same all (suc i) t lane there here = all.each (suc i) t lane there here
 
   pub told-at : (place : ℕ) (r : Result Served HouseFault) (P : Opening D → Served → Type 0) → ((o : Opening D) → BeginsAt house place o → IfOk r (P o)) →
       ((o : Opening D) (s : Served) → P o s → s.told.index ≡ o.lane.index) → IfOk r (λ s. IsToldAt house place s.told)

@@ -84,12 +84,12 @@ fn run<R: Wait>(rt: &R, alloc: Global, failing: u64) -> Result<Option<Outcome>, 
         house,
         fresh: _,
         mut passes,
-        lanes: _lanes,
+        lanes,
         updates: _updates,
         update_shards: _update_shards,
     } = begun;
     let (first, second) = grant_by_first(rt, alloc, &house, &config, &mut passes);
-    let disks = house.end(rt, &mut passes);
+    let disks = house.end(rt, &mut passes, &lanes);
     give_up_all(passes);
     Ok(Some(Outcome {
         first,

@@ -1,5 +1,6 @@
 //! A lookup while the sync of a batch waits for its answer.
 ghost use Rattle.std.specs.Prelude.{◌≡◌};
+ghost use Rattle.shared_house.specs.Endings.{AreLanesOf};
 ghost use Rattle.shared_house.specs.HouseCalls.{IsPassOf};
 ghost use Rattle.shared_rows.specs.Passes.{ArePasses, Follows, IsFirstLane, IsLaneAt};
 
@@ -43,7 +44,9 @@ fn serve_held<D: LeaseDisk + Drop, R: Wait>(
 }
 
 // Looks up once a sync waits. Whether the first lease's owner is found.
-fn look_held<R: Wait>(rt: &R, flags: &Flags, lane: &mut Lane) -> bool {
+fn look_held<R: Wait>(rt: &R, flags: &Flags, lane: &mut Lane) -> bool
+    ensures { lane.new.index ≡ lane.old.index }
+{
     flags.wait_for_sync(rt);
     let found = finds(rt, lane);
     flags.looked.store(true, Ordering::SeqCst);
@@ -62,9 +65,12 @@ fn look_beside<D: LeaseDisk + Drop, R: Threads + Wait + Sync>(
 ) -> bool
     requires config { house.now.config ≡ config.now }
     requires pass { IsPassOf house.now pass.old }
-    ensures { Follows house.now pass.old pass.new }
+    ensures pass { Follows house.now pass.old pass.new }
+    ensures index { lane.new.index ≡ lane.old.index }
 {
-    let mut looking = move || -> bool { look_held(rt, flags, lane) };
+    let mut looking = move || -> bool
+        ensures { lane.exit.now.index ≡ lane.entry.now.index }
+    { look_held(rt, flags, lane) };
     let mut serving = move || -> bool
         requires { (house.now.config ≡ config.now) × IsPassOf house.now pass.now }
         ensures { Follows house.entry.now pass.entry.now pass.exit.now }
@@ -86,7 +92,8 @@ fn learn_and_look<D: LeaseDisk + Drop, R: Threads + Wait + Sync>(
     requires config { house.now.config ≡ config.now }
     requires pass { IsPassOf house.now pass.old }
     requires lane { IsLaneAt house.now pass.old.shard lane.old.index }
-    ensures { Follows house.now pass.old pass.new }
+    ensures pass { Follows house.now pass.old pass.new }
+    ensures index { lane.new.index ≡ lane.old.index }
 {
     learns_grant(rt, alloc, house, config, pass, lane)
         && look_beside(rt, alloc, flags, house, config, pass, lane)
@@ -104,8 +111,10 @@ fn look_at_first<D: LeaseDisk + Drop, R: Threads + Wait + Sync>(
 ) -> bool
     requires config { house.now.config ≡ config.now }
     requires passes { ArePasses house.now passes.old.items }
-    requires lanes { IsFirstLane house.now passes.old.items lanes.old.items }
-    ensures { ArePasses house.now passes.new.items }
+    requires first { IsFirstLane house.now passes.old.items lanes.old.items }
+    requires lanes { AreLanesOf house.now.turns lanes.old.items }
+    ensures passes { ArePasses house.now passes.new.items }
+    ensures lanes { AreLanesOf house.now.turns lanes.new.items }
 {
     if passes.len() == 0 || lanes.len() == 0 {
         return false;
@@ -140,7 +149,7 @@ fn run<R: Threads + Wait + Sync>(rt: &R, alloc: Global, flags: &Flags) -> Result
         update_shards: _update_shards,
     } = begun;
     let answered = look_at_first(rt, alloc, flags, &house, &config, &mut passes, &mut lanes);
-    let _disks = house.end(rt, &mut passes);
+    let _disks = house.end(rt, &mut passes, &lanes);
     give_up_all(passes);
     Ok(answered)
 }

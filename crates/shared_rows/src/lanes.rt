@@ -1,5 +1,6 @@
 //! What a lane learns of a house.
 ghost use Rattle.std.specs.Prelude.{◌≡◌};
+ghost use Rattle.shared_house.specs.Endings.{AreLanesOf};
 ghost use Rattle.shared_house.specs.HouseCalls.{IsPassOf};
 ghost use Rattle.shared_rows.specs.Passes.{ArePasses, Follows, IsFirstLane, IsLaneAt};
 
@@ -65,7 +66,8 @@ fn learns_loss<D: LeaseDisk + Drop, R: Wait>(
 ) -> bool
     requires pass { IsPassOf house.now pass.old }
     requires lane { IsLaneAt house.now pass.old.shard lane.old.index }
-    ensures { Follows house.now pass.old pass.new }
+    ensures pass { Follows house.now pass.old pass.new }
+    ensures index { lane.new.index ≡ lane.old.index }
 {
     match house.lose(rt, alloc, pass, moment(1_020)) {
         Ok((count, told)) => {
@@ -88,7 +90,8 @@ fn learns_both<D: LeaseDisk + Drop, R: Wait>(
     requires config { house.now.config ≡ config.now }
     requires pass { IsPassOf house.now pass.old }
     requires lane { IsLaneAt house.now pass.old.shard lane.old.index }
-    ensures { Follows house.now pass.old pass.new }
+    ensures pass { Follows house.now pass.old pass.new }
+    ensures index { lane.new.index ≡ lane.old.index }
 {
     learns_grant(rt, alloc, house, config, pass, lane) && learns_loss(rt, alloc, house, pass, lane)
 }
@@ -104,8 +107,10 @@ fn learns<D: LeaseDisk + Drop, R: Wait>(
 ) -> bool
     requires config { house.now.config ≡ config.now }
     requires passes { ArePasses house.now passes.old.items }
-    requires lanes { IsFirstLane house.now passes.old.items lanes.old.items }
-    ensures { ArePasses house.now passes.new.items }
+    requires first { IsFirstLane house.now passes.old.items lanes.old.items }
+    requires lanes { AreLanesOf house.now.turns lanes.old.items }
+    ensures passes { ArePasses house.now passes.new.items }
+    ensures lanes { AreLanesOf house.now.turns lanes.new.items }
 {
     if passes.len() == 0 || lanes.len() == 0 {
         return false;
@@ -132,7 +137,7 @@ fn run<R: Wait>(rt: &R, alloc: Global) -> Result<bool, Memory> {
         update_shards: _update_shards,
     } = begun;
     let learnt = learns(rt, alloc, &house, &config, &mut passes, &mut lanes);
-    let _disks = house.end(rt, &mut passes);
+    let _disks = house.end(rt, &mut passes, &lanes);
     give_up_all(passes);
     Ok(learnt)
 }

@@ -209,12 +209,12 @@ fn run<R: Threads + Wait + Sync>(
         house,
         fresh: _,
         mut passes,
-        lanes: _lanes,
+        lanes,
         updates: _updates,
         update_shards: _update_shards,
     } = begun;
     let granted = serve_all(rt, alloc, &house, &config, &mut passes);
-    let disks = house.end(rt, &mut passes);
+    let disks = house.end(rt, &mut passes, &lanes);
     give_up_all(passes);
     Ok((granted, leases(alloc, &config, disks, 1_030)))
 }
