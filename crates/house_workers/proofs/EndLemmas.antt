@@ -21,7 +21,7 @@ use Rattle.shared_house.specs.declared.beginning.Begun.{Begun}
 use Rattle.turned_shards.specs.declared.openings.Opening.{Opening}
 use Rattle.turned_shards.specs.declared.passes.HousePass.{HousePass}
 use Rattle.shared_house.specs.Beginnings.{BeginAll}
-use Rattle.shared_house.specs.Endings.{AreAtHome, EndsAll}
+use Rattle.shared_house.specs.Endings.{AllKnowFirst, AreAtHome, EndsAll}
 use Rattle.shared_house.specs.HouseCalls.{HouseView, IsPassOf}
 use Rattle.house_workers.specs.HouseCallsOf.{IsServingPass, OpensWith, calls_of}
 use Rattle.house_workers.specs.ServingAll.{Edges, IsBegunFor, ServesToEnd}
@@ -181,6 +181,7 @@ module _ {D : Type 0} (tells : Type 0) (seen : D → List ℕ) (moment : D → �
         })
         then result
         → EndsAll tells seen moment left_since may_leave faults back.turns then.passes ended back.spare pairs
+        → AllKnowFirst back.turns ended then.lanes
         → ServesToEnd tells seen moment left_since may_leave faults config groups port begun old
         (record {
           left = then.left;
@@ -190,7 +191,7 @@ module _ {D : Type 0} (tells : Type 0) (seen : D → List ℕ) (moment : D → �
           clocks = then.clocks;
         })
         result pairs
-    serves_to_end config groups port begun house back lanes old then result ended pairs same again readers answers ends = record {
+    serves_to_end config groups port begun house back lanes old then result ended pairs same again readers answers ends known = record {
       then = then;
       edges = refl;
       answers = subst (λ (h : HouseView D). AnswersBegun (calls_of tells seen moment left_since may_leave faults h) config groups port begun.fresh
@@ -217,6 +218,7 @@ module _ {D : Type 0} (tells : Type 0) (seen : D → List ℕ) (moment : D → �
           then result) readers answers);
       ended = ended;
       ends = subst (λ (h : HouseView D). EndsAll tells seen moment left_since may_leave faults h.turns then.passes ended h.spare pairs) (again ∙ same) ends;
+      lanes = subst (λ (h : HouseView D). AllKnowFirst h.turns ended then.lanes) (again ∙ same) known;
     }
 
     -- the passes with which a house that was served is ended

@@ -4,6 +4,7 @@ pub mod CrashLemmas
 pub mod EndLemmas
 pub mod FaultLemmas
 pub mod FullLemmas
+pub mod LookupLemmas
 pub mod NoteLemmas
 pub mod OrderLemmas
 pub mod OwnLemmas

@@ -1,6 +1,7 @@
 pub mod Crashes
 pub mod HouseCallsOf
 pub mod Laws
+pub mod Lookups
 pub mod OwnEntries
 pub mod Promised
 pub mod Raised

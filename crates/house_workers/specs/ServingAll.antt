@@ -15,7 +15,7 @@ use Rattle.request_workers.specs.Parts.{BegunState}
 use Rattle.shared_house.specs.declared.beginning.Begun.{Begun}
 use Rattle.turned_shards.specs.declared.passes.HousePass.{HousePass}
 use Rattle.shared_house.specs.Beginnings.{Begins}
-use Rattle.shared_house.specs.Endings.{AreAtHome, EndsAll}
+use Rattle.shared_house.specs.Endings.{AllKnowFirst, AreAtHome, EndsAll}
 use Rattle.shared_house.specs.HouseCalls.{IsPassOf}
 use Rattle.house_workers.specs.HouseCallsOf.{calls_of}
 
@@ -26,6 +26,18 @@ pub record Edges : Type 0 where
   pub outs : List OutState
   pub links : List LinkState
   pub clocks : List (Option Times)
+
+-- what serving begins with
+abbrev pub begun_state : {D : Type 0} → Begun D → Edges → BegunState (HousePass D)
+begun_state begun edges = record {
+  passes = begun.passes.items;
+  lanes = begun.lanes.items;
+  left = edges.left;
+  faults = edges.faults;
+  outs = edges.outs;
+  links = edges.links;
+  clocks = edges.clocks;
+}
 
 module _ {D : Type 0} (tells : Type 0) (seen : D → List ℕ) (moment : D → ℕ)
     (left_since : D → ℕ → List ℕ → Type 0) (may_leave : D → List ℕ → Type 0) (faults : D → ℕ)
@@ -40,8 +52,9 @@ module _ {D : Type 0} (tells : Type 0) (seen : D → List ℕ) (moment : D → �
       pub passes : AllByRecursion (IsPassOf begun.house) begun.passes.items
       pub home : AreAtHome begun.house.turns begun.passes.items
 
-    -- The house was served with the passes with which it began, and then it was ended with those that
-    -- came back.
+    -- The house was served with the passes and lanes with which it began, and then it was ended with
+    -- those that came back. What each lane knew then begins the records of the history that its pass
+    -- has seen.
     pub record ServesToEnd (config : Config) (groups : List Group) (port : ℕ) (begun : Begun D)
         (old new : Edges) (result : Result (List TallyRow) ServeFault) (pairs : List (DiskPair D))
         : Type 0 where
@@ -54,17 +67,8 @@ module _ {D : Type 0} (tells : Type 0) (seen : D → List ℕ) (moment : D → �
         clocks = then.clocks;
       }
       pub answers : AnswersBegun (calls_of tells seen moment left_since may_leave faults begun.house)
-          config groups port begun.fresh
-          (record {
-            passes = begun.passes.items;
-            lanes = begun.lanes.items;
-            left = old.left;
-            faults = old.faults;
-            outs = old.outs;
-            links = old.links;
-            clocks = old.clocks;
-          })
-          then result
+          config groups port begun.fresh (begun_state begun old) then result
       pub ended : List (HousePass D)
       pub ends : EndsAll tells seen moment left_since may_leave faults begun.house.turns then.passes ended
           begun.house.spare pairs
+      pub lanes : AllKnowFirst begun.house.turns ended then.lanes

@@ -4,6 +4,7 @@
 mod giving_up;
 mod houses;
 mod laws;
+mod lookups;
 mod serving;
 
 pub use houses::ServingHouse;
@@ -13,4 +14,5 @@ pub use laws::{
     own_entries_are_in_order, own_entries_are_noted, promises_are_kept, raised_moments_are_bases,
     replies_are_of_own_entries, unsent_are_counted,
 };
+pub use lookups::lookups_are_of_histories;
 pub use serving::serve_all;

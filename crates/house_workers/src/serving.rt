@@ -84,13 +84,14 @@ pub fn serve_all<
         update_shards: _update_shards,
     } = begun;
     let house = ServingHouse::of(house);
+    let readers = readers.as_mut_slice();
     let tally = serve_begun(
         rt,
         alloc,
         &house,
         fresh,
         &mut passes,
-        &mut readers,
+        readers,
         config,
         inbox,
         outs,
@@ -99,7 +100,7 @@ pub fn serve_all<
         gate,
         board,
     );
-    let pairs = house.into_house().end(rt, &mut passes);
+    let pairs = house.into_house().end(rt, &mut passes, readers);
     give_all_up(passes);
     (tally, pairs)
 }
