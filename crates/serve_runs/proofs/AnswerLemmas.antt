@@ -128,12 +128,12 @@ module _ {W I D : Type 0} (disks : DiskMeanings D) (lost : D → Bool) (words : 
   config-cause cause (inl unread) =
       subst (IsUnread source_before source_now) (unread-config unread.fault cause unread.told) unread.source
   config-cause cause (inr (config, accepted, served)) =
-      absurd (let bad = config-served config (Statuses.ConfigRefused cause) served in cc)
+      absurd (let bad : false ≡ true = config-served config (Statuses.ConfigRefused cause) served in cc)
 
   script-cause : (line : ℕ) → Answered (Statuses.ScriptRefused line) → ⊥
   script-cause line (inl unread) = unread-script unread.fault line unread.told
   script-cause line (inr (config, accepted, served)) =
-      let bad = config-served config (Statuses.ScriptRefused line) served in cc
+      let bad : false ≡ true = config-served config (Statuses.ScriptRefused line) served in cc
 
   has-cause : (status : Status) → Answered status → status ≢ Statuses.WordsRefused
       → (status ≡ Statuses.ReadFault → HasRisen faults_before.source faults_now.source ⊎ HasRisen before.edges.faults now.edges.faults)
@@ -160,22 +160,22 @@ module _ {W I D : Type 0} (disks : DiskMeanings D) (lost : D → Bool) (words : 
 
   no-fault : (status : Status) → Caused status → NoneFails
       → IsNoFault disks lost words source_before source_now faults_before faults_now before now status
-  no-fault Statuses.Done cause none = inl refl
-  no-fault Statuses.WordsRefused cause none = inr (inr (inl refl))
-  no-fault (Statuses.ConfigRefused why) cause none = inr (inr (inr (why, refl)))
+  no-fault Statuses.Done cause none = inl (inl refl)
+  no-fault Statuses.WordsRefused cause none = inr (inl refl)
+  no-fault (Statuses.ConfigRefused why) cause none = inr (inr (why, refl))
   no-fault (Statuses.ScriptRefused line) cause none = absurd cause
   no-fault Statuses.ReadFault cause none = absurd (neither none.source none.inbox cause)
   no-fault Statuses.WriteFault cause none = absurd (none.sink cause)
   no-fault (Statuses.DiskFault shard) cause none = absurd (none.disks shard cause.risen)
-  no-fault Statuses.Memory cause none = inr (inl refl)
+  no-fault Statuses.Memory cause none = inl (inr refl)
 
   done-or-memory : (status : Status) → is_served status ≡ true
       → IsNoFault disks lost words source_before source_now faults_before faults_now before now status
       → (status ≡ Statuses.Done) ⊎ (status ≡ Statuses.Memory)
-  done-or-memory status served (inl done) = inl done
-  done-or-memory status served (inr (inl memory)) = inr memory
-  done-or-memory status served (inr (inr (inl words))) = absurd (let bad : false ≡ true = sym (ap is_served words) ∙ served in cc)
-  done-or-memory status served (inr (inr (inr (why, refused)))) =
+  done-or-memory status served (inl plain) = plain
+  done-or-memory status served (inr (inl words)) =
+      absurd (let bad : false ≡ true = sym (ap is_served words) ∙ served in cc)
+  done-or-memory status served (inr (inr (why, refused))) =
       absurd (let bad : false ≡ true = sym (ap is_served refused) ∙ served in cc)
 
   pub by-cause : (status : Status) → Caused status

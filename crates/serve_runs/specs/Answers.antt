@@ -60,8 +60,9 @@ module _ {W I D : Type 0} (disks : DiskMeanings D) (lost : D → Bool) (words : 
   -- these are answered then
   abbrev pub IsNoFault : Status → Type 0
   IsNoFault status =
-      (status ≡ Statuses.Done) ⊎ (status ≡ Statuses.Memory) ⊎ (status ≡ Statuses.WordsRefused)
-      ⊎ ((cause : ConfigCause) × (status ≡ Statuses.ConfigRefused cause))
+      ((status ≡ Statuses.Done) ⊎ (status ≡ Statuses.Memory))
+      ⊎ ((status ≡ Statuses.WordsRefused)
+      ⊎ ((cause : ConfigCause) × (status ≡ Statuses.ConfigRefused cause)))
 
   -- Where no count rises the answer is Done, Memory, or a refusal of the words or of the
   -- configuration; and where that is accepted it is Done or Memory.

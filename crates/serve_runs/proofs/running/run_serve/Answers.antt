@@ -27,6 +27,6 @@ returns-in-None-clause-causes g c =
 pub returns-in-Some-clause-causes : goal.returns-in-Some-clause-causes
 returns-in-Some-clause-causes g c =
     let means = disks_by g.D.LeaseDisk.tells g.D.LeaseDisk.seen g.D.LeaseDisk.moment g.D.LeaseDisk.left_since g.D.LeaseDisk.may_leave g.D.LeaseDisk.faults in
-    let e = c.serve_by.ensures in
-    answers-by-cause means g.D.LeaseDisk.lost _ _ _ _ _ _ _ c.serve_by.result.0 e.serve e.words e.read_fault e.write_fault
-    e.disk_fault e.no_items
+    answers-by-cause means g.D.LeaseDisk.lost _ _ _ _ _ _ _ c.serve_by.result.0 c.serve_by.ensures.serve
+    c.serve_by.ensures.words c.serve_by.ensures.read_fault c.serve_by.ensures.write_fault
+    c.serve_by.ensures.disk_fault c.serve_by.ensures.no_items
