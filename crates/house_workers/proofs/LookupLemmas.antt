@@ -1,6 +1,6 @@
 -- Lanes that run keep their index, and answer by what they know.
-use Rattle.std.proofs.Common.{◌≡◌, ◌∙◌, ℕ, zero, suc, ◌/◌, ◌<◌, ◌≤◌, Bool, List, [], ◌∷◌, length, Option}
-use Rattle.std.proofs.Common.{Some, Result, Ok, Err, inl, inr, refl, ap, sym, subst, arith}
+use Rattle.std.proofs.Common.{◌≡◌, ◌∙◌, ℕ, zero, suc, ◌+◌, ◌/◌, ◌<◌, ◌≤◌, Bool, List, [], ◌∷◌, ◌++◌, length, Option}
+use Rattle.std.proofs.Common.{Some, Result, Ok, Err, inl, inr, refl, ap, sym, subst, append_assoc, arith}
 use Rattle.std.specs.List.{AllZip, slice_get}
 use Rattle.std.proofs.lemmas.List.{append-nil}
 use mathlib.Core.List.{IsPrefix}
@@ -15,7 +15,6 @@ use Rattle.pcp_announce.specs.declared.doors.Group.{Group}
 use Rattle.pcp_io.specs.Times.{Times}
 use Rattle.lane_index.specs.Lanes.{LaneKnowledge, opening_state}
 use Rattle.lane_index.specs.Laws.{LooksDependOnTables}
-use Rattle.lane_index.proofs.HistoryLemmas.{prefix_trans}
 use Rattle.lane_loops.specs.LaneRuns.{Answered, DoesSteps, EndsLane, Idle, LaneQuestion, LaneState, LaneStep, Looks, RunsLane}
 use Rattle.lane_loops.specs.LaneSets.{AllRun, LinkState, lane_states}
 use Rattle.lease_histories.specs.Legal.{records_of}
@@ -35,11 +34,13 @@ use Rattle.shared_house.specs.declared.beginning.Begun.{Begun}
 use Rattle.shared_house.specs.Beginnings.{BeginAll}
 use Rattle.shared_house.specs.Endings.{AllKnowFirst, AreLanesOf}
 use Rattle.shared_house.specs.HouseCalls.{HouseView}
-use Rattle.shared_house.proofs.BeginLemmas.{begin-lanes, lane-at}
 use Rattle.house_workers.specs.HouseCallsOf.{calls_of}
 use Rattle.house_workers.specs.Lookups.{AnswersAlong, LooksAlong}
 use Rattle.house_workers.specs.ServingAll.{IsBegunFor}
 use Rattle.house_workers.proofs.EndLemmas.{begun_lanes}
+
+prefix_trans : {A : Type 0} (xs ys zs : List A) → IsPrefix xs ys → IsPrefix ys zs → IsPrefix xs zs
+prefix_trans xs ys zs p q = (p.0 ++ q.0, sym (append_assoc xs p.0 q.0) ∙ (ap (λ w. w ++ q.0) p.1 ∙ q.1))
 
 -- ---- a lane
 
@@ -191,6 +192,35 @@ module _ {P : Type 0} (house : HouseCalls P) (config : Config) (groups : List Gr
       (record { enough = omega arith; each = λ i lane below found. within-at old.lanes i lane found })
 
 -- ---- the lanes of a house
+
+module _ {D : Type 0} (config : Config) where
+  begin-lanes : (k : ℕ) (bs : List (BookView D)) (ts : List (TurnName (Opening D))) (ps : List (HousePass D)) (ls : List LaneKnowledge) → BeginAll config k bs ts ps ls → length ls ≡ length ts
+  begin-lanes k [] [] [] [] all = refl
+  begin-lanes k [] [] [] (z ∷ ls) all = absurd all
+  begin-lanes k [] [] (y ∷ ps) ls all = absurd all
+  begin-lanes k [] (x ∷ ts) ps ls all = absurd all
+  begin-lanes k (w ∷ bs) [] ps ls all = absurd all
+  begin-lanes k (w ∷ bs) (x ∷ ts) [] ls all = absurd all
+  begin-lanes k (w ∷ bs) (x ∷ ts) (y ∷ ps) [] all = absurd all
+  begin-lanes k (w ∷ bs) (x ∷ ts) (y ∷ ps) (z ∷ ls) all = ap (λ n. suc n) (begin-lanes (k + 1) bs ts ps ls all.1)
+
+  -- the lane at a place
+  lane-at : (k : ℕ) (bs : List (BookView D)) (ts : List (TurnName (Opening D))) (ps : List (HousePass D)) (ls : List LaneKnowledge) (i : ℕ) (t : TurnName (Opening D)) (l : LaneKnowledge)
+      → BeginAll config k bs ts ps ls → slice_get ts i ≡ Some t → slice_get ls i ≡ Some l → (t.key.lane ≡ l) × (l.known ≡ [])
+  lane-at k [] [] [] [] i t l all there found = absurd cc
+  lane-at k [] [] [] (z ∷ ls) i t l all there found = absurd all
+  lane-at k [] [] (y ∷ ps) ls i t l all there found = absurd all
+  lane-at k [] (x ∷ ts) ps ls i t l all there found = absurd all
+  lane-at k (w ∷ bs) [] ps ls i t l all there found = absurd all
+  lane-at k (w ∷ bs) (x ∷ ts) [] ls i t l all there found = absurd all
+  lane-at k (w ∷ bs) (x ∷ ts) (y ∷ ps) [] i t l all there found = absurd all
+  lane-at k (w ∷ bs) (x ∷ ts) (y ∷ ps) (z ∷ ls) zero t l all there found =
+      let turn : x ≡ t = cc in
+      let lane : z ≡ l = cc in (
+        ap (λ (u : TurnName (Opening D)). u.key.lane) (sym turn) ∙ (ap (λ (o : Opening D). o.lane) all.0.key ∙ lane),
+        ap (λ (u : LaneKnowledge). u.known) (sym lane) ∙ ap (λ (u : LaneKnowledge). u.known) all.0.leases,
+      )
+  lane-at k (w ∷ bs) (x ∷ ts) (y ∷ ps) (z ∷ ls) (suc i) t l all there found = lane-at (k + 1) bs ts ps ls i t l all.1 there found
 
 -- lanes that stay are those of the turns with which they began
 lanes-of : {D : Type 0} (config : Config) (bs : List (BookView D)) (ts : List (TurnName (Opening D))) (ps : List (HousePass D)) (ls ms : List LaneKnowledge) → BeginAll config 0 bs ts ps ls
