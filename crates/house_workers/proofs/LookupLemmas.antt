@@ -2,6 +2,7 @@
 use Rattle.std.proofs.Common.{◌≡◌, ◌∙◌, ℕ, zero, suc, ◌+◌, ◌/◌, ◌<◌, ◌≤◌, Bool, List, [], ◌∷◌, ◌++◌, length, Option}
 use Rattle.std.proofs.Common.{Some, Result, Ok, Err, inl, inr, refl, ap, sym, subst, append_assoc, arith}
 use Rattle.std.specs.List.{AllZip, slice_get}
+use Rattle.std.specs.Option.{option_map}
 use Rattle.std.proofs.lemmas.List.{append-nil}
 use mathlib.Core.List.{IsPrefix}
 use Rattle.pcp_base.specs.declared.configs.Config.{Config}
@@ -265,10 +266,7 @@ state-lane : (ls : List LaneKnowledge) (ks : List LinkState) (ts : List (Option 
 state-lane [] ks ts i s found = absurd cc
 state-lane (l ∷ ls) [] ts i s found = absurd cc
 state-lane (l ∷ ls) (k ∷ ks) [] i s found = absurd cc
-state-lane (l ∷ ls) (k ∷ ks) (t ∷ ts) zero s found =
-    let h : Some (record { lane = l; asks = k.asks; answers = k.answers; faults = k.faults; times = t }) ≡ Some s = found in
-    let same : record { lane = l; asks = k.asks; answers = k.answers; faults = k.faults; times = t } ≡ s = cc in
-    ap (λ (u : LaneState). Some u.lane) same
+state-lane (l ∷ ls) (k ∷ ks) (t ∷ ts) zero s found = ap (λ (o : Option LaneState). option_map (λ (u : LaneState). u.lane) o) found
 state-lane (l ∷ ls) (k ∷ ks) (t ∷ ts) (suc i) s found = state-lane ls ks ts i s found
 
 pub looked-at : {D : Type 0} (law : LooksDependOnTables) (config : Config) (bs : List (BookView D)) (ts : List (TurnName (Opening D))) (ps ended : List (HousePass D)) (ls ms : List LaneKnowledge)
