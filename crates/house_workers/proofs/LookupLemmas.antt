@@ -243,7 +243,7 @@ pub ends-lanes : {D : Type 0} (tells : Type 0) (seen : D → List ℕ) (moment :
     → house ≡ begun.house → back ≡ house → old.lanes ≡ begun.lanes.items
     → AnswersBegun (calls_of tells seen moment left_since may_leave faults house) config groups port fresh old new result
     → AreLanesOf back.turns new.lanes
-ends-lanes tells seen moment left_since may_leave faults config begun is house back groups port fresh old new result same again readers answers =
+ends-lanes {D = D} tells seen moment left_since may_leave faults config begun is house back groups port fresh old new result same again readers answers =
     let count : length old.lanes ≡ length config.externals = ap length readers ∙ begun_lanes tells seen moment left_since may_leave faults config begun is in
     let stay : LanesStay begun.lanes.items new.lanes =
     subst (λ (l : List LaneKnowledge). LanesStay l new.lanes) readers
