@@ -166,7 +166,7 @@ module _ {W I D : Type 0} (disks : DiskMeanings D) (lost : D → Bool) (words : 
   no-fault (Statuses.ScriptRefused line) cause none = absurd cause
   no-fault Statuses.ReadFault cause none = absurd (neither none.source none.inbox cause)
   no-fault Statuses.WriteFault cause none = absurd (none.sink cause)
-  no-fault (Statuses.DiskFault shard) cause none = absurd (none.disks shard cause.risen)
+  no-fault (Statuses.DiskFault shard) cause none = absurd (none.pairs shard cause.risen)
   no-fault Statuses.Memory cause none = inl (inr refl)
 
   done-or-memory : (status : Status) → is_served status ≡ true

@@ -55,7 +55,7 @@ module _ {W I D : Type 0} (disks : DiskMeanings D) (lost : D → Bool) (words : 
     pub source : ¬ (HasRisen faults_before.source faults_now.source)
     pub inbox : ¬ (HasRisen before.edges.faults now.edges.faults)
     pub sink : ¬ (HasRisen faults_before.sink faults_now.sink)
-    pub disks : (shard : ℕ) → ¬ (HasPairFault disks.faults before.pairs now.pairs shard)
+    pub pairs : (shard : ℕ) → ¬ (HasPairFault disks.faults before.pairs now.pairs shard)
 
   -- these are answered then
   abbrev pub IsNoFault : Status → Type 0
