@@ -1,6 +1,6 @@
 -- What a crash leaves of the journals of a house that was served.
 use Rattle.std.proofs.Common.{◌≡◌, ◌∙◌, ℕ, zero, suc, ◌+◌, ◌<◌, ◌≤◌, List, [], ◌∷◌, ◌++◌, length, get_or}
-use Rattle.std.proofs.Common.{Some, refl, sym, ap, subst, arith}
+use Rattle.std.proofs.Common.{Option, Some, None, refl, sym, ap, subst, arith}
 use Rattle.std.specs.List.{AllZip, slice_get}
 use Rattle.std.proofs.Common.{◌⊎◌, inl, inr}
 use Rattle.std.proofs.lemmas.List.{append-nil, length-append}
@@ -8,6 +8,8 @@ use Rattle.std.proofs.lemmas.Option.{slice_get-get_or, slice_get_within}
 use Rattle.pcp_base.specs.Apply.{apply_all}
 use Rattle.pcp_base.specs.States.{State}
 use Rattle.pcp_base.proofs.Members.{Contains-from_IsIn, IsIn-from_Contains}
+use Rattle.journal_sides.specs.declared.errors.JournalFault.{JournalFault}
+use Rattle.journal_sides.specs.declared.errors.JournalFault.TheVariants.{Disk, Memory}
 use Rattle.journal_sides.specs.Journals.{StandsFor as StandsForState}
 use Rattle.shard_book.specs.Addresses.{renumbering}
 use Rattle.lease_histories.specs.Entries.{Served}
@@ -28,8 +30,9 @@ use Rattle.lease_house.specs.SoloOpenings.{OpensAll, OpensOne}
 use Rattle.job_workers.specs.Works.{Lost, Refused, Replied, WorkCall, WorkResult}
 use Rattle.turned_shards.specs.declared.openings.Opening.{Opening}
 use Rattle.turned_shards.specs.declared.passes.HousePass.{HousePass}
-use Rattle.turned_shards.specs.Crashes.{StandsAlong, StandsBehind}
-use Rattle.turned_shards.specs.Shards.{served_by}
+use Rattle.turned_shards.specs.declared.shards.Shard.{Shard}
+use Rattle.turned_shards.specs.Crashes.{IsInDoubt, StandsAlong, StandsBehind}
+use Rattle.turned_shards.specs.Shards.{StandsFor, served_by}
 use Rattle.turned_shards.specs.Turnings.{EndsOne, opening_of}
 use Rattle.shared_house.specs.declared.beginning.Begun.{Begun}
 use Rattle.shared_house.specs.Beginnings.{BeginAll, Begins}
@@ -110,10 +113,19 @@ answered_places R (c ∷ cs) ps from to all up =
 module _ {D : Type 0} (tells : Type 0) (seen : D → List ℕ) (moment : D → ℕ)
     (left_since : D → ℕ → List ℕ → Type 0) (may_leave : D → List ℕ → Type 0) (faults : D → ℕ)
   where
+    -- what is in doubt at the end is the last of the lists
+    in_doubt_by : (o : Opening D) (s : Shard D) (log : List Entry)
+        → (stands : StandsFor tells seen moment left_since may_leave faults o s log)
+        → (f : Option JournalFault) → s.book.fault ≡ f
+        → (s.doubt ≡ []) ⊎ IsInDoubt (served_by o) o.book.state stands.kept.doubts log s.doubt
+    in_doubt_by o s log stands (Some Disk) h = inr (stands.kept.now h)
+    in_doubt_by o s log stands (Some Memory) h = inl (stands.sure (λ failed. absurd (cc (h, failed))))
+    in_doubt_by o s log stands None h = inl (stands.sure (λ failed. absurd (cc (h, failed))))
+
     pub acknowledged : (o : Opening D) (calls : List WorkCall) (old new ended : HousePass D) (pair : DiskPair D)
         → NotesInOrder old.history new.history (own_in calls)
-        → EndsOne tells seen moment left_since may_leave faults o new ended pair
-        → KeepsAcknowledged tells may_leave o (answered_in calls) ended.history.seen pair
+        → (ends : EndsOne tells seen moment left_since may_leave faults o new ended pair)
+        → KeepsAcknowledged tells may_leave o ends.stands.kept.doubts (answered_in calls) ended.history.seen pair
     acknowledged o calls old new ended pair noted ends =
         let later = entries_later new.history.seen ended.history.seen noted.places (own_in calls)
         (ends.others, sym ends.knows) noted.entries in
@@ -127,18 +139,20 @@ module _ {D : Type 0} (tells : Type 0) (seen : D → List ℕ) (moment : D → �
           rising = placed.rising;
           there = placed.there;
           doubt = ends.kept.doubt;
+          in_doubt = in_doubt_by o ends.kept ended.history.seen ends.stands ends.kept.book.fault refl;
           images = ends.images;
         }
 
     -- where nothing was answered
     pub nothing_acknowledged : (o : Opening D) (old ended : HousePass D) (pair : DiskPair D)
-        → EndsOne tells seen moment left_since may_leave faults o old ended pair
-        → KeepsAcknowledged tells may_leave o [] ended.history.seen pair
+        → (ends : EndsOne tells seen moment left_since may_leave faults o old ended pair)
+        → KeepsAcknowledged tells may_leave o ends.stands.kept.doubts [] ended.history.seen pair
     nothing_acknowledged o old ended pair ends = record {
       places = [];
       rising = omega arith;
       there = tt;
       doubt = ends.kept.doubt;
+      in_doubt = in_doubt_by o ends.kept ended.history.seen ends.stands ends.kept.book.fault refl;
       images = ends.images;
     }
 
@@ -244,11 +258,10 @@ module _ {D : Type 0} (tells : Type 0) (seen : D → List ℕ) (moment : D → �
 
     pub kept_of : (m : ℕ) (x : External) (o : Opening D) (p now : DiskPair D) (config : Config) (old last : HousePass D)
         → OpensOne tells seen moment left_since may_leave faults config m x p o.book
-        → EndsOne tells seen moment left_since may_leave faults o old last now
-        → KeepsServed tells seen moment left_since may_leave m x o last.history.seen p now
+        → (ends : EndsOne tells seen moment left_since may_leave faults o old last now)
+        → KeepsServed tells seen moment left_since may_leave m x o ends.stands.kept.doubts last.history.seen p now
     kept_of m x o p now config old last opened ends = record {
       opens = opened.moments;
-      doubts = ends.stands.kept.doubts;
       serves = λ told. subst (λ (q : DiskPair D). PairLeavesOnly moment left_since may_leave o.book.journal.pair q
           (StandsAlong (served_by o) o.book.state ends.stands.kept.doubts last.history.seen))
           (sym ends.pair_is) (ends.stands.kept.moments told);
@@ -260,7 +273,8 @@ module _ {D : Type 0} (tells : Type 0) (seen : D → List ℕ) (moment : D → �
         → EndsAll tells seen moment left_since may_leave faults begun.house.turns then ended begun.house.spare pairs
         → slice_get config.externals place ≡ Some x → slice_get before place ≡ Some p
         → slice_get pairs place ≡ Some now → slice_get ended place ≡ Some last
-        → (o : Opening D) × KeepsServed tells seen moment left_since may_leave m x o last.history.seen p now
+        → (o : Opening D) × (doubts : List (List Entry))
+        × KeepsServed tells seen moment left_since may_leave m x o doubts last.history.seen p now
     kept_at config m before pairs begun then ended place x p now last begins ends at there back came =
         let within = slice_get_within ended place last came in
         let passes = ends.count_passes in
@@ -268,7 +282,7 @@ module _ {D : Type 0} (tells : Type 0) (seen : D → List ℕ) (moment : D → �
         let old : HousePass D = get_or then place last in
         let whole = ended_at config m before pairs begun then ended place x p now old last begins ends at there back
         (slice_get-get_or then place last few) came in
-        (whole.o, kept_of m x whole.o p now config old last whole.opened whole.ends)
+        (whole.o, whole.ends.stands.kept.doubts, kept_of m x whole.o p now config old last whole.opened whole.ends)
 
     -- ---- the next opening
 

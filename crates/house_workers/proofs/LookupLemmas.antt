@@ -98,6 +98,7 @@ module _ (law : LooksDependOnTables) (s : State) where
         mid.lane.known,
         looked.looks.known,
         record {
+          asked = looked.asked;
           time = looked.time;
           clock = looked.clock;
           owner_is = looked.looks.owner_is

@@ -167,6 +167,7 @@ module _ {D : Type 0} (tells : Type 0) (seen : D → List ℕ) (moment : D → �
       opened = whole.opened;
       history = last.history.seen;
       promises = whole.ends.promises;
+      doubts = whole.ends.stands.kept.doubts;
       crash = kept_of tells seen moment left_since may_leave faults m x whole.o p now config old last whole.opened whole.ends;
       answered = [];
       replies = subst (λ (s : OutState). HandsReplies [] out_before s) (sym same) (hands_nothing out_before);
@@ -190,6 +191,7 @@ module _ {D : Type 0} (tells : Type 0) (seen : D → List ℕ) (moment : D → �
           opened = whole.opened;
           history = last.history.seen;
           promises = whole.ends.promises;
+          doubts = whole.ends.stands.kept.doubts;
           crash = kept_of tells seen moment left_since may_leave faults m x whole.o p now config w.one.run.new.pass last whole.opened whole.ends;
           answered = answered_in calls;
           replies = subst (λ (s : OutState). HandsReplies (answered_in calls) s out_now) (sym w.before)

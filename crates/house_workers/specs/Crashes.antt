@@ -19,28 +19,28 @@ use Rattle.turned_shards.specs.Shards.{served_by}
 use Rattle.house_workers.specs.OwnEntries.{AreRising}
 
 -- The entries of all answered batches stand in the history, in order and each in a place of its own,
--- and each two images of the pair stand for the state to which the history leads, or for that with all
--- that is in doubt.
+-- and each two images of the pair stand for the state to which the history leads, or, where that ends
+-- in a fault, for that with what was in doubt there.
 pub record KeepsAcknowledged {D : Type 0} (tells : Type 0) (may_leave : D → List ℕ → Type 0)
-    (o : Opening D) (answered : List Entry) (history : List Entry) (pair : DiskPair D)
-    : Type 0 where
+    (o : Opening D) (doubts : List (List Entry)) (answered history : List Entry)
+    (pair : DiskPair D) : Type 0 where
   pub places : List ℕ
   pub rising : AreRising 0 places (length history)
   pub there : AllZip (λ place e. slice_get history place ≡ Some e) places answered
   pub doubt : List Entry
+  pub in_doubt : (doubt ≡ []) ⊎ IsInDoubt (served_by o) o.book.state doubts history doubt
   pub images : tells → HoldsNow may_leave
       (StandsForWithOrWithout (state_after o.book.state history) (records_of doubt)) pair
 
 -- From a call's start on each two images of a pair are what this opening at m leaves; from then on they
 -- stand for the state after some first entries of the history, or for that and what was in doubt behind
--- these.
+-- these, of which there is one list for each fault.
 pub record KeepsServed {D : Type 0} (tells : Type 0) (seen : D → List ℕ) (moment : D → ℕ)
     (left_since : D → ℕ → List ℕ → Type 0) (may_leave : D → List ℕ → Type 0) (m : ℕ)
-    (x : External) (opening : Opening D) (history : List Entry) (before now : DiskPair D)
-    : Type 0 where
+    (x : External) (opening : Opening D) (doubts : List (List Entry)) (history : List Entry)
+    (before now : DiskPair D) : Type 0 where
   pub opens : tells → OpensBook seen moment left_since may_leave m x.address before
       opening.book.journal.pair
-  pub doubts : List (List Entry)
   pub serves : tells → PairLeavesOnly moment left_since may_leave opening.book.journal.pair now
       (StandsAlong (served_by opening) opening.book.state doubts history)
 

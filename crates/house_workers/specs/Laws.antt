@@ -127,8 +127,9 @@ module _ (D : Type 0) (tells : Type 0) (seen : D → List ℕ) (moment : D → �
     AcknowledgedEntriesAreKept = (house : HouseView D) (shard : ℕ) (ds : List Dispatched)
         (r : ShardRun (HousePass D)) → (is : IsRunOf house shard ds r) →
         (o : Opening D) (ended : HousePass D) (pair : DiskPair D) →
-        EndsOne tells seen moment left_since may_leave faults o r.new.pass ended pair →
-        KeepsAcknowledged tells may_leave o (answered_in is.works.calls) ended.history.seen pair
+        (ends : EndsOne tells seen moment left_since may_leave faults o r.new.pass ended pair) →
+        KeepsAcknowledged tells may_leave o ends.stands.kept.doubts (answered_in is.works.calls)
+        ended.history.seen pair
 
     -- A house that was opened, served and ended, whatever serving answered: at each moment since the
     -- call's start a crash leaves of the pair of each external address what is said here, along the
@@ -144,7 +145,8 @@ module _ (D : Type 0) (tells : Type 0) (seen : D → List ℕ) (moment : D → �
         slice_get config.externals place ≡ Some x → slice_get before place ≡ Some p →
         slice_get pairs place ≡ Some now → slice_get serves.ended place ≡ Some last →
         (o : Opening D)
-        × KeepsServed tells seen moment left_since may_leave m x o last.history.seen p now
+        × (doubts : List (List Entry))
+        × KeepsServed tells seen moment left_since may_leave m x o doubts last.history.seen p now
 
     -- And so each external address was served as it is promised.
     abbrev pub PromisesAreKept : Type 0

@@ -10,8 +10,8 @@ use Rattle.pcp_base.specs.Apply.{apply_all}
 use Rattle.pcp_base.specs.States.{State}
 use Rattle.filter_rules.specs.Lookups.{look}
 use Rattle.pcp_announce.specs.declared.doors.Group.{Group}
-use Rattle.pcp_io.specs.declared.lane_links.LaneAsk.TheVariants.{Quiet}
-use Rattle.pcp_io.specs.Asks.{answers_with}
+use Rattle.pcp_io.specs.declared.lane_links.LaneAsk.TheVariants.{Look, Quiet}
+use Rattle.pcp_io.specs.Asks.{IsNextAsk, answers_with}
 use Rattle.pcp_io.specs.Times.{IsTimeNow}
 use Rattle.lease_disk.specs.declared.disks.DiskPair.{DiskPair}
 use Rattle.lane_loops.specs.LaneRuns.{Answered, EndsLane, Hears, Idle, LaneQuestion, LaneState}
@@ -30,10 +30,11 @@ use Rattle.shared_house.specs.Beginnings.{Begins}
 use Rattle.house_workers.specs.HouseCallsOf.{calls_of}
 use Rattle.house_workers.specs.ServingAll.{Edges, ServesToEnd, begun_state}
 
--- the link took the owner that these records leave, behind this state, at the second that the clock
--- told
+-- the link asked this, and took the owner that these records leave, behind this state, at the second
+-- that the clock told
 pub record AnswersAfter (s : State) (shown : List Record) (q : LaneQuestion)
     (owner : Option Endpoint) (old new : LaneState) : Type 0 where
+  pub asked : IsNextAsk old.asks new.asks (Look q.protocol q.port q.remote q.remote_port)
   pub time : ℕ
   pub clock : IsTimeNow old.times new.times time
   pub owner_is : owner

@@ -16,7 +16,8 @@ use Rattle.house_workers.specs.OwnEntries.{HandsReplies}
 -- Its journal was opened at m, and from the state that was found there one history was served. That
 -- keeps what is promised; a crash at any moment leaves what the opening leaves, or the state after some
 -- first entries, or, right behind a fault, that with what was in doubt there. The outbox was handed the
--- replies of entries that stand in the history, and at the end each image stands for all of it.
+-- replies of entries that stand in the history, and at the end each image stands for all of it, or, where
+-- it ends in a fault, for that with what was in doubt there.
 pub record IsServedAsPromised {D : Type 0} (tells : Type 0) (seen : D → List ℕ) (moment : D → ℕ)
     (left_since : D → ℕ → List ℕ → Type 0) (may_leave : D → List ℕ → Type 0) (faults : D → ℕ)
     (config : Config) (m place : ℕ) (x : External) (before now : DiskPair D)
@@ -27,10 +28,12 @@ pub record IsServedAsPromised {D : Type 0} (tells : Type 0) (seen : D → List �
       opening.book
   pub history : List Entry
   pub promises : KeepsPromises (served_by opening) opening.book.state history
-  pub crash : KeepsServed tells seen moment left_since may_leave m x opening history before now
+  pub doubts : List (List Entry)
+  pub crash : KeepsServed tells seen moment left_since may_leave m x opening doubts history before
+      now
   pub answered : List Entry
   pub replies : HandsReplies answered out_before out_now
-  pub acknowledged : KeepsAcknowledged tells may_leave opening answered history now
+  pub acknowledged : KeepsAcknowledged tells may_leave opening doubts answered history now
 
 -- so it was with each external address, over the pair and by the outbox with its index
 abbrev pub AreServedAsPromised : {D : Type 0} → (tells : Type 0) → (D → List ℕ) → (D → ℕ)
