@@ -177,8 +177,8 @@ module _ (D : Type 0) (tells : Type 0) (seen : D → List ℕ) (moment : D → �
         r.new.pass.epoch.raised
 
     -- Of a house that was opened, served and ended: what the pass of each external address has raised is
-    -- the greatest base that the openings found, or a base of its own history. So the epoch word, which
-    -- is the greatest of all that was raised (`word_is_the_greatest`), is such a base.
+    -- the greatest base that the openings found, or a base of its own history. The epoch word is the
+    -- greatest of all that was raised (`word_is_the_greatest`), and the dispatcher's pass raises nothing.
     abbrev pub HousesRaiseBases : Type 0
     HousesRaiseBases = (config : Config) (groups : List Group) (port m : ℕ)
         (before pairs : List (DiskPair D)) (begun : Begun D) (old new : Edges)
