@@ -7,9 +7,9 @@ use Rattle.pcp_base.specs.declared.configs.Config.{Config}
 use Rattle.pcp_io.specs.declared.inboxes.InboxItem.TheVariants as Items
 use Rattle.job_queue.specs.declared.jobs.Job.TheVariants as Jobs
 use Rattle.job_queue.specs.declared.jobs.JobsRoute.{JobsRoute}
-use Rattle.job_queue.specs.Queues.{IsJobFor, WasFull, is_noise_job}
+use Rattle.job_queue.specs.Queues.{IsJobFor, is_noise_job}
 use Rattle.job_dispatch.specs.declared.ports.Port.{Port}
-use Rattle.job_dispatch.specs.Dispatches.{AreLate, ArePorts, ChangesPort, HasLossFate, Ignored, IsLate, Joins, OffersLoss, OffersLossAt, Put, PutsLate, Waits, place_of_external, port_late, port_waiting, port_with}
+use Rattle.job_dispatch.specs.Dispatches.{AreLate, ArePorts, ChangesPort, HasLossFate, Ignored, IsLate, Joins, OffersLoss, OffersLossAt, Put, PutsLate, Waits, place_of_external}
 use Rattle.job_dispatch.proofs.DispatchLemmas.{changes_at}
 use Rattle.job_dispatch.proofs.DispatchingLemmas.{ports_after_late}
 
@@ -22,20 +22,6 @@ loss_fits (Some r) = tt
 pub loss_is_quiet : (route : Option JobsRoute) → false ≡ is_noise_job route Jobs.Lose
 loss_is_quiet None = refl
 loss_is_quiet (Some r) = refl
-
--- ---- one port
-
-pub offers_put : (old mid : Port) (put : Bool) → old.waits ≡ false → put ≡ true → (put ≡ true → mid ≡ port_with old Jobs.Lose) → OffersLoss old mid put
-offers_put old mid put none is h = inl (is, none, h is)
-
-pub offers_waiting : (old mid : Port) (put : Bool) → old.waits ≡ false → put ≡ false → (put ≡ false → (mid ≡ old) × WasFull [] old.putter.put) → OffersLoss old (record mid { waits = true }) put
-offers_waiting old mid put none is h = inr (inl (is, none, ap port_waiting (h is).0, (h is).1))
-
-pub late_put : (old mid : Port) (put : Bool) → old.waits ≡ true → put ≡ true → (put ≡ true → mid ≡ port_with old Jobs.Lose) → PutsLate old (record mid { waits = false }) put
-late_put old mid put waits is h = inl (is, waits, ap (λ (p : Port). record p { waits = false }) (h is))
-
-pub late_still : (old mid : Port) (put : Bool) → put ≡ false → (put ≡ false → (mid ≡ old) × WasFull [] old.putter.put) → PutsLate old mid put
-late_still old mid put is h = inr (is, (h is).0)
 
 -- ---- the port of a shard
 
@@ -80,19 +66,10 @@ late_changes : (shard : ℕ) (port changed : Port) (old new : List Port) (put : 
 late_changes shard port changed old new put c (inl h) is = (port, subst (λ (p : Port). ChangesPort shard port p old new) h.2 c, h.1)
 late_changes shard port changed old new put c (inr h) is = absurd (true≢false (sym is ∙ h.0))
 
-late_keeps : (shard : ℕ) (port changed : Port) (old new : List Port) (put : Bool) → ChangesPort shard port changed old new → PutsLate port changed put → put ≡ false → new ≡ old
-late_keeps shard port changed old new put c (inl h) is = absurd (true≢false (sym h.0 ∙ is))
-late_keeps shard port changed old new put c (inr h) is = stays shard port changed old new c h.1
-
 pub late_at : (ports : List Port) (shard : ℕ) (port changed : Port) (put : Bool) → shard < length ports → port ≡ get_or ports shard port
     → PutsLate (get_or ports shard port) changed put → put ≡ true → IsLate shard ports (slice_set ports shard changed)
 late_at ports shard port changed put within p puts is =
     late_changes shard port changed ports (slice_set ports shard changed) put (changes_at ports shard port changed within p) (subst (λ (x : Port). PutsLate x changed put) (sym p) puts) is
-
-pub still_at : (ports : List Port) (shard : ℕ) (port changed : Port) (put : Bool) → shard < length ports → port ≡ get_or ports shard port
-    → PutsLate (get_or ports shard port) changed put → put ≡ false → slice_set ports shard changed ≡ ports
-still_at ports shard port changed put within p puts is =
-    late_keeps shard port changed ports (slice_set ports shard changed) put (changes_at ports shard port changed within p) (subst (λ (x : Port). PutsLate x changed put) (sym p) puts) is
 
 -- ---- one after the other
 
@@ -109,9 +86,6 @@ pub record HasPutLate (config : Config) (queues : List TableId) (old now : List 
   pub shards : List ℕ
   pub late : AreLate shards old now
   pub ports : ArePorts config queues now
-
-pub put_none : (config : Config) (queues : List TableId) (ports : List Port) → ArePorts config queues ports → HasPutLate config queues ports ports
-put_none config queues ports h = record { shards = []; late = refl; ports = h }
 
 pub put_one : (config : Config) (queues : List TableId) (shard : ℕ) (a b c : List Port) → HasPutLate config queues a b → IsLate shard b c → HasPutLate config queues a c
 put_one config queues shard a b c h late = record {
