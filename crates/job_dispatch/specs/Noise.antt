@@ -18,7 +18,7 @@ noise_put noise = record noise { put = noise.put + 1 }
 abbrev pub noise_dropped : NoiseCounts → NoiseCounts
 noise_dropped noise = record noise { dropped = more noise.dropped 1 }
 
--- at some moment the queue held 64 jobs or more that are noise
+-- at some moment 64 or more of the last jobs that were put, of at most 1,024, were noise
 abbrev pub HeldMuchNoise : PutterKnowledge → Type 0
 HeldMuchNoise putter = (count : ℕ) × HeldNoise [] putter.route putter.put count × (64 ≤ count)
 
