@@ -13,14 +13,19 @@ use Rattle.client_commands.specs.Values.{IsNumberAt, NumberRange}
 use Rattle.client_commands.specs.declared.commands.ClientCommand.{ClientCommand}
 use Rattle.client_commands.specs.declared.commands.ClientCommand.TheVariants.{Map, Peer, Announce}
 use Rattle.client_commands.specs.declared.commands.Target.{Target}
+use Rattle.client_words.specs.Asks.{IsAsk}
+use Rattle.client_words.specs.Mores.{IsMore}
+use Rattle.client_words.specs.declared.asks.ClientAsk.{ClientAsk}
+use Rattle.client_words.specs.declared.more.More.{More}
+use Rattle.client_words.proofs.FilterLemmas.{as_many}
 use Rattle.tool_commands.specs.declared.statuses.ToolStatus.{ToolStatus}
 use Rattle.tool_commands.specs.declared.statuses.ToolStatus.TheVariants as Statuses
 use Rattle.client_runs.specs.declared.tries.Unanswered.{Unanswered}
 use Rattle.client_runs.specs.declared.tries.Unanswered.TheVariants as Reasons
-use Rattle.client_runs.specs.Askers.{EpochAsker, announcing, new_epoch_asker, wanting, wanting_from}
-use Rattle.client_runs.specs.Asking.{CanBeAsked, asked_by, nonce_of, target_of}
-use Rattle.client_runs.specs.Calls.{HasAsked, HasReason, HasRun, IsTold, NeverAsked, Runs, opening, status_without, traffic_of}
-use Rattle.client_runs.specs.Lines.{grants}
+use Rattle.client_runs.specs.Askers.{EpochAsker, announcing, new_epoch_asker, started, wanting}
+use Rattle.client_runs.specs.Asking.{CanBeAsked, asked_by, target_of}
+use Rattle.client_runs.specs.Calls.{AsksEpoch, HasAsked, HasReason, HasRun, HasWanted, IsTold, NeverAsked, NonceBy, Runs, opening, status_without, traffic_of}
+use Rattle.client_runs.specs.Lines.{does}
 use Rattle.client_runs.specs.Links.{Drawing, Links, Passed, WordsDrawn, no_traffic}
 use Rattle.client_runs.specs.Openings.{LacksWord, Wants}
 use Rattle.client_runs.specs.Runs.{Asking}
@@ -41,16 +46,20 @@ tries_some given n h = number_above tries_range n 1 refl (default_above 5 1 (ome
 lifetime_some : (given : Option (List ℕ)) (n : ℕ) → IsNumberAt lifetime_range given n → 0 < n
 lifetime_some given n h = number_above lifetime_range n 1 refl (default_above 7200 1 (omega arith)) given h
 
-pub can_be_asked : (words : List (List ℕ)) (command : ClientCommand) → IsCommand words command → CanBeAsked command
-can_be_asked words (Map t w) h = (tries_some _ t.tries h.1.said.0.tries, lifetime_some _ w.mapping.lifetime h.1.said.1.mapping.lifetime)
-can_be_asked words (Peer t w) h = (tries_some _ t.tries h.1.said.0.tries, lifetime_some _ w.mapping.lifetime h.1.said.1.mapping.lifetime)
-can_be_asked words (Announce t) h = tries_some _ t.tries h.1.said.tries
+by_command : (words rest : List (List ℕ)) (filed : Option (List ℕ)) (more : More) → IsMore rest filed more → (command : ClientCommand) → IsCommand words command → CanBeAsked command more
+by_command words rest filed more is (Map t w) h =
+    (tries_some _ t.tries h.1.said.0.tries, lifetime_some _ w.mapping.lifetime h.1.said.1.mapping.lifetime, omega (arith, is.few, as_many _ more.filters is.filters))
+by_command words rest filed more is (Peer t w) h = (tries_some _ t.tries h.1.said.0.tries, lifetime_some _ w.mapping.lifetime h.1.said.1.mapping.lifetime)
+by_command words rest filed more is (Announce t) h = tries_some _ t.tries h.1.said.tries
 
-pub map_wanted : (command : ClientCommand) (t : Target) (w : _) → command ≡ Map t w → 0 < w.mapping.lifetime → (nonce : Nonce) → CanBeWanted (asked_by command nonce)
-map_wanted command t w is some nonce = rw is (omega arith, some)
+pub can_be_asked : (words : List (List ℕ)) (filed : Option (List ℕ)) (ask : ClientAsk) → IsAsk words filed ask → CanBeAsked ask.command ask.more
+can_be_asked words filed ask h = by_command _ _ filed ask.more h.more ask.command h.command
 
-pub peer_wanted : (command : ClientCommand) (t : Target) (w : _) → command ≡ Peer t w → 0 < w.mapping.lifetime → (nonce : Nonce) → CanBeWanted (asked_by command nonce)
-peer_wanted command t w is some nonce = rw is some
+pub map_wanted : (command : ClientCommand) (more : More) (t : Target) (w : _) → command ≡ Map t w → 0 < w.mapping.lifetime → length more.filters ≤ 8 → (nonce : Nonce) → CanBeWanted (asked_by command more nonce)
+map_wanted command more t w is some few nonce = rw is (omega (arith, few), some)
+
+pub peer_wanted : (command : ClientCommand) (more : More) (t : Target) (w : _) → command ≡ Peer t w → 0 < w.mapping.lifetime → (nonce : Nonce) → CanBeWanted (asked_by command more nonce)
+peer_wanted command more t w is some nonce = rw is some
 
 -- a run after what was drawn before it
 module _ {S : Type 0} (a : Asking S) (target : Target) (state : S) (time : ℕ) (words : List ℕ) (old mid new : Links) (how : Result Response Unanswered)
@@ -87,50 +96,62 @@ module _ {S : Type 0} (a : Asking S) (target : Target) (state : S) (time : ℕ) 
   over_after few (inr h) = inr (run_after h)
 
 -- a want was asked for
-pub wants_by : (command : ClientCommand) (target : Target) (nonce : Nonce) (a b c : ℕ) (time : ℕ) (client : ClientView) (old mid new : Links) (how : Result Response Unanswered)
-    → target ≡ target_of command → nonce ≡ nonce_of a b c → client ≡ wanting_from target (asked_by command nonce) time → Passed target.server (opening (a ∷ b ∷ c ∷ []) time) old mid
-    → IsOver wanting target client time mid new how → Wants command old new how
-wants_by command target nonce a b c time client old mid new how is drawn wants first over = by_over (over_after wanting target client time (a ∷ b ∷ c ∷ []) old mid new how first (omega arith) over)
+pub wants_by : (ask : ClientAsk) (target : Target) (nonce : Nonce) (words : List ℕ) (time : ℕ) (client : ClientView) (old mid new : Links) (how : Result Response Unanswered)
+    → target ≡ target_of ask.command → NonceBy ask.more.nonce words nonce → length words ≤ 3 → client ≡ started ask nonce time → Passed target.server (opening words time) old mid
+    → IsOver wanting target client time mid new how → Wants ask old new how
+wants_by ask target nonce words time client old mid new how is drawn few wants first over = by_over (over_after wanting target client time words old mid new how first few over)
   where
-    client_is : client ≡ wanting_from target (asked_by command (nonce_of a b c)) time
-    client_is = wants ∙ ap (λ n. wanting_from target (asked_by command n) time) drawn
-
-    by_over : NeverAsked target old new how ⊎ HasRun wanting target client time (opening (a ∷ b ∷ c ∷ []) time) old new how → Wants command old new how
+    by_over : NeverAsked target old new how ⊎ HasRun wanting target client time (opening words time) old new how → Wants ask old new how
     by_over (inl n) = inl (subst (λ (t : Target). NeverAsked t old new how) is n)
     by_over (inr h) = inr (record {
-      a = a;
-      b = b;
-      c = c;
+      words = words;
+      nonce = nonce;
+      drawn = drawn;
       time = time;
-      ran = subst (λ (t : Target). HasRun wanting t (wanting_from t (asked_by command (nonce_of a b c)) time) time (opening (a ∷ b ∷ c ∷ []) time) old new how) is
-          (subst (λ (v : ClientView). HasRun wanting target v time (opening (a ∷ b ∷ c ∷ []) time) old new how) client_is h);
+      ran = subst (λ (t : Target). HasRun wanting t (started ask nonce time) time (opening words time) old new how) is
+          (subst (λ (v : ClientView). HasRun wanting target v time (opening words time) old new how) wants h);
     })
 
 -- the epoch was
 announced_by : (target : Target) (time : ℕ) (old new : Links) (how : Result Response Unanswered)
-    → NeverAsked target old new how ⊎ HasRun announcing target (new_epoch_asker target) time (opening [] time) old new how → Runs (Announce target) old new how
+    → NeverAsked target old new how ⊎ HasRun announcing target (new_epoch_asker target) time (opening [] time) old new how → AsksEpoch target old new how
 announced_by target time old new how (inl n) = inl n
 announced_by target time old new how (inr h) = inr (record { time = time; ran = h })
 
 pub announces_by : (target : Target) (time : ℕ) (asker : EpochAsker) (old mid new : Links) (how : Result Response Unanswered) → asker ≡ new_epoch_asker target → Passed target.server (opening [] time) old mid
-    → IsOver announcing target asker time mid new how → Runs (Announce target) old new how
+    → IsOver announcing target asker time mid new how → AsksEpoch target old new how
 announces_by target time asker old mid new how is first over =
     announced_by target time old new how (over_after announcing target (new_epoch_asker target) time [] old mid new how first (omega arith)
     (subst (λ (n : EpochAsker). IsOver announcing target n time mid new how) is over))
 
-runs_by_map : (t : Target) (w : _) (old new : Links) (how : Result Response Unanswered) → Wants (Map t w) old new how → Runs (Map t w) old new how
-runs_by_map t w old new how (inl n) = inl n
-runs_by_map t w old new how (inr h) = inr h
+-- by what is asked
+module _ (ask : ClientAsk) (old new : Links) (how : Result Response Unanswered) where
+  abbrev RunsAs : ClientCommand → Type 0
+  RunsAs command = NeverAsked (target_of command) old new how ⊎ HasAsked command ask old new how
 
-runs_by_peer : (t : Target) (w : _) (old new : Links) (how : Result Response Unanswered) → Wants (Peer t w) old new how → Runs (Peer t w) old new how
-runs_by_peer t w old new how (inl n) = inl n
-runs_by_peer t w old new how (inr h) = inr h
+  abbrev WantsAs : ClientCommand → Type 0
+  WantsAs command = NeverAsked (target_of command) old new how ⊎ HasWanted ask old new how
 
-pub runs_map : (command : ClientCommand) (t : Target) (w : _) (old new : Links) (how : Result Response Unanswered) → command ≡ Map t w → Wants command old new how → Runs command old new how
-runs_map command t w old new how is h = rw is (runs_by_map t w old new how (subst (λ (k : ClientCommand). Wants k old new how) is h))
+  as_map : (t : Target) (w : _) → WantsAs (Map t w) → RunsAs (Map t w)
+  as_map t w (inl n) = inl n
+  as_map t w (inr h) = inr h
 
-pub runs_peer : (command : ClientCommand) (t : Target) (w : _) (old new : Links) (how : Result Response Unanswered) → command ≡ Peer t w → Wants command old new how → Runs command old new how
-runs_peer command t w old new how is h = rw is (runs_by_peer t w old new how (subst (λ (k : ClientCommand). Wants k old new how) is h))
+  as_peer : (t : Target) (w : _) → WantsAs (Peer t w) → RunsAs (Peer t w)
+  as_peer t w (inl n) = inl n
+  as_peer t w (inr h) = inr h
+
+  as_announce : (t : Target) → AsksEpoch t old new how → RunsAs (Announce t)
+  as_announce t (inl n) = inl n
+  as_announce t (inr h) = inr h
+
+  pub runs_map : (t : Target) (w : _) → ask.command ≡ Map t w → Wants ask old new how → Runs ask old new how
+  runs_map t w is h = subst RunsAs (sym is) (as_map t w (subst WantsAs is h))
+
+  pub runs_peer : (t : Target) (w : _) → ask.command ≡ Peer t w → Wants ask old new how → Runs ask old new how
+  runs_peer t w is h = subst RunsAs (sym is) (as_peer t w (subst WantsAs is h))
+
+  pub runs_announce : (t : Target) → ask.command ≡ Announce t → AsksEpoch t old new how → Runs ask old new how
+  runs_announce t is h = subst RunsAs (sym is) (as_announce t h)
 
 -- what was drawn before it
 pub no_nonce : (target : Target) (old : Links) (d : Drawing) → LacksWord old.drawing d → NeverAsked target old (record old { drawing = d }) (Err Reasons.EntropyFault)
@@ -143,13 +164,13 @@ no_nonce target old d l = record {
   reason = l.fault;
 }
 
-pub no_client : (target : Target) (old : Links) (d : Drawing) (times : Option Times) (a b c time : ℕ) → WordsDrawn (a ∷ b ∷ c ∷ []) old.drawing d → IsTimeNow old.times times time
+pub no_client : (target : Target) (old : Links) (d : Drawing) (times : Option Times) (words : List ℕ) (time : ℕ) → WordsDrawn words old.drawing d → length words ≤ 3 → IsTimeNow old.times times time
     → NeverAsked target old (record old { times = times; drawing = d }) (Err Reasons.Memory)
-no_client target old d times a b c time drawn clock = record {
+no_client target old d times words time drawn few clock = record {
   early = inl refl;
-  words = a ∷ b ∷ c ∷ [];
+  words = words;
   times = time ∷ [];
-  few = (omega arith, omega arith);
+  few = (omega (arith, few), omega arith);
   passed = record { items = items-none old.left; later = omega arith; times = (times, clock, refl); words = drawn; requests = requests-none target.server old.sending };
   reason = tt;
 }
@@ -164,14 +185,14 @@ on_err (Ok x) P p = tt
 on_err (Err e) P p = p
 
 -- why no answer came
-asked_reason : (command : ClientCommand) (old new : Links) (how : Result Response Unanswered) → HasAsked command old new how → HasReason old new how
-asked_reason (Map t w) old new how h = h.ran.reason
-asked_reason (Peer t w) old new how h = h.ran.reason
-asked_reason (Announce t) old new how h = h.ran.reason
+asked_reason : (command : ClientCommand) (ask : ClientAsk) (old new : Links) (how : Result Response Unanswered) → HasAsked command ask old new how → HasReason old new how
+asked_reason (Map t w) ask old new how h = h.ran.reason
+asked_reason (Peer t w) ask old new how h = h.ran.reason
+asked_reason (Announce t) ask old new how h = h.ran.reason
 
-runs_reason : (command : ClientCommand) (old new : Links) (how : Result Response Unanswered) → Runs command old new how → HasReason old new how
-runs_reason command old new how (inl n) = n.reason
-runs_reason command old new how (inr h) = asked_reason command old new how h
+runs_reason : (ask : ClientAsk) (old new : Links) (how : Result Response Unanswered) → Runs ask old new how → HasReason old new how
+runs_reason ask old new how (inl n) = n.reason
+runs_reason ask old new how (inr h) = asked_reason ask.command ask old new how h
 
 link_reason : (why : Unanswered) (old new : Links) → status_without why ≡ Statuses.LinkFault → HasReason old new (Err why) → HasRisen old.faults new.faults
 link_reason Reasons.LinkFault old new is r = r
@@ -189,11 +210,11 @@ word_reason Reasons.Silence old new is r = absurd cc
 word_reason Reasons.Turns old new is r = absurd cc
 word_reason Reasons.Stopped old new is r = absurd cc
 
-pub link_fault : (command : ClientCommand) (why : Unanswered) (old new : Links) (status : ToolStatus) → Runs command old new (Err why) → status ≡ status_without why → status ≡ Statuses.LinkFault → HasRisen old.faults new.faults
-link_fault command why old new status runs is bad = link_reason why old new (sym is ∙ bad) (runs_reason command old new (Err why) runs)
+pub link_fault : (ask : ClientAsk) (why : Unanswered) (old new : Links) (status : ToolStatus) → Runs ask old new (Err why) → status ≡ status_without why → status ≡ Statuses.LinkFault → HasRisen old.faults new.faults
+link_fault ask why old new status runs is bad = link_reason why old new (sym is ∙ bad) (runs_reason ask old new (Err why) runs)
 
-pub word_fault : (command : ClientCommand) (why : Unanswered) (old new : Links) (status : ToolStatus) → Runs command old new (Err why) → status ≡ status_without why → status ≡ Statuses.EntropyFault → HasRisen old.drawing.faults new.drawing.faults
-word_fault command why old new status runs is bad = word_reason why old new (sym is ∙ bad) (runs_reason command old new (Err why) runs)
+pub word_fault : (ask : ClientAsk) (why : Unanswered) (old new : Links) (status : ToolStatus) → Runs ask old new (Err why) → status ≡ status_without why → status ≡ Statuses.EntropyFault → HasRisen old.drawing.faults new.drawing.faults
+word_fault ask why old new status runs is bad = word_reason why old new (sym is ∙ bad) (runs_reason ask old new (Err why) runs)
 
 -- no other status
 never_refused : (why : Unanswered) → status_without why ≡ Statuses.WordsRefused → ⊥
@@ -236,10 +257,10 @@ granted_told : (b : Bool) (code : _) → IsUntold (cond b Statuses.Done (Statuse
 granted_told true code h = h
 granted_told false code h = h
 
-told_not : (command : ClientCommand) (response : Response) (before now : Option (List ℕ)) (status : ToolStatus) → IsTold command (Ok response) before now status → IsUntold status → ⊥
-told_not command response before now status (inl t) bad = granted_told (grants command response) response.code (subst IsUntold t.0 bad)
-told_not command response before now status (inr (inl t)) bad = subst IsUntold t.0 bad
-told_not command response before now status (inr (inr t)) bad = subst IsUntold t.0 bad
+told_not : (ask : ClientAsk) (response : Response) (before now : Option (List ℕ)) (status : ToolStatus) → IsTold ask (Ok response) before now status → IsUntold status → ⊥
+told_not ask response before now status (inl t) bad = granted_told (does ask response) response.code (subst IsUntold t.0 bad)
+told_not ask response before now status (inr (inl t)) bad = subst IsUntold t.0 bad
+told_not ask response before now status (inr (inr t)) bad = subst IsUntold t.0 bad
 
-pub is_told : (command : ClientCommand) (response : Response) (before now : Option (List ℕ)) (status bad : ToolStatus) → IsTold command (Ok response) before now status → status ≡ bad → IsUntold bad → ⊥
-is_told command response before now status bad t is h = told_not command response before now status t (subst IsUntold (sym is) h)
+pub is_told : (ask : ClientAsk) (response : Response) (before now : Option (List ℕ)) (status bad : ToolStatus) → IsTold ask (Ok response) before now status → status ≡ bad → IsUntold bad → ⊥
+is_told ask response before now status bad t is h = told_not ask response before now status t (subst IsUntold (sym is) h)

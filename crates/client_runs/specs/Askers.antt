@@ -2,6 +2,7 @@
 -- Times are in milliseconds.
 use Rattle.std.specs.Prelude.{ℕ, ◌+◌, nat_le, max, bytes_eq, Bool, true, false, Option, Some, None, if◌then◌else◌}
 use Rattle.pcp_base.specs.declared.addresses.Address.{Address}
+use Rattle.pcp_base.specs.declared.addresses.Nonce.{Nonce}
 use Rattle.pcp_base.specs.declared.asks.Ask.{Ask}
 use Rattle.pcp_base.specs.declared.asks.Ask.TheVariants as Asks
 use Rattle.pcp_codec.specs.declared.requests.Body.{Body}
@@ -10,10 +11,12 @@ use Rattle.pcp_options.specs.declared.responses.Response.{Response}
 use Rattle.pcp_options.specs.ReadResponses.{response_of}
 use Rattle.pcp_options.specs.Requests.{request_text}
 use Rattle.client_core.specs.Waits.{wait_after}
-use Rattle.client_core.specs.Clients.{ClientView, after_heard, after_tick, after_want, heard_of, idle, request_due}
+use Rattle.client_core.specs.Clients.{ClientView, after_end, after_heard, after_tick, after_want, heard_of, idle, request_due}
 use Rattle.client_core.specs.declared.meanings.What.{What}
 use Rattle.client_core.specs.declared.meanings.What.TheVariants.{NotMine, Told, Taken, ErrorFor}
 use Rattle.client_commands.specs.declared.commands.Target.{Target}
+use Rattle.client_words.specs.declared.asks.ClientAsk.{ClientAsk}
+use Rattle.client_runs.specs.Asking.{asked_by, target_of}
 use Rattle.client_runs.specs.Runs.{Asking}
 
 -- the response, where it was taken for the want, or refuses it
@@ -32,9 +35,18 @@ wanting = record {
   ticked = after_tick;
 }
 
--- a client that wants this from a time on
-abbrev pub wanting_from : Target → Ask → ℕ → ClientView
-wanting_from t ask time = after_want (idle t.server t.own) 0 None ask time
+-- a client that wants this from a time on, for a third host or for its own; or has it deleted
+abbrev pub wanting_from : Target → Option Address → Ask → ℕ → ClientView
+wanting_from t third ask time = after_want (idle t.server t.own) 0 third ask time
+
+abbrev pub ending_from : Target → Option Address → Ask → ℕ → ClientView
+ending_from t third ask time = after_end (wanting_from t third ask time) 0 time
+
+abbrev pub started : ClientAsk → Nonce → ℕ → ClientView
+started a nonce time =
+    if a.deletes
+    then ending_from (target_of a.command) a.more.third (asked_by a.command a.more nonce) time
+    else wanting_from (target_of a.command) a.more.third (asked_by a.command a.more nonce) time
 
 -- one that asks a server for its epoch
 pub record EpochAsker : Type 0 where

@@ -1,5 +1,5 @@
 -- What a client's command asks for (our own).
-use Rattle.std.specs.Prelude.{ℕ, ◌<◌, nat_lt, nat_eq, false, [], ◌++◌, replicate, Option, Some, None, if◌then◌else◌}
+use Rattle.std.specs.Prelude.{ℕ, ◌<◌, ◌≤◌, length, nat_lt, nat_eq, false, [], ◌++◌, replicate, Option, Some, None, if◌then◌else◌}
 use Rattle.std.specs.Int.{to_be_bytes, w32}
 use Rattle.std.specs.List.{starts_with}
 use Rattle.pcp_base.specs.declared.addresses.Address.{Address}
@@ -17,6 +17,7 @@ use Rattle.client_commands.specs.declared.commands.MapWanted.{MapWanted}
 use Rattle.client_commands.specs.declared.commands.Mapping.{Mapping}
 use Rattle.client_commands.specs.declared.commands.PeerWanted.{PeerWanted}
 use Rattle.client_commands.specs.declared.commands.Target.{Target}
+use Rattle.client_words.specs.declared.more.More.{More}
 
 -- three words as a nonce, each written big-endian
 abbrev pub nonce_of : ℕ → ℕ → ℕ → Nonce
@@ -39,8 +40,8 @@ set_asked w =
 abbrev pub endpoint_of : Target → Mapping → Endpoint
 endpoint_of t m = record { address = t.own; protocol = m.protocol; port = m.port }
 
-abbrev pub map_asked : Target → MapWanted → Nonce → MapAsk
-map_asked t w nonce = record {
+abbrev pub map_asked : Target → MapWanted → More → Nonce → MapAsk
+map_asked t w more nonce = record {
   endpoint = endpoint_of t w.mapping;
   nonce = nonce;
   lifetime = w.mapping.lifetime;
@@ -48,7 +49,7 @@ map_asked t w nonce = record {
   address = unsuggested t.own;
   prefer = w.prefer;
   set = set_asked w;
-  filters = [];
+  filters = more.filters;
 }
 
 abbrev pub peer_asked : Target → PeerWanted → Nonce → PeerAsk
@@ -62,11 +63,11 @@ peer_asked t w nonce = record {
   remote_port = w.remote_port;
 }
 
--- what a command asks for with a nonce
-abbrev pub asked_by : ClientCommand → Nonce → Ask
-asked_by (Map t w) nonce = Asks.Map (map_asked t w nonce)
-asked_by (Peer t w) nonce = Asks.Peer (peer_asked t w nonce)
-asked_by (Announce t) nonce = Asks.Announce
+-- what a command asks for with a nonce, and with more that the words say
+abbrev pub asked_by : ClientCommand → More → Nonce → Ask
+asked_by (Map t w) more nonce = Asks.Map (map_asked t w more nonce)
+asked_by (Peer t w) more nonce = Asks.Peer (peer_asked t w nonce)
+asked_by (Announce t) more nonce = Asks.Announce
 
 -- whom it asks, and how often
 abbrev pub target_of : ClientCommand → Target
@@ -74,8 +75,9 @@ target_of (Map t w) = t
 target_of (Peer t w) = t
 target_of (Announce t) = t
 
--- it asks once at least, and not for nothing
-abbrev pub CanBeAsked : ClientCommand → Type 0
-CanBeAsked (Map t w) = (0 < t.tries) × (0 < w.mapping.lifetime)
-CanBeAsked (Peer t w) = (0 < t.tries) × (0 < w.mapping.lifetime)
-CanBeAsked (Announce t) = 0 < t.tries
+-- it asks once at least, not for nothing, and with few filters
+abbrev pub CanBeAsked : ClientCommand → More → Type 0
+CanBeAsked (Map t w) more =
+    (0 < t.tries) × (0 < w.mapping.lifetime) × (length more.filters ≤ 8)
+CanBeAsked (Peer t w) more = (0 < t.tries) × (0 < w.mapping.lifetime)
+CanBeAsked (Announce t) more = 0 < t.tries

@@ -1,20 +1,22 @@
 -- Calls of the client's commands (our own): what ran for the words, what is printed, and the status.
-use Rattle.std.specs.Prelude.{◌≡◌, ℕ, ◌≤◌, ◌⊎◌, List, [], ◌∷◌, length, map, Option, IfSome, Result, Ok, Err, ⊤}
+use Rattle.std.specs.Prelude.{◌≡◌, ℕ, ◌≤◌, ◌⊎◌, List, [], ◌∷◌, length, map, Option, Some, None, IfSome, Result, Ok, Err, ⊤}
 use Rattle.std.specs.Io.KnownBytes.{append_known}
+use Rattle.pcp_base.specs.declared.addresses.Nonce.{Nonce}
 use Rattle.pcp_io.specs.Faults.{HasRisen}
 use Rattle.pcp_io.specs.Writes.{WritesPart}
 use Rattle.pcp_options.specs.declared.responses.Response.{Response}
-use Rattle.client_commands.specs.Commands.{IsCommand}
 use Rattle.client_commands.specs.declared.commands.ClientCommand.{ClientCommand}
 use Rattle.client_commands.specs.declared.commands.ClientCommand.TheVariants.{Map, Peer, Announce}
 use Rattle.client_commands.specs.declared.commands.Target.{Target}
+use Rattle.client_words.specs.Asks.{IsAsk}
+use Rattle.client_words.specs.declared.asks.ClientAsk.{ClientAsk}
 use Rattle.tool_commands.specs.declared.statuses.ToolStatus.{ToolStatus}
 use Rattle.tool_commands.specs.declared.statuses.ToolStatus.TheVariants as Statuses
 use Rattle.client_runs.specs.declared.tries.Unanswered.{Unanswered}
 use Rattle.client_runs.specs.declared.tries.Unanswered.TheVariants.{LinkFault, Memory, EntropyFault, Silence, Turns, Stopped}
-use Rattle.client_runs.specs.Askers.{announcing, new_epoch_asker, wanting, wanting_from}
-use Rattle.client_runs.specs.Asking.{asked_by, nonce_of, target_of}
-use Rattle.client_runs.specs.Lines.{line_of, status_of}
+use Rattle.client_runs.specs.Askers.{announcing, new_epoch_asker, started, wanting}
+use Rattle.client_runs.specs.Asking.{nonce_of, target_of}
+use Rattle.client_runs.specs.Lines.{answer_line, status_of}
 use Rattle.client_runs.specs.Links.{Links, Passed, Traffic, with_traffic}
 use Rattle.client_runs.specs.Runs.{Asking, IsRun, Run, all_turns, reached}
 
@@ -65,30 +67,46 @@ pub record NeverAsked (target : Target) (old new : Links) (how : Result Response
 abbrev pub opening : List ℕ → ℕ → Traffic
 opening words time = record { items = []; times = time ∷ []; words = words; requests = [] }
 
--- A client with its want draws three words for the nonce.
-pub record HasWanted (command : ClientCommand) (old new : Links)
-    (how : Result Response Unanswered) : Type 0 where
+-- the nonce that is given, or three words as one
+pub record DrawnNonce (words : List ℕ) (nonce : Nonce) : Type 0 where
   pub a : ℕ
   pub b : ℕ
   pub c : ℕ
+  pub words_are : words ≡ a ∷ b ∷ c ∷ []
+  pub nonce_is : nonce ≡ nonce_of a b c
+
+abbrev pub NonceBy : Option Nonce → List ℕ → Nonce → Type 0
+NonceBy (Some given) words nonce = (words ≡ []) × (nonce ≡ given)
+NonceBy None words nonce = DrawnNonce words nonce
+
+-- A client with its want draws the words of the nonce, where none is given.
+pub record HasWanted (ask : ClientAsk) (old new : Links) (how : Result Response Unanswered)
+    : Type 0 where
+  pub words : List ℕ
+  pub nonce : Nonce
+  pub drawn : NonceBy ask.more.nonce words nonce
   pub time : ℕ
-  pub ran : HasRun wanting (target_of command)
-      (wanting_from (target_of command) (asked_by command (nonce_of a b c)) time) time
-      (opening (a ∷ b ∷ c ∷ []) time) old new how
+  pub ran : HasRun wanting (target_of ask.command) (started ask nonce time) time
+      (opening words time) old new how
 
 pub record HasAnnounced (target : Target) (old new : Links) (how : Result Response Unanswered)
     : Type 0 where
   pub time : ℕ
   pub ran : HasRun announcing target (new_epoch_asker target) time (opening [] time) old new how
 
-abbrev pub HasAsked : ClientCommand → Links → Links → Result Response Unanswered → Type 0
-HasAsked (Map t w) old new how = HasWanted (Map t w) old new how
-HasAsked (Peer t w) old new how = HasWanted (Peer t w) old new how
-HasAsked (Announce t) old new how = HasAnnounced t old new how
+abbrev pub AsksEpoch : Target → Links → Links → Result Response Unanswered → Type 0
+AsksEpoch target old new how = NeverAsked target old new how ⊎ HasAnnounced target old new how
 
--- what ran for a command, and how it ended
-abbrev pub Runs : ClientCommand → Links → Links → Result Response Unanswered → Type 0
-Runs command old new how = NeverAsked (target_of command) old new how ⊎ HasAsked command old new how
+abbrev pub HasAsked : ClientCommand → ClientAsk → Links → Links →
+    Result Response Unanswered → Type 0
+HasAsked (Map t w) ask old new how = HasWanted ask old new how
+HasAsked (Peer t w) ask old new how = HasWanted ask old new how
+HasAsked (Announce t) ask old new how = HasAnnounced t old new how
+
+-- what ran for an ask, and how it ended
+abbrev pub Runs : ClientAsk → Links → Links → Result Response Unanswered → Type 0
+Runs ask old new how =
+    NeverAsked (target_of ask.command) old new how ⊎ HasAsked ask.command ask old new how
 
 -- the status where no answer came
 abbrev pub status_without : Unanswered → ToolStatus
@@ -100,31 +118,32 @@ status_without Turns = Statuses.Turns
 status_without Stopped = Statuses.Stopped
 
 -- The line of the answer is written, or a part of it where the sink fails; without an answer nothing is.
-abbrev pub IsTold : ClientCommand → Result Response Unanswered → (before now : Option (List ℕ)) →
+abbrev pub IsTold : ClientAsk → Result Response Unanswered → (before now : Option (List ℕ)) →
     ToolStatus → Type 0
-IsTold command (Ok response) before now status =
-    ((status ≡ status_of command response) × (now ≡ append_known before (line_of command response)))
-    ⊎ (((status ≡ Statuses.WriteFault) × WritesPart before now (line_of command response))
+IsTold ask (Ok response) before now status =
+    ((status ≡ status_of ask response) × (now ≡ append_known before (answer_line ask response)))
+    ⊎ (((status ≡ Statuses.WriteFault) × WritesPart before now (answer_line ask response))
     ⊎ ((status ≡ Statuses.Memory) × (now ≡ before)))
-IsTold command (Err why) before now status = (status ≡ status_without why) × (now ≡ before)
+IsTold ask (Err why) before now status = (status ≡ status_without why) × (now ≡ before)
 
--- the words are this command, and it ran
-pub record HasCommand (words : List (List ℕ)) (old new : Links) (before now : Option (List ℕ))
-    (status : ToolStatus) : Type 0 where
-  pub command : ClientCommand
-  pub is : IsCommand words command
+-- the words are this ask, with this text in the file that they name, and it ran
+pub record HasAsk (words : List (List ℕ)) (filed : Option (List ℕ)) (old new : Links)
+    (before now : Option (List ℕ)) (status : ToolStatus) : Type 0 where
+  pub ask : ClientAsk
+  pub is : IsAsk words filed ask
   pub how : Result Response Unanswered
-  pub runs : Runs command old new how
-  pub told : IsTold command how before now status
+  pub runs : Runs ask old new how
+  pub told : IsTold ask how before now status
 
--- the words are no command, or that isn't known for want of memory, and nothing was done
-pub record HasNoCommand (words : List (List ℕ)) (old new : Links) (before now : Option (List ℕ))
-    (status : ToolStatus) : Type 0 where
-  pub none : ((status ≡ Statuses.WordsRefused) × ((command : ClientCommand) → ¬ (IsCommand words command)))
+-- the words are none, or that isn't known for want of memory, and nothing was done
+pub record HasNoAsk (words : List (List ℕ)) (filed : Option (List ℕ)) (old new : Links)
+    (before now : Option (List ℕ)) (status : ToolStatus) : Type 0 where
+  pub none :
+      ((status ≡ Statuses.WordsRefused) × ((ask : ClientAsk) → ¬ (IsAsk words filed ask)))
       ⊎ (status ≡ Statuses.Memory)
   pub still : (new ≡ old) × (now ≡ before)
 
-abbrev pub IsCall : List (List ℕ) → Links → Links → (before now : Option (List ℕ)) → ToolStatus →
-    Type 0
-IsCall words old new before now status =
-    HasCommand words old new before now status ⊎ HasNoCommand words old new before now status
+abbrev pub IsCall : List (List ℕ) → Option (List ℕ) → Links → Links →
+    (before now : Option (List ℕ)) → ToolStatus → Type 0
+IsCall words filed old new before now status =
+    HasAsk words filed old new before now status ⊎ HasNoAsk words filed old new before now status

@@ -9,6 +9,7 @@ use Rattle.pcp_options.specs.declared.responses.Response.{Response}
 use Rattle.client_core.specs.Meanings.{set_size}
 use Rattle.client_commands.specs.declared.commands.ClientCommand.{ClientCommand}
 use Rattle.client_commands.specs.declared.commands.ClientCommand.TheVariants.{Map, Peer, Announce}
+use Rattle.client_words.specs.declared.asks.ClientAsk.{ClientAsk}
 use Rattle.tool_commands.specs.declared.statuses.ToolStatus.{ToolStatus}
 use Rattle.tool_commands.specs.declared.statuses.ToolStatus.TheVariants.{Done, Refused}
 
@@ -48,9 +49,21 @@ abbrev pub text_of : ClientCommand → Response → List ℕ
 text_of command r =
     if grants command r then success_text r r.body ++ size_field command r else refusal_text r
 
--- the line, and the status once it is written
+-- the line
 abbrev pub line_of : ClientCommand → Response → List ℕ
 line_of command r = text_of command r ++ 10 ∷ []
 
-abbrev pub status_of : ClientCommand → Response → ToolStatus
-status_of command r = if grants command r then Done else Refused r.code
+-- where a mapping is to be deleted, a success says that it is
+abbrev pub deletion_text : Response → List ℕ
+deletion_text r = if is_success r then codes "deleted" ++ spaced r.epoch else refusal_text r
+
+-- the line of what was asked, and the status once it is written
+abbrev pub answer_line : ClientAsk → Response → List ℕ
+answer_line ask r =
+    if ask.deletes then deletion_text r ++ 10 ∷ [] else line_of ask.command r
+
+abbrev pub does : ClientAsk → Response → Bool
+does ask r = if ask.deletes then is_success r else grants ask.command r
+
+abbrev pub status_of : ClientAsk → Response → ToolStatus
+status_of ask r = if does ask r then Done else Refused r.code

@@ -1,10 +1,11 @@
 //! What a command asks for.
-ghost use Rattle.std.specs.Prelude.{◌≡◌};
+ghost use Rattle.std.specs.Prelude.{◌≡◌, IfOk};
 ghost use Rattle.client_runs.specs.Asking.{CanBeAsked, asked_by, endpoint_of, map_asked, nonce_of, peer_asked, set_asked, target_of, unsuggested};
 ghost use Rattle.client_core.specs.Wants.{CanBeWanted};
 
 use client_commands::{ClientCommand, MapWanted, Mapping, PeerWanted, Target};
-use pcp_base::{Address, Ask, Endpoint, FilterList, MapAsk, Nonce, PeerAsk, PortSet};
+use client_words::More;
+use pcp_base::{Address, Ask, Endpoint, FilterList, MapAsk, Memory, Nonce, PeerAsk, PortSet};
 use std::alloc::Global;
 
 // What an IPv4-mapped address begins with (RFC 6887, section 5).
@@ -20,21 +21,35 @@ pub(crate) fn nonce_of(first: u32, second: u32, third: u32) -> Nonce
     Nonce([a, b, c, d, e, f, g, h, i, j, k, l])
 }
 
-/// What a command asks for with this nonce.
-pub(crate) fn asked_by(alloc: Global, command: &ClientCommand, nonce: Nonce) -> Ask
-    ensures { result ≡ asked_by command.now nonce }
+/// What a command asks for with this nonce, and with more that the words say.
+pub fn asked_by(
+    alloc: Global,
+    command: &ClientCommand,
+    more: &More,
+    nonce: Nonce,
+) -> Result<Ask, Memory>
+    ensures { IfOk result (λ ask. ask ≡ asked_by command.now more.now nonce) }
 {
     match command {
-        ClientCommand::Map(target, wanted) => Ask::Map(map_asked(alloc, target, wanted, nonce)),
-        ClientCommand::Peer(target, wanted) => Ask::Peer(peer_asked(target, wanted, nonce)),
-        ClientCommand::Announce(_target) => Ask::Announce,
+        ClientCommand::Map(target, wanted) => {
+            Ok(Ask::Map(map_asked(alloc, target, wanted, more, nonce)?))
+        }
+        ClientCommand::Peer(target, wanted) => Ok(Ask::Peer(peer_asked(target, wanted, nonce))),
+        ClientCommand::Announce(_target) => Ok(Ask::Announce),
     }
 }
 
-fn map_asked(alloc: Global, target: &Target, wanted: &MapWanted, nonce: Nonce) -> MapAsk
-    ensures { result ≡ map_asked target.now wanted.now nonce }
+fn map_asked(
+    alloc: Global,
+    target: &Target,
+    wanted: &MapWanted,
+    more: &More,
+    nonce: Nonce,
+) -> Result<MapAsk, Memory>
+    ensures { IfOk result (λ ask. ask ≡ map_asked target.now wanted.now more.now nonce) }
 {
-    MapAsk {
+    let filters = more.filters.items().to_vec(alloc)?;
+    Ok(MapAsk {
         endpoint: endpoint_of(target, &wanted.mapping),
         nonce,
         lifetime: wanted.mapping.lifetime,
@@ -42,8 +57,8 @@ fn map_asked(alloc: Global, target: &Target, wanted: &MapWanted, nonce: Nonce) -
         address: unsuggested(&target.own),
         prefer: wanted.prefer,
         set: set_asked(wanted),
-        filters: FilterList::of(Vec::new(alloc)),
-    }
+        filters: FilterList::of(filters),
+    })
 }
 
 fn peer_asked(target: &Target, wanted: &PeerWanted, nonce: Nonce) -> PeerAsk

@@ -1,99 +1,70 @@
 //! Calls of the client's commands.
-ghost use Rattle.std.specs.Prelude.{◌≡◌, ◌*◌, ◌^◌, ◌<◌, ◌⊎◌, [], ◌∷◌, Ok, map, string_bytes, IfOk, IfErr, OnErr};
+ghost use Rattle.std.specs.Prelude.{◌≡◌, ◌*◌, ◌^◌, ◌<◌, Ok, map, option_map, string_bytes, IfOk, IfErr};
 ghost use Rattle.pcp_base.specs.declared.addresses.Nonce.{Nonce};
 ghost use Rattle.pcp_io.specs.Faults.{HasRisen};
-ghost use Rattle.client_commands.specs.Commands.{IsCommand};
-ghost use Rattle.client_commands.specs.declared.commands.ClientCommand.{ClientCommand};
-ghost use Rattle.client_commands.specs.declared.commands.ClientCommand.TheVariants.{Announce};
 ghost use Rattle.client_core.specs.Wants.{CanBeWanted};
+ghost use Rattle.client_words.specs.Asks.{IsAsk};
+ghost use Rattle.client_words.specs.declared.asks.ClientAsk.{ClientAsk};
 ghost use Rattle.tool_commands.specs.declared.statuses.ToolStatus.TheVariants as Statuses;
 ghost use Rattle.client_runs.specs.declared.tries.Unanswered.TheVariants as Reasons;
 ghost use Rattle.client_runs.specs.Asking.{CanBeAsked, asked_by, target_of};
-ghost use Rattle.client_runs.specs.Askers.{wanting_from};
-ghost use Rattle.client_runs.specs.Calls.{IsCall, IsTold, Runs, status_without};
-ghost use Rattle.client_runs.specs.Links.{WordsDrawn};
-ghost use Rattle.client_runs.specs.Openings.{DrawsNonce, LacksWord, Wants};
+ghost use Rattle.client_runs.specs.Askers.{started};
+ghost use Rattle.client_runs.specs.Calls.{AsksEpoch, IsCall, IsTold, Runs, status_without};
+ghost use Rattle.client_runs.specs.Openings.{Wants};
 
-use crate::asking::{asked_by, nonce_of};
+use crate::asking::asked_by;
 use crate::epoch_askers::EpochAsker;
-use crate::lines::{line_of, status_of};
+use crate::lines::{answer_line, status_of};
+use crate::openings::{ending_from, nonce_by, wanting_from};
 use crate::tries::Unanswered;
 use crate::turns::ask;
-use client_commands::{ClientCommand, Target, command_of};
+use client_commands::{ClientCommand, Target};
 use client_core::Client;
-use pcp_base::{Ask, Nonce};
+use client_words::{ClientAsk, ask_of};
+use pcp_base::Nonce;
 use pcp_io::{Clock, Inbox, Outbox, Sink, write_all};
 use pcp_options::Response;
 use random_words::Entropy;
 use std::alloc::Global;
 use tool_commands::ToolStatus;
 
-/// A word of the nonce.
-fn draw<E: Entropy>(entropy: &mut E) -> Result<u32, Unanswered>
-    ensures word { IfOk result (λ word. WordsDrawn (word ∷ [])
-        (record { words = E.words entropy.old; faults = E.faults entropy.old })
-        (record { words = E.words entropy.new; faults = E.faults entropy.new })) }
-    ensures none { OnErr result (WordsDrawn []
-        (record { words = E.words entropy.old; faults = E.faults entropy.old })
-        (record { words = E.words entropy.new; faults = E.faults entropy.new })) }
-    ensures fault { OnErr result (HasRisen (E.faults entropy.old) (E.faults entropy.new)) }
-    ensures reason { IfErr result (λ why. why ≡ Reasons.EntropyFault) }
-{
-    match entropy.word() {
-        Ok(word) => Ok(word),
-        Err(_) => Err(Unanswered::EntropyFault),
-    }
-}
-
-/// A nonce of three words.
-fn draw_nonce<E: Entropy>(entropy: &mut E) -> Result<Nonce, Unanswered>
-    ensures nonce { IfOk result (DrawsNonce
-        (record { words = E.words entropy.old; faults = E.faults entropy.old })
-        (record { words = E.words entropy.new; faults = E.faults entropy.new })) }
-    ensures part { OnErr result (LacksWord
-        (record { words = E.words entropy.old; faults = E.faults entropy.old })
-        (record { words = E.words entropy.new; faults = E.faults entropy.new })) }
-    ensures reason { IfErr result (λ why. why ≡ Reasons.EntropyFault) }
-{
-    let first = draw(entropy)?;
-    let second = draw(entropy)?;
-    let third = draw(entropy)?;
-    Ok(nonce_of(first, second, third))
-}
-
-/// A client that wants this from a time on.
-fn wanting_from(
+/// A client that wants what is asked for from a time on, or has it deleted.
+fn client_for(
     alloc: Global,
+    asked: &ClientAsk,
     target: &Target,
-    wanted: Ask,
+    nonce: Nonce,
     now_ms: u64,
 ) -> Result<Client, Unanswered>
-    requires wanted { CanBeWanted wanted }
+    requires target { target.now ≡ target_of asked.now.command }
+    requires wanted { CanBeWanted (asked_by asked.now.command asked.now.more nonce) }
     requires time { now_ms < 1000 * 2 ^ 40 }
-    ensures client { IfOk result (λ client. client ≡ wanting_from target.now wanted now_ms) }
+    ensures client { IfOk result (λ client. client ≡ started asked.now nonce now_ms) }
     ensures reason { IfErr result (λ why. why ≡ Reasons.Memory) }
 {
-    let mut client = Client::new(alloc, target.server, target.own)?;
-    match client.want(alloc, None, wanted, now_ms) {
-        Ok(_) => Ok(client),
-        Err(_) => Err(Unanswered::Memory),
+    let wanted = asked_by(alloc, &asked.command, &asked.more, nonce)?;
+    if asked.deletes {
+        ending_from(alloc, target, asked.more.third, wanted, now_ms)
+    } else {
+        wanting_from(alloc, target, asked.more.third, wanted, now_ms)
     }
 }
 
-/// Asks for a mapping, with a client that wants it.
+/// Asks for a mapping or for its deletion, with a client that wants it.
 fn ask_for_mapping<O: Outbox, I: Inbox, T: Clock, E: Entropy>(
     alloc: Global,
-    command: &ClientCommand,
+    asked: &ClientAsk,
     target: &Target,
     up: &mut O,
     from: &mut I,
     clock: &mut T,
     entropy: &mut E,
 ) -> Result<Response, Unanswered>
-    requires target { target.now ≡ target_of command.now }
+    requires target { target.now ≡ target_of asked.now.command }
     requires tries { 0 < target.now.tries }
-    requires wanted { (nonce : Nonce) → CanBeWanted (asked_by command.now nonce) }
-    ensures { Wants command.now
+    requires wanted { (nonce : Nonce) →
+        CanBeWanted (asked_by asked.now.command asked.now.more nonce) }
+    ensures { Wants asked.now
         (record {
           left = I.left from.old;
           faults = I.faults from.old;
@@ -109,10 +80,9 @@ fn ask_for_mapping<O: Outbox, I: Inbox, T: Clock, E: Entropy>(
           sending = record { sent = O.sent up.new; faults = O.faults up.new };
         }) result }
 {
-    let nonce = draw_nonce(entropy)?;
+    let nonce = nonce_by(asked.more.nonce, entropy)?;
     let start_ms = clock.now();
-    let wanted = asked_by(alloc, command, nonce);
-    let mut client = wanting_from(alloc, target, wanted, start_ms)?;
+    let mut client = client_for(alloc, asked, target, nonce, start_ms)?;
     ask(
         alloc,
         target,
@@ -135,7 +105,7 @@ fn ask_for_epoch<O: Outbox, I: Inbox, T: Clock, E: Entropy>(
     entropy: &mut E,
 ) -> Result<Response, Unanswered>
     requires tries { 0 < target.now.tries }
-    ensures { Runs (Announce target.now)
+    ensures { AsksEpoch target.now
         (record {
           left = I.left from.old;
           faults = I.faults from.old;
@@ -158,17 +128,17 @@ fn ask_for_epoch<O: Outbox, I: Inbox, T: Clock, E: Entropy>(
     )
 }
 
-/// The response that answers a command; else why none came.
+/// The response that answers what was asked; else why none came.
 fn answer_to<O: Outbox, I: Inbox, T: Clock, E: Entropy>(
     alloc: Global,
-    command: &ClientCommand,
+    asked: &ClientAsk,
     up: &mut O,
     from: &mut I,
     clock: &mut T,
     entropy: &mut E,
 ) -> Result<Response, Unanswered>
-    requires { CanBeAsked command.now }
-    ensures { Runs command.now
+    requires { CanBeAsked asked.now.command asked.now.more }
+    ensures { Runs asked.now
         (record {
           left = I.left from.old;
           faults = I.faults from.old;
@@ -184,12 +154,12 @@ fn answer_to<O: Outbox, I: Inbox, T: Clock, E: Entropy>(
           sending = record { sent = O.sent up.new; faults = O.faults up.new };
         }) result }
 {
-    match command {
+    match &asked.command {
         ClientCommand::Map(target, _wanted) => {
-            ask_for_mapping(alloc, command, target, up, from, clock, entropy)
+            ask_for_mapping(alloc, asked, target, up, from, clock, entropy)
         }
         ClientCommand::Peer(target, _wanted) => {
-            ask_for_mapping(alloc, command, target, up, from, clock, entropy)
+            ask_for_mapping(alloc, asked, target, up, from, clock, entropy)
         }
         ClientCommand::Announce(target) => {
             ask_for_epoch(alloc, target, up, from, clock, entropy)
@@ -200,25 +170,25 @@ fn answer_to<O: Outbox, I: Inbox, T: Clock, E: Entropy>(
 /// Prints what a server answered.
 fn tell<W: Sink>(
     alloc: Global,
-    command: &ClientCommand,
+    asked: &ClientAsk,
     response: &Response,
     out: &mut W,
 ) -> ToolStatus
-    ensures told { IsTold command.now (Ok response.now) (W.held out.old) (W.held out.new) result }
+    ensures told { IsTold asked.now (Ok response.now) (W.held out.old) (W.held out.new) result }
     ensures write_fault { result ≡ Statuses.WriteFault →
         HasRisen (W.faults out.old) (W.faults out.new) }
 {
-    let Ok(line) = line_of(alloc, command, response) else {
+    let Ok(line) = answer_line(alloc, asked, response) else {
         return ToolStatus::Memory;
     };
     if write_all(out, &line).is_err() {
         return ToolStatus::WriteFault;
     }
-    status_of(command, response)
+    status_of(asked, response)
 }
 
 /// The status where no answer came.
-fn status_without(why: Unanswered) -> ToolStatus
+pub fn status_without(why: Unanswered) -> ToolStatus
     ensures { result ≡ status_without why }
 {
     match why {
@@ -231,17 +201,19 @@ fn status_without(why: Unanswered) -> ToolStatus
     }
 }
 
-/// Does what the words say: `map` and `peer` ask a server for a mapping, `announce` for its epoch
-/// (RFC 6887, sections 8.1, 11, 12 and 14.1), and the answer is printed to `out`, a line.
+/// Does what the words say: `map` and `peer` ask a server for a mapping, `unmap` for the deletion of one,
+/// `announce` for its epoch (RFC 6887, sections 8.1, 11, 12, 14.1 and 15), and the answer is printed to
+/// `out`, a line. `filed` is the text of the file that the words name for the nonce.
 ///
 /// Requests go by `up` to [`SERVER_PORT`](crate::SERVER_PORT) of the server; one whose send fails is lost.
 /// Each item of `from` is taken at one time of `clock`, in milliseconds: a packet is heard, and then what
-/// is due is sent. `map` and `peer` draw three words of `entropy` for their nonce, and then each request
+/// is due is sent. For a nonce that isn't given three words of `entropy` are drawn, and then each request
 /// has a word. The run ends by the first answer, by a stop of `from`, by
 /// [`MOST_TURNS`](crate::MOST_TURNS) items, or once all tries were sent and one more request is due.
 pub fn run_client<O: Outbox, I: Inbox, T: Clock, E: Entropy, W: Sink>(
     alloc: Global,
     words: &[String],
+    filed: Option<&[u8]>,
     up: &mut O,
     from: &mut I,
     clock: &mut T,
@@ -249,7 +221,7 @@ pub fn run_client<O: Outbox, I: Inbox, T: Clock, E: Entropy, W: Sink>(
     out: &mut W,
 ) -> ToolStatus
     // What came, what was sent and what is printed, by the status.
-    ensures call { IsCall (map string_bytes words.now)
+    ensures call { IsCall (map string_bytes words.now) (option_map (λ s. s.now) filed)
         (record {
           left = I.left from.old;
           faults = I.faults from.old;
@@ -266,9 +238,9 @@ pub fn run_client<O: Outbox, I: Inbox, T: Clock, E: Entropy, W: Sink>(
         })
         (W.held out.old) (W.held out.new) result }
 
-    // Words are refused only where they are no command.
-    ensures words_refused { result ≡ Statuses.WordsRefused →
-        (command : ClientCommand) → ¬ (IsCommand (map string_bytes words.now) command) }
+    // Words are refused only where they ask for nothing.
+    ensures words_refused { result ≡ Statuses.WordsRefused → (ask : ClientAsk) →
+        ¬ (IsAsk (map string_bytes words.now) (option_map (λ s. s.now) filed) ask) }
 
     // A fault is told only where a count of faults rose.
     ensures link_fault { result ≡ Statuses.LinkFault →
@@ -278,14 +250,14 @@ pub fn run_client<O: Outbox, I: Inbox, T: Clock, E: Entropy, W: Sink>(
     ensures write_fault { result ≡ Statuses.WriteFault →
         HasRisen (W.faults out.old) (W.faults out.new) }
 {
-    let Ok(found) = command_of(alloc, words) else {
+    let Ok(found) = ask_of(alloc, words, filed) else {
         return ToolStatus::Memory;
     };
-    let Some(command) = found else {
+    let Some(asked) = found else {
         return ToolStatus::WordsRefused;
     };
-    match answer_to(alloc, &command, up, from, clock, entropy) {
-        Ok(response) => tell(alloc, &command, &response, out),
+    match answer_to(alloc, &asked, up, from, clock, entropy) {
+        Ok(response) => tell(alloc, &asked, &response, out),
         Err(why) => status_without(why),
     }
 }

@@ -7,10 +7,14 @@ mod asking;
 mod calls;
 mod epoch_askers;
 mod lines;
+mod openings;
 mod tries;
 mod turns;
 
-pub use calls::run_client;
+pub use asking::asked_by;
+pub use calls::{run_client, status_without};
+pub use lines::push_line;
+pub use openings::{nonce_by, wanting_from};
 pub use tool_commands::ToolStatus;
-pub use tries::{SERVER_PORT, Unanswered};
+pub use tries::{SERVER_PORT, Unanswered, hand_over};
 pub use turns::MOST_TURNS;

@@ -1,8 +1,9 @@
 //! The line that a command prints for a response, and the status of its call then.
 ghost use Rattle.std.specs.Prelude.{◌≡◌, ◌++◌, IfOk, OnOk, codes};
-ghost use Rattle.client_runs.specs.Lines.{granted_text, grants, is_success, line_of, refusal_text, size_field, spaced, status_of, success_text, text_of};
+ghost use Rattle.client_runs.specs.Lines.{answer_line, deletion_text, does, granted_text, grants, is_success, line_of, refusal_text, size_field, spaced, status_of, success_text, text_of};
 
 use client_commands::ClientCommand;
+use client_words::ClientAsk;
 use client_core::set_size;
 use pcp_base::Memory;
 use pcp_codec::{Body, Common};
@@ -11,28 +12,69 @@ use std::alloc::Global;
 use tool_commands::ToolStatus;
 
 /// The status of the call once the line is printed.
-pub(crate) fn status_of(command: &ClientCommand, response: &Response) -> ToolStatus
-    ensures { result ≡ status_of command.now response.now }
+pub(crate) fn status_of(ask: &ClientAsk, response: &Response) -> ToolStatus
+    ensures { result ≡ status_of ask.now response.now }
 {
-    if grants(command, response) {
+    if does(ask, response) {
         ToolStatus::Done
     } else {
         ToolStatus::Refused(response.code)
     }
 }
 
-/// The line, with its line feed.
-pub(crate) fn line_of(
+/// Whether a response does what was asked.
+fn does(ask: &ClientAsk, response: &Response) -> bool
+    ensures { result ≡ does ask.now response.now }
+{
+    if ask.deletes {
+        is_success(response)
+    } else {
+        grants(&ask.command, response)
+    }
+}
+
+/// The line for what was asked, with its line feed.
+pub(crate) fn answer_line(
     alloc: Global,
-    command: &ClientCommand,
+    ask: &ClientAsk,
     response: &Response,
 ) -> Result<Vec<u8>, Memory>
-    ensures { IfOk result (λ line. line.items ≡ line_of command.now response.now) }
+    ensures { IfOk result (λ line. line.items ≡ answer_line ask.now response.now) }
 {
     let mut line = Vec::new(alloc);
-    push_text(alloc, &mut line, command, response)?;
-    line.push(b'\n')?;
+    if ask.deletes {
+        push_deletion(alloc, &mut line, response)?;
+        line.push(b'\n')?;
+    } else {
+        push_line(alloc, &mut line, &ask.command, response)?;
+    }
     Ok(line)
+}
+
+/// Appends the line that a command prints for a response, with its line feed: `mapped ADDRESS PORT LIFETIME
+/// EPOCH`, and the size behind it where more ports than one were asked for; `epoch EPOCH`; or `refused CODE
+/// SECONDS`.
+pub fn push_line(
+    alloc: Global,
+    out: &mut Vec<u8>,
+    command: &ClientCommand,
+    response: &Response,
+) -> Result<(), Memory>
+    ensures { OnOk result (out.new.items ≡ out.old.items ++ line_of command.now response.now) }
+{
+    push_text(alloc, out, command, response)?;
+    out.push(b'\n')?;
+    Ok(())
+}
+
+fn push_deletion(alloc: Global, out: &mut Vec<u8>, response: &Response) -> Result<(), Memory>
+    ensures { OnOk result (out.new.items ≡ out.old.items ++ deletion_text response.now) }
+{
+    if !is_success(response) {
+        return push_refusal(alloc, out, response);
+    }
+    out.extend_from_slice(b"deleted")?;
+    push_number(alloc, out, response.epoch)
 }
 
 fn is_success(response: &Response) -> bool

@@ -98,8 +98,8 @@ impl Tries {
     }
 }
 
-/// Hands a request to the outbox. Where that fails, the request is lost.
-fn hand_over<O: Outbox>(server: Address, text: &Octets, up: &mut O)
+/// Hands a request to the outbox, for [`SERVER_PORT`] of the server. Where that fails, the request is lost.
+pub fn hand_over<O: Outbox>(server: Address, text: &Octets, up: &mut O)
     ensures { HandsOver server text.now
         (record { sent = O.sent up.old; faults = O.faults up.old })
         (record { sent = O.sent up.new; faults = O.faults up.new }) }

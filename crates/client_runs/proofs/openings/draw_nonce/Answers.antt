@@ -1,8 +1,8 @@
-use Rattle.std.proofs.Common.{[], ◌∷◌, arith}
+use Rattle.std.proofs.Common.{[], ◌∷◌, refl, arith}
 use Rattle.client_runs.specs.Links.{Drawing}
 use Rattle.client_runs.proofs.CallLemmas.{on_err}
 use Rattle.client_runs.proofs.LinkLemmas.{drawn-join, risen_after}
-use Rattle.client_runs.proofs.calls.draw_nonce.Goals as goal
+use Rattle.client_runs.proofs.openings.draw_nonce.Goals as goal
 
 pub returns-in_err-second-clause-part : goal.returns-in_err-second-clause-part
 returns-in_err-second-clause-part g c =
@@ -39,9 +39,8 @@ returns-clause-nonce g c =
     let d3 : Drawing = record { words = g.E.Entropy.words c.draw-3.new.entropy; faults = g.E.Entropy.faults c.draw-3.new.entropy } in
     let two = drawn-join (c.in_ok-first.first ∷ []) (c.in_ok-second.second ∷ []) d0 d1 d2 c.in_ok-first.ensures.word c.in_ok-second.ensures.word in
     record {
-      a = c.in_ok-first.first;
-      b = c.in_ok-second.second;
-      c = c.in_ok-third.third;
-      is = c.nonce_of.ensures;
+      words = c.in_ok-first.first ∷ c.in_ok-second.second ∷ c.in_ok-third.third ∷ [];
+      is = record { a = c.in_ok-first.first; b = c.in_ok-second.second; c = c.in_ok-third.third; words_are = refl; nonce_is = c.nonce_of.ensures };
+      few = omega arith;
       drawn = drawn-join (c.in_ok-first.first ∷ c.in_ok-second.second ∷ []) (c.in_ok-third.third ∷ []) d0 d2 d3 two c.in_ok-third.ensures.word;
     }

@@ -1,0 +1,5 @@
+pub mod Asks
+pub mod Filters
+pub mod Mores
+pub mod Nonces
+pub mod Splits

@@ -1,0 +1,4 @@
+pub mod Ends
+pub mod Keeping
+pub mod News
+pub mod Steps
