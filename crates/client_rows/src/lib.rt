@@ -12,6 +12,8 @@ mod heads;
 #[cfg(test)]
 mod hours;
 #[cfg(test)]
+mod more_words;
+#[cfg(test)]
 mod wants;
 #[cfg(test)]
 mod words;

@@ -221,7 +221,7 @@ pub fn run_client<O: Outbox, I: Inbox, T: Clock, E: Entropy, W: Sink>(
     out: &mut W,
 ) -> ToolStatus
     // What came, what was sent and what is printed, by the status.
-    ensures call { IsCall (map string_bytes words.now) (option_map (λ s. s.now) filed)
+    ensures call { IsCall (map string_bytes words.now) (option_map (λ s. s.now) filed.entry)
         (record {
           left = I.left from.old;
           faults = I.faults from.old;
@@ -240,7 +240,7 @@ pub fn run_client<O: Outbox, I: Inbox, T: Clock, E: Entropy, W: Sink>(
 
     // Words are refused only where they ask for nothing.
     ensures words_refused { result ≡ Statuses.WordsRefused → (ask : ClientAsk) →
-        ¬ (IsAsk (map string_bytes words.now) (option_map (λ s. s.now) filed) ask) }
+        ¬ (IsAsk (map string_bytes words.now) (option_map (λ s. s.now) filed.entry) ask) }
 
     // A fault is told only where a count of faults rose.
     ensures link_fault { result ≡ Statuses.LinkFault →

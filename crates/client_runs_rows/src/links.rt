@@ -3,10 +3,12 @@ ghost use Rattle.std.specs.Prelude.{◌<◌, All, IfOk};
 ghost use Rattle.pcp_io.specs.declared.clocks.TheConstants.{END_OF_TIME_MS};
 
 use client_runs::{ToolStatus, run_client};
+use keep_runs::run_keep;
 use pcp_base::{Address, Datagram, Memory, Octets};
 use pcp_io::{Clock, Inbox, InboxItem, MemoryInbox, MemoryOutbox, MemorySink, StepClock};
 use random_words::ListEntropy;
 use std::alloc::Global;
+use std::sync::Wait;
 
 /// What comes in a turn.
 #[derive(Clone, Copy)]
@@ -15,6 +17,8 @@ pub enum Came {
     Quiet,
     /// These octets, from this address.
     Packet(Address, &'static [u8]),
+    /// These octets, from this address, but with this epoch.
+    At(Address, &'static [u8], u32),
 }
 
 /// The number of the take, the word, the send and the write that fail, from 0; a large one for none.
@@ -67,7 +71,55 @@ fn run_over<I: Inbox, T: Clock>(
     let mut entropy = entropy_of(alloc, failing)?;
     let mut up = outbox_of(alloc, failing)?;
     let mut out = sink_of(alloc, failing)?;
-    let status = run_client(alloc, words, &mut up, from, clock, &mut entropy, &mut out);
+    let status = run_client(
+        alloc,
+        words,
+        None,
+        &mut up,
+        from,
+        clock,
+        &mut entropy,
+        &mut out,
+    );
+    Ok(Ended { status, up, out })
+}
+
+/// Runs `keep` likewise, with the words of `keep`. The clock is read once more before the first turn.
+pub fn keep_in_memory<R: Wait>(
+    rt: &R,
+    alloc: Global,
+    words: &str,
+    turns: &[(u32, Came)],
+    failing: &Failing,
+) -> Result<Ended, Memory> {
+    let words = words_of(alloc, words)?;
+    let mut from = inbox_of(alloc, turns, failing)?;
+    let mut clock = StepClock::new(alloc, times_of(alloc, turns)?)?;
+    keep_over(rt, alloc, &words, &mut from, &mut clock, failing)
+}
+
+fn keep_over<R: Wait, I: Inbox, T: Clock>(
+    rt: &R,
+    alloc: Global,
+    words: &[String],
+    from: &mut I,
+    clock: &mut T,
+    failing: &Failing,
+) -> Result<Ended, Memory> {
+    let mut entropy = entropy_of(alloc, failing)?;
+    let mut up = outbox_of(alloc, failing)?;
+    let mut out = sink_of(alloc, failing)?;
+    let status = run_keep(
+        rt,
+        alloc,
+        words,
+        None,
+        &mut up,
+        from,
+        clock,
+        &mut entropy,
+        &mut out,
+    );
     Ok(Ended { status, up, out })
 }
 
@@ -120,13 +172,33 @@ fn items_of(alloc: Global, turns: &[(u32, Came)]) -> Result<Vec<InboxItem>, Memo
 fn item_of(alloc: Global, came: &Came) -> Result<InboxItem, Memory> {
     match came {
         Came::Quiet => Ok(InboxItem::Quiet),
-        Came::Packet(peer, octets) => Ok(InboxItem::Packet(Datagram {
-            peer: *peer,
-            port: 5351,
-            door: 0,
-            octets: Octets::of(octets.to_vec(alloc)?),
-        })),
+        Came::Packet(peer, octets) => Ok(packet_of(*peer, octets.to_vec(alloc)?)),
+        Came::At(peer, octets, epoch) => {
+            Ok(packet_of(*peer, with_epoch(alloc, octets, *epoch)?))
+        }
     }
+}
+
+fn packet_of(peer: Address, octets: Vec<u8>) -> InboxItem {
+    InboxItem::Packet(Datagram {
+        peer,
+        port: 5351,
+        door: 0,
+        octets: Octets::of(octets),
+    })
+}
+
+// The epoch of a response stands from octet 8 on (RFC 6887, section 7.2).
+fn with_epoch(alloc: Global, octets: &[u8], epoch: u32) -> Result<Vec<u8>, Memory> {
+    let mut text = Vec::new(alloc);
+    for (place, octet) in octets.iter().enumerate() {
+        let octet = match place {
+            8..=11 => epoch.to_be_bytes()[place - 8],
+            _ => *octet,
+        };
+        text.push(octet)?;
+    }
+    Ok(text)
 }
 
 // The run begins at 0.

@@ -1,3 +1,4 @@
 pub mod AskLemmas
 pub mod FilterLemmas
 pub mod MoreLemmas
+pub mod OlderLemmas

@@ -2,4 +2,5 @@ pub mod Asks
 pub mod Filters
 pub mod Mores
 pub mod Nonces
+pub mod OlderWords
 pub mod Splits

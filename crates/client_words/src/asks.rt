@@ -32,7 +32,7 @@ pub fn ask_of(
     filed: Option<&[u8]>,
 ) -> Result<Option<ClientAsk>, Memory>
     ensures { IfOk result
-        (IsOnly (IsAsk (map string_bytes words.now) (option_map (λ s. s.now) filed))) }
+        (IsOnly (IsAsk (map string_bytes words.now) (option_map (λ s. s.now) filed.entry))) }
 {
     let [name, rest @ ..] = words else {
         return Ok(None);
@@ -52,7 +52,7 @@ fn ask_as(
     deletes: bool,
 ) -> Result<Option<ClientAsk>, Memory>
     ensures { IfOk result (IsOnly (IsAskAs verb.now (map string_bytes rest.now)
-        (option_map (λ s. s.now) filed) deletes)) }
+        (option_map (λ s. s.now) filed.entry) deletes)) }
 {
     let command = command_in(alloc, verb, rest)?;
     let more = more_in(alloc, rest, filed)?;

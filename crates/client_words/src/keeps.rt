@@ -27,7 +27,7 @@ pub fn keep_of(
     filed: Option<&[u8]>,
 ) -> Result<Option<KeepAsk>, Memory>
     ensures { IfOk result
-        (IsOnly (IsKeep (map string_bytes words.now) (option_map (λ s. s.now) filed))) }
+        (IsOnly (IsKeep (map string_bytes words.now) (option_map (λ s. s.now) filed.entry))) }
 {
     let [name, rest @ ..] = words else {
         return Ok(None);

@@ -6,15 +6,15 @@ mod asks;
 mod filters;
 mod helps;
 mod keeps;
+mod laws;
 mod more;
 mod nonces;
 mod splits;
-#[cfg(test)]
-mod tests;
 
 pub use asks::{ClientAsk, ask_of};
 pub use filters::MOST_FILTERS;
 pub use helps::help_of;
 pub use keeps::{KeepAsk, keep_of};
+pub use laws::older_words_stay;
 pub use more::More;
 pub use nonces::{nonce_file_of, read_nonce, write_nonce};

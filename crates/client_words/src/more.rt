@@ -64,7 +64,7 @@ pub(crate) fn more_in(
     filed: Option<&[u8]>,
 ) -> Result<Option<More>, Memory>
     ensures { IfOk result (IsOnly (IsMore (map string_bytes words.now)
-        (option_map (λ s. s.now) filed))) }
+        (option_map (λ s. s.now) filed.entry))) }
 {
     let digits = values_in(alloc, words, "--nonce")?;
     let files = values_in(alloc, words, "--nonce-file")?;

@@ -66,7 +66,7 @@ pub(crate) fn nonce_given(
     filed: Option<&[u8]>,
 ) -> Option<Option<Nonce>>
     ensures { result ≡ nonce_given (map (λ s. s.now) digits.now) (map (λ s. s.now) files.now)
-        (option_map (λ s. s.now) filed) }
+        (option_map (λ s. s.now) filed.entry) }
 {
     if digits.len() + files.len() > 1 {
         return None;

@@ -180,3 +180,13 @@ module _ (server : Address) (start : Keeper) (before : Outside) (k : Keeper) (mi
     turned after (Some Statuses.OrderRefused) d = absurd d
     turned after (Some Statuses.Turns) d = absurd d
     turned after (Some Statuses.Stopped) d = absurd d
+
+-- ---- the loop
+
+pub goes_on : (server : Address) (start : Keeper) (before : Outside) (k : Keeper) (now : Outside) (ended : Option ToolStatus) → ended ≡ None
+    → IsTurned server start before k now ended → IsUnderway server start before k now
+goes_on server start before k now ended is h = rw is at h
+
+pub has_ended : (server : Address) (start : Keeper) (before : Outside) (k : Keeper) (now : Outside) (ended : Option ToolStatus) (status : ToolStatus) → ended ≡ Some status
+    → IsTurned server start before k now ended → EndsKeep server start before now status
+has_ended server start before k now ended status is h = rw is at h

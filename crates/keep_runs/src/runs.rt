@@ -120,7 +120,7 @@ pub fn run_keep<R: Wait, O: Outbox, I: Inbox, T: Clock, E: Entropy, W: Sink>(
     entropy: &mut E,
     out: &mut W,
 ) -> ToolStatus
-    ensures { IsKeepCall (map string_bytes words.now) (option_map (λ s. s.now) filed)
+    ensures { IsKeepCall (map string_bytes words.now) (option_map (λ s. s.now) filed.entry)
         (record {
           links = record {
             left = I.left from.old;
