@@ -46,7 +46,7 @@ tries_some given n h = number_above tries_range n 1 refl (default_above 5 1 (ome
 lifetime_some : (given : Option (List ℕ)) (n : ℕ) → IsNumberAt lifetime_range given n → 0 < n
 lifetime_some given n h = number_above lifetime_range n 1 refl (default_above 7200 1 (omega arith)) given h
 
-by_command : (words rest : List (List ℕ)) (filed : Option (List ℕ)) (more : More) → IsMore rest filed more → (command : ClientCommand) → IsCommand words command → CanBeAsked command more
+pub by_command : (words rest : List (List ℕ)) (filed : Option (List ℕ)) (more : More) → IsMore rest filed more → (command : ClientCommand) → IsCommand words command → CanBeAsked command more
 by_command words rest filed more is (Map t w) h =
     (tries_some _ t.tries h.1.said.0.tries, lifetime_some _ w.mapping.lifetime h.1.said.1.mapping.lifetime, omega (arith, is.few, as_many _ more.filters is.filters))
 by_command words rest filed more is (Peer t w) h = (tries_some _ t.tries h.1.said.0.tries, lifetime_some _ w.mapping.lifetime h.1.said.1.mapping.lifetime)

@@ -1,5 +1,5 @@
 -- What the words ask for, and that alone.
-use Rattle.std.proofs.Common.{◌≡◌, true, false, List, [], ◌∷◌, Option, Some, None, refl, sym, subst, ap, ◌∙◌, codes}
+use Rattle.std.proofs.Common.{◌≡◌, ◌≤◌, true, false, List, [], ◌∷◌, map, length, get_or, Option, Some, None, refl, sym, subst, ap, ◌∙◌, codes}
 use Rattle.std.specs.Prelude.{Bool, ◌&&◌, ◌||◌, not, is_some, if◌then◌else◌}
 use Rattle.std.specs.List.{list_any}
 use Rattle.clap.specs.Words.{Text}
@@ -14,6 +14,7 @@ use Rattle.client_words.specs.Asks.{IsAsk, IsAskAs, IsKeep, ask_with, begins, fi
 use Rattle.client_words.specs.Mores.{IsMore}
 use Rattle.client_words.specs.Splits.{plain_in}
 use Rattle.client_words.proofs.FilterLemmas.{none_is, the_one}
+use Rattle.client_words.proofs.ListLemmas.{rest_of, shape_by}
 
 abbrev may : Bool → ClientCommand → More → Bool
 may deletes command more = fits command more && (not deletes || is_some more.nonce)
@@ -86,3 +87,10 @@ module _ (name : Text) (rest : List Text) (filed : Option Text) where
 
 pub no_keep : (filed : Option Text) → IsOnly (IsKeep [] filed) None
 no_keep filed = record { value = tt; only = λ k is. absurd (let none : None ≡ Some (codes "keep") = is.named in cc) }
+
+pub keep_by : {A : Type 0} (f : A → Text) (xs : List A) (x : A) (filed : Option Text) (c : Option ClientCommand) (m : Option More) (found : Option KeepAsk)
+    → 1 ≤ length xs → x ≡ get_or xs 0 x → f x ≡ codes "keep" → list_any (begins (codes "--tries")) (map f (rest_of xs)) ≡ false
+    → IsOnly (IsCommand (codes "map" ∷ plain_in (map f (rest_of xs)))) c → IsOnly (IsMore (map f (rest_of xs)) filed) m → found ≡ keep_with c m
+    → IsOnly (IsKeep (map f xs) filed) found
+keep_by f xs x filed c m found some first named free hc hm is =
+    rw (is, shape_by f xs x (f x) some (ap f first)) (keep_only (f x) (map f (rest_of xs)) filed c m named free hc hm)

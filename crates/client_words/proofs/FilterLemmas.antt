@@ -1,13 +1,15 @@
 -- Filters in text are read, and no others.
-use Rattle.std.proofs.Common.{◌≡◌, ℕ, true, false, List, [], ◌∷◌, ◌++◌, length, Option, Some, None, suc, refl, sym, subst, ap, ◌∙◌, append-nil, append_assoc}
+use Rattle.std.proofs.Common.{◌≡◌, ℕ, ◌≤◌, true, false, List, [], ◌∷◌, ◌++◌, map, length, get_or, Option, Some, None, suc, refl, sym, subst, ap, ◌∙◌, append-nil, append_assoc}
 use Rattle.std.specs.Prelude.{Bool, Result, Ok, Err, IfOk, IfSome, OnErr}
 use Rattle.clap.specs.Words.{Text}
 use Rattle.pcp_base.specs.AddressTexts.{IsPrefixText}
 use Rattle.pcp_base.specs.declared.addresses.NotPrefix.{NotPrefix}
+use Rattle.pcp_base.specs.declared.errors.Memory.{Memory}
 use Rattle.pcp_base.specs.declared.addresses.Prefix.{Prefix}
 use Rattle.pcp_base.specs.declared.leases.Filter.{Filter}
 use Rattle.client_commands.specs.Commands.{IsOnly}
 use Rattle.client_commands.specs.Values.{IsNumberAt, IsNumberText}
+use Rattle.client_words.proofs.ListLemmas.{rest_of, shape_by}
 use Rattle.client_words.specs.Filters.{AddsAll, AddsFilters, AreFilters, IsFilterText, before_comma, behind_comma, filter_with, prefix_of, remote_range}
 
 -- what is found is what is such
@@ -105,3 +107,22 @@ as_many [] [] are = refl
 as_many [] (f ∷ fs) are = absurd are
 as_many (t ∷ ts) [] are = absurd are
 as_many (t ∷ ts) (f ∷ fs) are = ap suc (as_many ts fs are.1)
+
+-- ---- by the items of a list
+
+module _ {A : Type 0} (f : A → Text) (xs : List A) (d : A) (t : Text) (some : 1 ≤ length xs) (first : t ≡ f (get_or xs 0 d)) where
+  pub adds_not_by : (r : Option Filter) (old new : List Filter) → r ≡ None → IsOnly (IsFilterText t) r → AddsFilters (map f xs) old new false
+  adds_not_by r old new none is =
+      subst (λ (texts : List Text). AddsFilters texts old new false) (sym (shape_by f xs d t some first))
+      (adds_not t (map f (rest_of xs)) old new (subst (IsOnly (IsFilterText t)) none is))
+
+  adds_all_by : (filter : Filter) (old mid new : List Filter) (b : Bool) → IsOnly (IsFilterText t) (Some filter) → mid ≡ old ++ filter ∷ []
+      → AddsFilters (map f (rest_of xs)) mid new b → AddsFilters (map f xs) old new b
+  adds_all_by filter old mid new b is pushed all =
+      subst (λ (texts : List Text). AddsFilters texts old new b) (sym (shape_by f xs d t some first))
+      (adds_more t (map f (rest_of xs)) old mid new filter b is pushed all)
+
+  pub adds_more_by : (r : Option Filter) (filter : Filter) (old mid new : List Filter) (result : Result Bool Memory) → r ≡ Some filter → IsOnly (IsFilterText t) r
+      → mid ≡ old ++ filter ∷ [] → IfOk result (AddsFilters (map f (rest_of xs)) mid new) → IfOk result (AddsFilters (map f xs) old new)
+  adds_more_by r filter old mid new (Ok b) found is pushed all = adds_all_by filter old mid new b (subst (IsOnly (IsFilterText t)) found is) pushed all
+  adds_more_by r filter old mid new (Err e) found is pushed all = tt

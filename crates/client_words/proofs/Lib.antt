@@ -1,4 +1,5 @@
 pub mod AskLemmas
 pub mod FilterLemmas
+pub mod ListLemmas
 pub mod MoreLemmas
 pub mod OlderLemmas

@@ -38,6 +38,7 @@ says_nothing : (rest : List Text) → list_any is_more rest ≡ false → IsMore
 says_nothing rest none = record {
   nonce = rw (no_values (codes "--nonce") rest none, no_values (codes "--nonce-file") rest none) refl;
   third = rw (no_values (codes "--third-party") rest none) refl;
+  once = rw (no_values (codes "--third-party") rest none) (omega arith);
   filters = rw (no_values (codes "--filter") rest none) tt;
   few = rw (no_values (codes "--filter") rest none) (omega arith);
 }

@@ -69,7 +69,10 @@ fn begins(word: &str, name: &[u8]) -> bool
 pub(crate) fn has_option(words: &[String], name: &[u8]) -> bool
     ensures { result ≡ list_any (begins name.now) (map string_bytes words.now) }
 {
-    words.iter().any(|word| begins(word, name))
+    match words {
+        [] => false,
+        [word, rest @ ..] => begins(word, name) || has_option(rest, name),
+    }
 }
 
 fn deleted_verb(rest: &[String]) -> &'static str

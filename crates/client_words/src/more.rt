@@ -1,8 +1,8 @@
 //! What the options among the words say of a mapping.
-ghost use Rattle.std.specs.Prelude.{◌≡◌, IfOk, map, option_map, string_bytes};
+ghost use Rattle.std.specs.Prelude.{◌≡◌, Some, IfOk, map, option_map, string_bytes};
 ghost use Rattle.pcp_base.specs.AddressTexts.{IsAddressText};
 ghost use Rattle.client_commands.specs.Commands.{IsOnly};
-ghost use Rattle.client_words.specs.Mores.{IsMore, IsThird, more_with};
+ghost use Rattle.client_words.specs.Mores.{IsMore, IsThirdAt, more_with};
 
 use crate::filters::{MOST_FILTERS, filters_of};
 use crate::nonces::nonce_given;
@@ -30,17 +30,20 @@ fn address_of(text: &[u8]) -> Option<Address>
     }
 }
 
-/// The third host; in it none where none is given.
-fn third_in(texts: &[&str]) -> Option<Option<Address>>
-    ensures { IsOnly (IsThird (map (λ s. s.now) texts.now)) result }
+fn third_with(address: Option<Address>) -> Option<Option<Address>>
+    ensures { result ≡ option_map (λ a. Some a) address }
 {
-    let [text, others @ ..] = texts else {
-        return Some(None);
-    };
-    if !others.is_empty() {
-        return None;
+    Some(Some(address?))
+}
+
+/// The third host; in it none where none is given.
+fn third_at(given: Option<&str>) -> Option<Option<Address>>
+    ensures { IsOnly (IsThirdAt (option_map (λ s. s.now) given.entry)) result }
+{
+    match given {
+        Some(text) => third_with(address_of(text.as_bytes())),
+        None => Some(None),
     }
-    Some(Some(address_of(text.as_bytes())?))
 }
 
 fn more_with(
@@ -73,10 +76,13 @@ pub(crate) fn more_in(
     if texts.len() > MOST_FILTERS {
         return Ok(None);
     }
+    if thirds.len() > 1 {
+        return Ok(None);
+    }
     let filters = filters_of(alloc, &texts)?;
     Ok(more_with(
         nonce_given(&digits, &files, filed),
-        third_in(&thirds),
+        third_at(thirds.first().copied()),
         filters,
     ))
 }
