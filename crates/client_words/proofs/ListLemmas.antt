@@ -1,5 +1,5 @@
 -- Lists that begin with an item, as a slice pattern tells it.
-use Rattle.std.proofs.Common.{◌≡◌, List, [], ◌∷◌, ℕ, ◌-◌, ◌≤◌, map, take, drop, length, get_or, refl, ap, ◌∙◌, arith}
+use Rattle.std.proofs.Common.{◌≡◌, List, [], ◌∷◌, ℕ, suc, ◌-◌, ◌≤◌, map, take, drop, length, get_or, refl, ap, ◌∙◌, arith}
 use Rattle.std.proofs.lemmas.List.{take_all}
 
 abbrev pub rest_of : {X : Type 0} → List X → List X
@@ -16,3 +16,7 @@ shape_by f [] d t some is = absurd (let none : 1 ≤ 0 = some in omega (arith, n
 shape_by f (x ∷ xs) d t some is =
     let same : t ≡ f x = is in
     rw (rest_is x xs, same) refl
+
+pub as_long : {A B : Type 0} (f : A → B) (xs : List A) → length (map f xs) ≡ length xs
+as_long f [] = refl
+as_long f (x ∷ xs) = ap suc (as_long f xs)

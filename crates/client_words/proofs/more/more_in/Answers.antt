@@ -1,9 +1,10 @@
-use Rattle.std.proofs.Common.{◌≡◌, ◌≤◌, List, map, length, ℕ, subst, arith, rules, length-map}
+use Rattle.std.proofs.Common.{◌≡◌, ◌≤◌, List, map, length, ℕ, subst, arith, rules}
 use Rattle.std.specs.Prelude.{option_map, slice_get}
 use Rattle.std.specs.Borrow.{Bor}
 use Rattle.client_commands.specs.Commands.{IsOnly}
 use Rattle.client_words.specs.Filters.{AreFilters}
 use Rattle.client_words.specs.Mores.{IsThirdAt}
+use Rattle.client_words.proofs.ListLemmas.{as_long}
 use Rattle.client_words.proofs.MoreLemmas.{more_by}
 use Rattle.client_words.proofs.more.more_in.Goals as goal
 
@@ -18,6 +19,6 @@ returns c =
     (rw (c.deref-2.ensures.value, c.deref-3.ensures.value) at c.nonce_given.ensures)
     (subst (λ o. IsOnly (IsThirdAt o) c.third_at.result) third c.third_at.ensures)
     (rw c.deref.ensures.value at c.in_ok-filters.ensures)
-    (omega (arith, c.if-len-gt1.false, c.len-2.ensures, length-map (λ (s : Bor (List ℕ)). s.now) c.in_ok-thirds.thirds.items))
-    (omega (arith, c.if-len-gt-MOST_FILTERS.false, c.len.ensures, length-map (λ (s : Bor (List ℕ)). s.now) c.in_ok-texts.texts.items))
+    (omega (arith, c.if-len-gt1.false, c.len-2.ensures, as_long (λ (s : Bor (List ℕ)). s.now) c.in_ok-thirds.thirds.items))
+    (omega (arith, c.if-len-gt-MOST_FILTERS.false, c.len.ensures, as_long (λ (s : Bor (List ℕ)). s.now) c.in_ok-texts.texts.items))
     c.more_with.ensures
