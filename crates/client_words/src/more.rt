@@ -6,7 +6,7 @@ ghost use Rattle.client_words.specs.Mores.{IsMore, IsThirdAt, more_with};
 
 use crate::filters::{MOST_FILTERS, filters_of};
 use crate::nonces::nonce_given;
-use crate::splits::values_in;
+use crate::splits::{first_of, values_in};
 use pcp_base::{Address, Filter, FilterList, Memory, Nonce};
 use std::alloc::Global;
 
@@ -82,7 +82,7 @@ pub(crate) fn more_in(
     let filters = filters_of(alloc, &texts)?;
     Ok(more_with(
         nonce_given(&digits, &files, filed),
-        third_at(thirds.first().copied()),
+        third_at(first_of(&thirds)),
         filters,
     ))
 }

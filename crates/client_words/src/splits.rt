@@ -1,5 +1,5 @@
 //! Options that stand among the words of an older command.
-ghost use Rattle.std.specs.Prelude.{◌≡◌, [], ◌∷◌, ◌++◌, IfOk, OnOk, map, string_bytes};
+ghost use Rattle.std.specs.Prelude.{◌≡◌, [], ◌∷◌, ◌++◌, IfOk, OnOk, map, option_map, slice_get, string_bytes};
 ghost use Rattle.client_words.specs.Splits.{is_more, plain_in, values_in};
 
 use pcp_base::Memory;
@@ -78,4 +78,11 @@ pub(crate) fn values_in<'a>(
     let mut values = Vec::new(alloc);
     push_values(words, name, &mut values)?;
     Ok(values)
+}
+
+/// The first of the texts.
+pub(crate) fn first_of<'a>(texts: &[&'a str]) -> Option<&'a str>
+    ensures { option_map (λ s. s.now) result ≡ slice_get (map (λ s. s.now) texts.now) 0 }
+{
+    texts.first().copied()
 }

@@ -1,4 +1,4 @@
-use Rattle.std.proofs.Common.{◌≡◌, ◌≤◌, List, map, length, ℕ, subst, arith, rules}
+use Rattle.std.proofs.Common.{◌≡◌, ◌≤◌, List, map, length, ℕ, subst, arith}
 use Rattle.std.specs.Prelude.{option_map, slice_get}
 use Rattle.std.specs.Borrow.{Bor}
 use Rattle.client_commands.specs.Commands.{IsOnly}
@@ -13,7 +13,7 @@ texts items = map (λ s. s.now) items
 
 pub returns : goal.returns
 returns c =
-    let third : option_map (λ s. s.now) c.copied.result ≡ slice_get (texts c.in_ok-thirds.thirds.items) 0 = search rules in
+    let third : option_map (λ s. s.now) c.first_of.result ≡ slice_get (texts c.in_ok-thirds.thirds.items) 0 = rw c.deref-4.ensures.value at c.first_of.ensures in
     more_by _ _ (texts c.in_ok-digits.digits.items) (texts c.in_ok-files.files.items) (texts c.in_ok-thirds.thirds.items) (texts c.in_ok-texts.texts.items)
     c.nonce_given.result c.third_at.result _ c.more_with.result c.in_ok-digits.ensures c.in_ok-files.ensures c.in_ok-thirds.ensures c.in_ok-texts.ensures
     (rw (c.deref-2.ensures.value, c.deref-3.ensures.value) at c.nonce_given.ensures)
