@@ -1,8 +1,9 @@
 -- Calls put together of their parts.
 use Rattle.std.proofs.Common.{◌≡◌, ℕ, ◌<◌, ◌≤◌, ◌⊎◌, Bool, true, false, cond, List, [], ◌∷◌, ◌++◌, length, Option, None, Some, Result, Ok, Err, refl, sym, ap, subst, ◌∙◌, inl, inr, arith, length-append}
-use Rattle.std.specs.Prelude.{OnErr}
+use Rattle.std.specs.Prelude.{IfOk, OnErr}
 use Rattle.pcp_base.specs.declared.addresses.Address.{Address}
 use Rattle.pcp_base.specs.declared.addresses.Nonce.{Nonce}
+use Rattle.pcp_base.specs.declared.asks.Ask.{Ask}
 use Rattle.pcp_io.specs.Times.{IsTimeNow, Times}
 use Rattle.pcp_io.specs.Faults.{HasRisen}
 use Rattle.pcp_options.specs.declared.responses.Response.{Response}
@@ -22,15 +23,15 @@ use Rattle.tool_commands.specs.declared.statuses.ToolStatus.{ToolStatus}
 use Rattle.tool_commands.specs.declared.statuses.ToolStatus.TheVariants as Statuses
 use Rattle.client_runs.specs.declared.tries.Unanswered.{Unanswered}
 use Rattle.client_runs.specs.declared.tries.Unanswered.TheVariants as Reasons
-use Rattle.client_runs.specs.Askers.{EpochAsker, announcing, new_epoch_asker, started, wanting}
+use Rattle.client_runs.specs.Askers.{EpochAsker, announcing, ending_from, new_epoch_asker, started, wanting, wanting_from}
 use Rattle.client_runs.specs.Asking.{CanBeAsked, asked_by, target_of}
 use Rattle.client_runs.specs.Calls.{AsksEpoch, HasAsked, HasReason, HasRun, HasWanted, IsTold, NeverAsked, NonceBy, Runs, opening, status_without, traffic_of}
 use Rattle.client_runs.specs.Lines.{does}
 use Rattle.client_runs.specs.Links.{Drawing, Links, Passed, WordsDrawn, no_traffic}
-use Rattle.client_runs.specs.Openings.{LacksWord, Wants}
+use Rattle.client_runs.specs.Openings.{HasNonce, LacksWord, Wants}
 use Rattle.client_runs.specs.Runs.{Asking}
 use Rattle.client_runs.specs.Underway.{IsOver, NeverBegan}
-use Rattle.client_runs.proofs.LinkLemmas.{items-none, passed-join, requests-none, risen_after}
+use Rattle.client_runs.proofs.LinkLemmas.{drawn-none, items-none, passed-join, requests-none, risen_after}
 
 -- what the words say can be asked for
 number_above : (range : NumberRange) (n : ℕ) (low : ℕ) → range.low ≡ low → ((m : ℕ) → range.default ≡ Some m → low ≤ m) → (given : Option (List ℕ)) → IsNumberAt range given n → low ≤ n
@@ -264,3 +265,19 @@ told_not ask response before now status (inr (inr t)) bad = subst IsUntold t.0 b
 
 pub is_told : (ask : ClientAsk) (response : Response) (before now : Option (List ℕ)) (status bad : ToolStatus) → IsTold ask (Ok response) before now status → status ≡ bad → IsUntold bad → ⊥
 is_told ask response before now status bad t is h = told_not ask response before now status t (subst IsUntold (sym is) h)
+
+-- the nonce that is given, and one that is drawn
+pub given_nonce : (given : Option Nonce) (nonce : Nonce) (d : Drawing) → given ≡ Some nonce → HasNonce given d d nonce
+given_nonce given nonce d is = rw is (record { words = []; is = (refl, refl); few = omega arith; drawn = drawn-none d })
+
+pub drawn_nonce : (given : Option Nonce) (d d' : Drawing) (r : Result Nonce Unanswered) → given ≡ None → IfOk r (HasNonce None d d') → IfOk r (HasNonce given d d')
+drawn_nonce given d d' r is h = rw is h
+
+-- a client that wants what is asked for, and one that has it deleted
+pub starts_ending : (ask : ClientAsk) (target : Target) (nonce : Nonce) (time : ℕ) (wanted : Ask) (r : Result ClientView Unanswered) → ask.deletes ≡ true → target ≡ target_of ask.command
+    → wanted ≡ asked_by ask.command ask.more nonce → IfOk r (λ client. client ≡ ending_from target ask.more.third wanted time) → IfOk r (λ client. client ≡ started ask nonce time)
+starts_ending ask target nonce time wanted r deletes is asks h = rw deletes (rw (is, asks) at h)
+
+pub starts_wanting : (ask : ClientAsk) (target : Target) (nonce : Nonce) (time : ℕ) (wanted : Ask) (r : Result ClientView Unanswered) → ask.deletes ≡ false → target ≡ target_of ask.command
+    → wanted ≡ asked_by ask.command ask.more nonce → IfOk r (λ client. client ≡ wanting_from target ask.more.third wanted time) → IfOk r (λ client. client ≡ started ask nonce time)
+starts_wanting ask target nonce time wanted r deletes is asks h = rw deletes (rw (is, asks) at h)
