@@ -30,13 +30,21 @@ static WORDS: [(&str, &str, bool); 24] = [
     (MAP, " --nonce", false),
     (MAP, " --nonce=000102030405060708090a0b", false),
     (MAP, " --nonce-file x", true),
-    (MAP, " --nonce-file x --nonce 000102030405060708090a0b", false),
+    (
+        MAP,
+        " --nonce-file x --nonce 000102030405060708090a0b",
+        false,
+    ),
     (MAP, " --nonce-file x --nonce-file x", false),
     (MAP, " --third-party 10.0.0.6", true),
     (MAP, " --third-party host", false),
     (MAP, " --third-party 10.0.0.6 --third-party 10.0.0.7", false),
     (MAP, " --filter 198.51.100.0/24", true),
-    (MAP, " --filter 198.51.100.0/24,443 --filter 2001:db8::/32,1", true),
+    (
+        MAP,
+        " --filter 198.51.100.0/24,443 --filter 2001:db8::/32,1",
+        true,
+    ),
     (MAP, " --filter 198.51.100.0", false),
     (MAP, " --filter 198.51.100.0/24,0", false),
     (MAP, " --filter 198.51.100.0/24,65536", false),
@@ -108,9 +116,21 @@ fn few_filters_are_taken(rt: HostRuntime) -> Result<(), Fail> {
 
 // Words of `keep`, and whether they are such.
 static KEEPS: [(&str, &str, bool); 4] = [
-    ("keep --server 192.0.2.9 --own 10.0.0.5 --protocol tcp --port 443", "", true),
-    ("keep --server 192.0.2.9 --own 10.0.0.5 --protocol tcp --port 443", " --tries 2", false),
-    ("keep --server 192.0.2.9 --own 10.0.0.5 --protocol tcp --port 443", " --size 2 --nonce-file x", true),
+    (
+        "keep --server 192.0.2.9 --own 10.0.0.5 --protocol tcp --port 443",
+        "",
+        true,
+    ),
+    (
+        "keep --server 192.0.2.9 --own 10.0.0.5 --protocol tcp --port 443",
+        " --tries 2",
+        false,
+    ),
+    (
+        "keep --server 192.0.2.9 --own 10.0.0.5 --protocol tcp --port 443",
+        " --size 2 --nonce-file x",
+        true,
+    ),
     (MAP, "", false),
 ];
 

@@ -168,12 +168,7 @@ fn answer_to<O: Outbox, I: Inbox, T: Clock, E: Entropy>(
 }
 
 /// Prints what a server answered.
-fn tell<W: Sink>(
-    alloc: Global,
-    asked: &ClientAsk,
-    response: &Response,
-    out: &mut W,
-) -> ToolStatus
+fn tell<W: Sink>(alloc: Global, asked: &ClientAsk, response: &Response, out: &mut W) -> ToolStatus
     ensures told { IsTold asked.now (Ok response.now) (W.held out.old) (W.held out.new) result }
     ensures write_fault { result ≡ Statuses.WriteFault →
         HasRisen (W.faults out.old) (W.faults out.new) }

@@ -3,8 +3,8 @@ ghost use Rattle.std.specs.Prelude.{◌≡◌, ◌++◌, IfOk, OnOk, codes};
 ghost use Rattle.client_runs.specs.Lines.{answer_line, deletion_text, does, granted_text, grants, is_success, line_of, refusal_text, size_field, spaced, status_of, success_text, text_of};
 
 use client_commands::ClientCommand;
-use client_words::ClientAsk;
 use client_core::set_size;
+use client_words::ClientAsk;
 use pcp_base::Memory;
 use pcp_codec::{Body, Common};
 use pcp_options::Response;

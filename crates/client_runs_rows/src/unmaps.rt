@@ -47,7 +47,13 @@ fn a_mapping_is_deleted(rt: HostRuntime) -> Result<(), Fail> {
     let ended = run_in_memory(rt.alloc(), UNMAP, &turns, &SOUND)?;
     assert!(rt; ended.status == ToolStatus::Done);
     assert!(rt; ended.out.held() == b"deleted 10\n".as_slice());
-    assert!(rt; ended.up.sent().iter().all(|sent| sent.octets.items() == DELETION.as_slice()));
+    assert!(rt;
+        ended
+            .up
+            .sent()
+            .iter()
+            .all(|sent| sent.octets.items() == DELETION.as_slice())
+    );
     Ok(())
 }
 
@@ -64,6 +70,12 @@ fn a_deletion_is_refused(rt: HostRuntime) -> Result<(), Fail> {
 fn what_the_words_say_is_asked(rt: HostRuntime) -> Result<(), Fail> {
     let ended = run_in_memory(rt.alloc(), MAP, &[], &SOUND)?;
     assert!(rt; ended.status == ToolStatus::Stopped && ended.up.sent().len() == 1);
-    assert!(rt; ended.up.sent().iter().all(|sent| sent.octets.items() == MAP_REQUEST.as_slice()));
+    assert!(rt;
+        ended
+            .up
+            .sent()
+            .iter()
+            .all(|sent| sent.octets.items() == MAP_REQUEST.as_slice())
+    );
     Ok(())
 }

@@ -113,11 +113,7 @@ fn fits(command: &ClientCommand, more: &More) -> bool
     }
 }
 
-fn ask_with(
-    deletes: bool,
-    command: Option<ClientCommand>,
-    more: Option<More>,
-) -> Option<ClientAsk>
+fn ask_with(deletes: bool, command: Option<ClientCommand>, more: Option<More>) -> Option<ClientAsk>
     ensures { result ≡ ask_with deletes command more }
 {
     let command = command?;

@@ -12,7 +12,8 @@ Options of the mapping, each with its value in the next word:
 ";
 
 /// The one that a MAP alone may have.
-const FILTER: &str = "      --filter <PREFIX[,PORT]>  A remote peer that may send to it, up to 8 times
+const FILTER: &str =
+    "      --filter <PREFIX[,PORT]>  A remote peer that may send to it, up to 8 times
 
 Example: pcp map --server 192.0.2.9 --own 10.0.0.5 --protocol udp --port 5000 --nonce-file port-5000.nonce
 ";
@@ -63,11 +64,7 @@ fn told(alloc: Global, text: &str) -> Result<Option<String>, Memory> {
 }
 
 /// The text of an older command's help, and more behind it.
-fn with_text(
-    alloc: Global,
-    words: &[String],
-    more: &[&str],
-) -> Result<Option<String>, Memory> {
+fn with_text(alloc: Global, words: &[String], more: &[&str]) -> Result<Option<String>, Memory> {
     let Some(help) = client_commands::help_of(alloc, words)? else {
         return Ok(None);
     };
