@@ -43,8 +43,8 @@ module _ (server : Address) (k : Keeper) (packet : Option Datagram) (time : ℕ)
   pub lacks_word : (old new : Sides) → has_use k packet time ≡ true → new.drawing.words ≡ old.drawing.words → old.drawing.faults ≤ new.drawing.faults
       → HasRisen old.drawing.faults new.drawing.faults → new.sending ≡ old.sending → new.held ≡ old.held → new.faults ≡ old.faults
       → LacksItsWord server k k packet time old new
-  lacks_word old new use same later fault sending held faults = record {
-    use = use;
+  lacks_word old new needed same later fault sending held faults = record {
+    needed = needed;
     words = none_drawn old.drawing new.drawing same later;
     fault = fault;
     stays = (sending, held, faults);
@@ -60,24 +60,24 @@ module _ (server : Address) (k : Keeper) (packet : Option Datagram) (time : ℕ)
   }
 
   -- a step was made, and what it gives was handed on
-  module _ (after : Keeper) (word : ℕ) (lines : List ℕ) (request : Option (List ℕ)) (old new : Sides) (use : has_use k packet time ≡ true)
+  module _ (after : Keeper) (word : ℕ) (lines : List ℕ) (request : Option (List ℕ)) (old new : Sides) (needed : has_use k packet time ≡ true)
       (after_is : after ≡ stepped k packet time word) (lines_are : lines ≡ step_lines k packet time word) (request_is : request ≡ step_request k packet time word)
       (drawn : WordsDrawn (word ∷ []) old.drawing new.drawing) where
     pub acted : (result : Option ToolStatus) → Acts server lines request result old.held new.held old.faults new.faults old.sending new.sending
         → IsDone server k after packet time old new result
     acted None did = record {
       word = word;
-      keeper = rw use after_is;
-      words = rw use drawn;
-      requests = rw use (subst (λ (r : Option (List ℕ)). RequestsWent server (option_to_list r) old.sending new.sending) request_is did.2);
-      lines = rw use (subst (λ (l : List ℕ). new.held ≡ append_known old.held l) lines_are did.0);
+      keeper = rw needed after_is;
+      words = rw needed drawn;
+      requests = rw needed (subst (λ (r : Option (List ℕ)). RequestsWent server (option_to_list r) old.sending new.sending) request_is did.2);
+      lines = rw needed (subst (λ (l : List ℕ). new.held ≡ append_known old.held l) lines_are did.0);
       later = did.1;
     }
     acted (Some Statuses.WriteFault) did = record {
       word = word;
       words = drawn;
       sending = did.2;
-      part = rw (use, sym lines_are) did.0;
+      part = rw (needed, sym lines_are) did.0;
       fault = did.1;
     }
     acted (Some Statuses.Done) did = absurd did

@@ -129,7 +129,7 @@ module _ (server : Address) (start : Keeper) (before : Outside) (k : Keeper) (mi
     over_entropy after l = record {
       turns = u.turns;
       last = the_turn 0;
-      use = subst (λ (q : Keeper). has_use q (packet_of item) time ≡ true) (sym u.keeper_is) l.use;
+      needed = subst (λ (q : Keeper). has_use q (packet_of item) time ≡ true) (sym u.keeper_is) l.needed;
       ends = record { passed = passed_in [] [] l.words (none_went l.stays.0); told = l.stays.1 ∙ u.keeps.told };
       fault = risen_after before.links.drawing.faults mid.links.drawing.faults now.links.drawing.faults u.keeps.passed.words.later l.fault;
     }

@@ -54,7 +54,7 @@ module _ (server : Address) (k : Keeper) (old new : Outside) where
   pub record EndsByEntropy : Type 0 where
     pub turns : List Turn
     pub last : Turn
-    pub use : has_use (kept k turns).keeper (packet_of last.item) last.time ≡ true
+    pub needed : has_use (kept k turns).keeper (packet_of last.item) last.time ≡ true
     pub ends : EndsSilent turns last []
     pub fault : HasRisen old.links.drawing.faults new.links.drawing.faults
 

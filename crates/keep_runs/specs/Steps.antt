@@ -53,7 +53,7 @@ module _ (server : Address) (k after : Keeper) (packet : Option Datagram) (time 
 
   -- no word was found
   pub record LacksItsWord : Type 0 where
-    pub use : has_use k packet time ≡ true
+    pub needed : has_use k packet time ≡ true
     pub words : WordsDrawn [] old.drawing new.drawing
     pub fault : HasRisen old.drawing.faults new.drawing.faults
     pub stays : Stays old new

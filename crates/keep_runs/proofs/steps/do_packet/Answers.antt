@@ -12,8 +12,8 @@ returns-then-not g c =
 
 pub returns-in_default : goal.returns-in_default
 returns-in_default g c =
-    let use : has_use c.args.keeper.now c.args.packet.now c.args.now_ms ≡ true = search rules in
-    lacks_word c.args.server c.args.keeper.now c.args.packet.now c.args.now_ms _ _ use (search rules) c.word.ensures.cause.later (c.word.ensures.cause.failed (search rules)) refl refl refl
+    let needed : has_use c.args.keeper.now c.args.packet.now c.args.now_ms ≡ true = search rules in
+    lacks_word c.args.server c.args.keeper.now c.args.packet.now c.args.now_ms _ _ needed (search rules) c.word.ensures.cause.later (c.word.ensures.cause.failed (search rules)) refl refl refl
 
 pub returns-in_default-2 : goal.returns-in_default-2
 returns-in_default-2 g c =
@@ -23,8 +23,8 @@ returns-in_default-2 g c =
 
 pub returns : goal.returns
 returns g c =
-    let use : has_use c.args.keeper.now c.args.packet.now c.args.now_ms ≡ true = search rules in
+    let needed : has_use c.args.keeper.now c.args.packet.now c.args.now_ms ≡ true = search rules in
     let d : Drawing = record { words = g.E.Entropy.words c.args.entropy.now; faults = g.E.Entropy.faults c.args.entropy.now } in
     let d' : Drawing = record { words = g.E.Entropy.words c.word.new.self; faults = g.E.Entropy.faults c.word.new.self } in
-    acted c.args.server c.args.keeper.now c.args.packet.now c.args.now_ms c.step.new.keeper c.in-Ok.word _ _ _ _ use (search rules) (search rules) (search rules)
+    acted c.args.server c.args.keeper.now c.args.packet.now c.args.now_ms c.step.new.keeper c.in-Ok.word _ _ _ _ needed (search rules) (search rules) (search rules)
     (one_drawn c.in-Ok.word d d' c.in-Ok.ensures.gives c.word.ensures.cause.later) c.act.result c.act.ensures
