@@ -6,7 +6,7 @@ use client_core::{EpochFound, HeldLease, What};
 use pcp_base::Memory;
 
 /// What was told last.
-#[derive(Clone, Copy, Drop)]
+#[derive(Clone, Copy)]
 pub(crate) struct Told {
     /// The lease; none before the first, and behind a loss.
     pub(crate) lease: Option<HeldLease>,

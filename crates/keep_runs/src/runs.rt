@@ -152,17 +152,20 @@ pub fn run_keep<R: Wait, O: Outbox, I: Inbox, T: Clock, E: Entropy, W: Sink>(
     };
     let server = asked.target.server;
     match begin(alloc, &asked, clock, entropy) {
-        Ok(mut keeper) => keep(
-            rt,
-            alloc,
-            server,
-            &mut keeper,
-            up,
-            from,
-            clock,
-            entropy,
-            out,
-        ),
+        Ok(keeper) => {
+            let mut keeper = keeper;
+            keep(
+                rt,
+                alloc,
+                server,
+                &mut keeper,
+                up,
+                from,
+                clock,
+                entropy,
+                out,
+            )
+        }
         Err(why) => status_without(why),
     }
 }

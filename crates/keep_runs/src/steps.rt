@@ -153,8 +153,8 @@ pub(crate) fn do_packet<O: Outbox, E: Entropy, W: Sink>(
     let Ok(word) = entropy.word() else {
         return Some(ToolStatus::EntropyFault);
     };
-    let Ok(step) = step(alloc, keeper, packet, now_ms, word) else {
+    let Ok(given) = step(alloc, keeper, packet, now_ms, word) else {
         return Some(ToolStatus::Memory);
     };
-    act(server, &step, up, out)
+    act(server, &given, up, out)
 }
