@@ -5,12 +5,13 @@ use Rattle.std.specs.Io.KnownBytes.{append_known}
 use Rattle.pcp_base.specs.declared.addresses.Address.{Address}
 use Rattle.pcp_base.specs.declared.datagrams.Datagram.{Datagram}
 use Rattle.pcp_io.specs.Faults.{HasRisen}
+use Rattle.pcp_io.specs.Writes.{WritesPart}
 use Rattle.random_words.specs.RandomWords.{IsNextWord}
 use Rattle.client_runs.specs.Links.{Drawing, RequestsWent, Sending, WordsDrawn}
 use Rattle.client_runs.proofs.LinkLemmas.{drawn-none, requests-none}
 use Rattle.tool_commands.specs.declared.statuses.ToolStatus.{ToolStatus}
 use Rattle.tool_commands.specs.declared.statuses.ToolStatus.TheVariants as Statuses
-use Rattle.keep_runs.specs.Keeping.{has_use, step_lines, step_request, stepped, turned_by}
+use Rattle.keep_runs.specs.Keeping.{has_use, lines_by, step_lines, step_request, stepped}
 use Rattle.keep_runs.specs.Steps.{Acts, DoesTurn, IsDone, LacksItsWord, LacksMemory, Sides}
 use Rattle.keep_runs.specs.declared.keepers.Keeper.{Keeper}
 
@@ -63,6 +64,9 @@ module _ (server : Address) (k : Keeper) (packet : Option Datagram) (time : ℕ)
   module _ (after : Keeper) (word : ℕ) (lines : List ℕ) (request : Option (List ℕ)) (old new : Sides) (needed : has_use k packet time ≡ true)
       (after_is : after ≡ stepped k packet time word) (lines_are : lines ≡ step_lines k packet time word) (request_is : request ≡ step_request k packet time word)
       (drawn : WordsDrawn (word ∷ []) old.drawing new.drawing) where
+    lines_needed : step_lines k packet time word ≡ lines_by k packet time word
+    lines_needed = rw needed refl
+
     pub acted : (result : Option ToolStatus) → Acts server lines request result old.held new.held old.faults new.faults old.sending new.sending
         → IsDone server k after packet time old new result
     acted None did = record {
@@ -77,7 +81,7 @@ module _ (server : Address) (k : Keeper) (packet : Option Datagram) (time : ℕ)
       word = word;
       words = drawn;
       sending = did.2;
-      part = rw (needed, sym lines_are) did.0;
+      part = subst (λ (l : List ℕ). WritesPart old.held new.held l) (lines_are ∙ lines_needed) did.0;
       fault = did.1;
     }
     acted (Some Statuses.Done) did = absurd did
