@@ -1,6 +1,6 @@
 -- Calls put together of their parts.
 use Rattle.std.proofs.Common.{◌≡◌, ℕ, ◌<◌, ◌≤◌, ◌⊎◌, Bool, true, false, cond, List, [], ◌∷◌, ◌++◌, length, Option, None, Some, Result, Ok, Err, refl, sym, ap, subst, ◌∙◌, inl, inr, arith, length-append}
-use Rattle.std.specs.Prelude.{IfOk, OnErr}
+use Rattle.std.specs.Prelude.{IfOk, OnErr, drop}
 use Rattle.pcp_base.specs.declared.addresses.Address.{Address}
 use Rattle.pcp_base.specs.declared.addresses.Nonce.{Nonce}
 use Rattle.pcp_base.specs.declared.asks.Ask.{Ask}
@@ -14,8 +14,9 @@ use Rattle.client_commands.specs.Values.{IsNumberAt, NumberRange}
 use Rattle.client_commands.specs.declared.commands.ClientCommand.{ClientCommand}
 use Rattle.client_commands.specs.declared.commands.ClientCommand.TheVariants.{Map, Peer, Announce}
 use Rattle.client_commands.specs.declared.commands.Target.{Target}
-use Rattle.client_words.specs.Asks.{IsAsk}
+use Rattle.client_words.specs.Asks.{IsAsk, verb_of}
 use Rattle.client_words.specs.Mores.{IsMore}
+use Rattle.client_words.specs.Splits.{plain_in}
 use Rattle.client_words.specs.declared.asks.ClientAsk.{ClientAsk}
 use Rattle.client_words.specs.declared.more.More.{More}
 use Rattle.client_words.proofs.FilterLemmas.{as_many}
@@ -54,7 +55,7 @@ by_command words rest filed more is (Peer t w) h = (tries_some _ t.tries h.1.sai
 by_command words rest filed more is (Announce t) h = tries_some _ t.tries h.1.said.tries
 
 pub can_be_asked : (words : List (List ℕ)) (filed : Option (List ℕ)) (ask : ClientAsk) → IsAsk words filed ask → CanBeAsked ask.command ask.more
-can_be_asked words filed ask h = by_command _ _ filed ask.more h.more ask.command h.command
+can_be_asked words filed ask h = by_command (verb_of words ∷ plain_in (drop 1 words)) (drop 1 words) filed ask.more h.more ask.command h.command
 
 pub map_wanted : (command : ClientCommand) (more : More) (t : Target) (w : _) → command ≡ Map t w → 0 < w.mapping.lifetime → length more.filters ≤ 8 → (nonce : Nonce) → CanBeWanted (asked_by command more nonce)
 map_wanted command more t w is some few nonce = rw is (omega (arith, few), some)

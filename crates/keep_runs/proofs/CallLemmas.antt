@@ -1,5 +1,5 @@
 -- The call of `keep` put together of its parts.
-use Rattle.std.proofs.Common.{◌≡◌, ℕ, List, Option, Some, None, Err, refl, sym, subst, inl, inr}
+use Rattle.std.proofs.Common.{◌≡◌, ℕ, List, ◌∷◌, drop, codes, Option, Some, None, Err, refl, sym, subst, inl, inr}
 use Rattle.pcp_base.specs.declared.addresses.Nonce.{Nonce}
 use Rattle.pcp_base.specs.declared.asks.Ask.{Ask}
 use Rattle.pcp_io.specs.Times.{Times}
@@ -7,6 +7,7 @@ use Rattle.client_core.specs.Clients.{ClientView}
 use Rattle.client_core.specs.Wants.{CanBeWanted}
 use Rattle.client_commands.specs.declared.commands.ClientCommand.TheVariants.{Map}
 use Rattle.client_words.specs.Asks.{IsKeep}
+use Rattle.client_words.specs.Splits.{plain_in}
 use Rattle.client_words.specs.declared.keeps.KeepAsk.{KeepAsk}
 use Rattle.client_runs.specs.Askers.{wanting_from}
 use Rattle.client_runs.specs.Asking.{asked_by}
@@ -26,7 +27,7 @@ use Rattle.keep_runs.specs.declared.news.Told.{Told}
 pub can_be_kept : (words : List (List ℕ)) (filed : Option (List ℕ)) (ask : KeepAsk) → IsKeep words filed ask → (nonce : Nonce)
     → CanBeWanted (asked_by (Map ask.target ask.wanted) ask.more nonce)
 can_be_kept words filed ask is nonce =
-    let can = by_command _ _ filed ask.more is.more (Map ask.target ask.wanted) is.command in
+    let can = by_command (codes "map" ∷ plain_in (drop 1 words)) (drop 1 words) filed ask.more is.more (Map ask.target ask.wanted) is.command in
     map_wanted (Map ask.target ask.wanted) ask.more ask.target ask.wanted refl can.1 can.2 nonce
 
 pub keeper_by : (ask : KeepAsk) (nonce : Nonce) (time : ℕ) (client : ClientView) (wanted : Ask) (told : Told)
