@@ -1,6 +1,6 @@
 -- Calls put together of their parts.
 use Rattle.std.proofs.Common.{◌≡◌, ℕ, ◌<◌, ◌≤◌, ◌⊎◌, Bool, true, false, cond, List, [], ◌∷◌, ◌++◌, length, Option, None, Some, Result, Ok, Err, refl, sym, ap, subst, ◌∙◌, inl, inr, arith, length-append}
-use Rattle.std.specs.Prelude.{IfOk, OnErr, drop}
+use Rattle.std.specs.Prelude.{IfOk, IfSome, OnErr, drop}
 use Rattle.pcp_base.specs.declared.addresses.Address.{Address}
 use Rattle.pcp_base.specs.declared.addresses.Nonce.{Nonce}
 use Rattle.pcp_base.specs.declared.asks.Ask.{Ask}
@@ -9,7 +9,7 @@ use Rattle.pcp_io.specs.Faults.{HasRisen}
 use Rattle.pcp_options.specs.declared.responses.Response.{Response}
 use Rattle.client_core.specs.Clients.{ClientView}
 use Rattle.client_core.specs.Wants.{CanBeWanted}
-use Rattle.client_commands.specs.Commands.{IsCommand, lifetime_range, tries_range}
+use Rattle.client_commands.specs.Commands.{IsCommand, IsOnly, lifetime_range, tries_range}
 use Rattle.client_commands.specs.Values.{IsNumberAt, NumberRange}
 use Rattle.client_commands.specs.declared.commands.ClientCommand.{ClientCommand}
 use Rattle.client_commands.specs.declared.commands.ClientCommand.TheVariants.{Map, Peer, Announce}
@@ -282,3 +282,8 @@ starts_ending ask target nonce time wanted r deletes is asks h = rw deletes (rw 
 pub starts_wanting : (ask : ClientAsk) (target : Target) (nonce : Nonce) (time : ℕ) (wanted : Ask) (r : Result ClientView Unanswered) → ask.deletes ≡ false → target ≡ target_of ask.command
     → wanted ≡ asked_by ask.command ask.more nonce → IfOk r (λ client. client ≡ wanting_from target ask.more.third wanted time) → IfOk r (λ client. client ≡ started ask nonce time)
 starts_wanting ask target nonce time wanted r deletes is asks h = rw deletes (rw (is, asks) at h)
+
+-- what was found in the words
+pub found_can : (words : List (List ℕ)) (filed : Option (List ℕ)) (found : Option ClientAsk) (ask : ClientAsk) → found ≡ Some ask → IsOnly (IsAsk words filed) found
+    → CanBeAsked ask.command ask.more
+found_can words filed found ask is only = can_be_asked words filed ask (subst (λ (f : Option ClientAsk). IfSome f (IsAsk words filed)) is only.value)

@@ -1,5 +1,7 @@
 -- The call of `keep` put together of its parts.
 use Rattle.std.proofs.Common.{◌≡◌, ℕ, List, ◌∷◌, drop, codes, Option, Some, None, Err, refl, sym, subst, inl, inr}
+use Rattle.std.specs.Prelude.{IfSome}
+use Rattle.client_commands.specs.Commands.{IsOnly}
 use Rattle.pcp_base.specs.declared.addresses.Nonce.{Nonce}
 use Rattle.pcp_base.specs.declared.asks.Ask.{Ask}
 use Rattle.pcp_io.specs.Times.{Times}
@@ -63,3 +65,7 @@ module _ (words : List (List ℕ)) (filed : Option (List ℕ)) (ask : KeepAsk) (
 
   pub never_by : (why : Unanswered) (status : ToolStatus) → status ≡ status_without why → BeginsNot why old.links.drawing d old.links.times times → IsKeepCall words filed old begun_at status
   never_by why status status_is b = inr (inl (record { ask = ask; is = is; why = why; never = never why b; status_is = status_is; still = refl }))
+
+-- what was found in the words
+pub found_kept : (words : List (List ℕ)) (filed : Option (List ℕ)) (found : Option KeepAsk) (ask : KeepAsk) → found ≡ Some ask → IsOnly (IsKeep words filed) found → IsKeep words filed ask
+found_kept words filed found ask is only = subst (λ (f : Option KeepAsk). IfSome f (IsKeep words filed)) is only.value

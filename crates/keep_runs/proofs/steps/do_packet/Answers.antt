@@ -5,8 +5,8 @@ use Rattle.keep_runs.specs.Steps.{Sides}
 use Rattle.keep_runs.proofs.StepLemmas.{acted, idles, lacks_memory, lacks_word, one_drawn}
 use Rattle.keep_runs.proofs.steps.do_packet.Goals as goal
 
-pub returns-then-not : goal.returns-then-not
-returns-then-not g c =
+pub returns-then-not-has_use : goal.returns-then-not-has_use
+returns-then-not-has_use g c =
     let no : has_use c.args.keeper.now c.args.packet.now c.args.now_ms ≡ false = search rules in
     idles c.args.server c.args.keeper.now c.args.packet.now c.args.now_ms _ no
 
@@ -15,8 +15,8 @@ returns-in_default g c =
     let needed : has_use c.args.keeper.now c.args.packet.now c.args.now_ms ≡ true = search rules in
     lacks_word c.args.server c.args.keeper.now c.args.packet.now c.args.now_ms _ _ needed (search rules) c.word.ensures.cause.later (c.word.ensures.cause.failed (search rules)) refl refl refl
 
-pub returns-in_default-2 : goal.returns-in_default-2
-returns-in_default-2 g c =
+pub returns-in_default-step : goal.returns-in_default-step
+returns-in_default-step g c =
     let d : Drawing = record { words = g.E.Entropy.words c.args.entropy.now; faults = g.E.Entropy.faults c.args.entropy.now } in
     let d' : Drawing = record { words = g.E.Entropy.words c.word.new.self; faults = g.E.Entropy.faults c.word.new.self } in
     lacks_memory c.args.server c.args.keeper.now c.args.packet.now c.args.now_ms _ _ _ c.in-Ok.word (one_drawn c.in-Ok.word d d' c.in-Ok.ensures.gives c.word.ensures.cause.later) refl refl refl

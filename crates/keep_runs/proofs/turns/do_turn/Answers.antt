@@ -41,8 +41,8 @@ returns-then-eq g c start before u =
     let stands = at_stop mid.links.left now.links.left next in
     over_stop c.args.server start before c.args.keeper.now mid now u stands.0 stands.1 c.take.ensures.cause.later refl refl refl refl
 
-pub returns-in_default-2 : goal.returns-in_default-2
-returns-in_default-2 g c start before u =
+pub returns-in_default-packet_in : goal.returns-in_default-packet_in
+returns-in_default-packet_in g c start before u =
     let d : Drawing = record { words = g.E.Entropy.words c.args.entropy.now; faults = g.E.Entropy.faults c.args.entropy.now } in
     let o : Sending = record { sent = g.O.Outbox.sent c.args.up.now; faults = g.O.Outbox.faults c.args.up.now } in
     let mid : Outside = record {
@@ -75,7 +75,7 @@ returns g c start before u =
     let on : c.in-Ok.incoming ≢ Incomings.Stop = search rules in
     let it = is_item c.in-Ok.incoming c.take.new.room on in
     let next : IsNextItem mid.links.left now.links.left (Some it.0) = subst (λ i. IsNextItem mid.links.left now.links.left i) it.1 c.in-Ok.ensures.takes.next in
-    let packet : c.in-Ok-packet.packet ≡ packet_of it.0 =
-    subst (λ i. IfSome i (λ (item : InboxItem). c.in-Ok-packet.packet ≡ packet_of item)) it.1 c.in-Ok-packet.ensures in
+    let packet : c.in-Ok-packet_in.packet ≡ packet_of it.0 =
+    subst (λ i. IfSome i (λ (item : InboxItem). c.in-Ok-packet_in.packet ≡ packet_of item)) it.1 c.in-Ok-packet_in.ensures in
     turned c.args.server start before c.args.keeper.now mid now u it.0 c.now-now_ms.result next c.take.ensures.cause.later c.now-now_ms.ensures.time c.do_packet.new.keeper c.do_packet.result
     (subst (λ p. IsDone c.args.server c.args.keeper.now c.do_packet.new.keeper p c.now-now_ms.result (sides_of mid) (sides_of now) c.do_packet.result) packet c.do_packet.ensures)
