@@ -15,7 +15,7 @@ use tool_commands::ToolStatus;
 
 /// What a step gives: what is told, and what is asked.
 #[derive(Drop)]
-struct Step {
+struct Outcome {
     lines: Vec<u8>,
     request: Option<Octets>,
 }
@@ -77,18 +77,18 @@ fn step(
     packet: &Option<Datagram>,
     now_ms: u64,
     word: u32,
-) -> Result<Step, Memory>
+) -> Result<Outcome, Memory>
     requires { now_ms < 1000 * 2 ^ 40 }
     ensures after { OnOk result (keeper.new ≡ stepped keeper.old packet.now now_ms word) }
     ensures lines { IfOk result
-        (λ step. step.lines.items ≡ step_lines keeper.old packet.now now_ms word) }
+        (λ outcome. outcome.lines.items ≡ step_lines keeper.old packet.now now_ms word) }
     ensures request { IfOk result
-        (λ step. step.request ≡ step_request keeper.old packet.now now_ms word) }
+        (λ outcome. outcome.request ≡ step_request keeper.old packet.now now_ms word) }
 {
     let mut lines = Vec::new(alloc);
     keeper.hear_maybe(alloc, packet, now_ms, word, &mut lines)?;
     let request = keeper.tick(alloc, now_ms, word, &mut lines)?;
-    Ok(Step { lines, request })
+    Ok(Outcome { lines, request })
 }
 
 /// Sends the request, if there is one; one whose send fails is lost.
@@ -105,19 +105,19 @@ fn send_request<O: Outbox>(server: Address, request: &Option<Octets>, up: &mut O
 /// Prints what is told in one write, and then sends the request. How the run ended, where it did.
 fn act<O: Outbox, W: Sink>(
     server: Address,
-    step: &Step,
+    outcome: &Outcome,
     up: &mut O,
     out: &mut W,
 ) -> Option<ToolStatus>
-    ensures { Acts server step.now.lines.items step.now.request result (W.held out.old)
+    ensures { Acts server outcome.now.lines.items outcome.now.request result (W.held out.old)
         (W.held out.new) (W.faults out.old) (W.faults out.new)
         (record { sent = O.sent up.old; faults = O.faults up.old })
         (record { sent = O.sent up.new; faults = O.faults up.new }) }
 {
-    if write_all(out, &step.lines).is_err() {
+    if write_all(out, &outcome.lines).is_err() {
         return Some(ToolStatus::WriteFault);
     }
-    send_request(server, &step.request, up);
+    send_request(server, &outcome.request, up);
     None
 }
 
@@ -153,8 +153,8 @@ pub(crate) fn do_packet<O: Outbox, E: Entropy, W: Sink>(
     let Ok(word) = entropy.word() else {
         return Some(ToolStatus::EntropyFault);
     };
-    let Ok(given) = step(alloc, keeper, packet, now_ms, word) else {
+    let Ok(outcome) = step(alloc, keeper, packet, now_ms, word) else {
         return Some(ToolStatus::Memory);
     };
-    act(server, &given, up, out)
+    act(server, &outcome, up, out)
 }
