@@ -11,4 +11,6 @@ mod links;
 #[cfg(test)]
 mod orders;
 #[cfg(test)]
+mod routes;
+#[cfg(test)]
 mod sockets;

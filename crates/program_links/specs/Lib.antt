@@ -4,3 +4,4 @@ pub mod Lanes
 pub mod Links
 pub mod OrderLines
 pub mod Refusals
+pub mod Routes

@@ -3,7 +3,7 @@ ghost use Rattle.std.specs.Prelude.{◌≡◌, ◌≤◌};
 ghost use Rattle.pcp_io.specs.Takes.{filled};
 ghost use Rattle.program_links.specs.Links.{from_clients, from_orders, from_upstream, heard_at};
 
-use crate::ears::{push_ear, told_and_ordered, told_by_v6};
+use crate::ears::{push_ear, told_by_v6};
 use crate::inboxes::{DoorsInbox, Ear};
 use pcp_base::{Address, Failed, Memory};
 use pcp_io::{Inbox, Incoming, LONGEST_DATAGRAM, ORDER_DOOR};
@@ -23,17 +23,18 @@ pub struct RelayInbox {
 }
 
 impl RelayInbox {
-    /// The inbox of these sockets, and of those of port 5350 that the system gives: without them no
-    /// announcements are heard, and no orders. Without the inner or the own one, each take fails. The one
-    /// error is want of memory.
+    /// The inbox of these sockets: the inner one, the own one, and those of `told_and_ordered`, without
+    /// which no announcements of IPv4 are heard, and no orders. Without the inner or the own one, each take
+    /// fails. The one error is want of memory.
     pub fn of(
         alloc: Global,
         server: Address,
         inner: Option<UdpSocket>,
         own: Option<UdpSocket>,
+        told: Option<(UdpSocket, UdpSocket)>,
     ) -> Result<RelayInbox, Memory> {
         let mut ears = Vec::new(alloc);
-        if let Ok((told, ordered)) = told_and_ordered() {
+        if let Some((told, ordered)) = told {
             ears.push(Ear::of(ORDER_DOOR, Some(ordered)))?;
             ears.push(Ear::of(OWN_DOOR + 1, Some(told)))?;
         }

@@ -35,6 +35,17 @@ pub fn ip_of(address: Address) -> IpAddr {
     }
 }
 
+/// The address of a socket, an IPv4 one in its IPv4-mapped form (RFC 6887, section 5).
+fn address_of(ip: IpAddr) -> Address {
+    match ip {
+        IpAddr::V4(v4) => {
+            let [a, b, c, d] = v4.octets();
+            Address::v4(a, b, c, d)
+        }
+        IpAddr::V6(v6) => Address(v6.octets()),
+    }
+}
+
 /// A socket of this address and port that nobody else has, or why the system gives none. One of IPv6
 /// takes nothing of IPv4.
 pub fn socket_at(at: SocketAddr) -> io::Result<UdpSocket> {
@@ -50,6 +61,23 @@ pub(crate) fn first_socket_at(at: SocketAddr) -> io::Result<UdpSocket> {
     let socket = socket_at(at)?;
     set_shared(&socket, true)?;
     Ok(socket)
+}
+
+/// A socket of this address and port, which others have too that ask for it so: each hears what is sent
+/// to a group of hosts, and one of them what is sent to it alone.
+pub(crate) fn common_socket_at(at: SocketAddr) -> io::Result<UdpSocket> {
+    let socket = new_socket(at)?;
+    set_option(&socket, c::SO_REUSEADDR, true)?;
+    bind(&socket, at)?;
+    Ok(socket)
+}
+
+/// The address of this host from which it sends to that one.
+pub fn own_address_to(server: Address, port: u16) -> io::Result<Address> {
+    let at = SocketAddr::new(ip_of(server), port);
+    let socket = new_socket(at)?;
+    socket.connect(at)?;
+    Ok(address_of(socket.local_addr()?.ip()))
 }
 
 /// A further socket where one is shared.
@@ -120,9 +148,14 @@ fn set_v6_alone(socket: &UdpSocket) -> io::Result<()> {
 
 /// Whether others of this user may be bound where the socket is.
 fn set_shared(socket: &UdpSocket, shared: bool) -> io::Result<()> {
+    set_option(socket, c::SO_REUSEPORT, shared)
+}
+
+/// Switches an option of sockets.
+fn set_option(socket: &UdpSocket, option: i32, on: bool) -> io::Result<()> {
     let fd = socket.as_raw_fd();
-    let value = switch(shared);
-    ended(unsafe { c::setsockopt(fd, c::SOL_SOCKET, c::SO_REUSEPORT, &value, 4) })
+    let value = switch(on);
+    ended(unsafe { c::setsockopt(fd, c::SOL_SOCKET, option, &value, 4) })
 }
 
 /// Gives the socket its address and port.
