@@ -1,5 +1,5 @@
 //! Fields with a name, as a person reads them.
-use pcp_base::{Address, External, MOST_EXTERNALS, Memory, Protocol, read_number};
+use pcp_base::{Address, External, MOST_EXTERNALS, Memory, Prefix, Protocol, read_number};
 use std::alloc::Global;
 use std::fmt;
 
@@ -23,6 +23,14 @@ pub(crate) enum Form {
     External,
     /// Hexadecimal digits, at most so many, or `-`.
     Hex(usize),
+    /// The name of a protocol.
+    Transport,
+    /// Exactly so many hexadecimal digits.
+    Digits(usize),
+    /// A prefix of remote peers, and a port of theirs or none.
+    Remote,
+    /// Nothing.
+    Flag,
 }
 
 impl fmt::Display for Form {
@@ -33,6 +41,10 @@ impl fmt::Display for Form {
             Form::Protocol => f.write_str("6 or 17"),
             Form::Address => f.write_str("an address such as 10.0.0.5 or 2001:db8::5"),
             Form::External => f.write_str("an external address of the configuration"),
+            Form::Transport => f.write_str("tcp or udp"),
+            Form::Digits(count) => write!(f, "{count} hexadecimal digits"),
+            Form::Remote => f.write_str("a prefix such as 198.51.100.0/24, and ,PORT or nothing"),
+            Form::Flag => f.write_str("no value"),
             Form::Hex(most) => write!(f, "-, or hexadecimal digits, two an octet, at most {most}"),
         }
     }
@@ -40,7 +52,7 @@ impl fmt::Display for Form {
 
 impl Form {
     /// Whether the text is of this form.
-    fn fits(self, externals: &[External], text: &[u8]) -> bool {
+    pub(crate) fn fits(self, externals: &[External], text: &[u8]) -> bool {
         match self {
             Form::Path => !text.is_empty(),
             Form::Number(least, most) => matches!(read_number(text, most), Some(n) if n >= least),
@@ -48,6 +60,10 @@ impl Form {
             Form::Address => Address::read(text).is_ok(),
             Form::External => is_external(externals, text),
             Form::Hex(most) => is_hex(text, most),
+            Form::Transport => matches!(text, b"tcp" | b"udp"),
+            Form::Digits(count) => text.len() == count && are_digits(text),
+            Form::Remote => is_remote(text),
+            Form::Flag => false,
         }
     }
 }
@@ -74,10 +90,21 @@ fn is_hex(text: &[u8], most: usize) -> bool {
     if matches!(text, [b'-']) {
         return true;
     }
-    !text.is_empty()
-        && text.len() <= most
-        && text.len() % 2 == 0
-        && text.iter().all(|digit| digit.is_ascii_hexdigit())
+    !text.is_empty() && text.len() <= most && text.len() % 2 == 0 && are_digits(text)
+}
+
+/// Whether each octet is a hexadecimal digit.
+fn are_digits(text: &[u8]) -> bool {
+    text.iter().all(|digit| digit.is_ascii_hexdigit())
+}
+
+/// Whether the text is a prefix, or a prefix, a comma and a port.
+fn is_remote(text: &[u8]) -> bool {
+    let Some(at) = text.iter().position(|octet| *octet == b',') else {
+        return Prefix::read(text).is_ok();
+    };
+    let port = read_number(&text[at + 1..], 65_535);
+    Prefix::read(&text[..at]).is_ok() && matches!(port, Some(port) if port > 0)
 }
 
 /// A line that tells the first field whose text isn't of its form, or, where there aren't as many texts,

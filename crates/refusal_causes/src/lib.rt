@@ -4,8 +4,10 @@
 mod commands;
 mod fields;
 mod lines;
+mod options;
 #[cfg(test)]
 mod tests;
 
 pub use commands::words_cause;
 pub use lines::line_cause;
+pub use options::tool_cause;

@@ -1,5 +1,5 @@
 //! Tests: what is told of words and of lines.
-use crate::{line_cause, words_cause};
+use crate::{line_cause, tool_cause, words_cause};
 use pcp_base::{Address, Config, External, Listed, Memory, Orders};
 use std::alloc::Global;
 use std::test::Fail;
@@ -37,6 +37,69 @@ static WORDS: [(&str, &str); 12] = [
         "serve: expected CONFIG JOURNALS PORT LANEPORT",
     ),
 ];
+
+// Words of tools, and what is told of them; nothing where no cause is found.
+static TOOLS: [(&str, &str); 20] = [
+    (
+        "map --server 192.0.2.9 --own 10.0.0.5 --protocol udp --port 5000",
+        "",
+    ),
+    (
+        "map --server=192.0.2.9 --own=10.0.0.5 --protocol=udp --port=5000 --prefer-failure --nonce 000102030405060708090a0b",
+        "",
+    ),
+    (
+        "keep --server 192.0.2.9 --own 10.0.0.5 --protocol udp --port 5000 --filter 10.0.0.0/8 --filter 2001:db8::/32,443",
+        "",
+    ),
+    (
+        "map --server 192.0.2.9 --own 10.0.0.5 --protocol udp --port 0",
+        "--port: expected a whole number from 1 to 65535",
+    ),
+    ("map --port 5000 --colour red", "--colour: no option of map"),
+    ("map 5000", "5000: no option of map"),
+    ("keep --tries 2", "--tries: no option of keep"),
+    ("map --port 5000 --port 5001", "--port: given twice"),
+    (
+        "map --port",
+        "--port: expected a whole number from 1 to 65535",
+    ),
+    (
+        "map --prefer-failure=yes",
+        "--prefer-failure: expected no value",
+    ),
+    ("map --protocol sctp", "--protocol: expected tcp or udp"),
+    (
+        "map --filter 10.0.0.0/8,0",
+        "--filter: expected a prefix such as 198.51.100.0/24, and ,PORT or nothing",
+    ),
+    ("map --nonce 00", "--nonce: expected 24 hexadecimal digits"),
+    ("announce --server 192.0.2.9", ""),
+    ("map --server 10.0.0.1", "--protocol: missing"),
+    ("proxy --server 192.0.2.9", "--own: missing"),
+    (
+        "unmap --server 192.0.2.9 --own 10.0.0.5 --protocol udp --port 5000",
+        "unmap: --nonce or --nonce-file is missing",
+    ),
+    (
+        "unmap --server 192.0.2.9 --own 10.0.0.5 --protocol udp --port 5000 --remote 198.51.100.7",
+        "--remote-port: missing",
+    ),
+    (
+        "proxy --server 192.0.2.9 --own 192.0.2.2 --inner 10.0.0.2 --key SHORT",
+        "--key: expected 64 hexadecimal digits",
+    ),
+    ("stop", ""),
+];
+
+#[test]
+fn causes_of_tools(rt: HostRuntime) -> Result<(), Fail> {
+    for (text, want) in &TOOLS {
+        let told = tool_cause(rt.alloc(), &words_of(rt.alloc(), text)?)?;
+        assert!(rt; is_told(&told, want), "{text}");
+    }
+    Ok(())
+}
 
 // Lines, and what is told of them; nothing of what is one.
 static LINES: [(&str, &str); 18] = [
