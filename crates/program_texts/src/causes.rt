@@ -4,11 +4,11 @@ use pcp_base::{Config, Memory};
 use pcp_config::read_config;
 use pcp_io::{FileSource, Source};
 use pcp_script::LONGEST_LINE;
-use refusal_causes::{line_cause, words_cause};
+use refusal_causes::{line_cause, tool_cause, words_cause};
 use std::alloc::Global;
 use std::fs::File;
 use std::io::Read;
-use std::net::SocketAddr;
+use std::net::{IpAddr, SocketAddr};
 use std::{fs, io};
 
 /// Why the words are no command of the server, and where commands are told.
@@ -24,12 +24,16 @@ pub(crate) fn tell_words(
     Ok(())
 }
 
-/// Adds where the words of a tool's command are told. The one error is want of memory.
+/// Adds which of the words of a tool's command is none, where that is known, and where its words are told.
+/// The one error is want of memory.
 pub fn tell_tool_words(
     alloc: Global,
     told: &mut Vec<String>,
     words: &[String],
 ) -> Result<(), Memory> {
+    if let Some(cause) = tool_cause(alloc, words)? {
+        told.push(cause)?;
+    }
     match words {
         [command, ..] => told.push(format!(in alloc; "see pcp {command} --help")?)?,
         [] => {}
@@ -73,6 +77,45 @@ fn file_cause(rt: &HostRuntime, path: &str) -> Result<Option<String>, Memory> {
 /// Why a server can't be asked at this address and port. The one error is want of memory.
 pub fn door_cause(alloc: Global, at: SocketAddr, error: io::Error) -> Result<String, Memory> {
     Ok(format!(in alloc; "{} port {}: {error}", at.ip(), at.port())?)
+}
+
+/// Why a client has no socket at this place, of any port where that is 0. The one error is want of memory.
+pub fn socket_cause(alloc: Global, at: SocketAddr, error: io::Error) -> Result<String, Memory> {
+    if at.port() == 0 {
+        return Ok(format!(in alloc; "{}: {error}", at.ip())?);
+    }
+    door_cause(alloc, at, error)
+}
+
+/// Why nothing is heard at this port. The one error is want of memory.
+pub fn port_cause(alloc: Global, port: u16, error: io::Error) -> Result<String, Memory> {
+    Ok(format!(in alloc; "port {port}: {error}")?)
+}
+
+/// Why there is no server to ask. The one error is want of memory.
+pub fn router_cause(alloc: Global) -> Result<String, Memory> {
+    let line = "--server: not given, and this host has no default route of IPv4 by a router";
+    Ok(String::from_str(alloc, line)?)
+}
+
+/// Why a client has no address towards this server. The one error is want of memory.
+pub fn reach_cause(alloc: Global, server: IpAddr, error: io::Error) -> Result<String, Memory> {
+    Ok(format!(in alloc; "--own: not given, and no way to {server}: {error}")?)
+}
+
+/// That a client's own address and that of its server are of two families. The one error is want of memory.
+pub fn families_cause(alloc: Global, own: IpAddr, server: IpAddr) -> Result<String, Memory> {
+    Ok(format!(in alloc; "--own {own} can't reach --server {server}: one is IPv4, the other IPv6")?)
+}
+
+/// Why the file of this path can't be used. The one error is want of memory.
+pub fn path_cause(alloc: Global, path: &str, error: io::Error) -> Result<String, Memory> {
+    Ok(format!(in alloc; "{path}: {error}")?)
+}
+
+/// That the file of this path has no nonce. The one error is want of memory.
+pub fn nonce_cause(alloc: Global, path: &str) -> Result<String, Memory> {
+    Ok(format!(in alloc; "{path}: expected 24 hexadecimal digits, and a line feed or nothing")?)
 }
 
 /// What people are told where so many threads can't be made. The one error is want of memory.
