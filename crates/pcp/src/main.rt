@@ -6,6 +6,7 @@ ghost use Rattle.std.specs.declared.io.ErrorKind.TheVariants.{OutOfMemory};
 ghost use Rattle.server_commands.specs.declared.statuses.Status.TheVariants as Statuses;
 
 mod meetings;
+mod nonces;
 mod orders;
 mod relays;
 mod serve;
@@ -14,8 +15,8 @@ mod tools;
 use crate::orders::{may_order, order_over};
 use crate::relays::{may_relay, relay_over};
 use crate::serve::{Served, externals_in, serve_over};
-use crate::tools::{ask_over, may_ask};
-use client_commands::help_of;
+use crate::tools::{ask_by, may_ask, means_of, tell_now};
+use client_words::help_of;
 use config_source::config_of;
 use journal_dump::Looked;
 use lease_disk::{DiskPair, FileDisk};
@@ -46,12 +47,14 @@ const USAGE: &str = "usage: pcp serve CONFIG JOURNALS PORT LANEPORT
        pcp stop JOURNALS
        pcp lose JOURNALS ADDRESS
        pcp status JOURNALS
+       pcp keep OPTIONS..
        pcp map OPTIONS..
+       pcp unmap OPTIONS..
        pcp peer OPTIONS..
        pcp announce OPTIONS..
        pcp proxy OPTIONS..
        pcp cascade OPTIONS..
-       pcp map --help (or peer, announce, proxy, cascade)
+       pcp keep --help (or map, unmap, peer, announce, proxy, cascade)
        pcp --help
        pcp --version
 
@@ -94,11 +97,21 @@ stop, lose, status
 
           pcp status journals
 
-map, peer, announce
-      Ask a server for a mapping, for one towards one remote peer, or for its
-      epoch, and print its answer.
+keep  Keeps a port of this host open at the router, and prints a line at each
+      change, until a signal ends it.
 
-          pcp map --server 192.0.2.254 --own 10.0.0.5 --protocol udp --port 5000
+          pcp keep --protocol tcp --port 443
+
+map, unmap, peer, announce
+      Ask a server once for a mapping, to delete one, for one towards one remote
+      peer, or for its epoch, and print its answer. With a file for the nonce the
+      same words again renew a mapping, and unmap deletes it.
+
+          pcp map --protocol udp --port 5000 --nonce-file port-5000.nonce
+          pcp unmap --protocol udp --port 5000 --nonce-file port-5000.nonce
+
+      Without --server they ask the router of this host's default route, and
+      without --own from the address by which the system reaches it.
 
 proxy Relays what clients ask at port 5351 of its inner address to a server, and
       the replies to them, until it is stopped by the octet ff and 'stop', sent
@@ -160,6 +173,23 @@ impl Ended {
         Ended {
             status: EndStatus::Server(status),
             told: Vec::new(rt.alloc()),
+        }
+    }
+
+    /// A command of a tool ended so, for these causes.
+    fn with_causes(
+        rt: &HostRuntime,
+        status: ToolStatus,
+        causes: Vec<String>,
+        explains: bool,
+    ) -> Ended {
+        Ended {
+            status: EndStatus::Tool(status),
+            told: if explains {
+                causes
+            } else {
+                Vec::new(rt.alloc())
+            },
         }
     }
 
@@ -268,7 +298,7 @@ fn run<R: Threads + Wait + Sync>(
             Ended::with(rt, tell(rt, USAGE))
         }
         _ if may_order(words) => order(rt, words, explains),
-        _ if may_ask(words) => ask(rt, words, explains),
+        _ if may_ask(words) => ask(threads, rt, words, explains),
         _ if may_relay(words) => relay(threads, rt, words, explains),
         _ => serve_or_run(threads, rt, words, explains),
     }
@@ -292,15 +322,35 @@ fn serve_or_run<R: Threads + Wait + Sync>(
 }
 
 /// Runs a command of the client, or prints its help.
-fn ask(rt: &HostRuntime, words: &[String], explains: bool) -> Ended {
+fn ask<R: Wait>(waits: &R, rt: &HostRuntime, words: &[String], explains: bool) -> Ended {
     match help_of(rt.alloc(), words) {
         Ok(Some(help)) => Ended::with(rt, tell(rt, help.as_str())),
-        Ok(None) => match ask_over(rt, words) {
-            Ok(status) => Ended::with_tool(rt, words, status, explains),
+        Ok(None) => match ask_over(waits, rt, words, explains) {
+            Ok(ended) => ended,
             Err(Memory) => Ended::with(rt, Status::Memory),
         },
         Err(Memory) => Ended::with(rt, Status::Memory),
     }
+}
+
+/// Runs a command of the client.
+fn ask_over<R: Wait>(
+    waits: &R,
+    rt: &HostRuntime,
+    words: &[String],
+    explains: bool,
+) -> Result<Ended, Memory> {
+    let means = match means_of(rt, words)? {
+        Ok(means) => means,
+        Err((status, causes)) => return Ok(Ended::with_causes(rt, status, causes, explains)),
+    };
+    if !means.is_whole() && !means.causes.is_empty() {
+        let refused = ToolStatus::WordsRefused;
+        return Ok(Ended::with_causes(rt, refused, means.causes, explains));
+    }
+    tell_now(rt, &means.causes, explains);
+    let status = ask_by(waits, rt, means)?;
+    Ok(Ended::with_tool(rt, words, status, explains))
 }
 
 /// Orders something of a server that runs.
@@ -324,7 +374,7 @@ fn order(rt: &HostRuntime, words: &[String], explains: bool) -> Ended {
 fn relay<R: Wait>(waits: &R, rt: &HostRuntime, words: &[String], explains: bool) -> Ended {
     match proxy_commands::help_of(rt.alloc(), words) {
         Ok(Some(help)) => Ended::with(rt, tell(rt, help.as_str())),
-        Ok(None) => match relay_over(waits, rt, words) {
+        Ok(None) => match relay_over(waits, rt, words, explains) {
             Ok(status) => Ended::with_tool(rt, words, status, explains),
             Err(Memory) => Ended::with(rt, Status::Memory),
         },
