@@ -84,3 +84,35 @@ fn a_loss_is_mended(rt: HostRuntime) -> Result<(), Fail> {
     assert!(rt; asked && keeper.mapping().is_some());
     Ok(())
 }
+
+// By this word for an invalid epoch it asks anew so many milliseconds behind it.
+fn asks_anew_after(alloc: Global, word: u32) -> Result<Option<u64>, Fail> {
+    let mut keeper = begun(alloc)?;
+    let _asked = is_asked(&mut keeper, alloc, 0, 100)?;
+    keeper.hear(alloc, &from_server(announced(alloc, 1)?), 60_000, word)?;
+    Ok(keeper.next_due().map(|due| due.wrapping_sub(60_000)))
+}
+
+// How many of 1,000 words ask in each of five seconds.
+fn spread(alloc: Global) -> Result<[u32; 5], Fail> {
+    let mut counts = [0u32; 5];
+    for place in 0..1_000u32 {
+        let after = asks_anew_after(alloc, place.wrapping_mul(0x9E37_79B9))?;
+        let second = after.map_or(5, |after| after / 1_000);
+        if let Some(count) = counts.get_mut(second as usize) {
+            *count = count.wrapping_add(1);
+        }
+    }
+    Ok(counts)
+}
+
+// So many clients that a server lost don't ask at once (RFC 6887, section 14.1.3).
+#[test]
+fn clients_are_spread(rt: HostRuntime) -> Result<(), Fail> {
+    let counts = spread(rt.alloc())?;
+    assert!(rt;
+        counts.iter().all(|count| (180..=220).contains(count)),
+        "{counts:?}"
+    );
+    Ok(())
+}
