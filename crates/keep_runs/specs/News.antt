@@ -1,5 +1,6 @@
 -- Which of what comes is told (our own): a mapping whose address, port or size is another than the one told last, or that is
--- the first behind a loss; a refusal whose code isn't that of the line before; a lease that is lost; an invalid epoch.
+-- the first behind a loss or a refusal; a refusal whose code isn't that of the line before; a lease that is lost; an
+-- invalid epoch.
 use Rattle.std.specs.Prelude.{ℕ, ◌==◌, ◌&&◌, not, bytes_eq, Bool, true, false, List, [], ◌∷◌, ◌++◌, is_some, is_none, Option, Some, None, codes, if◌then◌else◌}
 use Rattle.pcp_base.specs.Codes.{code_number}
 use Rattle.client_core.specs.declared.events.HeldLease.{HeldLease}
@@ -33,14 +34,14 @@ is_news told lease Whats.Told = false
 is_news told lease (Whats.Taken id) = is_new told.lease lease
 is_news told lease (Whats.ErrorFor id code seconds) = is_other told.code (code_number code)
 
--- and what was told last then
+-- and what was told last then: behind a refusal nobody knows that a lease goes on
 abbrev pub told_after : Told → Option HeldLease → What → Told
 told_after told lease Whats.NotMine = told
 told_after told lease Whats.Told = told
 told_after told lease (Whats.Taken id) =
     if is_new told.lease lease then record { lease = lease; code = None } else told
 told_after told lease (Whats.ErrorFor id code seconds) =
-    record told { code = Some (code_number code) }
+    record { lease = None; code = Some (code_number code) }
 
 -- an invalid epoch is told always
 abbrev pub epoch_line : EpochFound → List ℕ

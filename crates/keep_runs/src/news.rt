@@ -8,7 +8,7 @@ use pcp_base::Memory;
 /// What was told last.
 #[derive(Clone, Copy)]
 pub(crate) struct Told {
-    /// The lease; none before the first, and behind a loss.
+    /// The lease; none before the first, and behind a loss or a refusal.
     pub(crate) lease: Option<HeldLease>,
     /// The number of the code, where the last line told a refusal.
     pub(crate) code: Option<u8>,
@@ -63,8 +63,8 @@ impl Told {
                 }
             }
             What::ErrorFor(_id, code, _seconds) => Told {
+                lease: None,
                 code: Some(code.number()),
-                ..self
             },
         }
     }

@@ -98,7 +98,8 @@ fn keep<R: Wait, O: Outbox, I: Inbox, T: Clock, E: Entropy, W: Sink>(
 /// 14.1.3) until the inbox gives a stop, and prints a line to `out` at each change, those of one turn in
 /// one piece:
 /// - `mapped ADDRESS PORT LIFETIME EPOCH`, with the size behind it where more ports than one are asked for:
-///   at the first grant, at one of another address, port or size than was printed last, and behind `lost`;
+///   at the first grant, at one of another address, port or size than was printed last, and at the first
+///   behind `lost` or `refused`;
 /// - `refused CODE SECONDS` where the code isn't that of the line before;
 /// - `lost` where the lease ended; `invalid` at an epoch by which the server lost its leases.
 ///
