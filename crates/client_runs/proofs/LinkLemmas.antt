@@ -12,7 +12,6 @@ use Rattle.pcp_io.specs.Sends.{sent_after, sent_with}
 use Rattle.pcp_io.specs.Takes.{IsNextItem}
 use Rattle.pcp_io.specs.Times.{Times}
 use Rattle.random_words.specs.RandomWords.{RandomWords}
-use Rattle.client_runs.specs.declared.tries.TheConstants.{SERVER_PORT}
 use Rattle.client_runs.specs.Links.{Drawing, Handed, ItemsCame, Links, Passed, RequestsWent, Sending, TimesCame, Traffic, WordsCame, WordsDrawn, taken_of, with_traffic}
 use Rattle.client_runs.specs.Ticks.{HandsOver}
 
@@ -91,7 +90,7 @@ requests-none server a = record {
 }
 
 -- a request that was handed over
-went-sent : (server : Address) (text : List ℕ) (a b : Sending) → b.sent ≡ sent_after a.sent 0 server SERVER_PORT text → a.faults ≤ b.faults → RequestsWent server (text ∷ []) a b
+went-sent : (server : Address) (text : List ℕ) (a b : Sending) → b.sent ≡ sent_after a.sent 0 server 5351 text → a.faults ≤ b.faults → RequestsWent server (text ∷ []) a b
 went-sent server text a b sent later = record {
   handed = record { text = text; lost = false } ∷ [];
   each = refl;
@@ -113,7 +112,7 @@ went-lost server text a b same risen later = record {
   later = later;
 }
 
-went-by : (server : Address) (text : List ℕ) (a b : Sending) → (b.sent ≡ sent_after a.sent 0 server SERVER_PORT text) ⊎ ((b.sent ≡ a.sent) × HasRisen a.faults b.faults) → a.faults ≤ b.faults → RequestsWent server (text ∷ []) a b
+went-by : (server : Address) (text : List ℕ) (a b : Sending) → (b.sent ≡ sent_after a.sent 0 server 5351 text) ⊎ ((b.sent ≡ a.sent) × HasRisen a.faults b.faults) → a.faults ≤ b.faults → RequestsWent server (text ∷ []) a b
 went-by server text a b (inl sent) later = went-sent server text a b sent later
 went-by server text a b (inr lost) later = went-lost server text a b lost.0 lost.1 later
 

@@ -6,7 +6,6 @@ use Rattle.pcp_io.specs.declared.inboxes.InboxItem.{InboxItem}
 use Rattle.pcp_io.specs.Sends.{sent_with}
 use Rattle.pcp_io.specs.Times.{IsTimeNow, Times}
 use Rattle.random_words.specs.RandomWords.{IsNextWord, RandomWords}
-use Rattle.client_runs.specs.declared.tries.TheConstants.{SERVER_PORT}
 
 -- these items came in front of what is left now
 abbrev pub ItemsCame : Option (List InboxItem) → List InboxItem → Option (List InboxItem) → Type 0
@@ -33,7 +32,7 @@ pub record Handed : Type 0 where
 abbrev pub taken_of : Address → Handed → List Datagram
 taken_of server h =
     if h.lost then []
-    else record { peer = server; port = SERVER_PORT; door = 0; octets = h.text } ∷ []
+    else record { peer = server; port = 5351; door = 0; octets = h.text } ∷ []
 
 -- the outbox: what it took, where it tells that, and its count of faults
 pub record Sending : Type 0 where

@@ -4,7 +4,6 @@ use Rattle.pcp_base.specs.declared.addresses.Address.{Address}
 use Rattle.pcp_io.specs.Faults.{HasRisen}
 use Rattle.pcp_io.specs.Sends.{sent_after}
 use Rattle.random_words.specs.RandomWords.{IsNextWord, RandomWords}
-use Rattle.client_runs.specs.declared.tries.TheConstants.{SERVER_PORT}
 use Rattle.client_runs.specs.declared.tries.Tries.{Tries}
 use Rattle.client_runs.specs.declared.tries.Unanswered.{Unanswered}
 use Rattle.client_runs.specs.declared.tries.Unanswered.TheVariants.{LinkFault, Memory, EntropyFault, Silence, Turns, Stopped}
@@ -37,7 +36,7 @@ GivesWord old new before now word =
 
 -- a request was handed to the outbox, which took it, or failed and counted that
 pub record HandsOver (server : Address) (text : List ℕ) (old new : Sending) : Type 0 where
-  pub sent : (new.sent ≡ sent_after old.sent 0 server SERVER_PORT text)
+  pub sent : (new.sent ≡ sent_after old.sent 0 server 5351 text)
       ⊎ ((new.sent ≡ old.sent) × HasRisen old.faults new.faults)
   pub later : old.faults ≤ new.faults
 

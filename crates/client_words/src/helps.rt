@@ -33,7 +33,7 @@ const KEEP: &str = "Asks a server for an external port, keeps it, and prints a l
 Usage: pcp keep [OPTIONS]
 
 The options are those of pcp map but --tries. The lines are:
-  mapped ADDRESS PORT LIFETIME EPOCH   The port, at first and when it is another
+  mapped ADDRESS PORT LIFETIME EPOCH   The port: at first, another one, or again behind lost or refused
   refused CODE SECONDS                 The server refuses
   lost                                 The lease ended
   invalid                              The server lost its leases

@@ -1,4 +1,6 @@
-use Rattle.std.proofs.Common.{◌≡◌, Result, Err, refl, rules}
+use Rattle.std.proofs.Common.{◌≡◌, Result, Err, refl, sym, subst, rules}
+use Rattle.pcp_base.specs.declared.asks.Ask.{Ask}
+use Rattle.client_core.specs.Wants.{CanBeWanted}
 use Rattle.client_runs.specs.declared.tries.Unanswered.{Unanswered}
 use Rattle.client_runs.specs.declared.tries.Unanswered.TheVariants as Reasons
 use Rattle.keep_runs.specs.declared.keepers.Keeper.{Keeper}
@@ -15,6 +17,9 @@ returns-in_err-wanted g c =
     let n = c.in_ok-nonce.ensures.nonce in
     let same : ◌≡◌ {A = Result Keeper Unanswered} c.from_residual-in_err-wanted.result (Err Reasons.Memory) = search rules in
     rw same (record { words = n.words; few = n.few; drawn = n.drawn; time = c.now-start_ms.result; clock = c.now-start_ms.ensures.time })
+
+pub wanting_from-requires-clause-wanted : goal.wanting_from-requires-clause-wanted
+wanting_from-requires-clause-wanted g c = subst (λ (a : Ask). CanBeWanted a) (sym c.in_ok-wanted.ensures) (c.requires c.in_ok-nonce.nonce)
 
 pub returns-in_err-client : goal.returns-in_err-client
 returns-in_err-client g c =
