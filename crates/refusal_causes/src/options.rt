@@ -14,6 +14,9 @@ struct Choice {
 /// The option that may be given several times.
 const MANY: &str = "filter";
 
+/// The options whose values stand in words of their own.
+const APART: [&str; 4] = ["nonce", "nonce-file", "third-party", "filter"];
+
 /// Whom a client asks and from where, which its words may leave to the program.
 static TARGET: [Choice; 2] = [
     Choice {
@@ -251,6 +254,9 @@ fn word_cause<'a>(
         };
         if name != MANY && given.contains(&name) {
             return Ok(Some(format!(in alloc; "--{name}: given twice")?));
+        }
+        if value.is_some() && APART.contains(&name) {
+            return Ok(Some(format!(in alloc; "--{name}: expected its value in the next word")?));
         }
         given.push(name)?;
         match (choice.form, value) {

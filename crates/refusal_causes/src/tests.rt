@@ -39,7 +39,7 @@ static WORDS: [(&str, &str); 12] = [
 ];
 
 // Words of tools, and what is told of them; nothing where no cause is found.
-static TOOLS: [(&str, &str); 20] = [
+static TOOLS: [(&str, &str); 21] = [
     (
         "map --server 192.0.2.9 --own 10.0.0.5 --protocol udp --port 5000",
         "",
@@ -74,6 +74,10 @@ static TOOLS: [(&str, &str); 20] = [
         "--filter: expected a prefix such as 198.51.100.0/24, and ,PORT or nothing",
     ),
     ("map --nonce 00", "--nonce: expected 24 hexadecimal digits"),
+    (
+        "map --nonce=000102030405060708090a0b",
+        "--nonce: expected its value in the next word",
+    ),
     ("announce --server 192.0.2.9", ""),
     ("map --server 10.0.0.1", "--protocol: missing"),
     ("proxy --server 192.0.2.9", "--own: missing"),
