@@ -3,6 +3,12 @@
 use pcp_base::Memory;
 use std::alloc::Global;
 
+/// Whom a client asks where its words don't say it.
+const ROUTER: &str = "
+Without --server the router of IPv4's default route is asked, and without --own from the address by which
+the system reaches the server.
+";
+
 /// The options that may stand among those of a mapping.
 const MORE: &str = "
 Options of the mapping, each with its value in the next word:
@@ -15,30 +21,30 @@ Options of the mapping, each with its value in the next word:
 const FILTER: &str =
     "      --filter <PREFIX[,PORT]>  A remote peer that may send to it, up to 8 times
 
-Example: pcp map --server 192.0.2.9 --own 10.0.0.5 --protocol udp --port 5000 --nonce-file port-5000.nonce
+Example: pcp map --protocol udp --port 5000 --nonce-file port-5000.nonce
 ";
 
 const UNMAP: &str = "Deletes a mapping, and prints: deleted EPOCH
 
-Usage: pcp unmap (--nonce <HEX> | --nonce-file <FILE>) [OPTIONS]
+Usage: pcp unmap (--nonce <HEX> | --nonce-file <FILE>) --protocol <PROTOCOL> --port <N> [OPTIONS]
 
 The options are those of pcp map, or with --remote and --remote-port those of pcp peer, as they were when
 the mapping was asked for. The lifetime doesn't count.
 
-Example: pcp unmap --server 192.0.2.9 --own 10.0.0.5 --protocol udp --port 5000 --nonce-file port-5000.nonce
+Example: pcp unmap --protocol udp --port 5000 --nonce-file port-5000.nonce
 ";
 
 const KEEP: &str = "Asks a server for an external port, keeps it, and prints a line at each change
 
-Usage: pcp keep [OPTIONS]
+Usage: pcp keep --protocol <PROTOCOL> --port <N> [OPTIONS]
 
-The options are those of pcp map but --tries. The lines are:
+The options are those of pcp map but --tries: pcp map --help tells them. The lines are:
   mapped ADDRESS PORT LIFETIME EPOCH   The port: at first, another one, or again behind lost or refused
   refused CODE SECONDS                 The server refuses
   lost                                 The lease ended
   invalid                              The server lost its leases
 
-Example: pcp keep --server 192.0.2.9 --own 10.0.0.5 --protocol tcp --port 443
+Example: pcp keep --protocol tcp --port 443
 ";
 
 /// The text of a command's help, where the words are the name of one and `--help`.
@@ -50,9 +56,9 @@ pub fn help_of(alloc: Global, words: &[String]) -> Result<Option<String>, Memory
         return Ok(None);
     }
     match name.as_str() {
-        "map" => with_text(alloc, words, &[MORE, FILTER]),
-        "peer" => with_text(alloc, words, &[MORE]),
-        "announce" => client_commands::help_of(alloc, words),
+        "map" => with_text(alloc, words, &[ROUTER, MORE, FILTER]),
+        "peer" => with_text(alloc, words, &[ROUTER, MORE]),
+        "announce" => with_text(alloc, words, &[ROUTER]),
         "unmap" => told(alloc, UNMAP),
         "keep" => told(alloc, KEEP),
         _ => Ok(None),
