@@ -67,7 +67,7 @@ pub(crate) fn first_socket_at(at: SocketAddr) -> io::Result<UdpSocket> {
 /// to a group of hosts, and one of them what is sent to it alone.
 pub(crate) fn common_socket_at(at: SocketAddr) -> io::Result<UdpSocket> {
     let socket = new_socket(at)?;
-    set_option(&socket, c::SO_REUSEADDR, true)?;
+    set_common(&socket)?;
     bind(&socket, at)?;
     Ok(socket)
 }
@@ -148,14 +148,16 @@ fn set_v6_alone(socket: &UdpSocket) -> io::Result<()> {
 
 /// Whether others of this user may be bound where the socket is.
 fn set_shared(socket: &UdpSocket, shared: bool) -> io::Result<()> {
-    set_option(socket, c::SO_REUSEPORT, shared)
+    let fd = socket.as_raw_fd();
+    let value = switch(shared);
+    ended(unsafe { c::setsockopt(fd, c::SOL_SOCKET, c::SO_REUSEPORT, &value, 4) })
 }
 
-/// Switches an option of sockets.
-fn set_option(socket: &UdpSocket, option: i32, on: bool) -> io::Result<()> {
+/// Others that ask for it too may be bound where the socket will be.
+fn set_common(socket: &UdpSocket) -> io::Result<()> {
     let fd = socket.as_raw_fd();
-    let value = switch(on);
-    ended(unsafe { c::setsockopt(fd, c::SOL_SOCKET, option, &value, 4) })
+    let on = switch(true);
+    ended(unsafe { c::setsockopt(fd, c::SOL_SOCKET, c::SO_REUSEADDR, &on, 4) })
 }
 
 /// Gives the socket its address and port.
