@@ -32,12 +32,12 @@ none_drawn old new same later = record { came = same; later = later }
 module _ (server : Address) (k : Keeper) (packet : Option Datagram) (time : ℕ) where
   -- nothing is to be done
   pub idles : (sides : Sides) → has_use k packet time ≡ false → DoesTurn server k k packet time sides sides
-  idles sides no = record {
+  idles sides idle = record {
     word = 0;
-    keeper = rw no refl;
-    words = rw no (drawn-none sides.drawing);
-    requests = rw no (requests-none server sides.sending);
-    lines = rw no (known_none sides.held);
+    keeper = rw idle refl;
+    words = rw idle (drawn-none sides.drawing);
+    requests = rw idle (requests-none server sides.sending);
+    lines = rw idle (known_none sides.held);
     later = omega arith;
   }
 

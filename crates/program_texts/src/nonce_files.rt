@@ -21,7 +21,8 @@ pub fn read_nonce_file(rt: &HostRuntime, path: &str) -> io::Result<Option<Vec<u8
 fn first_octets(alloc: Global, file: &mut File) -> io::Result<Vec<u8>> {
     let mut octets = Vec::new(alloc);
     let mut piece = [0; MOST_OCTETS];
-    while octets.len() < MOST_OCTETS {
+    // Each read gives one octet at least, but at the end.
+    for _ in 0..MOST_OCTETS {
         let count = file.read(&mut piece)?;
         if count == 0 {
             break;

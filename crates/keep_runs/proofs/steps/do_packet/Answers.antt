@@ -7,8 +7,8 @@ use Rattle.keep_runs.proofs.steps.do_packet.Goals as goal
 
 pub returns-then-not-has_use : goal.returns-then-not-has_use
 returns-then-not-has_use g c =
-    let no : has_use c.args.keeper.now c.args.packet.now c.args.now_ms ≡ false = search rules in
-    idles c.args.server c.args.keeper.now c.args.packet.now c.args.now_ms _ no
+    let idle : has_use c.args.keeper.now c.args.packet.now c.args.now_ms ≡ false = search rules in
+    idles c.args.server c.args.keeper.now c.args.packet.now c.args.now_ms _ idle
 
 pub returns-in_default : goal.returns-in_default
 returns-in_default g c =

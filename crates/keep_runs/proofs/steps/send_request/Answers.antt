@@ -1,5 +1,5 @@
-use Rattle.client_runs.proofs.LinkLemmas.{went-by}
+use Rattle.client_runs.proofs.LinkLemmas.{handed_over}
 use Rattle.keep_runs.proofs.steps.send_request.Goals as goal
 
 pub returns-in-Some : goal.returns-in-Some
-returns-in-Some g c = rw c.in-Some.is (went-by c.args.server c.in-Some.text _ _ c.hand_over.ensures.sent c.hand_over.ensures.later)
+returns-in-Some g c = rw c.in-Some.is (handed_over c.args.server c.in-Some.text _ _ c.hand_over.ensures)
