@@ -98,9 +98,10 @@ stop, lose, status
           pcp status journals
 
 keep  Keeps a port of this host open at the router, and prints a line at each
-      change, until a signal ends it.
+      change, until a signal ends it. With a file for the nonce it has the port again
+      when it is started anew.
 
-          pcp keep --protocol tcp --port 443
+          pcp keep --protocol tcp --port 443 --nonce-file port-443.nonce
 
 map, unmap, peer, announce
       Ask a server once for a mapping, to delete one, for one towards one remote
