@@ -162,8 +162,20 @@ pub(crate) fn means_of(
         Ok(filed) => filed,
         Err(status) => return Ok(Err((status, causes))),
     };
-    tell_file(alloc, &words, filed.as_deref(), &mut causes)?;
-    let target = target_of(alloc, &words, filed.as_deref())?;
+    Ok(Ok(means_by(alloc, words, filed, causes)?))
+}
+
+/// What a command asks by that has these words and the text of this file.
+fn means_by(
+    alloc: Global,
+    words: Vec<String>,
+    filed: Option<Vec<u8>>,
+    told_causes: Vec<String>,
+) -> Result<Means, Memory> {
+    let mut causes = told_causes;
+    let text = filed.as_deref();
+    tell_file(alloc, &words, text, &mut causes)?;
+    let target = target_of(alloc, &words, text)?;
     let mut means = Means {
         words,
         filed,
@@ -175,7 +187,7 @@ pub(crate) fn means_of(
     if let Some(target) = target {
         open_sockets(alloc, target, &mut means)?;
     }
-    Ok(Ok(means))
+    Ok(means)
 }
 
 /// Makes the sockets of a client that asks so.
