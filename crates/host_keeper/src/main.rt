@@ -93,9 +93,9 @@ fn plan_in(rt: &HostRuntime) -> Option<Plan> {
     Some(Plan {
         server,
         own,
-        port: port as u16,
-        count: count as u16,
-        seconds: seconds as u32,
+        port: u16::try_from(port).ok()?,
+        count: u16::try_from(count).ok()?,
+        seconds: u32::try_from(seconds).ok()?,
     })
 }
 
