@@ -22,13 +22,17 @@ impl Kept for Numbers {
 
     type Entry = u32;
 
+    type Mark = ();
+
     type Key = ();
 
     type Lasting = ();
 
-    ghost stands = { λ key n log. n.list.items ≡ log };
+    ghost stands = { λ key n log marks. n.list.items ≡ log };
 
     ghost added = { λ n. drop n.noted n.list.items };
+
+    ghost mark = { λ n. tt };
 
     ghost lasts = { λ n. tt };
 

@@ -105,8 +105,8 @@ get_within [] k x e = absurd (cc)
 get_within (y ∷ xs) zero x e = omega arith
 get_within (y ∷ xs) (suc k) x e = let r = get_within xs k x e in omega arith
 
-stands_there : {E : Type 0} (xs : List E) (old new : PassKnowledge E) (k : ℕ) (x : E) → IsPrefix (old.seen ++ xs) new.seen → slice_get xs k ≡ Some x → slice_get new.seen (length old.seen + k) ≡ Some x
-stands_there {E} xs old new k x (more, is) e = subst (λ (l : List E). slice_get l (length old.seen + k) ≡ Some x) is (get_front (old.seen ++ xs) more (length old.seen + k) x (get_behind old.seen xs k ∙ e))
+stands_there : {E M : Type 0} (xs : List E) (old new : PassKnowledge E M) (k : ℕ) (x : E) → IsPrefix (old.seen ++ xs) new.seen → slice_get xs k ≡ Some x → slice_get new.seen (length old.seen + k) ≡ Some x
+stands_there {E} {M} xs old new k x (more, is) e = subst (λ (l : List E). slice_get l (length old.seen + k) ≡ Some x) is (get_front (old.seen ++ xs) more (length old.seen + k) x (get_behind old.seen xs k ∙ e))
 
 -- the place of a noted entry is added once
 new_place : {E : Type 0} (front xs : List E) (k : ℕ) (x : E) (old : List ℕ) → slice_get xs k ≡ Some x → 0 < occurrences (length front + k) (old ++ range_with_len (length front) (length xs))
@@ -115,13 +115,13 @@ new_place front xs k x old e =
     let a = occurrences-append (length front + k) old (range_with_len (length front) (length xs)) in
     let b = from_has (length front + k) (length front) (length xs) (omega arith) (omega arith) in omega arith
 
-pub stand_once : {E : Type 0} → NotedStandsOnce E
-stand_once true xs old new k x more placed e =
+pub stand_once : {E M : Type 0} → NotedStandsOnce E M
+stand_once true xs mark old new k x more placed e =
     let p = new_place old.seen xs k x old.mine e in
     let m = more.mine (length old.seen + k) in
     let o = placed.0 (length old.seen + k) in
     record { there = stands_there xs old new k x more.seen e; mine = omega arith; settled = omega arith }
-stand_once false xs old new k x more placed e =
+stand_once false xs mark old new k x more placed e =
     let p = new_place old.seen xs k x old.settled e in
     let m = more.settled (length old.seen + k) in
     let o = placed.0 (length old.seen + k) in

@@ -3,4 +3,5 @@ mod Fronts
 mod Moves
 mod Steps
 mod Numbers
+mod Marked
 mod LawLemmas

@@ -89,7 +89,7 @@ all_within n (suc k) xs w e x =
     (λ same. let a : occurrences x xs ≡ 1 = subst (λ (m : ℕ). occurrences m xs ≡ 1) same first in let b = one_hit n x same in let c = from_before x (n + 1) k (omega arith) in omega arith)
     (λ ne. let a = without_others n x xs (λ same. ne (sym same)) in let b = one_miss n x ne in omega arith)
 
-pub few_places : {E : Type 0} (p : PassKnowledge E) → IsPlaced p → length p.mine + length p.settled ≤ length p.seen
+pub few_places : {E M : Type 0} (p : PassKnowledge E M) → IsPlaced p → length p.mine + length p.settled ≤ length p.seen
 few_places p placed =
     let both : length (p.mine ++ p.settled) ≡ length p.mine + length p.settled = length-append p.mine p.settled in
     let few = few_within 0 (length p.seen) (p.mine ++ p.settled) record {

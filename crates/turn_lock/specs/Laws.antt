@@ -48,14 +48,15 @@ TicketsGoOnInTurn X E stands added =
     (s : State (Option X) (TurnView E)) → IsRuled stands added s → TicketsGoOn s.words s.views
 
 -- a pass knows all that it knew, and maybe more
-pub record KnowsMore {E : Type 0} (old new : PassKnowledge E) : Type 0 where
+pub record KnowsMore {E M : Type 0} (old new : PassKnowledge E M) : Type 0 where
   pub seen : IsPrefix old.seen new.seen
+  pub marks : IsPrefix old.marks new.marks
   pub mine : (x : ℕ) → occurrences x old.mine ≤ occurrences x new.mine
   pub settled : (x : ℕ) → occurrences x old.settled ≤ occurrences x new.settled
 
 -- the entry stands at this place, and the place once in `mine` where it is the pass's own, else
 -- once in `settled`
-pub record StandsOnce {E : Type 0} (own : Bool) (entry : E) (place : ℕ) (p : PassKnowledge E)
+pub record StandsOnce {E M : Type 0} (own : Bool) (entry : E) (place : ℕ) (p : PassKnowledge E M)
     : Type 0 where
   pub there : slice_get p.seen place ≡ Some entry
   pub mine : occurrences place p.mine ≡ one_if own
@@ -63,8 +64,8 @@ pub record StandsOnce {E : Type 0} (own : Bool) (entry : E) (place : ℕ) (p : P
 
 -- an entry that a pass noted stands once in all that the pass, or one that it met, knows from then
 -- on
-abbrev pub NotedStandsOnce : Type 0 → Type 0
-NotedStandsOnce E =
-    (own : Bool) (xs : List E) (old new : PassKnowledge E) (k : ℕ) (entry : E)
-    → KnowsMore (after_note own xs old) new → IsPlaced new → slice_get xs k ≡ Some entry
+abbrev pub NotedStandsOnce : (E M : Type 0) → Type 0
+NotedStandsOnce E M =
+    (own : Bool) (xs : List E) (mark : M) (old new : PassKnowledge E M) (k : ℕ) (entry : E)
+    → KnowsMore (after_note own xs mark old) new → IsPlaced new → slice_get xs k ≡ Some entry
     → StandsOnce own entry (length old.seen + k) new

@@ -1,5 +1,6 @@
 pub mod Lengths
 pub mod Places
+pub mod Marks
 pub mod Views
 pub mod Rule
 pub mod Tellings

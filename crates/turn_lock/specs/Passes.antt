@@ -6,6 +6,8 @@ use Rattle.atomic_table.specs.Seated.{TableId}
 use Rattle.turn_lock.specs.declared.layout.TheConstants.{VALUE}
 use Rattle.turn_lock.specs.declared.views.TurnView.{TurnView}
 use Rattle.turn_lock.specs.Places.{ArePlaces, behind_if}
+use Rattle.turn_lock.specs.declared.views.Noted.{Noted}
+use Rattle.turn_lock.specs.Marks.{marks_beside, noted_entries, noted_marks}
 use Rattle.turn_lock.specs.Views.{SeatState, IsPlacedView, new_room, out_view}
 
 -- a turn, as contracts see it: its name, and what it was told when it was made
@@ -14,72 +16,85 @@ pub record TurnName (K : Type 0) : Type 0 where
   pub key : K
 
 -- a pass, as contracts see it: its turn, whether its held value is out, how many passes may come of
--- it, itself among them, the entries that it has seen, and the places of those that it noted, its
--- own and those of settlings
-pub record PassKnowledge (E : Type 0) : Type 0 where
+-- it, itself among them, the entries that it has seen, with their marks, and the places of those that
+-- it noted, its own and those of settlings
+pub record PassKnowledge (E M : Type 0) : Type 0 where
   pub turn : TableId
   pub out : Bool
   pub room : ℕ
   pub seen : List E
+  pub marks : List M
   pub mine : List ℕ
   pub settled : List ℕ
 
-module _ {E : Type 0} where
-  abbrev pub knowledge_of : TableId → TurnView E → PassKnowledge E
+module _ {E M : Type 0} where
+  abbrev pub knowledge_of : TableId → TurnView (Noted E M) → PassKnowledge E M
   knowledge_of turn v = record {
     turn = turn;
     out = v.out;
     room = v.room;
-    seen = v.seen;
+    seen = noted_entries v.seen;
+    marks = noted_marks v.seen;
     mine = v.mine;
     settled = v.settled;
   }
 
   -- its places are below the length of what it has seen, each once
-  abbrev pub IsPlaced : PassKnowledge E → Type 0
+  abbrev pub IsPlaced : PassKnowledge E M → Type 0
   IsPlaced p = ArePlaces p.mine p.settled (length p.seen)
 
   -- it has seen the same, and maybe more, and has noted the same
-  pub record SeesMore (old new : PassKnowledge E) : Type 0 where
+  pub record SeesMore (old new : PassKnowledge E M) : Type 0 where
     pub turn : new.turn ≡ old.turn
     pub room : new.room ≡ old.room
     pub seen : IsPrefix old.seen new.seen
+    pub marks : IsPrefix old.marks new.marks
     pub mine : new.mine ≡ old.mine
     pub settled : new.settled ≡ old.settled
 
-  -- the entries xs stand behind what it had seen, and their places join one of its lists
-  abbrev pub after_note : Bool → List E → PassKnowledge E → PassKnowledge E
-  after_note own xs p =
+  -- the entries xs stand behind what it had seen, each with this mark, and their places join one of
+  -- its lists
+  abbrev pub after_note : Bool → List E → M → PassKnowledge E M → PassKnowledge E M
+  after_note own xs mark p =
       let new : List ℕ = range_with_len (length p.seen) (length xs) in
       record {
         turn = p.turn;
         out = p.out;
         room = p.room;
         seen = p.seen ++ xs;
+        marks = p.marks ++ marks_beside mark xs;
         mine = behind_if own p.mine new;
         settled = behind_if (not own) p.settled new;
       }
 
   -- its value is back
-  abbrev pub after_give : PassKnowledge E → PassKnowledge E
+  abbrev pub after_give : PassKnowledge E M → PassKnowledge E M
   after_give p = record {
     turn = p.turn;
     out = false;
     room = p.room;
     seen = p.seen;
+    marks = p.marks;
     mine = p.mine;
     settled = p.settled;
   }
 
   -- a pass that has noted nothing
-  abbrev pub new_pass : TableId → ℕ → List E → PassKnowledge E
-  new_pass turn room seen =
-      record { turn = turn; out = false; room = room; seen = seen; mine = []; settled = [] }
+  abbrev pub new_pass : TableId → ℕ → List E → List M → PassKnowledge E M
+  new_pass turn room seen marks = record {
+    turn = turn;
+    out = false;
+    room = room;
+    seen = seen;
+    marks = marks;
+    mine = [];
+    settled = [];
+  }
 
   -- a pass was split in two, which have its room together; the new one has noted nothing
-  pub record SplitsPass (old kept new : PassKnowledge E) : Type 0 where
+  pub record SplitsPass (old kept new : PassKnowledge E M) : Type 0 where
     pub kept_is : kept ≡ record old { room = old.room - new_room old.room }
-    pub new_is : new ≡ new_pass old.turn (new_room old.room) old.seen
+    pub new_is : new ≡ new_pass old.turn (new_room old.room) old.seen old.marks
     pub whole : kept.room + new.room ≡ old.room
 
 -- the slots that a seat has taken

@@ -1,10 +1,11 @@
 //! What each step tells. These types are for the proofs alone.
 ghost use Rattle.std.specs.Prelude.{List, [], true, false, IfSome};
+ghost use Rattle.turn_lock.specs.Marks.{added_noted, stands_noted};
 ghost use Rattle.turn_lock.specs.Tellings.{TellsDraw, TellsLook, TellsNote, TellsGive, TellsLearn};
 ghost use Rattle.turn_lock.specs.Views.{keeper_view, newcomer_view, meeting_view, spent_view};
 
 use crate::kept::Kept;
-use crate::views::TurnView;
+use crate::views::{Noted, TurnView};
 use atomic_table::{Join, Play, Split};
 use std::marker::{Brand, PhantomData};
 
@@ -46,8 +47,11 @@ pub struct Look<V, B> {
     of: PhantomData<(V, B)>,
 }
 
-impl<V: Kept, B: Naming<V::Key>> Play<Option<V>, TurnView<V::Entry>> for Look<V, B> {
-    ghost then = { TellsLook (λ x log. IfSome B.key (λ key. V.stands key x log)) V.added };
+impl<V: Kept, B: Naming<V::Key>> Play<Option<V>, TurnView<Noted<V::Entry, V::Mark>>>
+    for Look<V, B> {
+    ghost then = { TellsLook
+        (λ x log. IfSome B.key (λ key. stands_noted (V.stands key) x log))
+        (added_noted V.added V.mark) };
 }
 
 /// Entries of the pass's own are noted.

@@ -6,6 +6,7 @@ ghost use lib.ListN.{get_elem?};
 ghost use Rattle.std.specs.Mem.Slots.{slots_items, slots_len, IsFull};
 ghost use Rattle.turn_lock.specs.declared.layout.TheConstants.{FIRST_ROOM};
 ghost use Rattle.turn_lock.specs.Lengths.{longer};
+ghost use Rattle.turn_lock.specs.Marks.{added_noted, marks_beside, stands_noted, with_mark};
 ghost use Rattle.turn_lock.specs.Passes.{SplitsPass, IsPlaced, SeesMore, IsIdle, IsWaiting, TakesOut, after_note, after_give, new_pass};
 ghost use Rattle.turn_lock.specs.Views.{new_room, waiting_view};
 
@@ -13,7 +14,7 @@ use crate::held::Held;
 use crate::kept::Kept;
 use crate::layout::{FIRST_ROOM, HISTORY, NEW_ROOM, SERVING, TICKET, VALUE};
 use crate::plays::{Draw, Give, Learn, Look, Naming, NoteOwn, NoteSettling, Noting, SplitAndMeet};
-use crate::views::{TurnRule, TurnView};
+use crate::views::{Noted, TurnRule, TurnView};
 use atomic_table::{Closed, Refused, Seat, Table};
 use libc::types::timespec;
 use std::alloc::{AllocError, AllocFailed, Global};
@@ -25,7 +26,7 @@ use std::{hint, thread};
 /// it was told when it was made.
 #[derive(Drop)]
 pub struct Turn<V: Kept> {
-    table: Table<Option<V>, TurnView<V::Entry>, V::Key, TurnRule<V>, Global>,
+    table: Table<Option<V>, TurnView<Noted<V::Entry, V::Mark>>, V::Key, TurnRule<V>, Global>,
 }
 
 impl<V: Kept> Model for Turn<V> {
@@ -45,7 +46,7 @@ impl<V: Kept> Model for Turn<V> {
 /// takes octets.
 #[derive(Drop)]
 pub struct Pass<V: Kept> {
-    seat: Seat<Option<V>, TurnView<V::Entry>>,
+    seat: Seat<Option<V>, TurnView<Noted<V::Entry, V::Mark>>>,
     room: u64,
 }
 
@@ -61,7 +62,7 @@ pub fn give_up<V: Kept>(pass: Pass<V>) {
 impl<V: Kept> Model for Pass<V> {
     ghost use Rattle.turn_lock.specs.Passes.{PassKnowledge, knowledge_of, IsPass};
 
-    ghost Value = { PassKnowledge V.Entry };
+    ghost Value = { PassKnowledge V.Entry V.Mark };
 
     ghost view = { λ p. knowledge_of p.seat.table_id p.seat.me.0 };
 
@@ -91,10 +92,10 @@ impl<V: Kept> Turn<V> {
     /// of the value. The value must stand for no entry and have added none. The one error is want of
     /// memory.
     pub fn new(alloc: Global, value: V, key: &V::Key) -> Result<(Turn<V>, Pass<V>), Unmade<V>>
-        requires stands { V.stands key.now value [] }
+        requires stands { V.stands key.now value [] [] }
         requires added { V.added value ≡ [] }
         ensures key { IfOk result (λ t. t.0.key ≡ key.now) }
-        ensures made { IfOk result (λ t. t.1 ≡ new_pass t.0.id FIRST_ROOM []) }
+        ensures made { IfOk result (λ t. t.1 ≡ new_pass t.0.id FIRST_ROOM [] []) }
         ensures back { IfErr result (λ u. u.value ≡ value) }
     {
         let mut slots = Vec::new(alloc);
@@ -124,7 +125,7 @@ impl<V: Kept> Turn<V> {
     }
 
     // Draws a ticket, and gives its number modulo 2^64.
-    fn draw(&self, seat: &mut Seat<Option<V>, TurnView<V::Entry>>) -> u64
+    fn draw(&self, seat: &mut Seat<Option<V>, TurnView<Noted<V::Entry, V::Mark>>>) -> u64
         requires turn { seat.old.table_id ≡ self.now.id }
         requires idle { IsIdle seat.old.me }
         ensures turn { seat.new.table_id ≡ seat.old.table_id }
@@ -137,7 +138,7 @@ impl<V: Kept> Turn<V> {
     // Takes the value out where the seat's turn has come.
     fn come<B: Naming<V::Key>>(
         &self,
-        seat: &mut Seat<Option<V>, TurnView<V::Entry>>,
+        seat: &mut Seat<Option<V>, TurnView<Noted<V::Entry, V::Mark>>>,
         ticket: u64,
     ) -> Option<V>
         requires key { B.key ≡ Some self.now.key }
@@ -146,7 +147,8 @@ impl<V: Kept> Turn<V> {
         ensures turn { seat.new.table_id ≡ seat.old.table_id }
         ensures not_yet { IfNone result (seat.new.me ≡ seat.old.me) }
         ensures came { IfSome result
-            (TakesOut (V.stands self.now.key) V.added seat.old.me seat.new.me) }
+            (TakesOut (stands_noted (V.stands self.now.key))
+            (added_noted V.added V.mark) seat.old.me seat.new.me) }
     {
         if self.table.shared.load::<Look<V, B>>(seat, SERVING) != ticket {
             return None;
@@ -162,7 +164,7 @@ impl<V: Kept> Turn<V> {
         requires idle { pass.old.out ≡ false }
         ensures pass { SeesMore pass.old pass.new }
         ensures out { pass.new.out ≡ true }
-        ensures value { V.stands self.now.key result pass.new.seen }
+        ensures value { V.stands self.now.key result pass.new.seen pass.new.marks }
         ensures added { V.added result ≡ [] }
     {
         let ticket = self.draw(&mut pass.seat);
@@ -177,11 +179,17 @@ impl<V: Kept> Turn<V> {
     }
 
     // Notes entries of the pass's own. It doesn't read the value, which names them.
-    fn note_own<B: Noting<V::Entry>>(&self, pass: &mut Pass<V>, value: &V, count: u32)
+    fn note_own<B: Noting<Noted<V::Entry, V::Mark>>>(
+        &self,
+        pass: &mut Pass<V>,
+        value: &V,
+        count: u32,
+    )
         requires pass { (pass.old.turn ≡ self.now.id) × (pass.old.out ≡ true) }
-        requires entries { B.entries ≡ V.added value.now }
+        requires entries { B.entries ≡ with_mark (V.mark value.now) (V.added value.now) }
         requires count { length (V.added value.now) ≡ count }
-        ensures { pass.new ≡ after_note true (V.added value.now) pass.old }
+        ensures { pass.new
+            ≡ after_note true (V.added value.now) (V.mark value.now) pass.old }
     {
         self.table
             .shared
@@ -189,27 +197,35 @@ impl<V: Kept> Turn<V> {
     }
 
     // Notes entries of a settling. It doesn't read the value, which names them.
-    fn note_settling<B: Noting<V::Entry>>(&self, pass: &mut Pass<V>, value: &V, count: u32)
+    fn note_settling<B: Noting<Noted<V::Entry, V::Mark>>>(
+        &self,
+        pass: &mut Pass<V>,
+        value: &V,
+        count: u32,
+    )
         requires pass { (pass.old.turn ≡ self.now.id) × (pass.old.out ≡ true) }
-        requires entries { B.entries ≡ V.added value.now }
+        requires entries { B.entries ≡ with_mark (V.mark value.now) (V.added value.now) }
         requires count { length (V.added value.now) ≡ count }
-        ensures { pass.new ≡ after_note false (V.added value.now) pass.old }
+        ensures { pass.new
+            ≡ after_note false (V.added value.now) (V.mark value.now) pass.old }
     {
         self.table
             .shared
             .fetch_add::<NoteSettling<B>>(&mut pass.seat, HISTORY, u64::from(count));
     }
 
-    /// The entries that the value has added, `count` of them, join the history in one step. They
+    /// The entries that the value has added, `count` of them, join the history in one step, each with the
+    /// value's mark. They
     /// count as the pass's own where `own` is true, else as those of a settling. It takes no
     /// memory.
     pub fn note(&self, pass: &mut Pass<V>, held: &mut Held<V>, count: u32, own: bool)
         requires pass { (pass.old.turn ≡ self.now.id) × (pass.old.out ≡ true) }
         requires count { length (V.added held.old) ≡ count }
-        requires value { V.stands self.now.key held.old (pass.old.seen ++ V.added held.old) }
-        ensures pass { pass.new ≡ after_note own (V.added held.old) pass.old }
-        ensures stands { (key : V.Key) (log : List V.Entry) →
-            V.stands key held.old log → V.stands key held.new log }
+        requires value { V.stands self.now.key held.old (pass.old.seen ++ V.added held.old)
+            (pass.old.marks ++ marks_beside (V.mark held.old) (V.added held.old)) }
+        ensures pass { pass.new ≡ after_note own (V.added held.old) (V.mark held.old) pass.old }
+        ensures stands { (key : V.Key) (log : List V.Entry) (marks : List V.Mark) →
+            V.stands key held.old log marks → V.stands key held.new log marks }
         ensures added { V.added held.new ≡ [] }
         ensures lasts { V.lasts held.new ≡ V.lasts held.old }
     {
@@ -225,7 +241,7 @@ impl<V: Kept> Turn<V> {
     pub fn give(&self, pass: &mut Pass<V>, held: Held<V>)
         requires pass { (pass.old.turn ≡ self.now.id) × (pass.old.out ≡ true) }
         requires added { V.added held ≡ [] }
-        requires value { V.stands self.now.key held pass.old.seen }
+        requires value { V.stands self.now.key held pass.old.seen pass.old.marks }
         ensures { pass.new ≡ after_give pass.old }
     {
         let Held { value } = held;
@@ -249,7 +265,7 @@ impl<V: Kept> Turn<V> {
         requires turn { pass.turn ≡ self.id }
         requires idle { pass.out ≡ false }
         requires whole { pass.room ≡ FIRST_ROOM }
-        ensures value { V.stands self.key result pass.seen }
+        ensures value { V.stands self.key result pass.seen pass.marks }
         ensures added { V.added result ≡ [] }
     {
         let Pass { seat, room: _ } = pass;
@@ -290,6 +306,7 @@ impl<V: Kept> Turn<V> {
         requires idle { (pass.old.out ≡ false) × (other.out ≡ false) }
         ensures pass { (pass.new.turn ≡ pass.old.turn) × (pass.new.out ≡ false) }
         ensures seen { pass.new.seen ≡ longer pass.old.seen other.seen }
+        ensures marks { pass.new.marks ≡ longer pass.old.marks other.marks }
         ensures begins { IsPrefix pass.old.seen pass.new.seen × IsPrefix other.seen pass.new.seen }
         ensures mine { pass.new.mine ≡ pass.old.mine ++ other.mine }
         ensures settled { pass.new.settled ≡ pass.old.settled ++ other.settled }

@@ -4,6 +4,12 @@ use atomic_table::TableRule;
 use std::collections::LinkedList;
 use std::marker::PhantomData;
 
+/// An entry of the history, and what the value said of itself when it was noted. No value of it is made.
+pub struct Noted<E, M> {
+    pub entry: E,
+    pub mark: M,
+}
+
 /// What a pass knows. No value of it is made.
 pub struct TurnView<E> {
     /// It has drawn a ticket, and its turn isn't over.
@@ -37,11 +43,12 @@ pub struct TurnRule<V> {
     of: PhantomData<V>,
 }
 
-impl<V: Kept> TableRule<Option<V>, TurnView<V::Entry>, V::Key> for TurnRule<V> {
+impl<V: Kept> TableRule<Option<V>, TurnView<Noted<V::Entry, V::Mark>>, V::Key> for TurnRule<V> {
+    ghost use Rattle.turn_lock.specs.Marks.{added_noted, stands_noted};
     ghost use Rattle.turn_lock.specs.Rule.{IsRuled};
     ghost use Rattle.turn_lock.specs.Views.{founding_view};
 
-    ghost holds = { λ key. IsRuled (V.stands key) V.added };
+    ghost holds = { λ key. IsRuled (stands_noted (V.stands key)) (added_noted V.added V.mark) };
 
     ghost first = { λ _. founding_view };
 }

@@ -17,7 +17,7 @@ give-requires-clause-value g c =
           let grown : after ≡ before ++ c.args.x ∷ [] = subst Grows w.if-added.true c.add-added.ensures.list in
           let n : c.add-added.new.self.noted ≡ length before = c.add-added.ensures.noted ∙ all_noted _ before c.value.result.now.order (ap (λ n. drop n.noted n.list.items) lent ∙ took.added) in
           let new : drop c.add-added.new.self.noted after ≡ c.args.x ∷ [] = ap₂ drop n grown ∙ drop_front before (c.args.x ∷ []) in
-          let kept : w.note.new.held.list.items ≡ after = w.note.ensures.stands c.args.turn.now.key after refl in
+          let kept : w.note.new.held.list.items ≡ after = w.note.ensures.stands c.args.turn.now.key after c.take-held.new.pass.marks refl in
           let saw : w.note.new.pass.seen ≡ seen ++ drop c.add-added.new.self.noted after = ap (λ p. p.seen) w.note.ensures.pass in
           ap (λ h. h.list.items) w.held-is ∙ (kept ∙ (grown ∙ (ap (λ l. l ++ c.args.x ∷ []) same ∙ (sym (saw ∙ ap (λ l. seen ++ l) new) ∙ sym (ap (λ p. p.seen) w.pass-is)))))
       | else-added w ↦
