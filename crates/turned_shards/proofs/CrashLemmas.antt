@@ -1,8 +1,8 @@
 -- What a crash leaves of an external address, as its history grows.
 use Rattle.std.specs.List.{slice_get}
 use Rattle.std.proofs.Common.{◌≡◌, ◌∙◌, ◌⊎◌, inl, inr, ℕ, zero, suc, List, [], ◌∷◌, ◌++◌, length}
-use Rattle.std.proofs.Common.{Some, None, refl, ap, sym, append_assoc}
-use Rattle.std.proofs.lemmas.List.{append-nil}
+use Rattle.std.proofs.Common.{Some, None, refl, ap, sym, subst, append_assoc, ◌+◌}
+use Rattle.std.proofs.lemmas.List.{append-nil, length-append, length-map, map-append}
 use Rattle.pcp_base.specs.declared.datagrams.Entry.{Entry}
 use Rattle.pcp_base.specs.States.{State}
 use Rattle.lease_disk.specs.Pairs.{PairLeavesOnly}
@@ -12,16 +12,17 @@ use Rattle.journal_sides.specs.Journals.{StandsFor as StandsForState}
 use Rattle.shard_book.specs.Books.{BookView}
 use Rattle.lease_histories.specs.Entries.{Served}
 use Rattle.lease_histories.specs.Legal.{state_after}
+use Rattle.turned_shards.specs.declared.marks.Mark.{Mark}
 use Rattle.turned_shards.specs.Crashes.{IsInDoubt, IsKeptSince, StandsAlong, StandsBehind}
-use Rattle.turned_shards.specs.FaultCounts.{fault_count}
+use Rattle.turned_shards.specs.Crashes.{doubts_in}
 
--- ---- one more list of entries in doubt
+-- ---- more lists of entries in doubt
 
-pub get-snoc : {X : Type 0} (xs : List X) (y : X) (i : ℕ) (x : X) → slice_get xs i ≡ Some x →
-    slice_get (xs ++ y ∷ []) i ≡ Some x
-get-snoc [] y i x h = absurd (let never : None ≡ Some x = h in cc)
-get-snoc (z ∷ xs) y zero x h = h
-get-snoc (z ∷ xs) y (suc i) x h = get-snoc xs y i x h
+get-front : {X : Type 0} (xs ys : List X) (i : ℕ) (x : X) → slice_get xs i ≡ Some x →
+    slice_get (xs ++ ys) i ≡ Some x
+get-front [] ys i x h = absurd (let never : None ≡ Some x = h in cc)
+get-front (z ∷ xs) ys zero x h = h
+get-front (z ∷ xs) ys (suc i) x h = get-front xs ys i x h
 
 pub get-end : {X : Type 0} (xs : List X) (y : X) → slice_get (xs ++ y ∷ []) (length xs) ≡ Some y
 get-end [] y = refl
@@ -31,14 +32,33 @@ get-end (x ∷ xs) y = get-end xs y
 abbrev pub StayThere : List (List Entry) → List (List Entry) → Type 0
 StayThere ds es = (n : ℕ) (d : List Entry) → slice_get ds n ≡ Some d → slice_get es n ≡ Some d
 
+doubts-append : {D : Type 0} (marks more : List (Mark D)) →
+    doubts_in (marks ++ more) ≡ doubts_in marks ++ doubts_in more
+doubts-append {D} marks more = map-append (λ (m : Mark D). m.doubt) marks more
+
+pub doubts-stay : {D : Type 0} (marks more : List (Mark D)) →
+    StayThere (doubts_in marks) (doubts_in (marks ++ more))
+doubts-stay marks more n d there =
+    subst (λ (l : List (List Entry)). slice_get l n ≡ Some d) (sym (doubts-append marks more))
+    (get-front (doubts_in marks) (doubts_in more) n d there)
+
+-- what was in doubt at the last of these
+pub doubt-at-end : {D : Type 0} (marks : List (Mark D)) (m : Mark D) →
+    slice_get (doubts_in (marks ++ m ∷ [])) (length marks) ≡ Some m.doubt
+doubt-at-end {D} marks m =
+    subst (λ (l : List (List Entry)). slice_get l (length marks) ≡ Some m.doubt)
+    (sym (doubts-append marks (m ∷ [])))
+    (subst (λ (n : ℕ). slice_get (doubts_in marks ++ m.doubt ∷ []) n ≡ Some m.doubt)
+    (length-map marks (λ (k : Mark D). k.doubt)) (get-end (doubts_in marks) m.doubt))
+
 module _ (x : Served) (opening : State) (ds es : List (List Entry)) (stay : StayThere ds es) where
-  pub in-doubt-still : (first doubt : List Entry) → IsInDoubt x opening ds first doubt →
+  in-doubt-still : (first doubt : List Entry) → IsInDoubt x opening ds first doubt →
       IsInDoubt x opening es first doubt
   in-doubt-still first doubt is =
       record {
         fault = is.fault;
         earlier = is.earlier;
-        nth = is.nth;
+        last = is.last;
         there = stay is.earlier doubt is.there;
         legal = is.legal;
       }
@@ -98,28 +118,47 @@ module _ (x : Served) (opening : State) (ds : List (List Entry)) where
 
 module _ {D : Type 0} (tells : Type 0) (moment : D → ℕ) (left_since : D → ℕ → List ℕ → Type 0)
     (may_leave : D → List ℕ → Type 0) (x : Served) (opened : BookView D) where
-  abbrev Kept : BookView D → List Entry → List Entry → Type 0
+  abbrev Kept : BookView D → List Entry → List Entry → List (Mark D) → Type 0
   Kept = IsKeptSince tells moment left_since may_leave x opened
 
   -- the run of a call whose images stand along the history that it leaves
-  pub kept-on : (b c : BookView D) (d e log es : List Entry) (ds : List (List Entry))
-      (P : List ℕ → List ℕ → Type 0) (kept : Kept b d log) → StayThere kept.doubts ds →
-      length ds ≡ fault_count (log ++ es) →
-      (c.fault ≡ Some Disk → IsInDoubt x opened.state ds (log ++ es) e) →
+  pub kept-on : (b c : BookView D) (d e log es : List Entry) (marks more : List (Mark D))
+      (P : List ℕ → List ℕ → Type 0) → Kept b d log marks → length more ≡ length es →
+      (c.fault ≡ Some Disk → IsInDoubt x opened.state (doubts_in (marks ++ more)) (log ++ es) e) →
       (tells → PairLeavesOnly moment left_since may_leave b.journal.pair c.journal.pair P) →
-      ((y z : List ℕ) → P y z → StandsAlong x opened.state ds (log ++ es) y z) →
-      Kept c e (log ++ es)
-  kept-on b c d e log es ds P kept stay count now run gives =
+      ((y z : List ℕ) → P y z →
+      StandsAlong x opened.state (doubts_in (marks ++ more)) (log ++ es) y z) →
+      Kept c e (log ++ es) (marks ++ more)
+  kept-on b c d e log es marks more P kept count now run gives =
+      let after : List (List Entry) = doubts_in (marks ++ more) in
       record {
-        doubts = ds;
-        one_each = count;
+        one_each = length-append marks more ∙ ap (λ n. n + length more) kept.one_each
+            ∙ ap (λ n. length log + n) count ∙ sym (length-append log es);
         now = now;
         moments = λ told. pair_goes_on moment left_since may_leave opened.journal.pair
-            b.journal.pair c.journal.pair (StandsAlong x opened.state ds (log ++ es))
+            b.journal.pair c.journal.pair (StandsAlong x opened.state after (log ++ es))
             (pair_weaker moment left_since may_leave opened.journal.pair b.journal.pair
-            (StandsAlong x opened.state kept.doubts log)
-            (StandsAlong x opened.state ds (log ++ es)) (kept.moments told)
-            (λ y z is. along-more x opened.state kept.doubts ds stay log es y z is))
+            (StandsAlong x opened.state (doubts_in marks) log)
+            (StandsAlong x opened.state after (log ++ es)) (kept.moments told)
+            (λ y z is. along-more x opened.state (doubts_in marks) after (doubts-stay marks more)
+            log es y z is))
             (pair_weaker moment left_since may_leave b.journal.pair c.journal.pair P
-            (StandsAlong x opened.state ds (log ++ es)) (run told) gives);
+            (StandsAlong x opened.state after (log ++ es)) (run told) gives);
       }
+
+  -- the run of a call that adds nothing
+  pub kept-here : (b c : BookView D) (d e log : List Entry) (marks : List (Mark D))
+      (P : List ℕ → List ℕ → Type 0) → Kept b d log marks →
+      (c.fault ≡ Some Disk → IsInDoubt x opened.state (doubts_in marks) log e) →
+      (tells → PairLeavesOnly moment left_since may_leave b.journal.pair c.journal.pair P) →
+      ((y z : List ℕ) → P y z → StandsAlong x opened.state (doubts_in marks) log y z) →
+      Kept c e log marks
+  kept-here b c d e log marks P kept now run gives = record {
+    one_each = kept.one_each;
+    now = now;
+    moments = λ told. pair_goes_on moment left_since may_leave opened.journal.pair
+        b.journal.pair c.journal.pair (StandsAlong x opened.state (doubts_in marks) log)
+        (kept.moments told)
+        (pair_weaker moment left_since may_leave b.journal.pair c.journal.pair P
+        (StandsAlong x opened.state (doubts_in marks) log) (run told) gives);
+  }

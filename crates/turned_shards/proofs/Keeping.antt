@@ -24,16 +24,19 @@ use Rattle.lease_histories.specs.Entries.{Request, request_of}
 use Rattle.lease_histories.specs.Laws.{Comes, DecisionsComeNext, FaultsComeNext, NextIsLegal}
 use Rattle.lease_histories.specs.Laws.{ServersComeNext}
 use Rattle.lease_histories.specs.Routes.{route_of}
+use Rattle.turn_lock.specs.Marks.{marks_beside}
+use Rattle.turned_shards.specs.declared.marks.Mark.{Mark}
 use Rattle.turned_shards.specs.declared.openings.Opening.{Opening}
 use Rattle.turned_shards.specs.declared.shards.Shard.{Shard}
 use Rattle.turned_shards.specs.BatchEntries.{Asked, IsAskedOf, asked_by, asked_in, entries_along}
 use Rattle.turned_shards.specs.BatchEntries.{fault_at, loss_at}
 use Rattle.turned_shards.specs.Inside.{asked_shard, come_in_shard, left_shard}
-use Rattle.turned_shards.specs.ShardCalls.{faults_of}
+use Rattle.turned_shards.specs.ShardCalls.{doubted, faults_of}
 use Rattle.turned_shards.specs.Shards.{LeadsTo, MayCome, StandsFor, served_by}
 use Rattle.turned_shards.proofs.Answering.{AreComing, along-at, along-legal, along-no-faults}
 use Rattle.turned_shards.proofs.Answering.{along-records}
 use Rattle.turned_shards.proofs.Standing.{Holds, kept-refused, kept-still, kept-with, leads-fault}
+use Rattle.turned_shards.proofs.Standing.{mark_by}
 use Rattle.turned_shards.proofs.Standing.{leads-in, leads-same, may-come-still, stands-fault}
 use Rattle.turned_shards.proofs.Standing.{stands-still, stands-with}
 
@@ -47,38 +50,40 @@ module _ {D : Type 0} where
       (left_since : D → ℕ → List ℕ → Type 0) (may_leave : D → List ℕ → Type 0)
       (counts : D → ℕ) where
     -- the records are kept: the entries have come
-    pub keeps-shard : (o : Opening D) (s : Shard D) (b : BookView D) (log es : List Entry)
+    pub keeps-shard : (o : Opening D) (s : Shard D) (b : BookView D) (log : List Entry) (marks : List (Mark D)) (es : List Entry)
         (m base at : ℕ) (records : List Record) (F : Type 0) →
-        StandsFor tells seen moment left_since may_leave counts o s log →
+        StandsFor tells seen moment left_since may_leave counts o s log marks →
         MayCome o (pending es m base records s) →
         Keeps tells moment left_since may_leave at records s.book b → at ≤ m →
         IsBook tells seen may_leave b →
         PairHasCause counts s.book.journal.pair b.journal.pair F →
         Holds tells seen moment left_since may_leave counts o
         (record (come_in_shard (asked_shard es m base s)) { book = b }) (log ++ es)
-    keeps-shard o s b log es m base at records F stands may keeps early book cause =
+        (marks ++ marks_beside (mark_by b []) es)
+    keeps-shard o s b log marks es m base at records F stands may keeps early book cause =
         let p : Shard D = pending es m base records s in
         let t : Shard D = record (come_in_shard (asked_shard es m base s)) { book = b } in
         let leads : LeadsTo o t (log ++ es) = leads-in o p t log
         (leads-same o s p log stands.leads refl refl refl) may keeps.state refl refl in
         let last : b.last ≡ at = keeps.last in
-        stands-with tells seen moment left_since may_leave counts o s t log es F stands leads may.no_faults
+        stands-with tells seen moment left_since may_leave counts o s t log marks es F stands leads may.no_faults
         keeps.terms refl book cause may.in_range (omega arith) keeps.fault refl
-        (kept-with tells seen moment left_since may_leave counts o s b log es records stands
+        (kept-with tells seen moment left_since may_leave counts o s b log marks es records stands
         may.records may.no_faults keeps.fault keeps.moments)
 
     -- the call was refused: they may be there
     pub doubts-shard : NextIsLegal → FaultsComeNext →
-        (o : Opening D) (s : Shard D) (b : BookView D) (log es : List Entry) (m base : ℕ)
+        (o : Opening D) (s : Shard D) (b : BookView D) (log : List Entry) (marks : List (Mark D)) (es : List Entry) (m base : ℕ)
         (records : List Record) (fault : JournalFault) (F : Type 0) →
-        StandsFor tells seen moment left_since may_leave counts o s log → MayCome o (pending es m base records s) →
+        StandsFor tells seen moment left_since may_leave counts o s log marks → MayCome o (pending es m base records s) →
         Doubts tells moment left_since may_leave records s.book b fault →
         IsBook tells seen may_leave b →
         PairHasCause counts s.book.journal.pair b.journal.pair F → (fault ≡ Disk → F) →
         Holds tells seen moment left_since may_leave counts o
         (record (left_shard fault (asked_shard es m base s)) { book = b })
         (log ++ faults_of s.moment s.base fault)
-    doubts-shard next faults o s b log es m base records fault F stands may doubts book cause
+        (marks ++ marks_beside (mark_by b (doubted fault es)) (faults_of s.moment s.base fault))
+    doubts-shard next faults o s b log marks es m base records fault F stands may doubts book cause
         fails = by fault doubts fails
       where
         by : (f : JournalFault) → Doubts tells moment left_since may_leave records s.book b f →
@@ -86,31 +91,32 @@ module _ {D : Type 0} where
             Holds tells seen moment left_since may_leave counts o
             (record (left_shard f (asked_shard es m base s)) { book = b })
             (log ++ faults_of s.moment s.base f)
+            (marks ++ marks_beside (mark_by b (doubted f es)) (faults_of s.moment s.base f))
         by Disk is fails =
             let t : Shard D = record (left_shard Disk (asked_shard es m base s)) { book = b } in
             let state = ap (λ (c : BookView D). c.state) is.same in
-            stands-fault tells seen moment left_since may_leave counts next faults o s t log F
+            stands-fault tells seen moment left_since may_leave counts next faults o s t log marks F
             (fails refl) stands state (ap (λ (c : BookView D). c.terms) is.same)
             book cause refl refl refl
             (subst (λ (c : BookView D). c.last ≤ s.moment) (sym is.same) stands.later)
             (λ failed. may-come-still o (pending es m base records s) t may state
             (ap (λ (c : BookView D). c.unsure) is.same) refl refl refl refl refl)
             (λ none. absurd (none (ap (λ (c : BookView D). c.fault) is.same)))
-            (kept-refused tells seen moment left_since may_leave counts o s b log es records stands
+            (kept-refused tells seen moment left_since may_leave counts o s b log marks es records stands
             (may.next (log ++ fault_at s.moment s.base ∷ [])
             (leads-fault next faults o s (pending es m base records s) log stands.opening
             stands.leads refl refl refl)) may.records is.moments)
         by Memory is fails =
             let t : Shard D = record (left_shard Memory (asked_shard es m base s)) { book = b } in
             let told = ap (λ (c : BookView D). c.fault) is.same in
-            stands-still tells seen moment left_since may_leave counts o s t log F stands
+            stands-still tells seen moment left_since may_leave counts o s t log marks F stands
             (ap (λ (c : BookView D). c.state) is.same)
             (ap (λ (c : BookView D). c.terms) is.same) book cause refl refl refl
             (subst (λ (c : BookView D). c.last ≤ s.moment) (sym is.same) stands.later)
             (λ failed. absurd (cc (failed, told)))
             (λ none. refl)
             (λ failed. absurd (cc (failed, told)))
-            (kept-still tells seen moment left_since may_leave counts o s b log [] [] stands
+            (kept-still tells seen moment left_since may_leave counts o s b log marks [] [] stands
             (λ failed. absurd (cc (failed, told))) (inl refl) is.moments)
 
     -- a settled book isn't settled again, and a call of it is refused after that

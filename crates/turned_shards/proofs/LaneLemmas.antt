@@ -14,13 +14,15 @@ use Rattle.lane_index.specs.Lanes.{WriterKnowledge}
 use Rattle.lease_histories.specs.Legal.{IsLegal, IsNextEntry, records_of, state_after}
 use Rattle.turn_lock.specs.Passes.{PassKnowledge, TurnName}
 use Rattle.lease_histories.specs.Laws.{StatesStand}
+use Rattle.turn_lock.specs.Marks.{marks_beside}
+use Rattle.turned_shards.specs.declared.marks.Mark.{Mark}
 use Rattle.turned_shards.specs.declared.openings.Opening.{Opening}
 use Rattle.turned_shards.specs.declared.shards.Shard.{Shard}
 use Rattle.turned_shards.specs.HeldShards.{IsHeldBy}
 use Rattle.turned_shards.specs.Inside.{IsMoved}
 use Rattle.turned_shards.specs.Laws.{IsPublishedOf}
 use Rattle.turned_shards.specs.Publishing.{IsNextRecord, IsWithLane, KeepsRecords, MayPush}
-use Rattle.turned_shards.specs.Shards.{HasIndexed, StandsFor, served_by}
+use Rattle.turned_shards.specs.Shards.{HasIndexed, StandsFor, mark_of, served_by}
 use Rattle.turned_shards.proofs.Histories.{state-append}
 use Rattle.turned_shards.proofs.RecordsOf.{AreAlike, all-alike, apply-alike, at-place, entry-of}
 use Rattle.turned_shards.proofs.RecordsOf.{first-of}
@@ -74,17 +76,17 @@ module _ {D : Type 0} where
   module _ (tells : Type 0) (seen : D → List ℕ) (moment : D → ℕ)
       (left_since : D → ℕ → List ℕ → Type 0) (may_leave : D → List ℕ → Type 0)
       (counts : D → ℕ) where
-    abbrev Stands : Opening D → Shard D → List Entry → Type 0
+    abbrev Stands : Opening D → Shard D → List Entry → List (Mark D) → Type 0
     Stands = StandsFor tells seen moment left_since may_leave counts
 
     -- what holds but for the lane doesn't speak of the lane
-    pub stands-up : (o : Opening D) (s t : Shard D) (log : List Entry) →
-        Holds tells seen moment left_since may_leave counts o s log →
+    pub stands-up : (o : Opening D) (s t : Shard D) (log : List Entry) (marks : List (Mark D)) →
+        Holds tells seen moment left_since may_leave counts o s log marks →
         t ≡ record s { writer = t.writer; unpushed = t.unpushed } → HasIndexed o t log →
-        Stands o t log
-    stands-up o s t log holds same has =
+        Stands o t log marks
+    stands-up o s t log marks holds same has =
         let u : Shard D = record s { writer = t.writer; unpushed = t.unpushed } in
-        subst (λ (x : Shard D). Stands o x log) (sym same) (record {
+        subst (λ (x : Shard D). Stands o x log marks) (sym same) (record {
           opening = holds.opening;
           terms = holds.terms;
           address = holds.address;
@@ -101,9 +103,9 @@ module _ {D : Type 0} where
           kept = holds.kept;
         })
 
-    pub stands-down : (o : Opening D) (s : Shard D) (log : List Entry) → Stands o s log →
-        Holds tells seen moment left_since may_leave counts o s log
-    stands-down o s log stands =
+    pub stands-down : (o : Opening D) (s : Shard D) (log : List Entry) (marks : List (Mark D)) → Stands o s log marks →
+        Holds tells seen moment left_since may_leave counts o s log marks
+    stands-down o s log marks stands =
         record {
           opening = stands.opening;
           terms = stands.terms;
@@ -120,15 +122,15 @@ module _ {D : Type 0} where
         }
 
     -- what waits was moved to where there is room
-    pub stands-moved : (o : Opening D) (s t : Shard D) (log : List Entry) → Stands o s log →
-        IsMoved s t → Stands o t log
-    stands-moved o s t log stands moved =
+    pub stands-moved : (o : Opening D) (s t : Shard D) (log : List Entry) (marks : List (Mark D)) → Stands o s log marks →
+        IsMoved s t → Stands o t log marks
+    stands-moved o s t log marks stands moved =
         let has = stands.indexed in
         let writer : t.writer ≡ s.writer = ap (λ (x : Shard D). x.writer) moved.same in
         let same : t ≡ record s { writer = t.writer; unpushed = t.unpushed } = moved.same
         ∙ ap (λ (w : WriterKnowledge). record s { writer = w; unpushed = t.unpushed })
         (sym writer) in
-        stands-up o s t log (stands-down o s log stands) same (record {
+        stands-up o s t log marks (stands-down o s log marks stands) same (record {
           index = ap (λ (w : WriterKnowledge). w.index) writer ∙ has.index;
           opening = ap (λ (w : WriterKnowledge). w.opening) writer ∙ has.opening;
           leases = has.leases;
@@ -142,32 +144,35 @@ module _ {D : Type 0} where
         })
 
     -- all records are published, or pushed, or wait still
-    pub stands-shown : (o : Opening D) (s t : Shard D) (log : List Entry) → Stands o s log →
+    pub stands-shown : (o : Opening D) (s t : Shard D) (log : List Entry) (marks : List (Mark D)) → Stands o s log marks →
         s.added ≡ [] → t ≡ record s { writer = t.writer; unpushed = t.unpushed } →
-        KeepsRecords s t → Stands o t log
-    stands-shown o s t log stands noted same keeps =
+        KeepsRecords s t → Stands o t log marks
+    stands-shown o s t log marks stands noted same keeps =
         let added : t.added ≡ [] = ap (λ (x : Shard D). x.added) same ∙ noted in
-        stands-up o s t log (stands-down o s log stands) same
+        stands-up o s t log marks (stands-down o s log marks stands) same
         (indexed-still o s t log stands.indexed keeps added)
 
     -- entries are added, and their records wait
-    pub stands-adding : (o : Opening D) (s t u : Shard D) (log es : List Entry) → Stands o s log →
-        Holds tells seen moment left_since may_leave counts o t (log ++ es) → u ≡ record t { unpushed = u.unpushed } →
+    pub stands-adding : (o : Opening D) (s t u : Shard D) (log : List Entry) (marks : List (Mark D)) (es : List Entry) → Stands o s log marks →
+        Holds tells seen moment left_since may_leave counts o t (log ++ es)
+        (marks ++ marks_beside (mark_of t) es) → u ≡ record t { unpushed = u.unpushed } →
         t.writer ≡ s.writer → u.unpushed.items ≡ s.unpushed.items ++ records_of es → t.added ≡ es →
-        Stands o u (log ++ es)
-    stands-adding o s t u log es stands holds same writer waiting added =
+        Stands o u (log ++ es) (marks ++ marks_beside (mark_of u) es)
+    stands-adding o s t u log marks es stands holds same writer waiting added =
         let to : u.writer ≡ t.writer = ap (λ (x : Shard D). x.writer) same in
         let at : u ≡ record t { writer = u.writer; unpushed = u.unpushed } = same
         ∙ ap (λ (w : WriterKnowledge). record t { writer = w; unpushed = u.unpushed })
         (sym to) in
-        stands-up o t u (log ++ es) holds at
+        subst (λ (m : Mark D). Stands o u (log ++ es) (marks ++ marks_beside m es))
+        (sym (ap (λ (x : Shard D). mark_of x) same))
+        (stands-up o t u (log ++ es) (marks ++ marks_beside (mark_of t) es) holds at
         (indexed-adds o s u log es stands.indexed (to ∙ writer) waiting
-        (ap (λ (x : Shard D). x.added) same ∙ added))
+        (ap (λ (x : Shard D). x.added) same ∙ added)))
 
     -- what waits may be pushed
-    pub may-push : StatesStand → (o : Opening D) (s : Shard D) (log : List Entry) → Stands o s log →
+    pub may-push : StatesStand → (o : Opening D) (s : Shard D) (log : List Entry) (marks : List (Mark D)) → Stands o s log marks →
         MayPush s.writer s.unpushed.items
-    may-push law o s log stands k r there =
+    may-push law o s log marks stands k r there =
         let has = stands.indexed in
         let op : State = o.book.state in
         let sent : List Record = s.writer.published ++ s.writer.pending in
@@ -212,9 +217,9 @@ module _ {D : Type 0} where
         }
 
     -- what is published are records of noted entries
-    pub published-noted : (o : Opening D) (s : Shard D) (log : List Entry) →
-        Stands o s (log ++ s.added) → IsPublishedOf s log
-    published-noted o s log stands =
+    pub published-noted : (o : Opening D) (s : Shard D) (log : List Entry) (marks : List (Mark D)) →
+        Stands o s (log ++ s.added) marks → IsPublishedOf s log
+    published-noted o s log marks stands =
         let has = stands.indexed in
         let w = s.writer in
         let sent : List Record = w.published ++ w.pending in
@@ -234,13 +239,13 @@ module _ {D : Type 0} where
         }
 
     -- a held shard of which all records are published, or wait still
-    pub held-shown : (turn : TurnName (Opening D)) (p : PassKnowledge Entry) (s t : Shard D) →
+    pub held-shown : (turn : TurnName (Opening D)) (p : PassKnowledge Entry (Mark D)) (s t : Shard D) →
         IsHeldBy tells seen moment left_since may_leave counts turn s p → IsWithLane s t → KeepsRecords s t →
         IsHeldBy tells seen moment left_since may_leave counts turn t p
     held-shown turn p s t held same keeps =
         record {
           turn_is = held.turn_is;
           out = held.out;
-          stands = stands-shown turn.key s t p.seen held.stands held.noted same keeps;
+          stands = stands-shown turn.key s t p.seen p.marks held.stands held.noted same keeps;
           noted = ap (λ (x : Shard D). x.added) same ∙ held.noted;
         }

@@ -12,6 +12,7 @@ use Rattle.shard_book.specs.declared.standings.Standing.TheVariants.{Clean, In, 
 use Rattle.shard_book.specs.Books.{BookView}
 use Rattle.shard_book.specs.Settlings.{IsIn, KeepsDoubt, Settles, StandingMeans, refused_of}
 use Rattle.lease_histories.specs.Legal.{records_of}
+use Rattle.turned_shards.specs.declared.marks.Mark.{Mark}
 use Rattle.turned_shards.specs.declared.openings.Opening.{Opening}
 use Rattle.turned_shards.specs.declared.shards.Shard.{Shard}
 use Rattle.turned_shards.specs.BatchEntries.{entries_by, entries_settled, records_found}
@@ -69,13 +70,13 @@ module _ {D : Type 0} where
       (left_since : D → ℕ → List ℕ → Type 0) (may_leave : D → List ℕ → Type 0)
       (counts : D → ℕ) where
     -- the records of the entries that a settling adds are those that wait
-    pub found-records : (o : Opening D) (s : Shard D) (b : BookView D) (log : List Entry) (m : ℕ)
-        (unsure : List Record) (settled : Settled) → StandsFor tells seen moment left_since may_leave counts o s log →
+    pub found-records : (o : Opening D) (s : Shard D) (b : BookView D) (log : List Entry) (marks : List (Mark D)) (m : ℕ)
+        (unsure : List Record) (settled : Settled) → StandsFor tells seen moment left_since may_leave counts o s log marks →
         s.added ≡ [] →
         Settles tells moment left_since may_leave m s.book b settled → unsure ≡ s.book.unsure →
         records_found unsure settled.address settled.journal
         ≡ records_of (settled_shard settled (record s { book = b })).added
-    found-records o s b log m unsure settled stands none settles same =
+    found-records o s b log marks m unsure settled stands none settles same =
         found-by unsure settled.address settled.journal (record s { book = b }) none (λ «in».
         let is : IsIn (refused_of s.book) b.state settled.address =
         subst (StandingMeans (max m s.book.last) s.book.terms.external.address

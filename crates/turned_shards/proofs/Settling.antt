@@ -26,14 +26,16 @@ use Rattle.lease_histories.specs.Entries.{entry_kind, has_just_begun, begins_ane
 use Rattle.lease_histories.specs.Legal.{IsLegal, IsOfServer, state_after, moment_after, base_after}
 use Rattle.lease_histories.specs.Laws.{FaultsComeNext, IsNoLess, LastIsGreatest, NextIsLegal}
 use Rattle.lease_histories.specs.Laws.{ServersComeNext}
+use Rattle.turn_lock.specs.Marks.{marks_beside}
+use Rattle.turned_shards.specs.declared.marks.Mark.{Mark}
 use Rattle.turned_shards.specs.declared.openings.Opening.{Opening}
 use Rattle.turned_shards.specs.declared.shards.Shard.{Shard}
 use Rattle.turned_shards.specs.BatchEntries.{fault_at, server_entry}
 use Rattle.turned_shards.specs.Inside.{settled_shard, shard_by}
 use Rattle.turned_shards.specs.ShardCalls.{faults_of}
-use Rattle.turned_shards.specs.Shards.{LeadsTo, MayCome, StandsFor, served_by}
+use Rattle.turned_shards.specs.Shards.{LeadsTo, MayCome, StandsFor, served_by, marks_added}
 use Rattle.turned_shards.proofs.Histories.{after-one, last-append, state-append}
-use Rattle.turned_shards.proofs.Standing.{Holds, doubt-legal, kept-refused, kept-still, kept-with}
+use Rattle.turned_shards.proofs.Standing.{Holds, doubt-legal, kept-refused, kept-still, kept-with, mark_by}
 use Rattle.turned_shards.proofs.Standing.{leads-in, may-come-still, stands-fault, stands-still}
 use Rattle.turned_shards.proofs.Standing.{stands-with, unsure-by, unsure-how}
 
@@ -137,9 +139,9 @@ module _ {D : Type 0} where
     with_book s b = record s { book = b }
 
     settles-by : NextIsLegal → LastIsGreatest → ServersComeNext →
-        (o : Opening D) (s : Shard D) (b : BookView D) (log : List Entry) (m : ℕ) (F : Type 0)
+        (o : Opening D) (s : Shard D) (b : BookView D) (log : List Entry) (marks : List (Mark D)) (m : ℕ) (F : Type 0)
         (address : Option Record) (standing : Standing) →
-        StandsFor tells seen moment left_since may_leave counts o s log → s.added ≡ [] → s.moment ≤ m →
+        StandsFor tells seen moment left_since may_leave counts o s log marks → s.added ≡ [] → s.moment ≤ m →
         StandingMeans (max m s.book.last) s.book.terms.external.address
         (refused_of s.book) b.state address standing →
         b.last ≡ max s.book.last b.state.last → b.terms ≡ s.book.terms → b.fault ≡ None →
@@ -151,31 +153,34 @@ module _ {D : Type 0} where
         Holds tells seen moment left_since may_leave counts o
         (record (shard_by address standing s) { book = b; doubt = [] })
         (log ++ (shard_by address standing s).added)
-    settles-by next greatest servers o s b log m F address Clean stands noted reached means last
+        (marks ++ marks_beside (mark_by b []) (shard_by address standing s).added)
+    settles-by next greatest servers o s b log marks m F address Clean stands noted reached means last
         terms settled book cause expected run =
         let p = stands.later in let q = stands.book.later in
         let same : b.state.last ≡ s.book.state.last = ap (λ (u : State). u.last) means.same in
         subst (λ (es : List Entry). Holds tells seen moment left_since may_leave counts o
-        (record s { book = b; doubt = [] }) (log ++ es)) (sym noted)
+        (record s { book = b; doubt = [] }) (log ++ es)
+        (marks ++ marks_beside (mark_by b []) es)) (sym noted)
         (stands-still tells seen moment left_since may_leave counts o s (record s { book = b; doubt = [] })
-        log F stands means.same terms book cause refl refl refl (omega arith)
+        log marks F stands means.same terms book cause refl refl refl (omega arith)
         (λ failed. absurd cc) (λ _. refl) (λ failed. absurd cc)
-        (kept-still tells seen moment left_since may_leave counts o s b log [] s.book.unsure stands
-        (λ failed. absurd cc) (unsure-how tells seen moment left_since may_leave counts o s log
+        (kept-still tells seen moment left_since may_leave counts o s b log marks [] s.book.unsure stands
+        (λ failed. absurd cc) (unsure-how tells seen moment left_since may_leave counts o s log marks
         stands s.book.fault refl) run))
-    settles-by next greatest servers o s b log m F address Out stands noted reached means last terms
+    settles-by next greatest servers o s b log marks m F address Out stands noted reached means last terms
         settled book cause expected run =
         let p = stands.later in let q = stands.book.later in
         let same : b.state.last ≡ s.book.state.last = ap (λ (u : State). u.last) means.same in
         subst (λ (es : List Entry). Holds tells seen moment left_since may_leave counts o
-        (record s { book = b; doubt = [] }) (log ++ es)) (sym noted)
+        (record s { book = b; doubt = [] }) (log ++ es)
+        (marks ++ marks_beside (mark_by b []) es)) (sym noted)
         (stands-still tells seen moment left_since may_leave counts o s (record s { book = b; doubt = [] })
-        log F stands means.same terms book cause refl refl refl (omega arith)
+        log marks F stands means.same terms book cause refl refl refl (omega arith)
         (λ failed. absurd cc) (λ _. refl) (λ failed. absurd cc)
-        (kept-still tells seen moment left_since may_leave counts o s b log [] s.book.unsure stands
-        (λ failed. absurd cc) (unsure-how tells seen moment left_since may_leave counts o s log
+        (kept-still tells seen moment left_since may_leave counts o s b log marks [] s.book.unsure stands
+        (λ failed. absurd cc) (unsure-how tells seen moment left_since may_leave counts o s log marks
         stands s.book.fault refl) run))
-    settles-by next greatest servers o s b log m F address In stands noted reached means last terms
+    settles-by next greatest servers o s b log marks m F address In stands noted reached means last terms
         settled book cause expected run =
         let may : MayCome o s = stands.doubt means.fault in
         let t : Shard D =
@@ -193,11 +198,11 @@ module _ {D : Type 0} where
         let a : (state_after o.book.state (log ++ s.doubt)).last ≡ b.state.last =
         ap (λ (u : State). u.last) leads.state in
         let c : moment_after o.book.state (log ++ s.doubt) ≡ s.doubt_moment = leads.moment in
-        stands-with tells seen moment left_since may_leave counts o s t log s.doubt F stands leads
+        stands-with tells seen moment left_since may_leave counts o s t log marks s.doubt F stands leads
         may.no_faults terms refl book cause may.in_range (omega arith) settled refl
-        (kept-with tells seen moment left_since may_leave counts o s b log s.doubt s.book.unsure
+        (kept-with tells seen moment left_since may_leave counts o s b log marks s.doubt s.book.unsure
         stands may.records may.no_faults settled run)
-    settles-by next greatest servers o s b log m F address
+    settles-by next greatest servers o s b log marks m F address
         (Fresh r) stands noted reached means last terms settled book cause expected run =
         let a : Address = s.book.terms.external.address in
         let q : Record = renumber_at r.moment a in
@@ -213,37 +218,42 @@ module _ {D : Type 0} where
         (begins-how r means.begins.begins) bound (omega arith) means.new refl refl in
         subst (λ (n : Option Record). Holds tells seen moment left_since may_leave counts o
         (record (shard_by n (Fresh r) s) { book = b; doubt = [] })
-        (log ++ (shard_by n (Fresh r) s).added)) (sym means.named)
-        (stands-with tells seen moment left_since may_leave counts o s t log
+        (log ++ (shard_by n (Fresh r) s).added)
+        (marks ++ marks_beside (mark_by b []) (shard_by n (Fresh r) s).added)) (sym means.named)
+        (stands-with tells seen moment left_since may_leave counts o s t log marks
         (server_entry s.base r ∷ server_entry (max s.base r.moment) q ∷ [])
         F stands leads refl terms refl book cause bound (omega arith) settled refl
-        (kept-with tells seen moment left_since may_leave counts o s b log
+        (kept-with tells seen moment left_since may_leave counts o s b log marks
         (server_entry s.base r ∷ server_entry (max s.base r.moment) q ∷ []) (r ∷ q ∷ []) stands
         refl refl settled (λ told. absurd (expected told))))
 
     -- a settled shard
     pub settles-shard : NextIsLegal → LastIsGreatest → ServersComeNext →
-        (o : Opening D) (s : Shard D) (b : BookView D) (log : List Entry) (m : ℕ) (F : Type 0)
+        (o : Opening D) (s : Shard D) (b : BookView D) (log : List Entry) (marks : List (Mark D)) (m : ℕ) (F : Type 0)
         (settled : Settled) →
-        StandsFor tells seen moment left_since may_leave counts o s log → s.added ≡ [] → s.moment ≤ m →
+        StandsFor tells seen moment left_since may_leave counts o s log marks → s.added ≡ [] → s.moment ≤ m →
         Settles tells moment left_since may_leave m s.book b settled →
         IsBook tells seen may_leave b →
         PairHasCause counts s.book.journal.pair b.journal.pair F →
         Holds tells seen moment left_since may_leave counts o (settled_shard settled (with_book s b))
         (log ++ (settled_shard settled (with_book s b)).added)
-    settles-shard next greatest servers o s b log m F settled stands noted reached settles book
+        (marks ++ marks_added (settled_shard settled (with_book s b)))
+    settles-shard next greatest servers o s b log marks m F settled stands noted reached settles book
         cause =
         by settled.journal
-        (settles-by next greatest servers o s b log m F settled.address settled.journal stands
+        (settles-by next greatest servers o s b log marks m F settled.address settled.journal stands
         noted reached settles.means settles.last settles.terms settles.fault book cause
         settles.expected settles.moments)
       where
         by : (standing : Standing) → Holds tells seen moment left_since may_leave counts o
             (record (shard_by settled.address standing s) { book = b; doubt = [] })
-            (log ++ (shard_by settled.address standing s).added) →
+            (log ++ (shard_by settled.address standing s).added)
+            (marks ++ marks_beside (mark_by b []) (shard_by settled.address standing s).added) →
             Holds tells seen moment left_since may_leave counts o
             (record (shard_by settled.address standing (with_book s b)) { doubt = [] })
             (log ++ (shard_by settled.address standing (with_book s b)).added)
+            (marks ++ marks_added
+            (record (shard_by settled.address standing (with_book s b)) { doubt = [] }))
         by Clean h = h
         by In h = h
         by Out h = h
@@ -251,24 +261,28 @@ module _ {D : Type 0} where
           where
             at : (n : Option Record) → Holds tells seen moment left_since may_leave counts o
                 (record (shard_by n (Fresh r) s) { book = b; doubt = [] })
-                (log ++ (shard_by n (Fresh r) s).added) →
+                (log ++ (shard_by n (Fresh r) s).added)
+                (marks ++ marks_beside (mark_by b []) (shard_by n (Fresh r) s).added) →
                 Holds tells seen moment left_since may_leave counts o
                 (record (shard_by n (Fresh r) (with_book s b)) { doubt = [] })
                 (log ++ (shard_by n (Fresh r) (with_book s b)).added)
+                (marks ++ marks_added
+                (record (shard_by n (Fresh r) (with_book s b)) { doubt = [] }))
             at None h = h
             at (Some q) h = h
 
     -- a settling that was refused: what was in doubt is so still
     pub refuses-settling : NextIsLegal → FaultsComeNext →
-        (o : Opening D) (s : Shard D) (b : BookView D) (log : List Entry) (fault : JournalFault)
+        (o : Opening D) (s : Shard D) (b : BookView D) (log : List Entry) (marks : List (Mark D)) (fault : JournalFault)
         (F : Type 0) →
-        StandsFor tells seen moment left_since may_leave counts o s log →
+        StandsFor tells seen moment left_since may_leave counts o s log marks →
         KeepsDoubt tells moment left_since may_leave s.book b → IsBook tells seen may_leave b →
         PairHasCause counts s.book.journal.pair b.journal.pair F → (fault ≡ Disk → F) →
         Holds tells seen moment left_since may_leave counts o
         (record s { book = b; added = faults_of s.moment s.base fault })
         (log ++ faults_of s.moment s.base fault)
-    refuses-settling next faults o s b log fault F stands keeps book cause fails = by fault fails
+        (marks ++ marks_beside (mark_by b s.doubt) (faults_of s.moment s.base fault))
+    refuses-settling next faults o s b log marks fault F stands keeps book cause fails = by fault fails
       where
         still : (f : BookView D → Type 0) → f (record s.book { journal = b.journal }) → f b
         still f = subst f (sym keeps.same)
@@ -291,25 +305,26 @@ module _ {D : Type 0} where
             Holds tells seen moment left_since may_leave counts o
             (record s { book = b; added = faults_of s.moment s.base f })
             (log ++ faults_of s.moment s.base f)
+            (marks ++ marks_beside (mark_by b s.doubt) (faults_of s.moment s.base f))
         by Disk f = stands-fault tells seen moment left_since may_leave counts next faults o s
-            (record s { book = b; added = fault_at s.moment s.base ∷ [] }) log F (f refl) stands
+            (record s { book = b; added = fault_at s.moment s.base ∷ [] }) log marks F (f refl) stands
             (ap (λ (c : BookView D). c.state) keeps.same)
             (ap (λ (c : BookView D). c.terms) keeps.same) book cause refl refl refl later
             (doubt (fault_at s.moment s.base ∷ [])) sure
-            (kept-refused tells seen moment left_since may_leave counts o s b log s.doubt
+            (kept-refused tells seen moment left_since may_leave counts o s b log marks s.doubt
             s.book.unsure stands (doubt-legal tells seen moment left_since may_leave counts next
-            faults o s log stands s.book.fault refl)
-            (unsure-by tells seen moment left_since may_leave counts o s log stands s.book.fault
+            faults o s log marks stands s.book.fault refl)
+            (unsure-by tells seen moment left_since may_leave counts o s log marks stands s.book.fault
             refl) keeps.moments)
         by Memory f = stands-still tells seen moment left_since may_leave counts o s
-            (record s { book = b; added = [] }) log F stands
+            (record s { book = b; added = [] }) log marks F stands
             (ap (λ (c : BookView D). c.state) keeps.same)
             (ap (λ (c : BookView D). c.terms) keeps.same) book cause refl refl refl later
             (doubt []) sure
             (λ failed. stands.failed
             (sym (ap (λ (c : BookView D). c.fault) keeps.same) ∙ failed))
-            (kept-still tells seen moment left_since may_leave counts o s b log s.doubt
+            (kept-still tells seen moment left_since may_leave counts o s b log marks s.doubt
             s.book.unsure stands (λ failed. stands.kept.now
             (sym (ap (λ (c : BookView D). c.fault) keeps.same) ∙ failed))
-            (unsure-how tells seen moment left_since may_leave counts o s log stands s.book.fault
+            (unsure-how tells seen moment left_since may_leave counts o s log marks stands s.book.fault
             refl) keeps.moments)

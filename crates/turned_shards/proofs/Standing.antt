@@ -4,7 +4,7 @@ use Rattle.std.specs.Option.{option_map_or}
 use Rattle.std.proofs.Common.{◌≡◌, ◌≢◌, ◌∙◌, ℕ, ◌≤◌, ◌<◌, ◌^◌, List, [], ◌∷◌, ◌++◌, true, false}
 use Rattle.std.proofs.Common.{Option, Some, None, refl, ap, sym, subst, inl, inr, ◌⊎◌, arith}
 use Rattle.std.proofs.Common.{length, ◌+◌, length-append}
-use Rattle.std.proofs.lemmas.List.{append-nil}
+use Rattle.std.proofs.lemmas.List.{append-nil, length-map}
 use Rattle.pcp_base.specs.declared.datagrams.Entry.{Entry}
 use Rattle.pcp_base.specs.declared.records.Record.{Record}
 use Rattle.pcp_base.specs.Apply.{apply_all}
@@ -19,14 +19,16 @@ use Rattle.shard_book.specs.Books.{BookView, IsBook}
 use Rattle.lease_histories.specs.Entries.{entry_kind}
 use Rattle.lease_histories.specs.Legal.{IsLegal, IsOpening, records_of}
 use Rattle.lease_histories.specs.Laws.{FaultsComeNext, NextIsLegal}
+use Rattle.turn_lock.specs.Marks.{marks_beside}
+use Rattle.turned_shards.specs.declared.marks.Mark.{Mark}
 use Rattle.turned_shards.specs.declared.openings.Opening.{Opening}
 use Rattle.turned_shards.specs.declared.shards.Shard.{Shard}
 use Rattle.turned_shards.specs.BatchEntries.{fault_at}
-use Rattle.turned_shards.specs.Crashes.{IsInDoubt, IsKeptSince, StandsAlong}
+use Rattle.turned_shards.specs.Crashes.{IsInDoubt, IsKeptSince, StandsAlong, doubts_in}
 use Rattle.turned_shards.specs.FaultCounts.{HaveRisenBy, ends_in_fault, fault_count, is_of_fault}
-use Rattle.turned_shards.specs.Shards.{LeadsTo, MayCome, StandsFor, served_by}
-use Rattle.turned_shards.proofs.CrashLemmas.{along-doubt, along-front, along-whole, get-end}
-use Rattle.turned_shards.proofs.CrashLemmas.{get-snoc, kept-on}
+use Rattle.turned_shards.specs.Shards.{LeadsTo, MayCome, StandsFor, mark_of, served_by}
+use Rattle.turned_shards.proofs.CrashLemmas.{along-doubt, along-front, along-whole}
+use Rattle.turned_shards.proofs.CrashLemmas.{doubt-at-end, kept-here, kept-on}
 use Rattle.turned_shards.proofs.Histories.{after-all, after-one, faults-append, last-append}
 use Rattle.turned_shards.proofs.Histories.{risen-more, risen-on, state-append}
 
@@ -37,6 +39,10 @@ ends-fault log m base =
     (last-append None log (fault_at m base) [])
 
 module _ {D : Type 0} where
+  -- the mark of a shard with this book and these in doubt
+  abbrev pub mark_by : BookView D → List Entry → Mark D
+  mark_by b doubt = record { pair = b.journal.pair; doubt = doubt }
+
   -- the same history leads to a shard of the same state, moment and base
   pub leads-same : (o : Opening D) (s t : Shard D) (log : List Entry) → LeadsTo o s log →
       t.book.state ≡ s.book.state → t.moment ≡ s.moment → t.base ≡ s.base → LeadsTo o t log
@@ -107,7 +113,7 @@ module _ {D : Type 0} where
   -- what StandsFor says but of the lane
   pub record Holds (tells : Type 0) (seen : D → List ℕ) (moment : D → ℕ)
       (left_since : D → ℕ → List ℕ → Type 0) (may_leave : D → List ℕ → Type 0)
-      (counts : D → ℕ) (o : Opening D) (s : Shard D) (log : List Entry) : Type 0 where
+      (counts : D → ℕ) (o : Opening D) (s : Shard D) (log : List Entry) (marks : List (Mark D)) : Type 0 where
     pub opening : IsOpening (served_by o) o.book.state
     pub terms : s.book.terms ≡ terms_of (served_by o).external o.config
     pub address : s.address ≡ s.book.terms.external.address
@@ -119,18 +125,18 @@ module _ {D : Type 0} where
     pub sure : s.book.fault ≢ Some Disk → s.doubt ≡ []
     pub failed : s.book.fault ≡ Some Disk → ends_in_fault log ≡ true
     pub risen : HaveRisenBy counts o.book.journal.pair s.book.journal.pair (fault_count log)
-    pub kept : IsKeptSince tells moment left_since may_leave (served_by o) o.book s.book s.doubt log
+    pub kept : IsKeptSince tells moment left_since may_leave (served_by o) o.book s.book s.doubt log marks
 
   module _ (tells : Type 0) (seen : D → List ℕ) (moment : D → ℕ)
       (left_since : D → ℕ → List ℕ → Type 0) (may_leave : D → List ℕ → Type 0)
       (counts : D → ℕ) where
-    abbrev Stands : Opening D → Shard D → List Entry → Type 0
+    abbrev Stands : Opening D → Shard D → List Entry → List (Mark D) → Type 0
     Stands = StandsFor tells seen moment left_since may_leave counts
 
-    abbrev Held : Opening D → Shard D → List Entry → Type 0
+    abbrev Held : Opening D → Shard D → List Entry → List (Mark D) → Type 0
     Held = Holds tells seen moment left_since may_leave counts
 
-    abbrev Kept : Opening D → BookView D → List Entry → List Entry → Type 0
+    abbrev Kept : Opening D → BookView D → List Entry → List Entry → List (Mark D) → Type 0
     Kept o = IsKeptSince tells moment left_since may_leave (served_by o) o.book
 
     -- a call of the book that left the state, or that with these records
@@ -139,9 +145,9 @@ module _ {D : Type 0} where
         b.journal.pair (StandsForWithOrWithout s.book.state records)
 
     -- the entries added were noted
-    pub stands-noted : (o : Opening D) (s : Shard D) (log : List Entry) → Stands o s log →
-        Stands o (record s { added = [] }) log
-    stands-noted o s log stands =
+    pub stands-noted : (o : Opening D) (s : Shard D) (log : List Entry) (marks : List (Mark D)) → Stands o s log marks →
+        Stands o (record s { added = [] }) log marks
+    stands-noted o s log marks stands =
         record {
           opening = stands.opening;
           terms = stands.terms;
@@ -167,17 +173,18 @@ module _ {D : Type 0} where
         }
 
     -- nothing is added, and the history leads to the same
-    pub stands-still : (o : Opening D) (s t : Shard D) (log : List Entry) (F : Type 0) →
-        Stands o s log → t.book.state ≡ s.book.state → t.book.terms ≡ s.book.terms →
+    pub stands-still : (o : Opening D) (s t : Shard D) (log : List Entry) (marks : List (Mark D)) (F : Type 0) →
+        Stands o s log marks → t.book.state ≡ s.book.state → t.book.terms ≡ s.book.terms →
         IsBook tells seen may_leave t.book →
         PairHasCause counts s.book.journal.pair t.book.journal.pair F → t.moment ≡ s.moment →
         t.base ≡ s.base → t.address ≡ s.address → t.book.last ≤ t.moment →
         (t.book.fault ≡ Some Disk → MayCome o t) → (t.book.fault ≢ Some Disk → t.doubt ≡ []) →
-        (t.book.fault ≡ Some Disk → ends_in_fault log ≡ true) → Kept o t.book t.doubt log →
-        Held o t (log ++ [])
-    stands-still o s t log F stands state terms book cause at base address later doubt sure
+        (t.book.fault ≡ Some Disk → ends_in_fault log ≡ true) → Kept o t.book t.doubt log marks →
+        Held o t (log ++ []) (marks ++ [])
+    stands-still o s t log marks F stands state terms book cause at base address later doubt sure
         failed kept =
-        subst (Held o t) (sym (append-nil log)) (record {
+        subst (Held o t (log ++ [])) (sym (append-nil marks))
+        (subst (λ (l : List Entry). Held o t l marks) (sym (append-nil log)) (record {
           opening = stands.opening;
           terms = terms ∙ stands.terms;
           address = address ∙ stands.address ∙ ap (λ (k : Terms). k.external.address) (sym terms);
@@ -191,19 +198,19 @@ module _ {D : Type 0} where
           risen = risen-on counts o.book.journal.pair s.book.journal.pair t.book.journal.pair
               (fault_count log) F stands.risen cause;
           kept = kept;
-        })
+        }))
 
     -- a fault is added
     pub stands-fault : NextIsLegal → FaultsComeNext →
-        (o : Opening D) (s t : Shard D) (log : List Entry) (F : Type 0) → F → Stands o s log →
+        (o : Opening D) (s t : Shard D) (log : List Entry) (marks : List (Mark D)) (F : Type 0) → F → Stands o s log marks →
         t.book.state ≡ s.book.state → t.book.terms ≡ s.book.terms →
         IsBook tells seen may_leave t.book →
         PairHasCause counts s.book.journal.pair t.book.journal.pair F → t.moment ≡ s.moment →
         t.base ≡ s.base → t.address ≡ s.address → t.book.last ≤ t.moment →
         (t.book.fault ≡ Some Disk → MayCome o t) → (t.book.fault ≢ Some Disk → t.doubt ≡ []) →
-        Kept o t.book t.doubt (log ++ fault_at s.moment s.base ∷ []) →
-        Held o t (log ++ fault_at s.moment s.base ∷ [])
-    stands-fault next faults o s t log F failed stands state terms book cause at base address
+        Kept o t.book t.doubt (log ++ fault_at s.moment s.base ∷ []) (marks ++ mark_of t ∷ []) →
+        Held o t (log ++ fault_at s.moment s.base ∷ []) (marks ++ mark_of t ∷ [])
+    stands-fault next faults o s t log marks F failed stands state terms book cause at base address
         later doubt sure kept =
         record {
           opening = stands.opening;
@@ -224,15 +231,16 @@ module _ {D : Type 0} where
         }
 
     -- entries that are no faults are added
-    pub stands-with : (o : Opening D) (s t : Shard D) (log es : List Entry) (F : Type 0) →
-        Stands o s log → LeadsTo o t (log ++ es) → fault_count es ≡ 0 →
+    pub stands-with : (o : Opening D) (s t : Shard D) (log : List Entry) (marks : List (Mark D)) (es : List Entry) (F : Type 0) →
+        Stands o s log marks → LeadsTo o t (log ++ es) → fault_count es ≡ 0 →
         t.book.terms ≡ s.book.terms → t.address ≡ s.address →
         IsBook tells seen may_leave t.book →
         PairHasCause counts s.book.journal.pair t.book.journal.pair F → t.moment < 2 ^ 40 →
         t.book.last ≤ t.moment →
-        t.book.fault ≡ None → t.doubt ≡ [] → Kept o t.book t.doubt (log ++ es) →
-        Held o t (log ++ es)
-    stands-with o s t log es F stands leads none terms address book cause in_range later settled
+        t.book.fault ≡ None → t.doubt ≡ [] →
+        Kept o t.book t.doubt (log ++ es) (marks ++ marks_beside (mark_of t) es) →
+        Held o t (log ++ es) (marks ++ marks_beside (mark_of t) es)
+    stands-with o s t log marks es F stands leads none terms address book cause in_range later settled
         sure kept =
         let all : fault_count (log ++ es) ≡ fault_count log =
         (let p = faults-append log es in omega arith) in
@@ -256,21 +264,21 @@ module _ {D : Type 0} where
     -- ---- what a crash leaves
 
     -- what is in doubt, by its records
-    pub unsure-by : (o : Opening D) (s : Shard D) (log : List Entry) → Stands o s log →
+    pub unsure-by : (o : Opening D) (s : Shard D) (log : List Entry) (marks : List (Mark D)) → Stands o s log marks →
         (f : Option JournalFault) → s.book.fault ≡ f → records_of s.doubt ≡ s.book.unsure
-    unsure-by o s log stands (Some Disk) h = (stands.doubt h).records
-    unsure-by o s log stands (Some Memory) h =
+    unsure-by o s log marks stands (Some Disk) h = (stands.doubt h).records
+    unsure-by o s log marks stands (Some Memory) h =
         let other : s.book.fault ≢ Some Disk = λ failed. absurd (cc (h, failed)) in
         ap records_of (stands.sure other) ∙ sym (stands.book.sure other)
-    unsure-by o s log stands None h =
+    unsure-by o s log marks stands None h =
         let other : s.book.fault ≢ Some Disk = λ failed. absurd (cc (h, failed)) in
         ap records_of (stands.sure other) ∙ sym (stands.book.sure other)
 
     -- a fault, and what is in doubt behind it
     pub doubt-legal : NextIsLegal → FaultsComeNext → (o : Opening D) (s : Shard D)
-        (log : List Entry) → Stands o s log → (f : Option JournalFault) → s.book.fault ≡ f →
+        (log : List Entry) (marks : List (Mark D)) → Stands o s log marks → (f : Option JournalFault) → s.book.fault ≡ f →
         IsLegal (served_by o) o.book.state ((log ++ fault_at s.moment s.base ∷ []) ++ s.doubt)
-    doubt-legal next faults o s log stands f h = by f h
+    doubt-legal next faults o s log marks stands f h = by f h
       where
         whole : List Entry
         whole = log ++ fault_at s.moment s.base ∷ []
@@ -290,115 +298,106 @@ module _ {D : Type 0} where
         by None same = none (stands.sure (λ failed. absurd (cc (same, failed))))
 
     -- no records were in doubt, or those behind the whole history
-    pub unsure-how : (o : Opening D) (s : Shard D) (log : List Entry) → Stands o s log →
+    pub unsure-how : (o : Opening D) (s : Shard D) (log : List Entry) (marks : List (Mark D)) → Stands o s log marks →
         (f : Option JournalFault) → s.book.fault ≡ f →
         (s.book.unsure ≡ []) ⊎ ((s.book.fault ≡ Some Disk) × (s.book.unsure ≡ s.book.unsure))
-    unsure-how o s log stands (Some Disk) h = inr (h, refl)
-    unsure-how o s log stands (Some Memory) h =
+    unsure-how o s log marks stands (Some Disk) h = inr (h, refl)
+    unsure-how o s log marks stands (Some Memory) h =
         inl (stands.book.sure (λ failed. absurd (cc (h, failed))))
-    unsure-how o s log stands None h =
+    unsure-how o s log marks stands None h =
         inl (stands.book.sure (λ failed. absurd (cc (h, failed))))
 
     -- entries that are no faults come in, or don't
-    pub kept-with : (o : Opening D) (s : Shard D) (b : BookView D) (log es : List Entry)
-        (records : List Record) → Stands o s log → records_of es ≡ records → fault_count es ≡ 0 →
-        b.fault ≡ None → Ran s b records → Kept o b [] (log ++ es)
-    kept-with o s b log es records stands same none settled run =
+    pub kept-with : (o : Opening D) (s : Shard D) (b : BookView D) (log : List Entry) (marks : List (Mark D)) (es : List Entry)
+        (records : List Record) → Stands o s log marks → records_of es ≡ records → fault_count es ≡ 0 →
+        b.fault ≡ None → Ran s b records →
+        Kept o b [] (log ++ es) (marks ++ marks_beside (mark_by b []) es)
+    kept-with o s b log marks es records stands same none settled run =
         kept-on tells moment left_since may_leave (served_by o) o.book s.book b s.doubt [] log es
-        stands.kept.doubts (StandsForWithOrWithout s.book.state records) stands.kept (λ n d h. h)
-        (let p = faults-append log es in let q = stands.kept.one_each in omega (arith, p, q, none))
+        marks (marks_beside (mark_by b []) es) (StandsForWithOrWithout s.book.state records)
+        stands.kept
+        (length-map es (λ (e : Entry). mark_by b []))
         (λ failed. absurd (cc (failed, settled))) run gives
       where
         gives : (y z : List ℕ) → StandsForWithOrWithout s.book.state records y z →
-            StandsAlong (served_by o) o.book.state stands.kept.doubts (log ++ es) y z
+            StandsAlong (served_by o) o.book.state
+            (doubts_in (marks ++ marks_beside (mark_by b []) es)) (log ++ es) y z
         gives y z (inl left) =
-            along-front (served_by o) o.book.state stands.kept.doubts log es y z
+            along-front (served_by o) o.book.state
+            (doubts_in (marks ++ marks_beside (mark_by b []) es)) log es y z
             (subst (λ (u : State). StandsForState u y z) (sym stands.leads.state) left)
         gives y z (inr left) =
-            along-whole (served_by o) o.book.state stands.kept.doubts (log ++ es) y z
+            along-whole (served_by o) o.book.state
+            (doubts_in (marks ++ marks_beside (mark_by b []) es)) (log ++ es) y z
             (subst (λ (u : State). StandsForState u y z)
             (sym (state-append o.book.state log es
             ∙ ap (λ (u : State). apply_all u (records_of es)) stands.leads.state
             ∙ ap (λ (rs : List Record). apply_all s.book.state rs) same)) left)
 
     -- a fault is told, and these entries are in doubt behind it
-    pub kept-refused : (o : Opening D) (s : Shard D) (b : BookView D) (log doubt : List Entry)
-        (records : List Record) → Stands o s log →
+    pub kept-refused : (o : Opening D) (s : Shard D) (b : BookView D) (log : List Entry) (marks : List (Mark D)) (doubt : List Entry)
+        (records : List Record) → Stands o s log marks →
         IsLegal (served_by o) o.book.state ((log ++ fault_at s.moment s.base ∷ []) ++ doubt) →
         records_of doubt ≡ records → Ran s b records →
-        Kept o b doubt (log ++ fault_at s.moment s.base ∷ [])
-    kept-refused o s b log doubt records stands legal same run =
+        Kept o b doubt (log ++ fault_at s.moment s.base ∷ []) (marks ++ mark_by b doubt ∷ [])
+    kept-refused o s b log marks doubt records stands legal same run =
         kept-on tells moment left_since may_leave (served_by o) o.book s.book b s.doubt doubt log
-        (fault ∷ []) ds (StandsForWithOrWithout s.book.state records) stands.kept
-        (λ n d h. get-snoc stands.kept.doubts doubt n d h)
-        (let p = one-more in let q = stands.kept.one_each in
-        let r = length-append stands.kept.doubts (doubt ∷ []) in omega (arith, p, q, r))
-        (λ failed. is) run gives
+        (fault_at s.moment s.base ∷ []) marks (mark_by b doubt ∷ []) (StandsForWithOrWithout s.book.state records)
+        stands.kept refl (λ failed. is) run gives
       where
-        fault : Entry
-        fault = fault_at s.moment s.base
-
-        ds : List (List Entry)
-        ds = stands.kept.doubts ++ doubt ∷ []
-
-        one-more : fault_count (log ++ fault ∷ []) ≡ fault_count log + 1
-        one-more = faults-append log (fault ∷ [])
-
-        is : IsInDoubt (served_by o) o.book.state ds (log ++ fault ∷ []) doubt
+        is : IsInDoubt (served_by o) o.book.state (doubts_in (marks ++ mark_by b doubt ∷ []))
+            (log ++ fault_at s.moment s.base ∷ []) doubt
         is = record {
           fault = ends-fault log s.moment s.base;
-          earlier = fault_count log;
-          nth = one-more;
-          there = subst (λ (n : ℕ). slice_get ds n ≡ Some doubt) stands.kept.one_each
-              (get-end stands.kept.doubts doubt);
+          earlier = length log;
+          last = length-append log (fault_at s.moment s.base ∷ []);
+          there = subst (λ (n : ℕ).
+              slice_get (doubts_in (marks ++ mark_by b doubt ∷ [])) n ≡ Some doubt)
+              stands.kept.one_each (doubt-at-end marks (mark_by b doubt));
           legal = legal;
         }
 
         gives : (y z : List ℕ) → StandsForWithOrWithout s.book.state records y z →
-            StandsAlong (served_by o) o.book.state ds (log ++ fault ∷ []) y z
+            StandsAlong (served_by o) o.book.state (doubts_in (marks ++ mark_by b doubt ∷ []))
+            (log ++ fault_at s.moment s.base ∷ []) y z
         gives y z (inl left) =
-            along-front (served_by o) o.book.state ds log (fault ∷ []) y z
+            along-front (served_by o) o.book.state (doubts_in (marks ++ mark_by b doubt ∷ [])) log
+            (fault_at s.moment s.base ∷ []) y z
             (subst (λ (u : State). StandsForState u y z) (sym stands.leads.state) left)
         gives y z (inr left) =
-            along-doubt (served_by o) o.book.state ds (log ++ fault ∷ []) doubt y z is
+            along-doubt (served_by o) o.book.state (doubts_in (marks ++ mark_by b doubt ∷ []))
+            (log ++ fault_at s.moment s.base ∷ []) doubt y z is
             (subst (λ (u : State). StandsForState u y z)
-            (sym (state-append o.book.state (log ++ fault ∷ []) doubt
+            (sym (state-append o.book.state (log ++ fault_at s.moment s.base ∷ []) doubt
             ∙ ap (λ (u : State). apply_all u (records_of doubt))
-            (state-append o.book.state log (fault ∷ []) ∙ stands.leads.state)
+            (state-append o.book.state log (fault_at s.moment s.base ∷ []) ∙ stands.leads.state)
             ∙ ap (λ (rs : List Record). apply_all s.book.state rs) same)) left)
 
     -- nothing is added: the records, if any, are those that were in doubt
-    pub kept-still : (o : Opening D) (s : Shard D) (b : BookView D) (log doubt : List Entry)
-        (records : List Record) (stands : Stands o s log) →
-        (b.fault ≡ Some Disk →
-        IsInDoubt (served_by o) o.book.state stands.kept.doubts log doubt) →
+    pub kept-still : (o : Opening D) (s : Shard D) (b : BookView D) (log : List Entry)
+        (marks : List (Mark D)) (doubt : List Entry) (records : List Record) →
+        (stands : Stands o s log marks) →
+        (b.fault ≡ Some Disk → IsInDoubt (served_by o) o.book.state (doubts_in marks) log doubt) →
         (records ≡ []) ⊎ ((s.book.fault ≡ Some Disk) × (records ≡ s.book.unsure)) →
-        Ran s b records → Kept o b doubt log
-    kept-still o s b log doubt records stands now how run =
-        subst (λ (l : List Entry). Kept o b doubt l) (append-nil log)
-        (kept-on tells moment left_since may_leave (served_by o) o.book s.book b s.doubt doubt log
-        [] stands.kept.doubts (StandsForWithOrWithout s.book.state records) stands.kept
-        (λ n d h. h) (stands.kept.one_each ∙ ap fault_count (sym (append-nil log)))
-        (λ failed. subst (λ (l : List Entry).
-        IsInDoubt (served_by o) o.book.state stands.kept.doubts l doubt)
-        (sym (append-nil log)) (now failed)) run
-        (λ y z left. subst (λ (l : List Entry).
-        StandsAlong (served_by o) o.book.state stands.kept.doubts l y z)
-        (sym (append-nil log)) (by y z how left)))
+        Ran s b records → Kept o b doubt log marks
+    kept-still o s b log marks doubt records stands now how run =
+        kept-here tells moment left_since may_leave (served_by o) o.book s.book b s.doubt doubt log
+        marks (StandsForWithOrWithout s.book.state records) stands.kept now run
+        (λ y z left. by y z how left)
       where
         by : (y z : List ℕ) →
             (records ≡ []) ⊎ ((s.book.fault ≡ Some Disk) × (records ≡ s.book.unsure)) →
             StandsForWithOrWithout s.book.state records y z →
-            StandsAlong (served_by o) o.book.state stands.kept.doubts log y z
+            StandsAlong (served_by o) o.book.state (doubts_in marks) log y z
         by y z which (inl left) =
-            along-whole (served_by o) o.book.state stands.kept.doubts log y z
+            along-whole (served_by o) o.book.state (doubts_in marks) log y z
             (subst (λ (u : State). StandsForState u y z) (sym stands.leads.state) left)
         by y z (inl none) (inr left) =
-            along-whole (served_by o) o.book.state stands.kept.doubts log y z
+            along-whole (served_by o) o.book.state (doubts_in marks) log y z
             (subst (λ (u : State). StandsForState u y z) (sym stands.leads.state)
             (subst (λ (rs : List Record). StandsForState (apply_all s.book.state rs) y z) none left))
         by y z (inr (failed, same)) (inr left) =
-            along-doubt (served_by o) o.book.state stands.kept.doubts log s.doubt y z
+            along-doubt (served_by o) o.book.state (doubts_in marks) log s.doubt y z
             (stands.kept.now failed)
             (subst (λ (u : State). StandsForState u y z)
             (sym (state-append o.book.state log s.doubt

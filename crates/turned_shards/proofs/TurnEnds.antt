@@ -19,9 +19,10 @@ use Rattle.lane_index.specs.Lanes.{LaneKnowledge, WriterKnowledge}
 use Rattle.shard_book.specs.Books.{BookView}
 use Rattle.lease_histories.specs.Legal.{records_of, state_after}
 use Rattle.lease_histories.specs.Laws.{NothingIsLegal}
+use Rattle.turned_shards.specs.declared.marks.Mark.{Mark}
 use Rattle.turned_shards.specs.declared.openings.Opening.{Opening}
 use Rattle.turned_shards.specs.declared.shards.Shard.{Shard}
-use Rattle.turned_shards.specs.Crashes.{StandsAlong}
+use Rattle.turned_shards.specs.Crashes.{StandsAlong, doubts_in}
 use Rattle.turned_shards.specs.Inside.{fresh_shard}
 use Rattle.turned_shards.specs.Shards.{StandsFor, served_by}
 use Rattle.turned_shards.specs.Turnings.{KnowsFirst, MayBegin, StandsStill, first_lane}
@@ -64,7 +65,7 @@ module _ {D : Type 0} (tells : Type 0) (seen : D → List ℕ) (moment : D → �
       MayBegin tells seen may_leave config place book → writer ≡ first_writer lane book →
       lane ≡ first_lane writer book → s.unpushed.items ≡ [] →
       StandsFor tells seen moment left_since may_leave counts (opening_of config place book lane)
-      (fresh_shard address book writer s) []
+      (fresh_shard address book writer s) [] []
   stands-new nothing config place address book writer lane s named may writer_is lane_is waiting =
       let o : Opening D = opening_of config place book lane in
       let none : book.fault ≡ None = may.settled in
@@ -102,7 +103,6 @@ module _ {D : Type 0} (tells : Type 0) (seen : D → List ℕ) (moment : D → �
           unnoted = waiting;
         };
         kept = record {
-          doubts = [];
           one_each = refl;
           now = λ failed. absurd (cc (failed, none));
           moments = λ told. pair_started moment left_since may_leave book.journal.pair
@@ -115,25 +115,25 @@ module _ {D : Type 0} (tells : Type 0) (seen : D → List ℕ) (moment : D → �
       }
 
   -- what a crash leaves
-  pub images-of : (o : Opening D) (s : Shard D) (log : List Entry) →
-      StandsFor tells seen moment left_since may_leave counts o s log → tells →
+  pub images-of : (o : Opening D) (s : Shard D) (log : List Entry) (marks : List (Mark D)) →
+      StandsFor tells seen moment left_since may_leave counts o s log marks → tells →
       HoldsNow may_leave
       (StandsForWithOrWithout (state_after o.book.state log) (records_of s.doubt))
       s.book.journal.pair
-  images-of o s log stands told =
+  images-of o s log marks stands told =
       subst (λ (u : State). HoldsNow may_leave (StandsForWithOrWithout u (records_of s.doubt))
       s.book.journal.pair) (sym stands.leads.state)
       (subst (λ (rs : List Record). HoldsNow may_leave
       (StandsForWithOrWithout s.book.state rs) s.book.journal.pair)
-      (sym (unsure-by tells seen moment left_since may_leave counts o s log stands s.book.fault
+      (sym (unsure-by tells seen moment left_since may_leave counts o s log marks stands s.book.fault
       refl)) (stands.book.images told))
 
   -- what begins the records that were pushed begins those of the history
-  pub knows-first : (o : Opening D) (s : Shard D) (log : List Entry) (lane : LaneKnowledge) →
-      StandsFor tells seen moment left_since may_leave counts o s log → lane.index ≡ o.lane.index →
+  pub knows-first : (o : Opening D) (s : Shard D) (log : List Entry) (marks : List (Mark D)) (lane : LaneKnowledge) →
+      StandsFor tells seen moment left_since may_leave counts o s log marks → lane.index ≡ o.lane.index →
       lane.opening ≡ s.writer.opening → IsPrefix lane.known (s.writer.published ++ s.writer.pending) →
       KnowsFirst o log lane
-  knows-first o s log lane stands index opening known = record {
+  knows-first o s log marks lane stands index opening known = record {
     index = index;
     opening = opening ∙ stands.indexed.opening ∙ stands.indexed.leases;
     known = (
@@ -144,22 +144,24 @@ module _ {D : Type 0} (tells : Type 0) (seen : D → List ℕ) (moment : D → �
   }
 
   -- nothing is in doubt behind a history without entries
-  none-unsure : (o : Opening D) (s : Shard D) → StandsFor tells seen moment left_since may_leave counts o s [] →
+  none-unsure : (o : Opening D) (s : Shard D) (marks : List (Mark D)) →
+      StandsFor tells seen moment left_since may_leave counts o s [] marks →
       s.book.unsure ≡ []
-  none-unsure o s stands = stands.book.sure (λ failed. absurd (cc (stands.failed failed)))
+  none-unsure o s marks stands = stands.book.sure (λ failed. absurd (cc (stands.failed failed)))
 
   -- what stands for a history without entries has the state that was opened
-  pub still-of : (o : Opening D) (s : Shard D) → StandsFor tells seen moment left_since may_leave counts o s [] →
+  pub still-of : (o : Opening D) (s : Shard D) (marks : List (Mark D)) →
+      StandsFor tells seen moment left_since may_leave counts o s [] marks →
       StandsStill tells moment left_since may_leave counts o.book s.book
-  still-of o s stands = record {
+  still-of o s marks stands = record {
     state = sym stands.leads.state;
     images = λ told x y leaves_a leaves_b. or-without s.book.state o.book.state s.book.unsure x y
-        (sym stands.leads.state) (none-unsure o s stands)
+        (sym stands.leads.state) (none-unsure o s marks stands)
         (stands.book.images told x y leaves_a leaves_b);
     moments = λ told. pair_weaker moment left_since may_leave o.book.journal.pair
-        s.book.journal.pair (StandsAlong (served_by o) o.book.state stands.kept.doubts [])
+        s.book.journal.pair (StandsAlong (served_by o) o.book.state (doubts_in marks) [])
         (StandsForState o.book.state) (stands.kept.moments told)
-        (along-none (served_by o) o.book.state stands.kept.doubts);
+        (along-none (served_by o) o.book.state (doubts_in marks));
     later_a = stands.risen.later_a;
     later_b = stands.risen.later_b;
   }

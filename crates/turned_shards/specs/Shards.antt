@@ -10,6 +10,8 @@ use Rattle.shard_book.specs.Books.{IsBook}
 use Rattle.lease_histories.specs.Entries.{Served}
 use Rattle.lease_histories.specs.Legal.{IsLegal, IsOpening, base_after, moment_after, records_of}
 use Rattle.lease_histories.specs.Legal.{state_after}
+use Rattle.turn_lock.specs.Marks.{marks_beside}
+use Rattle.turned_shards.specs.declared.marks.Mark.{Mark}
 use Rattle.turned_shards.specs.declared.openings.Opening.{Opening}
 use Rattle.turned_shards.specs.declared.shards.Shard.{Shard}
 use Rattle.turned_shards.specs.Crashes.{IsKeptSince}
@@ -61,10 +63,12 @@ module _ {D : Type 0} where
   -- external address and has the state to which the history leads; entries are in doubt exactly
   -- where the book's last refused call answered `Disk`, right behind the entry that tells this; and
   -- the history tells no more faults than the counts of the pair rose since the opening. A crash
-  -- at any moment since then leaves the state after some first entries, or that with what was in doubt.
+  -- at any moment since then leaves the state after some first entries, or that with what was in doubt,
+  -- which the marks tell.
   pub record StandsFor (tells : Type 0) (seen : D → List ℕ) (moment : D → ℕ)
       (left_since : D → ℕ → List ℕ → Type 0) (may_leave : D → List ℕ → Type 0)
-      (faults : D → ℕ) (o : Opening D) (s : Shard D) (log : List Entry) : Type 0 where
+      (faults : D → ℕ) (o : Opening D) (s : Shard D) (log : List Entry) (marks : List (Mark D))
+      : Type 0 where
     pub opening : IsOpening (served_by o) o.book.state
     pub terms : s.book.terms ≡ terms_of (served_by o).external o.config
     pub address : s.address ≡ s.book.terms.external.address
@@ -78,6 +82,15 @@ module _ {D : Type 0} where
     pub risen : HaveRisenBy faults o.book.journal.pair s.book.journal.pair (fault_count log)
     pub indexed : HasIndexed o s log
     pub kept : IsKeptSince tells moment left_since may_leave (served_by o) o.book s.book s.doubt log
+        marks
+
+  -- what an entry that is noted now has beside it
+  abbrev pub mark_of : Shard D → Mark D
+  mark_of s = record { pair = s.book.journal.pair; doubt = s.doubt }
+
+  -- the marks of the entries added
+  abbrev pub marks_added : Shard D → List (Mark D)
+  marks_added s = marks_beside (mark_of s) s.added
 
   -- what outlives a note: all but the entries added
   abbrev pub noted_shard : Shard D → Shard D

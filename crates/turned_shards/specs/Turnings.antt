@@ -15,6 +15,7 @@ use Rattle.lane_index.specs.Lanes.{writer_of}
 use Rattle.shard_book.specs.Books.{BookView, IsBook}
 use Rattle.lease_histories.specs.Legal.{IsLegal, records_of, state_after}
 use Rattle.lease_histories.specs.Promises.{KeepsPromises}
+use Rattle.turned_shards.specs.declared.marks.Mark.{Mark}
 use Rattle.turned_shards.specs.declared.openings.Opening.{Opening}
 use Rattle.turned_shards.specs.declared.passes.HousePass.{HousePass}
 use Rattle.turned_shards.specs.declared.shards.Shard.{Shard}
@@ -67,13 +68,16 @@ module _ {D : Type 0} where
       (left_since : D → ℕ → List ℕ → Type 0) (may_leave : D → List ℕ → Type 0)
       (faults : D → ℕ) (o : Opening D) (old new : HousePass D) (pair : DiskPair D) : Type 0 where
     pub others : List Entry
+    pub more : List (Mark D)
     pub shard : new.shard ≡ old.shard
     pub epoch : new.epoch ≡ old.epoch
     pub knows : new.history.seen ≡ old.history.seen ++ others
+    pub marks : new.history.marks ≡ old.history.marks ++ more
     pub mine : new.history.mine ≡ old.history.mine
     pub settled : new.history.settled ≡ old.history.settled
     pub kept : Shard D
     pub stands : StandsFor tells seen moment left_since may_leave faults o kept new.history.seen
+        new.history.marks
     pub pair_is : pair ≡ kept.book.journal.pair
     pub legal : IsLegal (served_by o) o.book.state new.history.seen
     pub promises : KeepsPromises (served_by o) o.book.state new.history.seen

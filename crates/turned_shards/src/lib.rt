@@ -5,6 +5,7 @@
 mod counting;
 mod doubts;
 mod laws;
+mod marks;
 mod moments;
 mod openings;
 mod passes;
@@ -15,6 +16,7 @@ mod turning;
 mod waiting;
 
 pub use laws::{journals_have_what_is_noted, passes_share_histories, published_records_were_noted};
+pub use marks::Mark;
 pub use openings::Opening;
 pub use passes::{HousePass, give_up};
 pub use publishing::{publish_held, publish_rest};

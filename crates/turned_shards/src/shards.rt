@@ -1,5 +1,6 @@
 //! The value behind a shard's turn.
 use crate::doubts::{set_anew, set_batch, set_fault, set_loss};
+use crate::marks::Mark;
 use crate::moments::later;
 use crate::openings::Opening;
 use crate::reading::{read_batch, replies_of};
@@ -43,17 +44,21 @@ pub struct Shard<D: LeaseDisk> {
 
 impl<D: LeaseDisk> Kept for Shard<D> {
     ghost use Rattle.std.specs.Prelude.{[]};
-    ghost use Rattle.turned_shards.specs.Shards.{StandsFor, noted_shard};
+    ghost use Rattle.turned_shards.specs.Shards.{StandsFor, mark_of, noted_shard};
 
     type Entry = Entry;
 
     type Key = Opening<D>;
+
+    type Mark = Mark<D>;
 
     type Lasting = Shard<D>;
 
     ghost stands = { StandsFor D.tells D.seen D.moment D.left_since D.may_leave D.faults };
 
     ghost added = { λ s. s.added };
+
+    ghost mark = { mark_of };
 
     ghost lasts = { noted_shard };
 
@@ -77,6 +82,7 @@ impl<D: LeaseDisk + Drop> Shard<D> {
     ghost use Rattle.shard_book.specs.Books.{IsBook};
     ghost use Rattle.shard_book.specs.Keepings.{IsRefused, Loses, Serves, batch_records};
     ghost use Rattle.shard_book.specs.Keepings.{lose_records};
+    ghost use Rattle.turned_shards.specs.declared.marks.Mark.{Mark};
     ghost use Rattle.turned_shards.specs.declared.openings.Opening.{Opening};
     ghost use Rattle.turned_shards.specs.BatchEntries.{asked_in, entries_along, entries_settled};
     ghost use Rattle.turned_shards.specs.Inside.{HasRoom, IsMoved, anew_shard, asked_shard};
@@ -85,7 +91,7 @@ impl<D: LeaseDisk + Drop> Shard<D> {
     ghost use Rattle.turned_shards.specs.ShardCalls.{AddsLoss, AnswersBatch, IsBatchOf};
     ghost use Rattle.turned_shards.specs.ShardCalls.{LeavesInDoubt, RefusesBatch, SettlesShard};
     ghost use Rattle.turned_shards.specs.ShardCalls.{StaysInDoubt, faults_of, loss_entries};
-    ghost use Rattle.turned_shards.specs.Shards.{StandsFor};
+    ghost use Rattle.turned_shards.specs.Shards.{StandsFor, marks_added};
 
     /// The shard of a book that was just opened for this external address, and of the writer of its
     /// lane, which has no record yet. The lists are without entries.
@@ -122,9 +128,10 @@ impl<D: LeaseDisk + Drop> Shard<D> {
     /// still; without memory for its records the journal isn't read.
     pub fn settle(&mut self, alloc: Global, now: Moment) -> Result<(), BookFault>
         requires { self.old.added ≡ [] }
-        ensures stands { (o : Opening D) (log : List Entry) →
-            StandsFor D.tells D.seen D.moment D.left_since D.may_leave D.faults o self.old log →
-            StandsFor D.tells D.seen D.moment D.left_since D.may_leave D.faults o self.new (log ++ self.new.added) }
+        ensures stands { (o : Opening D) (log : List Entry) (marks : List (Mark D)) →
+            StandsFor D.tells D.seen D.moment D.left_since D.may_leave D.faults o self.old log marks →
+            StandsFor D.tells D.seen D.moment D.left_since D.may_leave D.faults o self.new (log ++ self.new.added)
+            (marks ++ marks_added self.new) }
         ensures settled { OnOk result
             (SettlesShard D.tells D.moment D.left_since D.may_leave now self.old self.new) }
         ensures refused { IfErr result
@@ -248,15 +255,16 @@ impl<D: LeaseDisk + Drop> Shard<D> {
         requires few { length batch.now ≤ MOST_RECORDS }
         requires settled { self.old.book.fault ≡ None }
         requires noted { self.old.added ≡ [] }
-        ensures stands { (o : Opening D) (log : List Entry) → IsBatchOf o config.now batch.now →
-            StandsFor D.tells D.seen D.moment D.left_since D.may_leave D.faults o self.old log →
-            StandsFor D.tells D.seen D.moment D.left_since D.may_leave D.faults o self.new (log ++ self.new.added) }
-        ensures answered { (o : Opening D) (log : List Entry) → IsBatchOf o config.now batch.now →
-            StandsFor D.tells D.seen D.moment D.left_since D.may_leave D.faults o self.old log →
+        ensures stands { (o : Opening D) (log : List Entry) (marks : List (Mark D)) → IsBatchOf o config.now batch.now →
+            StandsFor D.tells D.seen D.moment D.left_since D.may_leave D.faults o self.old log marks →
+            StandsFor D.tells D.seen D.moment D.left_since D.may_leave D.faults o self.new (log ++ self.new.added)
+            (marks ++ marks_added self.new) }
+        ensures answered { (o : Opening D) (log : List Entry) (marks : List (Mark D)) → IsBatchOf o config.now batch.now →
+            StandsFor D.tells D.seen D.moment D.left_since D.may_leave D.faults o self.old log marks →
             IfOk result (λ replies. AnswersBatch config.now now base batch.now self.old self.new
             replies.items) }
-        ensures refused { (o : Opening D) (log : List Entry) → IsBatchOf o config.now batch.now →
-            StandsFor D.tells D.seen D.moment D.left_since D.may_leave D.faults o self.old log →
+        ensures refused { (o : Opening D) (log : List Entry) (marks : List (Mark D)) → IsBatchOf o config.now batch.now →
+            StandsFor D.tells D.seen D.moment D.left_since D.may_leave D.faults o self.old log marks →
             IfErr result (RefusesBatch config.now now base batch.now self.old self.new) }
         ensures cause { PairHasCause D.faults self.old.book.journal.pair self.new.book.journal.pair
             (result ≡ Err Disk) }
@@ -334,14 +342,15 @@ impl<D: LeaseDisk + Drop> Shard<D> {
     pub fn lose(&mut self, alloc: Global, now: Moment, base: Moment) -> Result<u32, BookFault>
         requires settled { self.old.book.fault ≡ None }
         requires noted { self.old.added ≡ [] }
-        ensures stands { (o : Opening D) (log : List Entry) →
-            StandsFor D.tells D.seen D.moment D.left_since D.may_leave D.faults o self.old log →
-            StandsFor D.tells D.seen D.moment D.left_since D.may_leave D.faults o self.new (log ++ self.new.added) }
-        ensures lost { (o : Opening D) (log : List Entry) →
-            StandsFor D.tells D.seen D.moment D.left_since D.may_leave D.faults o self.old log →
+        ensures stands { (o : Opening D) (log : List Entry) (marks : List (Mark D)) →
+            StandsFor D.tells D.seen D.moment D.left_since D.may_leave D.faults o self.old log marks →
+            StandsFor D.tells D.seen D.moment D.left_since D.may_leave D.faults o self.new (log ++ self.new.added)
+            (marks ++ marks_added self.new) }
+        ensures lost { (o : Opening D) (log : List Entry) (marks : List (Mark D)) →
+            StandsFor D.tells D.seen D.moment D.left_since D.may_leave D.faults o self.old log marks →
             IfOk result (AddsLoss now base self.old self.new) }
-        ensures refused { (o : Opening D) (log : List Entry) →
-            StandsFor D.tells D.seen D.moment D.left_since D.may_leave D.faults o self.old log →
+        ensures refused { (o : Opening D) (log : List Entry) (marks : List (Mark D)) →
+            StandsFor D.tells D.seen D.moment D.left_since D.may_leave D.faults o self.old log marks →
             IfErr result (LeavesInDoubt (loss_entries now base self.old) self.old self.new) }
         ensures cause { PairHasCause D.faults self.old.book.journal.pair self.new.book.journal.pair
             (result ≡ Err Disk) }

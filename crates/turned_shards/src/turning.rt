@@ -113,7 +113,7 @@ pub fn turn_of<D: LeaseDisk + Drop, R: Wait>(
 ) -> Result<(Turn<Shard<D>>, Pass<Shard<D>>, Lane), Unturned<D>>
     requires { MayBegin D.tells D.seen D.may_leave config.now place book }
     ensures key { IfOk result (λ made. made.0.key ≡ opening_of config.now place book made.2) }
-    ensures pass { IfOk result (λ made. made.1 ≡ new_pass made.0.id (2 ^ 64 - 1) []) }
+    ensures pass { IfOk result (λ made. made.1 ≡ new_pass made.0.id (2 ^ 64 - 1) [] []) }
     ensures lane { IfOk result (λ made. made.2 ≡ lane_of made.2.index (first_leases book) []) }
     ensures back { IfErr result (λ refused. refused.book ≡ book) }
 {
@@ -156,7 +156,7 @@ pub fn untake<D: LeaseDisk + Drop, R: Wait>(
     turn: Turn<Shard<D>>,
     pass: Pass<Shard<D>>,
 ) -> Book<D>
-    requires pass { pass ≡ new_pass turn.id (2 ^ 64 - 1) [] }
+    requires pass { pass ≡ new_pass turn.id (2 ^ 64 - 1) [] [] }
     ensures { StandsStill D.tells D.moment D.left_since D.may_leave D.faults turn.key.book result }
 {
     book_of(rt, turn.into_value(pass))

@@ -10,7 +10,7 @@ publish-requires g c =
     subst (λ (x : Shard g.row.D.Denot). MayPush x.writer x.unpushed.items)
     (sym c.value.ensures.value)
     (may-push d.tells d.seen d.moment d.left_since d.may_leave d.faults c.states_stand.ensures c.args._turn.now.key
-    c.args.held.now c.args._pass.now.seen c.requires.stands)
+    c.args.held.now c.args._pass.now.seen c.args._pass.now.marks c.requires.stands)
 
 pub returns-in-Ok-clause-held : goal.returns-in-Ok-clause-held
 returns-in-Ok-clause-held g c =

@@ -24,9 +24,11 @@ returns-clause-ended g c =
     let pair = c.close.ensures ∙ ap (λ k. k.book.journal.pair) c.keep-shard.ensures in
     record {
       others = more.0;
+      more = took.pass.marks.0;
       shard = refl;
       epoch = refl;
       knows = sym more.1;
+      marks = sym took.pass.marks.1;
       mine = took.pass.mine;
       settled = took.pass.settled;
       kept = s;
@@ -37,14 +39,14 @@ returns-clause-ended g c =
       images = λ told. subst
           (HoldsNow d.may_leave
           (StandsForWithOrWithout (state_after o.book.state log) (records_of s.doubt))) (sym pair)
-          (images-of d.tells d.seen d.moment d.left_since d.may_leave d.faults o s log took.value told);
+          (images-of d.tells d.seen d.moment d.left_since d.may_leave d.faults o s log c.take-held.new.pass.marks took.value told);
     }
 
 pub returns-clause-lane : goal.returns-clause-lane
 returns-clause-lane g c =
     let d = g.D.LeaseDisk in
     knows-first d.tells d.seen d.moment d.left_since d.may_leave d.faults c.args.turn.key
-    c.take-held.result c.take-held.new.pass.seen c.args.lane.now c.take-held.ensures.value
+    c.take-held.result c.take-held.new.pass.seen c.take-held.new.pass.marks c.args.lane.now c.take-held.ensures.value
     c.requires.lane
     (c.meet.ensures.opening ∙ ap (λ k. k.writer.opening) c.keep-shard.ensures)
     (subst (λ (k : Shard g.row.D.Denot). IsPrefix c.args.lane.now.known

@@ -22,6 +22,6 @@ new-requires-clause-stands g c =
     config place address book writer lane c.of-shard.result named c.requires
     c.in-Ok.ensures.writer c.in-Ok.ensures.lane c.of-shard.ensures.unpushed in
     subst (λ (o : Opening g.row.D.Denot). StandsFor d.tells d.seen d.moment d.left_since d.may_leave d.faults o
-    c.of-shard.result []) (sym c.in-Ok-parts_of.ensures.opening)
+    c.of-shard.result [] []) (sym c.in-Ok-parts_of.ensures.opening)
     (subst (λ (s : Shard g.row.D.Denot). StandsFor d.tells d.seen d.moment d.left_since d.may_leave d.faults
-    (opening_of config place book lane) s []) (sym c.of-shard.ensures.shard) stands)
+    (opening_of config place book lane) s [] []) (sym c.of-shard.ensures.shard) stands)

@@ -12,8 +12,8 @@ returns g c =
     let s = c.into_value.result in
     let o = c.args.turn.key in
     let empty : c.args.pass.seen ≡ [] = ap (λ k. k.seen) c.requires.pass in
-    let stands : StandsFor d.tells d.seen d.moment d.left_since d.may_leave d.faults o s [] =
-    subst (λ (log : List Entry). StandsFor d.tells d.seen d.moment d.left_since d.may_leave d.faults o s log)
+    let stands : StandsFor d.tells d.seen d.moment d.left_since d.may_leave d.faults o s [] c.args.pass.marks =
+    subst (λ (log : List Entry). StandsFor d.tells d.seen d.moment d.left_since d.may_leave d.faults o s log c.args.pass.marks)
     empty c.into_value.ensures.value in
     subst (λ (b : BookView g.row.D.Denot). StandsStill d.tells d.moment d.left_since d.may_leave
-    d.faults o.book b) (sym c.book_of.ensures) (still-of d.tells d.seen d.moment d.left_since d.may_leave d.faults o s stands)
+    d.faults o.book b) (sym c.book_of.ensures) (still-of d.tells d.seen d.moment d.left_since d.may_leave d.faults o s c.args.pass.marks stands)

@@ -26,13 +26,13 @@ ask-requires-clause-few g c =
     omega (arith, n, few, most)
 
 pub returns-in_err-answers-clause-stands : goal.returns-in_err-answers-clause-stands
-returns-in_err-answers-clause-stands g c o log is stands =
+returns-in_err-answers-clause-stands g c o log marks is stands =
     let d = g.D.LeaseDisk in
     let s0 = c.args.self.now in
     let s = c.make_room.new.self in
     let moved = c.make_room.ensures.moved in
-    let ready : StandsFor d.tells d.seen d.moment d.left_since d.may_leave d.faults o s log =
-    stands-moved d.tells d.seen d.moment d.left_since d.may_leave d.faults o s0 s log stands moved in
+    let ready : StandsFor d.tells d.seen d.moment d.left_since d.may_leave d.faults o s log marks =
+    stands-moved d.tells d.seen d.moment d.left_since d.may_leave d.faults o s0 s log marks stands moved in
     let settled : s.book.fault ≡ None = ap (λ (x : Shard g.row.D.Denot). x.book.fault) moved.same
     ∙ c.requires.settled in
     let t = c.ask.new.self in
@@ -43,7 +43,7 @@ returns-in_err-answers-clause-stands g c o log is stands =
     let told : base ≡ max c.args.base s.base = c.later-told.ensures.value in
     let some : requests.asks.items ≢ [] = search rules in
     let a : IsAsked d.tells d.seen d.moment d.left_since d.may_leave d.faults c.args.config.now
-    c.args.batch.now requests s m base o log =
+    c.args.batch.now requests s m base o log marks =
     record {
       is = is;
       read = c.in_ok-requests.ensures;
@@ -61,7 +61,7 @@ returns-in_err-answers-clause-stands g c o log is stands =
     refused-up d.tells d.seen d.moment d.left_since d.may_leave d.faults
     c.histories_grow.ensures.next c.entries_come_next.ensures.decisions
     c.entries_come_next.ensures.faults
-    c.args.config.now c.args.batch.now requests s t m base c.in_err-answers.field-0.0 o log _ a
+    c.args.config.now c.args.batch.now requests s t m base c.in_err-answers.field-0.0 o log marks _ a
     c.in_err-answers.ensures.left refused c.in_err-answers.ensures.book
     c.in_err-answers.ensures.cause (λ e. search rules)
 
@@ -76,13 +76,13 @@ replies_of-requires-clause-answers g c =
     n ∙ k ∙ ap (λ (l : List Ask). length l) c.deref.ensures.value
 
 pub returns-in_err-replies-clause-stands : goal.returns-in_err-replies-clause-stands
-returns-in_err-replies-clause-stands g c o log is stands =
+returns-in_err-replies-clause-stands g c o log marks is stands =
     let d = g.D.LeaseDisk in
     let s0 = c.args.self.now in
     let s = c.make_room.new.self in
     let moved = c.make_room.ensures.moved in
-    let ready : StandsFor d.tells d.seen d.moment d.left_since d.may_leave d.faults o s log =
-    stands-moved d.tells d.seen d.moment d.left_since d.may_leave d.faults o s0 s log stands moved in
+    let ready : StandsFor d.tells d.seen d.moment d.left_since d.may_leave d.faults o s log marks =
+    stands-moved d.tells d.seen d.moment d.left_since d.may_leave d.faults o s0 s log marks stands moved in
     let settled : s.book.fault ≡ None = ap (λ (x : Shard g.row.D.Denot). x.book.fault) moved.same
     ∙ c.requires.settled in
     let t = c.ask.new.self in
@@ -93,7 +93,7 @@ returns-in_err-replies-clause-stands g c o log is stands =
     let told : base ≡ max c.args.base s.base = c.later-told.ensures.value in
     let some : requests.asks.items ≢ [] = search rules in
     let a : IsAsked d.tells d.seen d.moment d.left_since d.may_leave d.faults c.args.config.now
-    c.args.batch.now requests s m base o log =
+    c.args.batch.now requests s m base o log marks =
     record {
       is = is;
       read = c.in_ok-requests.ensures;
@@ -113,20 +113,20 @@ returns-in_err-replies-clause-stands g c o log is stands =
     c.histories_grow.ensures.greatest
     c.args.config.now c.args.batch.now requests s t
     (record t { unpushed = c.await_kept.new.waiting })
-    m base c.in_ok-answers.answers.items o log _ a c.in_ok-answers.ensures.added served
+    m base c.in_ok-answers.answers.items o log marks _ a c.in_ok-answers.ensures.added served
     c.in_ok-answers.ensures.book c.in_ok-answers.ensures.cause
     refl (c.await_kept.ensures
     ∙ ap (λ (l : List Answered). t.unpushed.items ++ filter_map (λ (x : Answered). x.kept) l)
     c.deref-2.ensures.value)
 
 pub returns-clause-stands : goal.returns-clause-stands
-returns-clause-stands g c o log is stands =
+returns-clause-stands g c o log marks is stands =
     let d = g.D.LeaseDisk in
     let s0 = c.args.self.now in
     let s = c.make_room.new.self in
     let moved = c.make_room.ensures.moved in
-    let ready : StandsFor d.tells d.seen d.moment d.left_since d.may_leave d.faults o s log =
-    stands-moved d.tells d.seen d.moment d.left_since d.may_leave d.faults o s0 s log stands moved in
+    let ready : StandsFor d.tells d.seen d.moment d.left_since d.may_leave d.faults o s log marks =
+    stands-moved d.tells d.seen d.moment d.left_since d.may_leave d.faults o s0 s log marks stands moved in
     let settled : s.book.fault ≡ None = ap (λ (x : Shard g.row.D.Denot). x.book.fault) moved.same
     ∙ c.requires.settled in
     let t = c.ask.new.self in
@@ -137,7 +137,7 @@ returns-clause-stands g c o log is stands =
     let told : base ≡ max c.args.base s.base = c.later-told.ensures.value in
     let some : requests.asks.items ≢ [] = search rules in
     let a : IsAsked d.tells d.seen d.moment d.left_since d.may_leave d.faults c.args.config.now
-    c.args.batch.now requests s m base o log =
+    c.args.batch.now requests s m base o log marks =
     record {
       is = is;
       read = c.in_ok-requests.ensures;
@@ -157,20 +157,20 @@ returns-clause-stands g c o log is stands =
     c.histories_grow.ensures.greatest
     c.args.config.now c.args.batch.now requests s t
     (record t { unpushed = c.await_kept.new.waiting })
-    m base c.in_ok-answers.answers.items o log _ a c.in_ok-answers.ensures.added served
+    m base c.in_ok-answers.answers.items o log marks _ a c.in_ok-answers.ensures.added served
     c.in_ok-answers.ensures.book c.in_ok-answers.ensures.cause
     refl (c.await_kept.ensures
     ∙ ap (λ (l : List Answered). t.unpushed.items ++ filter_map (λ (x : Answered). x.kept) l)
     c.deref-2.ensures.value)
 
 pub returns-clause-answered : goal.returns-clause-answered
-returns-clause-answered g c o log is stands =
+returns-clause-answered g c o log marks is stands =
     let d = g.D.LeaseDisk in
     let s0 = c.args.self.now in
     let s = c.make_room.new.self in
     let moved = c.make_room.ensures.moved in
-    let ready : StandsFor d.tells d.seen d.moment d.left_since d.may_leave d.faults o s log =
-    stands-moved d.tells d.seen d.moment d.left_since d.may_leave d.faults o s0 s log stands moved in
+    let ready : StandsFor d.tells d.seen d.moment d.left_since d.may_leave d.faults o s log marks =
+    stands-moved d.tells d.seen d.moment d.left_since d.may_leave d.faults o s0 s log marks stands moved in
     let settled : s.book.fault ≡ None = ap (λ (x : Shard g.row.D.Denot). x.book.fault) moved.same
     ∙ c.requires.settled in
     let t = c.ask.new.self in
@@ -181,7 +181,7 @@ returns-clause-answered g c o log is stands =
     let told : base ≡ max c.args.base s.base = c.later-told.ensures.value in
     let some : requests.asks.items ≢ [] = search rules in
     let a : IsAsked d.tells d.seen d.moment d.left_since d.may_leave d.faults c.args.config.now
-    c.args.batch.now requests s m base o log =
+    c.args.batch.now requests s m base o log marks =
     record {
       is = is;
       read = c.in_ok-requests.ensures;
@@ -199,7 +199,7 @@ returns-clause-answered g c o log is stands =
     let both = answered-so d.tells d.seen d.moment d.left_since d.may_leave d.faults
     c.histories_grow.ensures.greatest c.args.config.now c.args.batch.now requests s t c.args.now
     c.args.base m base
-    c.in_ok-answers.answers.items o log at told a c.in_ok-answers.ensures.added served in
+    c.in_ok-answers.answers.items o log marks at told a c.in_ok-answers.ensures.added served in
     record {
       adds = adds-moved d.tells d.seen d.moment d.left_since d.may_leave d.faults c.args.config.now
           c.args.now c.args.base c.args.batch.now s0 s t

@@ -6,7 +6,7 @@ use Rattle.turned_shards.specs.declared.shards.Shard.{Shard}
 use Rattle.turned_shards.specs.BatchEntries.{records_found}
 use Rattle.turned_shards.specs.Inside.{settled_shard}
 use Rattle.turned_shards.specs.ShardCalls.{faults_of}
-use Rattle.turned_shards.specs.Shards.{StandsFor}
+use Rattle.turned_shards.specs.Shards.{StandsFor, marks_added}
 use Rattle.turned_shards.proofs.BatchCalls.{fault-adds, moved-stands}
 use Rattle.turned_shards.proofs.LaneLemmas.{stands-adding, stands-moved}
 use Rattle.turned_shards.proofs.SettledLanes.{found-records, settled-unpushed, settled-writer}
@@ -15,10 +15,10 @@ use Rattle.turned_shards.proofs.Settling.{refuses-settling, settles-shard}
 use Rattle.turned_shards.proofs.shards.Shard.settle.Goals as goal
 
 pub returns-in_err-unsure-clause-stands : goal.returns-in_err-unsure-clause-stands
-returns-in_err-unsure-clause-stands g c o log stands =
+returns-in_err-unsure-clause-stands g c o log marks stands =
     let d = g.D.LeaseDisk in
     moved-stands d.tells d.seen d.moment d.left_since d.may_leave d.faults c.args.self.now
-    c.get_ready.new.self o log stands c.requires c.get_ready.ensures.moved
+    c.get_ready.new.self o log marks stands c.requires c.get_ready.ensures.moved
 
 pub returns-in_err-unsure-clause-refused : goal.returns-in_err-unsure-clause-refused
 returns-in_err-unsure-clause-refused g c =
@@ -29,7 +29,7 @@ returns-in_err-unsure-clause-refused g c =
     c.get_ready.ensures.moved)
 
 pub returns-in-Ok-clause-stands : goal.returns-in-Ok-clause-stands
-returns-in-Ok-clause-stands g c o log stands =
+returns-in-Ok-clause-stands g c o log marks stands =
     let d = g.D.LeaseDisk in
     let s0 = c.args.self.now in
     let s = c.get_ready.new.self in
@@ -37,8 +37,8 @@ returns-in-Ok-clause-stands g c o log stands =
     let settled = c.in-Ok.settled in
     let unsure = c.in_ok-unsure.unsure in
     let moved = c.get_ready.ensures.moved in
-    let ready : StandsFor d.tells d.seen d.moment d.left_since d.may_leave d.faults o s log =
-    stands-moved d.tells d.seen d.moment d.left_since d.may_leave d.faults o s0 s log stands moved in
+    let ready : StandsFor d.tells d.seen d.moment d.left_since d.may_leave d.faults o s log marks =
+    stands-moved d.tells d.seen d.moment d.left_since d.may_leave d.faults o s0 s log marks stands moved in
     let none : s.added ≡ [] = ap (λ (x : Shard g.row.D.Denot). x.added) moved.same ∙ c.requires in
     let m : c.later-m.result ≡ max c.args.now s.moment = c.later-m.ensures.value in
     let t : Shard g.row.D.Denot = settled_shard settled (record s { book = b }) in
@@ -47,11 +47,11 @@ returns-in-Ok-clause-stands g c o log stands =
     let holds = settles-shard d.tells d.seen d.moment d.left_since d.may_leave d.faults
     c.histories_grow.ensures.next c.histories_grow.ensures.greatest
     c.entries_come_next.ensures.servers
-    o s b log c.later-m.result _ settled ready none
+    o s b log marks c.later-m.result _ settled ready none
     (omega arith) c.in-Ok.ensures.settled c.in-Ok.ensures.book c.in-Ok.ensures.cause in
     let copied : unsure.items ≡ s.book.unsure = c.in_ok-unsure.ensures.unsure
     ∙ sym (ap (λ (x : Shard g.row.D.Denot). x.book.unsure) moved.same) in
-    let found = found-records d.tells d.seen d.moment d.left_since d.may_leave d.faults o s b log
+    let found = found-records d.tells d.seen d.moment d.left_since d.may_leave d.faults o s b log marks
     c.later-m.result unsure.items settled ready none c.in-Ok.ensures.settled copied in
     let waiting : w.items ≡ s.unpushed.items ++ records_of t.added =
     c.await_found.ensures
@@ -61,9 +61,9 @@ returns-in-Ok-clause-stands g c o log stands =
     (settled-unpushed settled (record s { book = b }))
     ∙ ap (λ (l : List Record). s.unpushed.items ++ l) found in
     subst (λ (x : Shard g.row.D.Denot). StandsFor d.tells d.seen d.moment d.left_since d.may_leave d.faults o
-    (record x { unpushed = w }) (log ++ x.added)) (sym same)
+    (record x { unpushed = w }) (log ++ x.added) (marks ++ marks_added x)) (sym same)
     (stands-adding d.tells d.seen d.moment d.left_since d.may_leave d.faults o s t
-    (record t { unpushed = w }) log t.added ready holds refl
+    (record t { unpushed = w }) log marks t.added ready holds refl
     (settled-writer settled (record s { book = b })) waiting refl)
 
 pub returns-in-Ok-clause-settled : goal.returns-in-Ok-clause-settled
@@ -80,21 +80,21 @@ returns-in-Ok-clause-settled g c =
     (ap (λ (y : Shard g.row.D.Denot). record y { unpushed = w }) c.take_in.ensures)
 
 pub returns-in-Err-clause-stands : goal.returns-in-Err-clause-stands
-returns-in-Err-clause-stands g c o log stands =
+returns-in-Err-clause-stands g c o log marks stands =
     let d = g.D.LeaseDisk in
     let s0 = c.args.self.now in
     let s = c.get_ready.new.self in
     let b = c.settle.new.self in
     let moved = c.get_ready.ensures.moved in
     let fault = c.in-Err.fault in
-    let ready : StandsFor d.tells d.seen d.moment d.left_since d.may_leave d.faults o s log =
-    stands-moved d.tells d.seen d.moment d.left_since d.may_leave d.faults o s0 s log stands moved in
+    let ready : StandsFor d.tells d.seen d.moment d.left_since d.may_leave d.faults o s log marks =
+    stands-moved d.tells d.seen d.moment d.left_since d.may_leave d.faults o s0 s log marks stands moved in
     let t : Shard g.row.D.Denot = record s { book = b; added = faults_of s.moment s.base fault } in
     rw c.add_fault.ensures
-    (fault-adds d.tells d.seen d.moment d.left_since d.may_leave d.faults o s t log fault ready
+    (fault-adds d.tells d.seen d.moment d.left_since d.may_leave d.faults o s t log marks fault ready
     (refuses-settling d.tells d.seen d.moment d.left_since d.may_leave d.faults
     c.histories_grow.ensures.next c.entries_come_next.ensures.faults
-    o s b log fault _ ready c.in-Err.ensures.refused c.in-Err.ensures.book c.in-Err.ensures.cause
+    o s b log marks fault _ ready c.in-Err.ensures.refused c.in-Err.ensures.book c.in-Err.ensures.cause
     (λ e. search rules)) refl refl refl)
 
 pub returns-in-Err-clause-refused : goal.returns-in-Err-clause-refused
