@@ -214,7 +214,7 @@ module _ {D : Type 0} (house : HouseView D) (bs : List (BookView D)) (ps : List 
     (ls : List LaneKnowledge) (all : BeginAll house.config 0 bs house.turns ps ls) where
   counted : length house.turns ≡ length ps
   counted = zip-length
-      (λ (t : TurnName (Opening D)) (p : HousePass D). p.history ≡ new_pass t.id (2 ^ 64 - 1) [])
+      (λ (t : TurnName (Opening D)) (p : HousePass D). p.history ≡ new_pass t.id (2 ^ 64 - 1) [] [])
       house.turns ps (begin-unshared house.config 0 bs house.turns ps ls all)
 
   same-pass : (i : ℕ) (p q : HousePass D) → slice_get ps i ≡ Some p → slice_get ps i ≡ Some q →
@@ -238,11 +238,11 @@ module _ {D : Type 0} (house : HouseView D) (bs : List (BookView D)) (ps : List 
         let at = begun-at house.config 0 bs house.turns ps ls place place turn all there
         (omega arith) in
         let same : at.pass ≡ pass = same-pass place at.pass pass at.there here in
-        let history : pass.history ≡ new_pass turn.id (2 ^ 64 - 1) [] =
+        let history : pass.history ≡ new_pass turn.id (2 ^ 64 - 1) [] [] =
         ap (λ (p : HousePass D). p.history) (sym same) ∙ at.one.history in
         record {
-          turn_is = ap (λ (k : PassKnowledge _). k.turn) history;
-          home = ap (λ (k : PassKnowledge _). k.out) history;
+          turn_is = ap (λ (k : PassKnowledge _ _). k.turn) history;
+          home = ap (λ (k : PassKnowledge _ _). k.out) history;
         };
   }
 
@@ -261,13 +261,13 @@ module _ {D : Type 0} (house : HouseView D) (bs : List (BookView D)) (ps : List 
       omega (arith, n, m)) in
       let at = begun-at house.config 0 bs house.turns ps ls i i found.0 all found.1 (omega arith) in
       let same : at.pass ≡ pass = same-pass i at.pass pass at.there here in
-      let history : pass.history ≡ new_pass found.0.id (2 ^ 64 - 1) [] =
+      let history : pass.history ≡ new_pass found.0.id (2 ^ 64 - 1) [] [] =
       ap (λ (p : HousePass D). p.history) (sym same) ∙ at.one.history in
       let place : pass.shard ≡ i = ap (λ (p : HousePass D). p.shard) (sym same) ∙ at.one.shard in
       record {
         turn = found.0;
         there = ap (slice_get house.turns) place ∙ found.1;
-        same = ap (λ (k : PassKnowledge _). k.turn) history;
-        home = ap (λ (k : PassKnowledge _). k.out) history;
+        same = ap (λ (k : PassKnowledge _ _). k.turn) history;
+        home = ap (λ (k : PassKnowledge _ _). k.out) history;
         word = (all-at (λ p. Knows house.word raised heard p.epoch) ps i pass epochs here).word_is;
       })

@@ -3,6 +3,7 @@ use Rattle.std.specs.Prelude.{is_err, Result, Ok, Err, OnOk, OnErr, IfOk, IfErr}
 use Rattle.std.specs.List.{range_with_len}
 use Rattle.std.proofs.Common.{◌≡◌, ◌∙◌, ℕ, ◌+◌, ◌≤◌, max, List, [], ◌∷◌, ◌++◌, inl, inr, true, false}
 use Rattle.std.proofs.Common.{Bool, length, map, refl, ap, sym, subst, arith}
+use Rattle.std.proofs.Common.{◌⊎◌, Option, Some, None, append_assoc}
 use Rattle.std.proofs.lemmas.List.{append-nil}
 use Rattle.pcp_base.specs.declared.configs.Config.{Config}
 use Rattle.pcp_base.specs.declared.datagrams.Datagram.{Datagram}
@@ -18,20 +19,24 @@ use Rattle.lease_histories.proofs.Growing.{state-more}
 use Rattle.lease_histories.specs.Legal.{IsLegal, base_after, moment_after, state_after}
 use Rattle.turn_lock.specs.Passes.{PassKnowledge, SeesMore, after_give, after_note}
 use Rattle.epoch_word.specs.Rule.{SeatKnowledge}
+use Rattle.turn_lock.specs.Marks.{marks_beside}
+use Rattle.turned_shards.specs.declared.marks.Mark.{Mark}
+use Rattle.turned_shards.specs.Crashes.{IsInDoubt, doubts_in}
 use Rattle.turned_shards.specs.declared.openings.Opening.{Opening}
 use Rattle.turned_shards.specs.declared.passes.HousePass.{HousePass}
 use Rattle.turned_shards.specs.declared.shards.Shard.{Shard}
 use Rattle.turned_shards.specs.BatchEntries.{asked_in, entries_along, fault_at, loss_at, reply_in}
 use Rattle.shared_house.specs.HeldCalls.{FailsHeld, FailsWith, HearsAndRaises, HearsMore, LosesHeld}
-use Rattle.shared_house.specs.HeldCalls.{NotesBehind, NotesOwn, RefusesHeld, RefusesLoss}
+use Rattle.shared_house.specs.HeldCalls.{MarksIfDisk, NotesBehind, NotesOwn, RefusesHeld, RefusesLoss}
 use Rattle.shared_house.specs.HeldCalls.{ServesHeld, SettlesHeld, raised_to}
 use Rattle.shared_house.specs.HouseCalls.{AddsTo, AsksTheWord, Hears, IsSettling, LosesHouse}
 use Rattle.shared_house.specs.HouseCalls.{MayAskTheWord, MaySettle, Notes}
 use Rattle.shared_house.specs.HouseCalls.{RefusesHouse, RefusesWith, ServesHouse, batch_behind}
 use Rattle.shared_house.specs.HouseCalls.{before_own, loss_behind, raised_behind, raised_by_loss}
 use Rattle.turned_shards.specs.Publishing.{IsWithLane, told_of}
-use Rattle.turned_shards.specs.ShardCalls.{SettlesShard, batch_entries, faults_of, loss_entries}
-use Rattle.turned_shards.specs.Shards.{StandsFor, served_by}
+use Rattle.turned_shards.specs.ShardCalls.{LeavesInDoubt, RefusesBatch, SettlesShard, StaysInDoubt}
+use Rattle.turned_shards.specs.ShardCalls.{batch_entries, faults_of, loss_entries}
+use Rattle.turned_shards.specs.Shards.{StandsFor, mark_of, served_by}
 
 -- what two clauses on an Ok say together
 pub if-ok-both : {X E : Type 0} (r : Result X E) (P : Type 0) (Q R : X → Type 0) → OnOk r P →
@@ -58,14 +63,26 @@ pub if-err-weaker : {X E : Type 0} (r : Result X E) (Q R : E → Type 0) → IfE
 if-err-weaker (Ok x) Q R q f = tt
 if-err-weaker (Err e) Q R q f = f e q
 
-own-none : (p : PassKnowledge Entry) → p ≡ after_note true [] p
-own-none p =
-    ap (λ (l : List Entry). record p { seen = l }) (sym (append-nil p.seen))
-    ∙ ap (λ (l : List ℕ). record p { seen = p.seen ++ []; mine = l }) (sym (append-nil p.mine))
+pub if-err-two : {X E : Type 0} (r : Result X E) (P Q R : E → Type 0) → IfErr r P → IfErr r Q →
+    ((e : E) → P e → Q e → R e) → IfErr r R
+if-err-two (Ok x) P Q R p q f = tt
+if-err-two (Err e) P Q R p q f = f e p q
 
-note-none : (p : PassKnowledge Entry) → after_note false [] p ≡ p
-note-none p =
-    ap (λ (l : List Entry). record p { seen = l; settled = p.settled ++ [] }) (append-nil p.seen)
+own-none : {M : Type 0} (mark : M) (p : PassKnowledge Entry M) → p ≡ after_note true [] mark p
+own-none {M} mark p =
+    ap (λ (l : List Entry). record p { seen = l }) (sym (append-nil p.seen))
+    ∙ ap (λ (l : List M). record p { seen = p.seen ++ []; marks = l }) (sym (append-nil p.marks))
+    ∙ ap (λ (l : List ℕ). record p { seen = p.seen ++ []; marks = p.marks ++ []; mine = l })
+    (sym (append-nil p.mine))
+
+note-none : {M : Type 0} (mark : M) (p : PassKnowledge Entry M) → after_note false [] mark p ≡ p
+note-none {M} mark p =
+    ap (λ (l : List Entry). record p {
+      seen = l;
+      marks = p.marks ++ [];
+      settled = p.settled ++ [];
+    }) (append-nil p.seen)
+    ∙ ap (λ (l : List M). record p { marks = l; settled = p.settled ++ [] }) (append-nil p.marks)
     ∙ ap (λ (l : List ℕ). record p { settled = l }) (append-nil p.settled)
 
 -- what a seat raised and then was told
@@ -115,27 +132,36 @@ told-raised base p q r first then told =
     omega (arith, same, told)
 
 -- what stands behind a pass that took a turn, noted twice, and gave it back
-given-notes : (p h q k : PassKnowledge Entry) (others settling : List Entry)
-    (own : List Entry → List Entry) → SeesMore p h → p.seen ++ others ≡ h.seen →
-    q ≡ after_note true (own (h.seen ++ settling)) (after_note false settling h) →
+given-notes : {D : Type 0} (p h q k : PassKnowledge Entry (Mark D)) (others settling : List Entry)
+    (own : List Entry → List Entry) (m n : Mark D) → SeesMore p h → p.seen ++ others ≡ h.seen →
+    q ≡ after_note true (own (h.seen ++ settling)) n (after_note false settling m h) →
     k ≡ after_give q → Notes p k others settling (own ((p.seen ++ others) ++ settling))
-given-notes p h q k others settling own more came noted given =
+given-notes {D} p h q k others settling own m n more came noted given =
     let log : (p.seen ++ others) ++ settling ≡ h.seen ++ settling =
     ap (λ (l : List Entry). l ++ settling) came in
     let is : k ≡ after_give
-    (after_note true (own (h.seen ++ settling)) (after_note false settling h)) = given
+    (after_note true (own (h.seen ++ settling)) n (after_note false settling m h)) = given
     ∙ ap after_give noted in
     record {
-      turn = ap (λ (n : PassKnowledge Entry). n.turn) is ∙ more.turn;
-      home = ap (λ (n : PassKnowledge Entry). n.out) is;
-      room = ap (λ (n : PassKnowledge Entry). n.room) is ∙ more.room;
-      seen = ap (λ (n : PassKnowledge Entry). n.seen) is
+      turn = ap (λ (x : PassKnowledge Entry (Mark D)). x.turn) is ∙ more.turn;
+      home = ap (λ (x : PassKnowledge Entry (Mark D)). x.out) is;
+      room = ap (λ (x : PassKnowledge Entry (Mark D)). x.room) is ∙ more.room;
+      seen = ap (λ (x : PassKnowledge Entry (Mark D)). x.seen) is
           ∙ ap (λ (l : List Entry). l ++ own l) (sym log);
-      settled = ap (λ (n : PassKnowledge Entry). n.settled) is
+      more = more.marks.0 ++ marks_beside m settling;
+      mark = n;
+      marks = ap (λ (x : PassKnowledge Entry (Mark D)). x.marks) is
+          ∙ ap (λ (l : List (Mark D)). (l ++ marks_beside m settling)
+          ++ marks_beside n (own (h.seen ++ settling))) (sym more.marks.1)
+          ∙ ap (λ (l : List (Mark D)). l ++ marks_beside n (own (h.seen ++ settling)))
+          (append_assoc p.marks more.marks.0 (marks_beside m settling))
+          ∙ ap (λ (l : List Entry). (p.marks ++ (more.marks.0 ++ marks_beside m settling))
+          ++ marks_beside n (own l)) (sym log);
+      settled = ap (λ (x : PassKnowledge Entry (Mark D)). x.settled) is
           ∙ ap (λ (l : List ℕ). l ++ range_with_len (length h.seen) (length settling)) more.settled
           ∙ ap (λ (l : List Entry). p.settled ++ range_with_len (length l) (length settling))
           (sym came);
-      mine = ap (λ (n : PassKnowledge Entry). n.mine) is
+      mine = ap (λ (x : PassKnowledge Entry (Mark D)). x.mine) is
           ∙ ap (λ (l : List ℕ). l ++ range_with_len (length (h.seen ++ settling))
           (length (own (h.seen ++ settling)))) more.mine
           ∙ ap (λ (l : List Entry). p.mine ++ range_with_len (length l) (length (own l))) (sym log);
@@ -143,7 +169,7 @@ given-notes p h q k others settling own more came noted given =
 
 module _ {D : Type 0} (tells : Type 0) (seen : D → List ℕ) (moment : D → ℕ)
     (left_since : D → ℕ → List ℕ → Type 0) (may_leave : D → List ℕ → Type 0) (counts : D → ℕ) where
-  abbrev Stands : Opening D → Shard D → List Entry → Type 0
+  abbrev Stands : Opening D → Shard D → List Entry → List (Mark D) → Type 0
   Stands = StandsFor tells seen moment left_since may_leave counts
 
   abbrev Settling : Opening D → ℕ → List Entry → List Entry → Type 0
@@ -154,9 +180,10 @@ module _ {D : Type 0} (tells : Type 0) (seen : D → List ℕ) (moment : D → �
 
   -- the entries of a batch are those behind the history for which the shard stands
   pub entries-behind : (o : Opening D) (config : Config) (now heard : ℕ) (batch : List Datagram)
-      (s : Shard D) (log : List Entry) → config ≡ o.config → Stands o s log →
+      (s : Shard D) (log : List Entry) (marks : List (Mark D)) → config ≡ o.config →
+      Stands o s log marks →
       batch_entries config now heard batch s ≡ batch_behind o log now heard batch
-  entries-behind o config now heard batch s log same stands =
+  entries-behind o config now heard batch s log marks same stands =
       let m : ℕ = max now s.moment in
       let base : ℕ = max heard s.base in
       ap (λ (c : Config). entries_along s.book.terms s.book.state m base (asked_in c batch)) same
@@ -172,24 +199,26 @@ module _ {D : Type 0} (tells : Type 0) (seen : D → List ℕ) (moment : D → �
       (asked_in o.config batch)) (sym stands.leads.base)
 
   -- so is the loss
-  pub loss-behind : (o : Opening D) (now heard : ℕ) (s : Shard D) (log : List Entry) →
-      Stands o s log → loss_entries now heard s ≡ loss_behind o log now heard
-  loss-behind o now heard s log stands =
+  pub loss-behind : (o : Opening D) (now heard : ℕ) (s : Shard D) (log : List Entry)
+      (marks : List (Mark D)) → Stands o s log marks → loss_entries now heard s ≡ loss_behind o log now heard
+  loss-behind o now heard s log marks stands =
       ap (λ (n : ℕ). loss_at (max now n) (max heard s.base) ∷ []) (sym stands.leads.moment)
       ∙ ap (λ (n : ℕ). loss_at (max now (moment_after o.book.state log)) (max heard n) ∷ [])
       (sym stands.leads.base)
 
   -- and a fault
-  fault-behind : (o : Opening D) (s : Shard D) (log : List Entry) → Stands o s log →
+  fault-behind : (o : Opening D) (s : Shard D) (log : List Entry) (marks : List (Mark D)) →
+      Stands o s log marks →
       fault_at s.moment s.base ∷ [] ≡ fault_at (moment_after o.book.state log)
       (base_after o.book.state log) ∷ []
-  fault-behind o s log stands =
+  fault-behind o s log marks stands =
       ap (λ (n : ℕ). fault_at n s.base ∷ []) (sym stands.leads.moment)
       ∙ ap (λ (n : ℕ). fault_at (moment_after o.book.state log) n ∷ []) (sym stands.leads.base)
 
-  raised-as : (o : Opening D) (s : Shard D) (log : List Entry) (raised : ℕ) → Stands o s log →
+  raised-as : (o : Opening D) (s : Shard D) (log : List Entry) (marks : List (Mark D)) (raised : ℕ) →
+      Stands o s log marks →
       raised_behind o log raised ≡ max raised s.book.state.base
-  raised-as o s log raised stands = ap (λ (u : State). max raised u.base) stands.leads.state
+  raised-as o s log marks raised stands = ap (λ (u : State). max raised u.base) stands.leads.state
 
   -- a shard of which only the lane is another is as settled
   pub settles-on : (o : Opening D) (now : ℕ) (p q : HousePass D) (s t : Shard D) → IsWithLane s t →
@@ -198,30 +227,31 @@ module _ {D : Type 0} (tells : Type 0) (seen : D → List ℕ) (moment : D → �
       record {
         settling = done.settling;
         settles = done.settles;
+        mark = done.mark;
         history = done.history;
         settled = ap (λ (x : Shard D). x.book.fault) same ∙ done.settled;
       }
 
   -- the shard stands for what the settled pass has seen
   settled-log : (o : Opening D) (now : ℕ) (p q : HousePass D) (s : Shard D)
-      (done : Settled o now p q s) → Stands o s q.history.seen →
-      Stands o s (p.history.seen ++ done.settling)
-  settled-log o now p q s done stands = subst (Stands o s)
-      (ap (λ (h : PassKnowledge Entry). h.seen) done.history) stands
+      (done : Settled o now p q s) → Stands o s q.history.seen q.history.marks →
+      Stands o s (p.history.seen ++ done.settling) q.history.marks
+  settled-log o now p q s done stands = subst (λ (l : List Entry). Stands o s l q.history.marks)
+      (ap (λ (h : PassKnowledge Entry (Mark D)). h.seen) done.history) stands
 
   -- own entries stand behind those of the settling
   noted-both : (o : Opening D) (now : ℕ) (p q r : HousePass D) (s : Shard D)
-      (done : Settled o now p q s) (es fs : List Entry) → NotesOwn es q r → es ≡ fs →
-      r.history ≡ after_note true fs (after_note false done.settling p.history)
-  noted-both o now p q r s done es fs notes same = notes
-      ∙ ap (λ (l : List Entry). after_note true l q.history) same
-      ∙ ap (after_note true fs) done.history
+      (done : Settled o now p q s) (es fs : List Entry) → (notes : NotesOwn es q r) → es ≡ fs →
+      r.history ≡ after_note true fs notes.0 (after_note false done.settling done.mark p.history)
+  noted-both o now p q r s done es fs notes same = notes.1
+      ∙ ap (λ (l : List Entry). after_note true l notes.0 q.history) same
+      ∙ ap (after_note true fs notes.0) done.history
 
   -- a settling, noted
   pub settled-by : {X E : Type 0} (o : Opening D) (now : ℕ) (r : Result X E) (own : Bool)
-      (s t u : Shard D) (p q : HousePass D) → own ≡ is_err r → Stands o s p.history.seen →
+      (s t u : Shard D) (p q : HousePass D) → own ≡ is_err r → Stands o s p.history.seen p.history.marks →
       OnOk r (SettlesShard tells moment left_since may_leave now s t) →
-      q.history ≡ after_note own t.added p.history → u ≡ record t { added = [] } →
+      q.history ≡ after_note own t.added (mark_of t) p.history → u ≡ record t { added = [] } →
       OnOk r (Settled o now p q u)
   settled-by o now (Ok x) own s t u p q is stands settles noted same =
       record {
@@ -229,11 +259,13 @@ module _ {D : Type 0} (tells : Type 0) (seen : D → List ℕ) (moment : D → �
         settles = record {
           shard = s;
           settled = t;
+          marks = p.history.marks;
           stands = stands;
           settles = settles;
           added = refl;
         };
-        history = noted ∙ ap (λ (b : Bool). after_note b t.added p.history) is;
+        mark = mark_of t;
+        history = noted ∙ ap (λ (b : Bool). after_note b t.added (mark_of t) p.history) is;
         settled = ap (λ (v : Shard D). v.book.fault) same ∙ settles.settles.fault;
       }
   settled-by o now (Err e) own s t u p q is stands settles noted same = tt
@@ -242,26 +274,28 @@ module _ {D : Type 0} (tells : Type 0) (seen : D → List ℕ) (moment : D → �
   pub serves-held : (o : Opening D) (config : Config) (now : ℕ) (batch : List Datagram)
       (s : Shard D) (p q r : HousePass D) (replies : List Datagram) → config ≡ o.config →
       Settled o now p q s →
-      Stands o s q.history.seen → q.epoch ≡ raised_to s.book.state.base p.epoch →
+      Stands o s q.history.seen q.history.marks → q.epoch ≡ raised_to s.book.state.base p.epoch →
       NotesOwn (batch_entries config now r.epoch.heard batch s) q r →
       replies ≡ map reply_in (batch_entries config now r.epoch.heard batch s) →
       HearsMore q.epoch r.epoch →
       ServesHeld tells seen moment left_since may_leave counts o now batch p r replies
   serves-held o config now batch s p q r replies same done stands raised notes told hears =
       let log : List Entry = p.history.seen ++ done.settling in
-      let here : Stands o s log = settled-log o now p q s done stands in
+      let here : Stands o s log q.history.marks = settled-log o now p q s done stands in
       let are : batch_entries config now r.epoch.heard batch s
       ≡ batch_behind o log now r.epoch.heard batch =
-      entries-behind o config now r.epoch.heard batch s log same here in
+      entries-behind o config now r.epoch.heard batch s log q.history.marks same here in
       record {
         notes = record {
           settling = done.settling;
           settles = done.settles;
+          settled_mark = done.mark;
+          mark = notes.0;
           noted = noted-both o now p q r s done _ _ notes are;
         };
         told = told ∙ ap (λ (l : List Entry). map reply_in l) are;
         hears = raises-told (raised_behind o log p.epoch.raised)
-            s.book.state.base p.epoch q.epoch r.epoch (raised-as o s log p.epoch.raised here)
+            s.book.state.base p.epoch q.epoch r.epoch (raised-as o s log q.history.marks p.epoch.raised here)
             raised (told-once q.epoch r.epoch hears) hears.heard;
         asks = asks-more s.book.state.base p.epoch q.epoch r.epoch raised hears;
         raised = told-raised s.book.state.base p.epoch q.epoch r.epoch raised
@@ -270,7 +304,7 @@ module _ {D : Type 0} (tells : Type 0) (seen : D → List ℕ) (moment : D → �
 
   fails-with : (o : Opening D) (now : ℕ) (s : Shard D) (p q r : HousePass D) (es : List Entry)
       (own : List Entry → List Entry) (raised : List Entry → ℕ → ℕ) (done : Settled o now p q s) →
-      Stands o s (p.history.seen ++ done.settling) →
+      Stands o s (p.history.seen ++ done.settling) q.history.marks →
       NotesOwn es q r → es ≡ own (p.history.seen ++ done.settling) →
       Hears (raised (p.history.seen ++ done.settling) p.epoch.raised) p.epoch r.epoch →
       MayAskTheWord p.epoch r.epoch →
@@ -280,6 +314,8 @@ module _ {D : Type 0} (tells : Type 0) (seen : D → List ℕ) (moment : D → �
         notes = record {
           settling = done.settling;
           settles = inr done.settles;
+          settled_mark = done.mark;
+          mark = notes.0;
           noted = noted-both o now p q r s done es (own (p.history.seen ++ done.settling))
               notes are;
         };
@@ -290,7 +326,7 @@ module _ {D : Type 0} (tells : Type 0) (seen : D → List ℕ) (moment : D → �
   -- the fault of the call is noted
   fails-noted : (o : Opening D) (now : ℕ) (s : Shard D) (p q r : HousePass D)
       (own : List Entry → List Entry) (raised : List Entry → ℕ → ℕ) (fault : JournalFault)
-      (done : Settled o now p q s) → Stands o s (p.history.seen ++ done.settling) →
+      (done : Settled o now p q s) → Stands o s (p.history.seen ++ done.settling) q.history.marks →
       NotesOwn (faults_of s.moment s.base fault) q r →
       Hears (raised_behind o (p.history.seen ++ done.settling) p.epoch.raised) p.epoch r.epoch →
       MayAskTheWord p.epoch r.epoch →
@@ -299,7 +335,7 @@ module _ {D : Type 0} (tells : Type 0) (seen : D → List ℕ) (moment : D → �
       fails-with o now s p q r (fault_at s.moment s.base ∷ [])
       (λ (log : List Entry). fault_at (moment_after o.book.state log)
       (base_after o.book.state log) ∷ []) (raised_behind o) done here notes
-      (fault-behind o s (p.history.seen ++ done.settling) here) hears asks
+      (fault-behind o s (p.history.seen ++ done.settling) q.history.marks here) hears asks
   fails-noted o now s p q r own raised Memory done here notes hears asks =
       inl (fails-with o now s p q r [] (λ (log : List Entry). [])
       (raised_behind o) done here notes refl hears asks)
@@ -307,7 +343,7 @@ module _ {D : Type 0} (tells : Type 0) (seen : D → List ℕ) (moment : D → �
   -- what was asked is noted, and memory was wanting for what comes after that
   fails-after : (o : Opening D) (now : ℕ) (s : Shard D) (p q r : HousePass D)
       (own : List Entry → List Entry) (raised : List Entry → ℕ → ℕ) (fault : JournalFault)
-      (done : Settled o now p q s) → Stands o s (p.history.seen ++ done.settling) →
+      (done : Settled o now p q s) → Stands o s (p.history.seen ++ done.settling) q.history.marks →
       fault ≡ Memory → NotesOwn (own (p.history.seen ++ done.settling)) q r →
       Hears (raised (p.history.seen ++ done.settling) p.epoch.raised) p.epoch r.epoch →
       AsksTheWord p.epoch r.epoch →
@@ -322,7 +358,7 @@ module _ {D : Type 0} (tells : Type 0) (seen : D → List ℕ) (moment : D → �
 
   fails-by : (o : Opening D) (now : ℕ) (s : Shard D) (p q r : HousePass D)
       (own : List Entry → List Entry) (fault : JournalFault) (done : Settled o now p q s) →
-      Stands o s (p.history.seen ++ done.settling) →
+      Stands o s (p.history.seen ++ done.settling) q.history.marks →
       RefusesHeld s (own (p.history.seen ++ done.settling)) q r fault →
       Hears (raised_behind o (p.history.seen ++ done.settling) p.epoch.raised) p.epoch r.epoch →
       AsksTheWord p.epoch r.epoch →
@@ -335,7 +371,7 @@ module _ {D : Type 0} (tells : Type 0) (seen : D → List ℕ) (moment : D → �
   -- a settled shard, and then one whose batch is refused
   pub fails-held : (o : Opening D) (config : Config) (now : ℕ) (batch : List Datagram) (s : Shard D)
       (p q r : HousePass D) (fault : JournalFault) → config ≡ o.config → Settled o now p q s →
-      Stands o s q.history.seen → q.epoch ≡ raised_to s.book.state.base p.epoch →
+      Stands o s q.history.seen q.history.marks → q.epoch ≡ raised_to s.book.state.base p.epoch →
       RefusesHeld s (batch_entries config now r.epoch.heard batch s) q r fault →
       HearsMore q.epoch r.epoch →
       FailsHeld tells seen moment left_since may_leave counts o now
@@ -343,14 +379,14 @@ module _ {D : Type 0} (tells : Type 0) (seen : D → List ℕ) (moment : D → �
       (raised_behind o) p r fault
   fails-held o config now batch s p q r fault same done stands raised refused hears =
       let log : List Entry = p.history.seen ++ done.settling in
-      let here : Stands o s log = settled-log o now p q s done stands in
+      let here : Stands o s log q.history.marks = settled-log o now p q s done stands in
       let are : batch_entries config now r.epoch.heard batch s
       ≡ batch_behind o log now r.epoch.heard batch =
-      entries-behind o config now r.epoch.heard batch s log same here in
+      entries-behind o config now r.epoch.heard batch s log q.history.marks same here in
       fails-by o now s p q r (λ (l : List Entry). batch_behind o l now r.epoch.heard batch)
       fault done here (subst (λ (es : List Entry). RefusesHeld s es q r fault) are refused)
       (raises-told (raised_behind o log p.epoch.raised) s.book.state.base p.epoch q.epoch r.epoch
-      (raised-as o s log p.epoch.raised here) raised (told-once q.epoch r.epoch hears) hears.heard)
+      (raised-as o s log q.history.marks p.epoch.raised here) raised (told-once q.epoch r.epoch hears) hears.heard)
       (asks-more s.book.state.base p.epoch q.epoch r.epoch raised hears)
 
   unsettled-with : (o : Opening D) (now : ℕ) (p q : HousePass D) (es : List Entry)
@@ -363,8 +399,11 @@ module _ {D : Type 0} (tells : Type 0) (seen : D → List ℕ) (moment : D → �
         notes = record {
           settling = [];
           settles = inl refl;
-          noted = notes ∙ ap (λ (l : List Entry). after_note true l p.history) are
-              ∙ ap (after_note true (own (p.history.seen ++ []))) (sym (note-none p.history));
+          settled_mark = notes.0;
+          mark = notes.0;
+          noted = notes.1 ∙ ap (λ (l : List Entry). after_note true l notes.0 p.history) are
+              ∙ ap (after_note true (own (p.history.seen ++ [])) notes.0)
+              (sym (note-none notes.0 p.history));
         };
         hears = hears;
         asks = asks;
@@ -373,14 +412,15 @@ module _ {D : Type 0} (tells : Type 0) (seen : D → List ℕ) (moment : D → �
   -- the settling was refused
   pub unsettled-held : (o : Opening D) (now : ℕ) (s t : Shard D) (p q : HousePass D)
       (own : List Entry → List Entry) (up : List Entry → ℕ → ℕ) (fault : JournalFault) →
-      Stands o s p.history.seen →
+      Stands o s p.history.seen p.history.marks →
       NotesOwn (faults_of s.moment s.base fault) p q →
       q.epoch ≡ raised_to t.book.state.base p.epoch → t.book.state ≡ s.book.state →
       FailsHeld tells seen moment left_since may_leave counts o now own up p q fault
   unsettled-held o now s t p q own up fault stands notes raised same = by fault notes
     where
-      here : Stands o s (p.history.seen ++ [])
-      here = subst (Stands o s) (sym (append-nil p.history.seen)) stands
+      here : Stands o s (p.history.seen ++ []) p.history.marks
+      here = subst (λ (l : List Entry). Stands o s l p.history.marks)
+          (sym (append-nil p.history.seen)) stands
 
       still : q.epoch ≡ raised_to s.book.state.base p.epoch
       still = raised ∙ ap (λ (u : State). raised_to u.base p.epoch) same
@@ -388,7 +428,7 @@ module _ {D : Type 0} (tells : Type 0) (seen : D → List ℕ) (moment : D → �
       hears : Hears (raised_behind o (p.history.seen ++ []) p.epoch.raised) p.epoch q.epoch
       hears = raises-told (raised_behind o (p.history.seen ++ []) p.epoch.raised)
           s.book.state.base p.epoch q.epoch q.epoch
-          (raised-as o s (p.history.seen ++ []) p.epoch.raised here) still refl (omega arith)
+          (raised-as o s (p.history.seen ++ []) p.history.marks p.epoch.raised here) still refl (omega arith)
 
       asks : MayAskTheWord p.epoch q.epoch
       asks = asks-nothing t.book.state.base p.epoch q.epoch raised
@@ -398,31 +438,31 @@ module _ {D : Type 0} (tells : Type 0) (seen : D → List ℕ) (moment : D → �
       by Disk n = unsettled-with o now p q (fault_at s.moment s.base ∷ [])
           (λ (log : List Entry). fault_at (moment_after o.book.state log)
           (base_after o.book.state log) ∷ []) n
-          (fault-behind o s (p.history.seen ++ []) here) hears asks
+          (fault-behind o s (p.history.seen ++ []) p.history.marks here) hears asks
       by Memory n = inl (unsettled-with o now p q [] (λ (log : List Entry). []) n refl hears asks)
 
   -- the settling is noted, and memory was wanting to publish what waits
   pub unshown-held : (o : Opening D) (now : ℕ) (s : Shard D) (p q : HousePass D)
       (own : List Entry → List Entry) (up : List Entry → ℕ → ℕ) (fault : JournalFault) →
       fault ≡ Memory → Settled o now p q s →
-      Stands o s q.history.seen → q.epoch ≡ raised_to s.book.state.base p.epoch →
+      Stands o s q.history.seen q.history.marks → q.epoch ≡ raised_to s.book.state.base p.epoch →
       FailsHeld tells seen moment left_since may_leave counts o now own up p q fault
   unshown-held o now s p q own up fault is done stands raised =
       let log : List Entry = p.history.seen ++ done.settling in
-      let here : Stands o s log = settled-log o now p q s done stands in
-      let none : NotesOwn (faults_of s.moment s.base Memory) q q = own-none q.history in
+      let here : Stands o s log q.history.marks = settled-log o now p q s done stands in
+      let none : NotesOwn (faults_of s.moment s.base Memory) q q = (mark_of s, own-none (mark_of s) q.history) in
       fails-noted o now s p q q own up fault done here
       (subst (λ (f : JournalFault). NotesOwn (faults_of s.moment s.base f) q q) (sym is) none)
       (raises-told (raised_behind o log p.epoch.raised) s.book.state.base p.epoch q.epoch q.epoch
-      (raised-as o s log p.epoch.raised here) raised refl (omega arith))
+      (raised-as o s log q.history.marks p.epoch.raised here) raised refl (omega arith))
       (asks-nothing s.book.state.base p.epoch q.epoch raised)
 
   -- ---- a loss
 
   -- the base of the state is then the moment of the loss
-  loss-base : (o : Opening D) (s : Shard D) (log : List Entry) (m base : ℕ) →
-      Stands o s (log ++ loss_at m base ∷ []) → s.book.state.base ≡ m
-  loss-base o s log m base stands = ap (λ (u : State). u.base)
+  loss-base : (o : Opening D) (s : Shard D) (log : List Entry) (marks : List (Mark D)) (m base : ℕ) →
+      Stands o s (log ++ loss_at m base ∷ []) marks → s.book.state.base ≡ m
+  loss-base o s log marks m base stands = ap (λ (u : State). u.base)
       (sym stands.leads.state ∙ state-more o.book.state log (loss_at m base))
 
   twice-raised : (raised : ℕ) (base m : ℕ) (p q r : SeatKnowledge) →
@@ -444,7 +484,7 @@ module _ {D : Type 0} (tells : Type 0) (seen : D → List ℕ) (moment : D → �
   -- a settled shard, and then one that loses its leases
   pub loses-held : (o : Opening D) (now : ℕ) (s t : Shard D) (p q r : HousePass D) (count : ℕ) →
       Settled o now p q s →
-      Stands o s q.history.seen → Stands o t r.history.seen →
+      Stands o s q.history.seen q.history.marks → Stands o t r.history.seen r.history.marks →
       q.epoch ≡ raised_to s.book.state.base p.epoch →
       NotesOwn (loss_entries now r.epoch.heard s) q r →
       count ≡ lease_count s.book.state.table (max now s.moment) →
@@ -452,25 +492,31 @@ module _ {D : Type 0} (tells : Type 0) (seen : D → List ℕ) (moment : D → �
       LosesHeld tells seen moment left_since may_leave counts o now p r count
   loses-held o now s t p q r count done stands after raised notes counted hears =
       let log : List Entry = p.history.seen ++ done.settling in
-      let here : Stands o s log = settled-log o now p q s done stands in
+      let here : Stands o s log q.history.marks = settled-log o now p q s done stands in
       let are : loss_entries now r.epoch.heard s ≡ loss_behind o log now r.epoch.heard =
-      loss-behind o now r.epoch.heard s log here in
+      loss-behind o now r.epoch.heard s log q.history.marks here in
       let m : ℕ = max now (moment_after o.book.state log) in
-      let noted : r.history ≡ after_note true (loss_behind o log now r.epoch.heard)
-      (after_note false done.settling p.history) =
+      let noted : r.history ≡ after_note true (loss_behind o log now r.epoch.heard) notes.0
+      (after_note false done.settling done.mark p.history) =
       noted-both o now p q r s done _ _ notes are in
-      let there : Stands o t (log ++ loss_behind o log now r.epoch.heard) =
-      subst (Stands o t) (ap (λ (h : PassKnowledge Entry). h.seen) noted) after in
-      let base : t.book.state.base ≡ m = loss-base o t log m
+      let there : Stands o t (log ++ loss_behind o log now r.epoch.heard) r.history.marks =
+      subst (λ (l : List Entry). Stands o t l r.history.marks) (ap (λ (h : PassKnowledge Entry (Mark D)). h.seen) noted) after in
+      let base : t.book.state.base ≡ m = loss-base o t log r.history.marks m
       (max r.epoch.heard (base_after o.book.state log)) there in
       let twice : HearsAndRaises q.epoch r.epoch m =
       subst (HearsAndRaises q.epoch r.epoch) base hears in
-      let grown = raised-as o s log p.epoch.raised here in
+      let grown = raised-as o s log q.history.marks p.epoch.raised here in
       let first : q.epoch.raised ≡ max p.epoch.raised s.book.state.base =
       ap (λ (k : SeatKnowledge). k.raised) raised in
       let told = hears.raised in
       record {
-        notes = record { settling = done.settling; settles = done.settles; noted = noted };
+        notes = record {
+          settling = done.settling;
+          settles = done.settles;
+          settled_mark = done.mark;
+          mark = notes.0;
+          noted = noted;
+        };
         counted = counted ∙ ap (λ (u : State). lease_count u.table (max now s.moment))
             (sym here.leads.state)
             ∙ ap (λ (n : ℕ). lease_count (state_after o.book.state log).table (max now n))
@@ -486,15 +532,15 @@ module _ {D : Type 0} (tells : Type 0) (seen : D → List ℕ) (moment : D → �
   keeps-held : (o : Opening D) (now : ℕ) (s t : Shard D) (p q r : HousePass D)
       (own : List Entry → List Entry) (up : List Entry → ℕ → ℕ) (fault : JournalFault) →
       Settled o now p q s →
-      Stands o s q.history.seen → q.epoch ≡ raised_to s.book.state.base p.epoch →
+      Stands o s q.history.seen q.history.marks → q.epoch ≡ raised_to s.book.state.base p.epoch →
       NotesOwn (faults_of s.moment s.base fault) q r → t.book.state ≡ s.book.state →
       HearsAndRaises q.epoch r.epoch t.book.state.base →
       FailsHeld tells seen moment left_since may_leave counts o now own up p r fault
   keeps-held o now s t p q r own up fault done stands raised notes same hears =
       let log : List Entry = p.history.seen ++ done.settling in
-      let here : Stands o s log = settled-log o now p q s done stands in
+      let here : Stands o s log q.history.marks = settled-log o now p q s done stands in
       let base : t.book.state.base ≡ s.book.state.base = ap (λ (u : State). u.base) same in
-      let grown = raised-as o s log p.epoch.raised here in
+      let grown = raised-as o s log q.history.marks p.epoch.raised here in
       let is : raised_behind o log p.epoch.raised
       ≡ max (max p.epoch.raised s.book.state.base) s.book.state.base = omega (arith, grown) in
       fails-noted o now s p q r own up fault done here notes
@@ -507,7 +553,7 @@ module _ {D : Type 0} (tells : Type 0) (seen : D → List ℕ) (moment : D → �
   -- or whose loss is noted, and isn't published
   lost-held : (o : Opening D) (now : ℕ) (s t : Shard D) (p q r : HousePass D)
       (fault : JournalFault) → fault ≡ Memory → Settled o now p q s →
-      Stands o s q.history.seen → Stands o t r.history.seen →
+      Stands o s q.history.seen q.history.marks → Stands o t r.history.seen r.history.marks →
       q.epoch ≡ raised_to s.book.state.base p.epoch →
       NotesOwn (loss_entries now r.epoch.heard s) q r →
       HearsAndRaises q.epoch r.epoch t.book.state.base →
@@ -516,20 +562,20 @@ module _ {D : Type 0} (tells : Type 0) (seen : D → List ℕ) (moment : D → �
       (raised_by_loss o now) p r fault
   lost-held o now s t p q r fault is done stands after raised notes hears =
       let log : List Entry = p.history.seen ++ done.settling in
-      let here : Stands o s log = settled-log o now p q s done stands in
+      let here : Stands o s log q.history.marks = settled-log o now p q s done stands in
       let are : loss_entries now r.epoch.heard s ≡ loss_behind o log now r.epoch.heard =
-      loss-behind o now r.epoch.heard s log here in
+      loss-behind o now r.epoch.heard s log q.history.marks here in
       let m : ℕ = max now (moment_after o.book.state log) in
-      let noted : r.history ≡ after_note true (loss_behind o log now r.epoch.heard)
-      (after_note false done.settling p.history) =
+      let noted : r.history ≡ after_note true (loss_behind o log now r.epoch.heard) notes.0
+      (after_note false done.settling done.mark p.history) =
       noted-both o now p q r s done _ _ notes are in
-      let there : Stands o t (log ++ loss_behind o log now r.epoch.heard) =
-      subst (Stands o t) (ap (λ (h : PassKnowledge Entry). h.seen) noted) after in
-      let base : t.book.state.base ≡ m = loss-base o t log m
+      let there : Stands o t (log ++ loss_behind o log now r.epoch.heard) r.history.marks =
+      subst (λ (l : List Entry). Stands o t l r.history.marks) (ap (λ (h : PassKnowledge Entry (Mark D)). h.seen) noted) after in
+      let base : t.book.state.base ≡ m = loss-base o t log r.history.marks m
       (max r.epoch.heard (base_after o.book.state log)) there in
       let twice : HearsAndRaises q.epoch r.epoch m =
       subst (HearsAndRaises q.epoch r.epoch) base hears in
-      let grown = raised-as o s log p.epoch.raised here in
+      let grown = raised-as o s log q.history.marks p.epoch.raised here in
       fails-after o now s p q r (λ (l : List Entry). loss_behind o l now r.epoch.heard)
       (raised_by_loss o now) fault done here is
       (subst (λ (l : List Entry). NotesOwn l q r) are notes)
@@ -540,7 +586,7 @@ module _ {D : Type 0} (tells : Type 0) (seen : D → List ℕ) (moment : D → �
   -- a settled shard, and then one whose loss is refused
   pub refuses-loss : (o : Opening D) (now : ℕ) (s t : Shard D) (p q r : HousePass D)
       (fault : JournalFault) → Settled o now p q s →
-      Stands o s q.history.seen → Stands o t r.history.seen →
+      Stands o s q.history.seen q.history.marks → Stands o t r.history.seen r.history.marks →
       q.epoch ≡ raised_to s.book.state.base p.epoch →
       RefusesLoss s t (loss_entries now r.epoch.heard s) q r fault →
       HearsAndRaises q.epoch r.epoch t.book.state.base →
@@ -553,10 +599,86 @@ module _ {D : Type 0} (tells : Type 0) (seen : D → List ℕ) (moment : D → �
   refuses-loss o now s t p q r fault done stands after raised (inr (is, notes)) hears =
       lost-held o now s t p q r fault is done stands after raised notes hears
 
+  -- ---- what is in doubt at a fault
+
+  -- a settling was refused: what was in doubt is so still
+  pub marks-settling : (o : Opening D) (s t : Shard D) (p q : HousePass D) (own : Bool)
+      (wanted : List Entry → List Entry) (fault : JournalFault) →
+      Stands o s p.history.seen p.history.marks →
+      StaysInDoubt tells moment left_since may_leave s t fault →
+      q.history ≡ after_note own t.added (mark_of t) p.history → MarksIfDisk o wanted q fault
+  marks-settling o s t p q own wanted Memory stands stays noted = λ is. absurd cc
+  marks-settling o s t p q own wanted Disk stands stays noted = λ is.
+      let added : t.added ≡ fault_at s.moment s.base ∷ [] =
+      ap (λ (x : Shard D). x.added) stays.same in
+      record {
+        before = p.history.seen;
+        fault = fault_at s.moment s.base;
+        seen = ap (λ (x : PassKnowledge Entry (Mark D)). x.seen) noted
+            ∙ ap (λ (l : List Entry). p.history.seen ++ l) added;
+        earlier = p.history.marks;
+        one_each = stands.kept.one_each;
+        mark = mark_of t;
+        marks = ap (λ (x : PassKnowledge Entry (Mark D)). x.marks) noted
+            ∙ ap (λ (l : List Entry). p.history.marks ++ marks_beside (mark_of t) l) added;
+        doubt = inr (by s.book.fault refl);
+      }
+    where
+      same : t.doubt ≡ s.doubt
+      same = ap (λ (x : Shard D). x.doubt) stays.same
+
+      by : (f : Option JournalFault) → s.book.fault ≡ f → (t.doubt ≡ [])
+          ⊎ IsInDoubt (served_by o) o.book.state (doubts_in p.history.marks) p.history.seen t.doubt
+      by (Some Disk) h = inr (subst
+          (IsInDoubt (served_by o) o.book.state (doubts_in p.history.marks) p.history.seen)
+          (sym same) (stands.kept.now h))
+      by (Some Memory) h = inl (same ∙ stands.sure (λ failed. absurd (cc (h, failed))))
+      by None h = inl (same ∙ stands.sure (λ failed. absurd (cc (h, failed))))
+
+  -- entries that were asked for are in doubt
+  pub marks-asked : (o : Opening D) (s t : Shard D) (p q : HousePass D) (own : Bool)
+      (es : List Entry) (wanted : List Entry → List Entry) (fault : JournalFault) →
+      Stands o s p.history.seen p.history.marks → es ≡ wanted p.history.seen →
+      LeavesInDoubt es s t fault →
+      q.history ≡ after_note own t.added (mark_of t) p.history → MarksIfDisk o wanted q fault
+  marks-asked o s t p q own es wanted Memory stands are leaves noted = λ is. absurd cc
+  marks-asked o s t p q own es wanted Disk stands are leaves noted = λ is. record {
+    before = p.history.seen;
+    fault = fault_at s.moment s.base;
+    seen = ap (λ (x : PassKnowledge Entry (Mark D)). x.seen) noted
+        ∙ ap (λ (l : List Entry). p.history.seen ++ l) leaves.added;
+    earlier = p.history.marks;
+    one_each = stands.kept.one_each;
+    mark = mark_of t;
+    marks = ap (λ (x : PassKnowledge Entry (Mark D)). x.marks) noted
+        ∙ ap (λ (l : List Entry). p.history.marks ++ marks_beside (mark_of t) l) leaves.added;
+    doubt = inl (leaves.doubt ∙ are);
+  }
+
+  -- so it is with a batch
+  pub marks-batch : (o : Opening D) (config : Config) (now heard : ℕ) (batch : List Datagram)
+      (s t : Shard D) (p q : HousePass D) (own : Bool) (fault : JournalFault) →
+      config ≡ o.config → Stands o s p.history.seen p.history.marks →
+      RefusesBatch config now heard batch s t fault →
+      q.history ≡ after_note own t.added (mark_of t) p.history →
+      MarksIfDisk o (λ (log : List Entry). batch_behind o log now heard batch) q fault
+  marks-batch o config now heard batch s t p q own fault same stands (inl leaves) noted =
+      marks-asked o s t p q own (batch_entries config now heard batch s)
+      (λ (log : List Entry). batch_behind o log now heard batch) fault stands
+      (entries-behind o config now heard batch s p.history.seen p.history.marks same stands)
+      leaves noted
+  marks-batch o config now heard batch s t p q own fault same stands (inr (is, adds)) noted =
+      λ failed. absurd (cc (is, failed))
+
+  -- without a disk's fault there is nothing to tell
+  pub marks-nothing : (o : Opening D) (q : HousePass D) (wanted : List Entry → List Entry)
+      (fault : JournalFault) → fault ≡ Memory → MarksIfDisk o wanted q fault
+  marks-nothing o q wanted fault is = λ failed. absurd (cc (is, failed))
+
   -- ---- between a take and a give
 
   abbrev adds-to : (o : Opening D) (Settles : List Entry → List Entry → Type 0) (p : HousePass D)
-      (h : PassKnowledge Entry) (q : HousePass D) (k : PassKnowledge Entry)
+      (h : PassKnowledge Entry (Mark D)) (q : HousePass D) (k : PassKnowledge Entry (Mark D))
       (own : List Entry → List Entry) → SeesMore p.history h →
       NotesBehind Settles (record p { history = h }) q own → k ≡ after_give q.history →
       IsLegal (served_by o) o.book.state q.history.seen →
@@ -567,20 +689,20 @@ module _ {D : Type 0} (tells : Type 0) (seen : D → List ℕ) (moment : D → �
         settling = notes.settling;
         settles = subst (λ (l : List Entry). Settles l notes.settling)
             (sym more.seen.1) notes.settles;
-        notes = given-notes p.history h q.history k more.seen.0 notes.settling own more more.seen.1
-            notes.noted given;
+        notes = given-notes p.history h q.history k more.seen.0 notes.settling own
+            notes.settled_mark notes.mark more more.seen.1 notes.noted given;
         legal = subst (IsLegal (served_by o) o.book.state)
-            (sym (ap (λ (n : PassKnowledge Entry). n.seen) given)) legal;
+            (sym (ap (λ (n : PassKnowledge Entry (Mark D)). n.seen) given)) legal;
       }
 
-  came-log : (o : Opening D) (p : HousePass D) (h : PassKnowledge Entry)
+  came-log : (o : Opening D) (p : HousePass D) (h : PassKnowledge Entry (Mark D))
       (others settling : List Entry) → p.history.seen ++ others ≡ h.seen →
       h.seen ++ settling ≡ before_own o p others settling
   came-log o p h others settling came = ap (λ (l : List Entry). l ++ settling) (sym came)
 
   -- a batch that is answered
   pub serves-house : (o : Opening D) (now : ℕ) (batch : List Datagram) (p : HousePass D)
-      (h : PassKnowledge Entry) (q : HousePass D) (k : PassKnowledge Entry)
+      (h : PassKnowledge Entry (Mark D)) (q : HousePass D) (k : PassKnowledge Entry (Mark D))
       (replies : List Datagram) (lane : ToldRecords) → SeesMore p.history h →
       ServesHeld tells seen moment left_since may_leave counts o now batch
       (record p { history = h }) q replies → lane ≡ told_of o q.history.seen →
@@ -600,12 +722,12 @@ module _ {D : Type 0} (tells : Type 0) (seen : D → List ℕ) (moment : D → �
             log serves.hears;
         asks = serves.asks;
         raised = serves.raised;
-        published = shown ∙ ap (λ (n : PassKnowledge Entry). told_of o n.seen) (sym given);
+        published = shown ∙ ap (λ (n : PassKnowledge Entry (Mark D)). told_of o n.seen) (sym given);
       }
 
   -- leases that are lost
-  pub loses-house : (o : Opening D) (now : ℕ) (p : HousePass D) (h : PassKnowledge Entry)
-      (q : HousePass D) (k : PassKnowledge Entry) (count : ℕ) (lane : ToldRecords) →
+  pub loses-house : (o : Opening D) (now : ℕ) (p : HousePass D) (h : PassKnowledge Entry (Mark D))
+      (q : HousePass D) (k : PassKnowledge Entry (Mark D)) (count : ℕ) (lane : ToldRecords) →
       SeesMore p.history h →
       LosesHeld tells seen moment left_since may_leave counts o now
       (record p { history = h }) q count → lane ≡ told_of o q.history.seen →
@@ -627,11 +749,11 @@ module _ {D : Type 0} (tells : Type 0) (seen : D → List ℕ) (moment : D → �
         asks = loses.asks;
         raised = subst (λ (l : List Entry). raised_behind o l p.epoch.raised ≤ q.epoch.heard)
             log loses.raised;
-        published = shown ∙ ap (λ (n : PassKnowledge Entry). told_of o n.seen) (sym given);
+        published = shown ∙ ap (λ (n : PassKnowledge Entry (Mark D)). told_of o n.seen) (sym given);
       }
 
-  refuses-with : (o : Opening D) (now : ℕ) (p : HousePass D) (h : PassKnowledge Entry)
-      (q : HousePass D) (k : PassKnowledge Entry) (own : List Entry → List Entry)
+  refuses-with : (o : Opening D) (now : ℕ) (p : HousePass D) (h : PassKnowledge Entry (Mark D))
+      (q : HousePass D) (k : PassKnowledge Entry (Mark D)) (own : List Entry → List Entry)
       (raised : List Entry → ℕ → ℕ) → SeesMore p.history h →
       FailsWith tells seen moment left_since may_leave counts o now own raised
       (record p { history = h }) q → k ≡ after_give q.history →
@@ -649,20 +771,32 @@ module _ {D : Type 0} (tells : Type 0) (seen : D → List ℕ) (moment : D → �
       }
 
   -- a call that is refused
-  pub refuses-house : (o : Opening D) (now : ℕ) (p : HousePass D) (h : PassKnowledge Entry)
-      (q : HousePass D) (k : PassKnowledge Entry) (own : List Entry → List Entry)
+  pub refuses-house : (o : Opening D) (now : ℕ) (p : HousePass D) (h : PassKnowledge Entry (Mark D))
+      (q : HousePass D) (k : PassKnowledge Entry (Mark D)) (own : List Entry → List Entry)
       (raised : List Entry → ℕ → ℕ) (fault : JournalFault) → SeesMore p.history h →
       FailsHeld tells seen moment left_since may_leave counts o now own raised
-      (record p { history = h }) q fault → k ≡ after_give q.history →
+      (record p { history = h }) q fault → MarksIfDisk o own q fault → k ≡ after_give q.history →
       IsLegal (served_by o) o.book.state q.history.seen →
       RefusesHouse o tells seen moment left_since may_leave counts now own raised p
       (record q { history = k }) fault
-  refuses-house o now p h q k own raised Disk more fails given legal =
-      refuses-with o now p h q k
-      (λ (log : List Entry). fault_at (moment_after o.book.state log)
-      (base_after o.book.state log) ∷ []) (raised_behind o) more fails given legal
-  refuses-house o now p h q k own raised Memory more (inl fails) given legal =
+  refuses-house o now p h q k own raised Disk more fails marked given legal = (
+    refuses-with o now p h q k
+        (λ (log : List Entry). fault_at (moment_after o.book.state log)
+        (base_after o.book.state log) ∷ []) (raised_behind o) more fails given legal,
+    let is = marked refl in
+        record {
+          before = is.before;
+          fault = is.fault;
+          seen = ap (λ (x : PassKnowledge Entry (Mark D)). x.seen) given ∙ is.seen;
+          earlier = is.earlier;
+          one_each = is.one_each;
+          mark = is.mark;
+          marks = ap (λ (x : PassKnowledge Entry (Mark D)). x.marks) given ∙ is.marks;
+          doubt = is.doubt;
+        },
+  )
+  refuses-house o now p h q k own raised Memory more (inl fails) marked given legal =
       inl (refuses-with o now p h q k (λ (log : List Entry). [])
       (raised_behind o) more fails given legal)
-  refuses-house o now p h q k own raised Memory more (inr (fails, asks)) given legal =
+  refuses-house o now p h q k own raised Memory more (inr (fails, asks)) marked given legal =
       inr (refuses-with o now p h q k own raised more fails given legal, asks)

@@ -75,7 +75,7 @@ module _ {D : Type 0} (config : Config) where
   }
     where
       pass : HousePass D
-      pass = record { shard = k; history = new_pass adds.turn.id (2 ^ 64 - 1) []; epoch = s }
+      pass = record { shard = k; history = new_pass adds.turn.id (2 ^ 64 - 1) [] []; epoch = s }
 
   -- all stand behind turns
   pub all-turned : (all rest : List (BookView D)) (k : ℕ) (made : Turned D)
@@ -119,10 +119,10 @@ module _ {D : Type 0} (tells : Type 0) (moment : D → ℕ) (left_since : D → 
   pub last-unshared : (left fewer : List (TurnName (Opening D))) (passes less : List (HousePass D))
       (t : TurnName (Opening D)) (p : HousePass D) → left ≡ fewer ++ t ∷ [] →
       passes ≡ less ++ p ∷ [] → AreUnshared left passes →
-      AreUnshared fewer less × (p.history ≡ new_pass t.id (2 ^ 64 - 1) [])
+      AreUnshared fewer less × (p.history ≡ new_pass t.id (2 ^ 64 - 1) [] [])
   last-unshared left fewer passes less t p left_is passes_is unshared =
       zip-last (λ (u : TurnName (Opening D)) (q : HousePass D). q.history
-      ≡ new_pass u.id (2 ^ 64 - 1) []) fewer less t p
+      ≡ new_pass u.id (2 ^ 64 - 1) [] []) fewer less t p
       (subst (λ (l : List (TurnName (Opening D))). AreUnshared l (less ++ p ∷ [])) left_is
       (subst (λ (l : List (HousePass D)). AreUnshared left l) passes_is unshared))
 

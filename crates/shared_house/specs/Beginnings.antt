@@ -29,7 +29,7 @@ module _ {D : Type 0} where
       (turn : TurnName (Opening D)) (pass : HousePass D) (lane : LaneKnowledge) : Type 0 where
     pub key : turn.key ≡ opening_of config place book lane
     pub shard : pass.shard ≡ place
-    pub history : pass.history ≡ new_pass turn.id (2 ^ 64 - 1) []
+    pub history : pass.history ≡ new_pass turn.id (2 ^ 64 - 1) [] []
     pub leases : lane ≡ lane_of lane.index (first_leases book) []
 
   -- one for each book, in order; the first one is that of this place

@@ -11,11 +11,13 @@ use Rattle.lease_histories.specs.Legal.{base_after, moment_after, state_after}
 use Rattle.atomic_table.specs.Seated.{TableId}
 use Rattle.turn_lock.specs.Passes.{TurnName, after_note}
 use Rattle.epoch_word.specs.Rule.{SeatKnowledge}
+use Rattle.turned_shards.specs.declared.marks.Mark.{Mark}
 use Rattle.turned_shards.specs.declared.openings.Opening.{Opening}
 use Rattle.turned_shards.specs.declared.passes.HousePass.{HousePass}
 use Rattle.turned_shards.specs.declared.shards.Shard.{Shard}
 use Rattle.turned_shards.specs.BatchEntries.{fault_at, reply_in}
-use Rattle.shared_house.specs.HouseCalls.{AsksTheWord, Hears, IsSettling, MayAskTheWord, MaySettle}
+use Rattle.shared_house.specs.HouseCalls.{AsksTheWord, Hears, IsSettling, MarksDoubt, MayAskTheWord}
+use Rattle.shared_house.specs.HouseCalls.{MaySettle}
 use Rattle.shared_house.specs.HouseCalls.{batch_behind, loss_behind, raised_behind, raised_by_loss}
 use Rattle.turned_shards.specs.ShardCalls.{faults_of}
 
@@ -39,7 +41,8 @@ pub record HearsAndRaises (old new : SeatKnowledge) (base : ℕ) : Type 0 where
 module _ {D : Type 0} where
   -- the entries were noted as the call's own
   abbrev pub NotesOwn : List Entry → (old new : HousePass D) → Type 0
-  NotesOwn entries old new = new.history ≡ after_note true entries old.history
+  NotesOwn entries old new =
+      (mark : Mark D) × (new.history ≡ after_note true entries mark old.history)
 
   abbrev pub RefusesHeld : Shard D → List Entry → (old new : HousePass D) → JournalFault → Type 0
   RefusesHeld held entries old new fault =
@@ -55,6 +58,11 @@ module _ {D : Type 0} where
       × (kept.book.state ≡ held.book.state))
       ⊎ ((fault ≡ Memory) × NotesOwn entries old new)
 
+  -- where a disk failed the mark of the fault tells what is in doubt
+  abbrev pub MarksIfDisk : Opening D → (wanted : List Entry → List Entry) → HousePass D
+      → JournalFault → Type 0
+  MarksIfDisk o wanted pass fault = fault ≡ Disk → MarksDoubt o wanted pass
+
   -- the pass is of this turn, which is at home, and of this word
   pub record IsPassBehind (turn : TurnName (Opening D)) (word : TableId) (pass : HousePass D)
       : Type 0 where
@@ -68,8 +76,10 @@ module _ {D : Type 0} where
       (own : List Entry → List Entry) : Type 0 where
     pub settling : List Entry
     pub settles : Settles old.history.seen settling
-    pub noted : new.history ≡ after_note true (own (old.history.seen ++ settling))
-        (after_note false settling old.history)
+    pub settled_mark : Mark D
+    pub mark : Mark D
+    pub noted : new.history ≡ after_note true (own (old.history.seen ++ settling)) mark
+        (after_note false settling settled_mark old.history)
 
   module _ (tells : Type 0) (seen : D → List ℕ) (moment : D → ℕ)
       (left_since : D → ℕ → List ℕ → Type 0) (may_leave : D → List ℕ → Type 0)
@@ -79,7 +89,8 @@ module _ {D : Type 0} where
       pub settling : List Entry
       pub settles : IsSettling o tells seen moment left_since may_leave faults now
           old.history.seen settling
-      pub history : new.history ≡ after_note false settling old.history
+      pub mark : Mark D
+      pub history : new.history ≡ after_note false settling mark old.history
       pub settled : held.book.fault ≡ None
 
     pub record ServesHeld (now : ℕ) (batch : List Datagram) (old new : HousePass D)

@@ -20,10 +20,13 @@ use Rattle.lease_histories.specs.Legal.{IsLegal, base_after, moment_after, state
 use Rattle.turn_lock.specs.Lengths.{longer}
 use Rattle.turn_lock.specs.Passes.{PassKnowledge, SplitsPass, TurnName}
 use Rattle.epoch_word.specs.Rule.{AreSplit, SeatKnowledge}
+use Rattle.turn_lock.specs.Marks.{marks_beside}
+use Rattle.turned_shards.specs.declared.marks.Mark.{Mark}
 use Rattle.turned_shards.specs.declared.openings.Opening.{Opening}
 use Rattle.turned_shards.specs.declared.passes.HousePass.{HousePass}
 use Rattle.turned_shards.specs.declared.shards.Shard.{Shard}
 use Rattle.turned_shards.specs.BatchEntries.{asked_in, entries_along, fault_at, loss_at, reply_in}
+use Rattle.turned_shards.specs.Crashes.{IsInDoubt, doubts_in}
 use Rattle.turned_shards.specs.Publishing.{told_of}
 use Rattle.turned_shards.specs.ShardCalls.{SettlesShard}
 use Rattle.turned_shards.specs.Shards.{StandsFor, served_by}
@@ -59,13 +62,16 @@ module _ {D : Type 0} where
     pub word : pass.epoch.word ≡ house.word
 
 -- Behind what the pass had seen stand entries of others, then those of this call's settling, and
--- then the call's own. Of these the places join what it has settled, and what is its own.
-pub record Notes (old new : PassKnowledge Entry) (others settling own : List Entry)
-    : Type 0 where
+-- then the call's own, all of one mark. Of these the places join what it has settled, and what is its own.
+pub record Notes {D : Type 0} (old new : PassKnowledge Entry (Mark D))
+    (others settling own : List Entry) : Type 0 where
   pub turn : new.turn ≡ old.turn
   pub home : new.out ≡ false
   pub room : new.room ≡ old.room
   pub seen : new.seen ≡ ((old.seen ++ others) ++ settling) ++ own
+  pub more : List (Mark D)
+  pub mark : Mark D
+  pub marks : new.marks ≡ (old.marks ++ more) ++ marks_beside mark own
   pub settled : new.settled
       ≡ old.settled ++ range_with_len (length (old.seen ++ others)) (length settling)
   pub mine : new.mine
@@ -104,6 +110,20 @@ module _ {D : Type 0} (o : Opening D) where
   loss_behind log now heard = loss_at (max now (moment_after o.book.state log))
       (max heard (base_after o.book.state log)) ∷ []
 
+  -- The last entry that the pass has seen is a fault. What was in doubt at it is what the call asked for,
+  -- decided behind the history before; or, where the journal couldn't be read, nothing, or what was in
+  -- doubt there.
+  pub record MarksDoubt (wanted : List Entry → List Entry) (pass : HousePass D) : Type 0 where
+    pub before : List Entry
+    pub fault : Entry
+    pub seen : pass.history.seen ≡ before ++ fault ∷ []
+    pub earlier : List (Mark D)
+    pub one_each : length earlier ≡ length before
+    pub mark : Mark D
+    pub marks : pass.history.marks ≡ earlier ++ mark ∷ []
+    pub doubt : (mark.doubt ≡ wanted before) ⊎ ((mark.doubt ≡ [])
+        ⊎ IsInDoubt (served_by o) o.book.state (doubts_in earlier) before mark.doubt)
+
   -- what is raised by whoever has seen this history
   abbrev pub raised_behind : List Entry → ℕ → ℕ
   raised_behind log raised = max raised (state_after o.book.state log).base
@@ -121,7 +141,8 @@ module _ {D : Type 0} (o : Opening D) where
     pub record IsSettling (now : ℕ) (log settling : List Entry) : Type 0 where
       pub shard : Shard D
       pub settled : Shard D
-      pub stands : StandsFor tells seen moment left_since may_leave faults o shard log
+      pub marks : List (Mark D)
+      pub stands : StandsFor tells seen moment left_since may_leave faults o shard log marks
       pub settles : SettlesShard tells moment left_since may_leave now shard settled
       pub added : settling ≡ settled.added
 
@@ -161,8 +182,8 @@ module _ {D : Type 0} (o : Opening D) where
       pub raised : new.epoch.raised ≤ new.epoch.heard
       pub published : lane ≡ told_of o new.history.seen
 
-    -- A disk failed: a fault is the call's own entry. Or memory was wanting: nothing is, or what
-    -- was asked, by what the word told in this call, with what that raises.
+    -- A disk failed: a fault is the call's own entry, and its mark tells what is in doubt. Or memory was
+    -- wanting: nothing is, or what was asked, by what the word told in this call, with what that raises.
     pub record RefusesWith (now : ℕ) (own : List Entry → List Entry)
         (raised : List Entry → ℕ → ℕ) (old new : HousePass D) : Type 0 where
       pub adds : AddsTo (MaySettle tells seen moment left_since may_leave faults now) old new own
@@ -174,7 +195,7 @@ module _ {D : Type 0} (o : Opening D) where
         → (old new : HousePass D) → JournalFault → Type 0
     RefusesHouse now own raised old new Disk = RefusesWith now
         (λ log. fault_at (moment_after o.book.state log) (base_after o.book.state log) ∷ [])
-        raised_behind old new
+        raised_behind old new × MarksDoubt own new
     RefusesHouse now own raised old new Memory =
         RefusesWith now (λ log. []) raised_behind old new
         ⊎ (RefusesWith now own raised old new × AsksTheWord old.epoch new.epoch)

@@ -31,7 +31,7 @@ module _ {D : Type 0} where
   abbrev pub first_pass : ℕ → TurnName (Opening D) → SeatKnowledge → HousePass D
   first_pass place turn seat = record {
     shard = place;
-    history = new_pass turn.id (2 ^ 64 - 1) [];
+    history = new_pass turn.id (2 ^ 64 - 1) [] [];
     epoch = seat;
   }
 
@@ -49,7 +49,7 @@ module _ {D : Type 0} where
   -- each pass is the only one of the turn of its place, and has seen nothing
   abbrev pub AreUnshared : List (TurnName (Opening D)) → List (HousePass D) → Type 0
   AreUnshared turns passes =
-      AllZip (λ t p. p.history ≡ new_pass t.id (2 ^ 64 - 1) []) turns passes
+      AllZip (λ t p. p.history ≡ new_pass t.id (2 ^ 64 - 1) [] []) turns passes
 
   -- books came out of turns, and stand before others
   pub record TakesApart (tells : Type 0) (moment : D → ℕ) (left_since : D → ℕ → List ℕ → Type 0)

@@ -10,7 +10,7 @@ ghost use Rattle.lease_store.specs.Lookups.{lease_count};
 ghost use Rattle.turn_lock.specs.Passes.{after_note};
 ghost use Rattle.turned_shards.specs.BatchEntries.{reply_in};
 ghost use Rattle.shared_house.specs.HeldCalls.{FailsHeld, HearsAndRaises, HearsMore, IsPassBehind};
-ghost use Rattle.shared_house.specs.HeldCalls.{LosesHeld, NotesOwn, RefusesHeld, RefusesLoss};
+ghost use Rattle.shared_house.specs.HeldCalls.{LosesHeld, MarksIfDisk, NotesOwn, RefusesHeld, RefusesLoss};
 ghost use Rattle.shared_house.specs.HeldCalls.{ServesHeld, SettlesHeld, raised_to};
 ghost use Rattle.shared_house.specs.HouseCalls.{LosesHouse, RefusesHouse, ServesHouse};
 ghost use Rattle.shared_house.specs.HouseCalls.{batch_behind, loss_behind, raised_behind};
@@ -18,7 +18,7 @@ ghost use Rattle.shared_house.specs.HouseCalls.{raised_by_loss};
 ghost use Rattle.turned_shards.specs.HeldShards.{IsHeldBy};
 ghost use Rattle.turned_shards.specs.Publishing.{told_of};
 ghost use Rattle.turned_shards.specs.ShardCalls.{IsBatchOf, batch_entries, faults_of, loss_entries};
-ghost use Rattle.turned_shards.specs.Shards.{StandsFor};
+ghost use Rattle.turned_shards.specs.Shards.{StandsFor, mark_of, marks_added};
 
 use crate::served::Served;
 use epoch_word::EpochWord;
@@ -41,8 +41,8 @@ fn note_added<D: LeaseDisk + Drop>(
 )
     requires pass { (pass.old.turn ≡ turn.now.id) × (pass.old.out ≡ true) }
     requires stands { StandsFor D.tells D.seen D.moment D.left_since D.may_leave D.faults turn.now.key held.old
-        (pass.old.seen ++ held.old.added) }
-    ensures pass { pass.new ≡ after_note own held.old.added pass.old }
+        (pass.old.seen ++ held.old.added) (pass.old.marks ++ marks_added held.old) }
+    ensures pass { pass.new ≡ after_note own held.old.added (mark_of held.old) pass.old }
     ensures held { held.new ≡ record held.old { added = [] } }
     ensures by { IsHeldBy D.tells D.seen D.moment D.left_since D.may_leave D.faults turn.now held.new pass.new }
 {
@@ -71,6 +71,8 @@ fn settle_held<D: LeaseDisk + Drop>(
     ensures refused { IfErr result
         (λ fault. NotesOwn (faults_of held.old.moment held.old.base fault) pass.old pass.new) }
     ensures same { OnErr result (held.new.book.state ≡ held.old.book.state) }
+    ensures marked { (wanted : List Entry → List Entry) →
+        IfErr result (MarksIfDisk turn.now.key wanted pass.new) }
     ensures quiet { UnlessDisk result
         (PairIsQuiet D.faults held.old.book.journal.pair held.new.book.journal.pair) }
 {
@@ -103,6 +105,8 @@ fn settle_and_publish<D: LeaseDisk + Drop, R: Wait>(
     ensures refused { (own : List Entry → List Entry) → (raised : List Entry → ℕ → ℕ) →
         IfErr result (FailsHeld D.tells D.seen D.moment D.left_since D.may_leave D.faults
         turn.now.key now own raised pass.old pass.new) }
+    ensures marked { (wanted : List Entry → List Entry) →
+        IfErr result (MarksIfDisk turn.now.key wanted pass.new) }
     ensures quiet { UnlessDisk result
         (PairIsQuiet D.faults held.old.book.journal.pair held.new.book.journal.pair) }
 {
@@ -140,6 +144,8 @@ fn answer_held<D: LeaseDisk + Drop>(
         now pass.new.epoch.heard batch.now held.old)) }
     ensures refused { IfErr result (RefusesHeld held.old (batch_entries config.now now
         pass.new.epoch.heard batch.now held.old) pass.old pass.new) }
+    ensures marked { IfErr result (MarksIfDisk turn.now.key
+        (λ log. batch_behind turn.now.key log now pass.new.epoch.heard batch.now) pass.new) }
     ensures quiet { UnlessDisk result
         (PairIsQuiet D.faults held.old.book.journal.pair held.new.book.journal.pair) }
 {
@@ -174,6 +180,8 @@ fn lose_held<D: LeaseDisk + Drop>(
     ensures refused { IfErr result
         (λ fault. NotesOwn (faults_of held.old.moment held.old.base fault) pass.old pass.new) }
     ensures same { OnErr result (held.new.book.state ≡ held.old.book.state) }
+    ensures marked { IfErr result (MarksIfDisk turn.now.key
+        (λ log. loss_behind turn.now.key log now pass.new.epoch.heard) pass.new) }
     ensures quiet { UnlessDisk result
         (PairIsQuiet D.faults held.old.book.journal.pair held.new.book.journal.pair) }
 {
@@ -217,6 +225,8 @@ fn answer_and_publish<D: LeaseDisk + Drop, R: Wait>(
         (λ served. served.told ≡ told_of turn.now.key pass.new.history.seen) }
     ensures refused { IfErr result (RefusesHeld held.old (batch_entries config.now now
         pass.new.epoch.heard batch.now held.old) pass.old pass.new) }
+    ensures marked { IfErr result (MarksIfDisk turn.now.key
+        (λ log. batch_behind turn.now.key log now pass.new.epoch.heard batch.now) pass.new) }
     ensures quiet { UnlessDisk result
         (PairIsQuiet D.faults held.old.book.journal.pair held.new.book.journal.pair) }
 {
@@ -257,6 +267,8 @@ fn lose_and_publish<D: LeaseDisk + Drop, R: Wait>(
         (λ lost. lost.1 ≡ told_of turn.now.key pass.new.history.seen) }
     ensures refused { IfErr result (RefusesLoss held.old held.new
         (loss_entries now pass.new.epoch.heard held.old) pass.old pass.new) }
+    ensures marked { IfErr result (MarksIfDisk turn.now.key
+        (λ log. loss_behind turn.now.key log now pass.new.epoch.heard) pass.new) }
     ensures quiet { UnlessDisk result
         (PairIsQuiet D.faults held.old.book.journal.pair held.new.book.journal.pair) }
 {
@@ -301,6 +313,8 @@ fn settle_and_answer<D: LeaseDisk + Drop, R: Wait>(
         (λ log. batch_behind turn.now.key log now pass.new.epoch.heard batch.now)
         (raised_behind turn.now.key)
         pass.old pass.new) }
+    ensures marked { IfErr result (MarksIfDisk turn.now.key
+        (λ log. batch_behind turn.now.key log now pass.new.epoch.heard batch.now) pass.new) }
     ensures quiet { UnlessDisk result
         (PairIsQuiet D.faults held.old.book.journal.pair held.new.book.journal.pair) }
 {
@@ -335,6 +349,8 @@ fn settle_and_lose<D: LeaseDisk + Drop, R: Wait>(
         D.faults turn.now.key now
         (λ log. loss_behind turn.now.key log now pass.new.epoch.heard)
         (raised_by_loss turn.now.key now) pass.old pass.new) }
+    ensures marked { IfErr result (MarksIfDisk turn.now.key
+        (λ log. loss_behind turn.now.key log now pass.new.epoch.heard) pass.new) }
     ensures quiet { UnlessDisk result
         (PairIsQuiet D.faults held.old.book.journal.pair held.new.book.journal.pair) }
 {
@@ -372,6 +388,8 @@ fn count_and_publish<D: LeaseDisk + Drop, R: Wait>(
         (λ counted. counted.1 ≡ told_of turn.now.key pass.new.history.seen) }
     ensures refused { IfErr result (RefusesHeld held.old (batch_entries config.now now
         pass.new.epoch.heard [] held.old) pass.old pass.new) }
+    ensures marked { IfErr result (MarksIfDisk turn.now.key
+        (λ log. batch_behind turn.now.key log now pass.new.epoch.heard []) pass.new) }
     ensures quiet { UnlessDisk result
         (PairIsQuiet D.faults held.old.book.journal.pair held.new.book.journal.pair) }
 {
@@ -411,6 +429,8 @@ fn settle_and_count<D: LeaseDisk + Drop, R: Wait>(
         (λ log. batch_behind turn.now.key log now pass.new.epoch.heard [])
         (raised_behind turn.now.key)
         pass.old pass.new) }
+    ensures marked { IfErr result (MarksIfDisk turn.now.key
+        (λ log. batch_behind turn.now.key log now pass.new.epoch.heard []) pass.new) }
     ensures quiet { UnlessDisk result
         (PairIsQuiet D.faults held.old.book.journal.pair held.new.book.journal.pair) }
 {

@@ -1,7 +1,7 @@
 use Rattle.std.proofs.Common.{List, []}
 use Rattle.pcp_base.specs.declared.datagrams.Entry.{Entry}
 use Rattle.shared_house.specs.HouseCalls.{batch_behind, raised_behind}
-use Rattle.shared_house.proofs.HeldLemmas.{if-err-weaker, if-ok-both, serves-house, refuses-house}
+use Rattle.shared_house.proofs.HeldLemmas.{if-err-two, if-ok-both, serves-house, refuses-house}
 use Rattle.shared_house.proofs.serving.count_behind.Goals as goal
 
 pub returns-clause-counted : goal.returns-clause-counted
@@ -21,9 +21,9 @@ returns-clause-refused g c =
     let o = c.args.turn.now.key in
     let q = c.settle_and_count-told.new.pass in
     let e = c.settle_and_count-told.ensures in
-    if-err-weaker c.settle_and_count-told.result _ _ e.refused (λ fault done.
+    if-err-two c.settle_and_count-told.result _ _ _ e.refused e.marked (λ fault done marked.
     refuses-house d.tells d.seen d.moment d.left_since d.may_leave d.faults o c.args.now
     c.args.pass.now c.take-held.new.pass q c.give.new.pass
     (λ (log : List Entry). batch_behind o log c.args.now q.epoch.heard [])
-    (raised_behind o) fault c.take-held.ensures.pass done c.give.ensures
+    (raised_behind o) fault c.take-held.ensures.pass done marked c.give.ensures
     e.held.stands.leads.legal)

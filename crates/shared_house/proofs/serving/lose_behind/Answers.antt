@@ -1,7 +1,7 @@
 use Rattle.std.proofs.Common.{List}
 use Rattle.pcp_base.specs.declared.datagrams.Entry.{Entry}
 use Rattle.shared_house.specs.HouseCalls.{loss_behind, raised_by_loss}
-use Rattle.shared_house.proofs.HeldLemmas.{if-err-weaker, if-ok-two, loses-house, refuses-house}
+use Rattle.shared_house.proofs.HeldLemmas.{if-err-two, if-ok-two, loses-house, refuses-house}
 use Rattle.shared_house.proofs.serving.lose_behind.Goals as goal
 
 pub returns-clause-lost : goal.returns-clause-lost
@@ -21,9 +21,9 @@ returns-clause-refused g c =
     let o = c.args.turn.now.key in
     let q = c.settle_and_lose-told.new.pass in
     let e = c.settle_and_lose-told.ensures in
-    if-err-weaker c.settle_and_lose-told.result _ _ e.refused (λ fault done.
+    if-err-two c.settle_and_lose-told.result _ _ _ e.refused e.marked (λ fault done marked.
     refuses-house d.tells d.seen d.moment d.left_since d.may_leave d.faults o c.args.now
     c.args.pass.now c.take-held.new.pass q c.give.new.pass
     (λ (log : List Entry). loss_behind o log c.args.now q.epoch.heard)
-    (raised_by_loss o c.args.now) fault c.take-held.ensures.pass done c.give.ensures
+    (raised_by_loss o c.args.now) fault c.take-held.ensures.pass done marked c.give.ensures
     e.held.stands.leads.legal)

@@ -43,3 +43,10 @@ returns-in-Ok-clause-quiet g c =
     c.settle_and_publish.new.held.book.journal.pair
     c.answer_and_publish.new.held.book.journal.pair c.answer_and_publish.result
     c.in-Ok.ensures.quiet.done c.answer_and_publish.ensures.quiet
+
+pub returns-in-Err-clause-marked : goal.returns-in-Err-clause-marked
+returns-in-Err-clause-marked g c =
+    let o = c.args.turn.now.key in
+    let q = c.settle_and_publish.new.pass in
+    c.in-Err.ensures.marked
+    (λ (log : List Entry). batch_behind o log c.args.now q.epoch.heard c.args.batch.now)

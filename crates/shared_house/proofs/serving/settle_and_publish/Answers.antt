@@ -1,7 +1,8 @@
 use Rattle.std.proofs.Common.{◌∙◌, Err, Ok, Result, ap, subst, sym}
 use Rattle.turned_shards.specs.declared.shards.Shard.{Shard}
 use Rattle.shared_house.specs.HeldCalls.{raised_to}
-use Rattle.shared_house.proofs.HeldLemmas.{if-err-weaker, on-ok, settles-on, unsettled-held}
+use Rattle.shared_house.proofs.HeldLemmas.{if-err-weaker, marks-nothing, on-ok, settles-on}
+use Rattle.shared_house.proofs.HeldLemmas.{unsettled-held}
 use Rattle.shared_house.proofs.HeldLemmas.{unshown-held}
 use Rattle.lease_disk.specs.Pairs.{PairIsQuiet}
 use Rattle.journal_sides.specs.declared.errors.JournalFault.{JournalFault}
@@ -54,3 +55,10 @@ returns-in-Ok-clause-quiet g c =
     (subst (λ (s : Shard g.row.D.Denot). PairIsQuiet g.D.LeaseDisk.faults
     c.args.held.now.book.journal.pair s.book.journal.pair)
     (sym c.publish_rest.ensures.same) c.in-Ok.ensures.quiet.done)
+
+pub returns-in-Ok-clause-marked : goal.returns-in-Ok-clause-marked
+returns-in-Ok-clause-marked g c wanted =
+    let d = g.D.LeaseDisk in
+    if-err-weaker c.publish_rest.result _ _ c.publish_rest.ensures.memory (λ fault is.
+    marks-nothing d.tells d.seen d.moment d.left_since d.may_leave d.faults c.args.turn.now.key
+    c.settle_held.new.pass wanted fault is)

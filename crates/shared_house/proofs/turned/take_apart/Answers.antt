@@ -12,7 +12,7 @@ unwrap-history-requires g c =
     let same : length c.loop.turns.items ≡ length c.loop.passes.items =
     zip-length (λ (t : TurnName (Opening g.row.D.Denot))
     (p : HousePass g.row.D.Denot). p.history
-    ≡ new_pass t.id 18446744073709551615 []) c.loop.turns.items c.loop.passes.items
+    ≡ new_pass t.id 18446744073709551615 [] []) c.loop.turns.items c.loop.passes.items
     c.loop.invariant.so.unshared in
     let some : 0 < length c.loop.passes.items =
     (let a = c.loop.invariant.left in let b = c.loop-test.true in
@@ -65,7 +65,7 @@ destroy_empty-requires-2 g c =
     let same : length c.loop.turns.items ≡ length c.loop.passes.items =
     zip-length (λ (t : TurnName (Opening g.row.D.Denot))
     (p : HousePass g.row.D.Denot). p.history
-    ≡ new_pass t.id 18446744073709551615 []) c.loop.turns.items c.loop.passes.items
+    ≡ new_pass t.id 18446744073709551615 [] []) c.loop.turns.items c.loop.passes.items
     c.loop.invariant.so.unshared in
     let none : length c.loop.passes.items ≡ 0 =
     (let a = c.loop.invariant.left in let b = c.loop-test.false in

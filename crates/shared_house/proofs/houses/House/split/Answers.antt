@@ -2,6 +2,7 @@ use Rattle.std.specs.List.{slice_get}
 use Rattle.std.proofs.Common.{◌≡◌, ◌∙◌, Some, refl, ap, sym, subst, rules}
 use Rattle.std.proofs.lemmas.Option.{get_or_from_slice_get}
 use Rattle.pcp_base.specs.declared.datagrams.Entry.{Entry}
+use Rattle.turned_shards.specs.declared.marks.Mark.{Mark}
 use Rattle.turn_lock.specs.Passes.{PassKnowledge}
 use Rattle.shared_house.specs.HouseCalls.{IsPassOf}
 use Rattle.shared_house.proofs.houses.House.split.Goals as goal
@@ -10,7 +11,7 @@ pub returns-in_default-clause-pass : goal.returns-in_default-clause-pass
 returns-in_default-clause-pass g c =
     let old = c.args.pass.now in
     let same : c.split.new.pass ≡ old.history = search rules in
-    subst (λ (h : PassKnowledge Entry). IsPassOf c.args.self.now (record old { history = h }))
+    subst (λ (h : PassKnowledge Entry (Mark g.row.D.Denot)). IsPassOf c.args.self.now (record old { history = h }))
     (sym same) c.requires.pass
 
 pub meet-requires-clause-turn : goal.meet-requires-clause-turn
