@@ -61,8 +61,8 @@ module _ {D : Type 0} (tells : Type 0) (seen : D → List ℕ) (moment : D → �
         → (own : List Entry) × NotesOwn tells seen moment left_since may_leave faults now o wanted raised old new own cause
         × (cause ≡ JournalFaults.Memory → own ≢ [] → AsksTheWord old.epoch new.epoch)
     notes_of now o wanted raised old new JournalFaults.Disk r = (
-      fault_behind o (before_own o old r.adds.others r.adds.settling),
-      record { refuses = r; own_is = refl },
+      fault_behind o (before_own o old r.0.adds.others r.0.adds.settling),
+      (record { refuses = r.0; own_is = refl }, r.1),
       λ disk some. absurd (cc (disk)),
     )
     notes_of now o wanted raised old new JournalFaults.Memory (inl r) =

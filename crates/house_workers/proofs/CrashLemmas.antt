@@ -28,10 +28,11 @@ use Rattle.shard_book.specs.Books.{BookView}
 use Rattle.turn_lock.specs.Passes.{TurnName}
 use Rattle.lease_house.specs.SoloOpenings.{OpensAll, OpensOne}
 use Rattle.job_workers.specs.Works.{Lost, Refused, Replied, WorkCall, WorkResult}
+use Rattle.turned_shards.specs.declared.marks.Mark.{Mark}
 use Rattle.turned_shards.specs.declared.openings.Opening.{Opening}
 use Rattle.turned_shards.specs.declared.passes.HousePass.{HousePass}
 use Rattle.turned_shards.specs.declared.shards.Shard.{Shard}
-use Rattle.turned_shards.specs.Crashes.{IsInDoubt, StandsAlong, StandsBehind}
+use Rattle.turned_shards.specs.Crashes.{IsInDoubt, StandsAlong, StandsBehind, doubts_in}
 use Rattle.turned_shards.specs.Shards.{StandsFor, served_by}
 use Rattle.turned_shards.specs.Turnings.{EndsOne, opening_of}
 use Rattle.shared_house.specs.declared.beginning.Begun.{Begun}
@@ -114,18 +115,18 @@ module _ {D : Type 0} (tells : Type 0) (seen : D → List ℕ) (moment : D → �
     (left_since : D → ℕ → List ℕ → Type 0) (may_leave : D → List ℕ → Type 0) (faults : D → ℕ)
   where
     -- what is in doubt at the end is the last of the lists
-    in_doubt_by : (o : Opening D) (s : Shard D) (log : List Entry)
-        → (stands : StandsFor tells seen moment left_since may_leave faults o s log)
+    in_doubt_by : (o : Opening D) (s : Shard D) (log : List Entry) (marks : List (Mark D))
+        → (stands : StandsFor tells seen moment left_since may_leave faults o s log marks)
         → (f : Option JournalFault) → s.book.fault ≡ f
-        → (s.doubt ≡ []) ⊎ IsInDoubt (served_by o) o.book.state stands.kept.doubts log s.doubt
-    in_doubt_by o s log stands (Some Disk) h = inr (stands.kept.now h)
-    in_doubt_by o s log stands (Some Memory) h = inl (stands.sure (λ failed. absurd (cc (h, failed))))
-    in_doubt_by o s log stands None h = inl (stands.sure (λ failed. absurd (cc (h, failed))))
+        → (s.doubt ≡ []) ⊎ IsInDoubt (served_by o) o.book.state (doubts_in marks) log s.doubt
+    in_doubt_by o s log marks stands (Some Disk) h = inr (stands.kept.now h)
+    in_doubt_by o s log marks stands (Some Memory) h = inl (stands.sure (λ failed. absurd (cc (h, failed))))
+    in_doubt_by o s log marks stands None h = inl (stands.sure (λ failed. absurd (cc (h, failed))))
 
     pub acknowledged : (o : Opening D) (calls : List WorkCall) (old new ended : HousePass D) (pair : DiskPair D)
         → NotesInOrder old.history new.history (own_in calls)
         → (ends : EndsOne tells seen moment left_since may_leave faults o new ended pair)
-        → KeepsAcknowledged tells may_leave o ends.stands.kept.doubts (answered_in calls) ended.history.seen pair
+        → KeepsAcknowledged tells may_leave o (doubts_in ended.history.marks) (answered_in calls) ended.history.seen pair
     acknowledged o calls old new ended pair noted ends =
         let later = entries_later new.history.seen ended.history.seen noted.places (own_in calls)
         (ends.others, sym ends.knows) noted.entries in
@@ -139,20 +140,20 @@ module _ {D : Type 0} (tells : Type 0) (seen : D → List ℕ) (moment : D → �
           rising = placed.rising;
           there = placed.there;
           doubt = ends.kept.doubt;
-          in_doubt = in_doubt_by o ends.kept ended.history.seen ends.stands ends.kept.book.fault refl;
+          in_doubt = in_doubt_by o ends.kept ended.history.seen ended.history.marks ends.stands ends.kept.book.fault refl;
           images = ends.images;
         }
 
     -- where nothing was answered
     pub nothing_acknowledged : (o : Opening D) (old ended : HousePass D) (pair : DiskPair D)
         → (ends : EndsOne tells seen moment left_since may_leave faults o old ended pair)
-        → KeepsAcknowledged tells may_leave o ends.stands.kept.doubts [] ended.history.seen pair
+        → KeepsAcknowledged tells may_leave o (doubts_in ended.history.marks) [] ended.history.seen pair
     nothing_acknowledged o old ended pair ends = record {
       places = [];
       rising = omega arith;
       there = tt;
       doubt = ends.kept.doubt;
-      in_doubt = in_doubt_by o ends.kept ended.history.seen ends.stands ends.kept.book.fault refl;
+      in_doubt = in_doubt_by o ends.kept ended.history.seen ended.history.marks ends.stands ends.kept.book.fault refl;
       images = ends.images;
     }
 
@@ -217,9 +218,12 @@ module _ {D : Type 0} (tells : Type 0) (seen : D → List ℕ) (moment : D → �
         (turn.1, turn.4)
 
     -- an external address, from its opening to the pass and the pair with which its turn ended
-    pub record IsOpenedAndEnded (config : Config) (m place : ℕ) (x : External) (p now : DiskPair D)
-        (old last : HousePass D) : Type 0 where
+    pub record IsOpenedAndEnded (turns : List (TurnName (Opening D))) (config : Config) (m place : ℕ)
+        (x : External) (p now : DiskPair D) (old last : HousePass D) : Type 0 where
+      pub turn : TurnName (Opening D)
+      pub there : slice_get turns place ≡ Some turn
       pub o : Opening D
+      pub key : turn.key ≡ o
       pub served : served_by o ≡ record { config = config; place = place; external = x }
       pub opened : OpensOne tells seen moment left_since may_leave faults config m x p o.book
       pub ends : EndsOne tells seen moment left_since may_leave faults o old last now
@@ -230,7 +234,7 @@ module _ {D : Type 0} (tells : Type 0) (seen : D → List ℕ) (moment : D → �
         → EndsAll tells seen moment left_since may_leave faults begun.house.turns then ended begun.house.spare pairs
         → slice_get config.externals place ≡ Some x → slice_get before place ≡ Some p
         → slice_get pairs place ≡ Some now → slice_get then place ≡ Some old → slice_get ended place ≡ Some last
-        → IsOpenedAndEnded config m place x p now old last
+        → IsOpenedAndEnded begun.house.turns config m place x p now old last
     ended_at config m before pairs begun then ended place x p now old last begins ends at there back passed came =
         let opened = open_at config m config.externals before begins.books begun.house.spare place x p
         begins.opened at there in
@@ -249,7 +253,10 @@ module _ {D : Type 0} (tells : Type 0) (seen : D → List ℕ) (moment : D → �
         turn.5 ∙ ap (λ n. opening_of config n b turn.2) placed in
         let book : o.book ≡ b = ap (λ (k : Opening D). k.book) key in
         record {
+          turn = turn.0;
+          there = turn.3;
           o = o;
+          key = refl;
           served = ap served_by key ∙ ap (λ (t : Terms). served_as config place t.external) opened.2.opened.on_terms;
           opened = subst (λ (w : BookView D). OpensOne tells seen moment left_since may_leave faults config m x p w)
               (sym book) opened.2;
@@ -259,11 +266,11 @@ module _ {D : Type 0} (tells : Type 0) (seen : D → List ℕ) (moment : D → �
     pub kept_of : (m : ℕ) (x : External) (o : Opening D) (p now : DiskPair D) (config : Config) (old last : HousePass D)
         → OpensOne tells seen moment left_since may_leave faults config m x p o.book
         → (ends : EndsOne tells seen moment left_since may_leave faults o old last now)
-        → KeepsServed tells seen moment left_since may_leave m x o ends.stands.kept.doubts last.history.seen p now
+        → KeepsServed tells seen moment left_since may_leave m x o (doubts_in last.history.marks) last.history.seen p now
     kept_of m x o p now config old last opened ends = record {
       opens = opened.moments;
       serves = λ told. subst (λ (q : DiskPair D). PairLeavesOnly moment left_since may_leave o.book.journal.pair q
-          (StandsAlong (served_by o) o.book.state ends.stands.kept.doubts last.history.seen))
+          (StandsAlong (served_by o) o.book.state (doubts_in last.history.marks) last.history.seen))
           (sym ends.pair_is) (ends.stands.kept.moments told);
     }
 
@@ -282,7 +289,7 @@ module _ {D : Type 0} (tells : Type 0) (seen : D → List ℕ) (moment : D → �
         let old : HousePass D = get_or then place last in
         let whole = ended_at config m before pairs begun then ended place x p now old last begins ends at there back
         (slice_get-get_or then place last few) came in
-        (whole.o, whole.ends.stands.kept.doubts, kept_of m x whole.o p now config old last whole.opened whole.ends)
+        (whole.o, doubts_in last.history.marks, kept_of m x whole.o p now config old last whole.opened whole.ends)
 
     -- ---- the next opening
 

@@ -16,6 +16,7 @@ use Rattle.job_workers.specs.Works.{DoesCalls, IsOfHouse, Lost, Refused, Replied
 use Rattle.job_dispatch.specs.Dispatches.{Dispatched}
 use Rattle.request_workers.specs.Served.{IsShardRun, ShardRun}
 use Rattle.turn_lock.specs.Passes.{PassKnowledge}
+use Rattle.turned_shards.specs.declared.marks.Mark.{Mark}
 use Rattle.turned_shards.specs.declared.openings.Opening.{Opening}
 use Rattle.turned_shards.specs.declared.passes.HousePass.{HousePass}
 use Rattle.turned_shards.specs.FaultCounts.{HaveRisenBy, fault_count, is_of_fault}
@@ -29,7 +30,7 @@ use Rattle.house_workers.specs.Laws.{AreFewFaults}
 counts-append : (xs ys : List Entry) → fault_count (xs ++ ys) ≡ fault_count xs + fault_count ys
 counts-append xs ys = sum_by-append (λ (e : Entry). cond {A = ℕ} (is_of_fault (entry_kind e)) 1 0) xs ys
 
-counted_in : (old new : PassKnowledge Entry) (others settling own : List Entry) → Notes old new others settling own
+counted_in : {D : Type 0} (old new : PassKnowledge Entry (Mark D)) (others settling own : List Entry) → Notes old new others settling own
     → fault_count old.seen + fault_count own ≤ fault_count new.seen
 counted_in old new others settling own h =
     let all = ap fault_count h.seen in
@@ -71,8 +72,8 @@ module _ {D : Type 0} (tells : Type 0) (seen : D → List ℕ) (moment : D → �
         → fault_count old.history.seen + refusal_in (Refused fault) ≤ fault_count new.history.seen
     counted_own now o wanted raised old new own place fault JournalFaults.Disk e h =
         refused_as fault (HouseFaults.Disk place) (fault_count old.history.seen) (fault_count new.history.seen) e
-        (let all = counted_as o _ old new _ own h.refuses.adds h.own_is in
-        let one : fault_count own ≡ 1 = ap fault_count h.own_is in
+        (let all = counted_as o _ old new _ own h.0.refuses.adds h.0.own_is in
+        let one : fault_count own ≡ 1 = ap fault_count h.0.own_is in
         omega (arith, all, one))
     counted_own now o wanted raised old new own place fault JournalFaults.Memory e (inl h) =
         refused_as fault HouseFaults.Memory (fault_count old.history.seen) (fault_count new.history.seen) e

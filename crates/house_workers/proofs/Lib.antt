@@ -10,5 +10,6 @@ pub mod OrderLemmas
 pub mod OwnLemmas
 pub mod PromisedLemmas
 pub mod RaiseLemmas
+pub mod RefusedLemmas
 pub mod ReplyLemmas
 pub mod UnsentLemmas

@@ -9,7 +9,7 @@ use Rattle.house_workers.specs.OwnEntries.{AreRising, NotesInOrder}
 
 -- ---- lists
 
-prefix_trans : {X : Type 0} (xs ys zs : List X) → IsPrefix xs ys → IsPrefix ys zs → IsPrefix xs zs
+pub prefix_trans : {X : Type 0} (xs ys zs : List X) → IsPrefix xs ys → IsPrefix ys zs → IsPrefix xs zs
 prefix_trans {X} xs ys zs h k =
     (h.0 ++ k.0, sym (append_assoc xs h.0 k.0) ∙ (ap (λ (l : List X). l ++ k.0) h.1 ∙ k.1))
 
@@ -18,7 +18,7 @@ prefix_length xs ys h =
     let e = ap length (sym h.1) ∙ length-append xs h.0 in
     omega (arith, e)
 
-there_still : {X : Type 0} (xs more : List X) (i : ℕ) (x : X) → slice_get xs i ≡ Some x
+pub there_still : {X : Type 0} (xs more : List X) (i : ℕ) (x : X) → slice_get xs i ≡ Some x
     → slice_get (xs ++ more) i ≡ Some x
 there_still [] more i x e = absurd cc
 there_still (y ∷ xs) more zero x e = e
@@ -29,7 +29,7 @@ there_in : {X : Type 0} (xs ys : List X) (i : ℕ) (x : X) → IsPrefix xs ys
 there_in {X} xs ys i x h e =
     subst (λ (l : List X). slice_get l i ≡ Some x) h.1 (there_still xs h.0 i x e)
 
-at_first : {X : Type 0} (xs ys : List X) (y : X) → slice_get (xs ++ y ∷ ys) (length xs) ≡ Some y
+pub at_first : {X : Type 0} (xs ys : List X) (y : X) → slice_get (xs ++ y ∷ ys) (length xs) ≡ Some y
 at_first [] ys y = refl
 at_first (x ∷ xs) ys y = at_first xs ys y
 
@@ -96,34 +96,37 @@ rising_parts from (n ∷ ns) ms to h =
 
 -- ---- what a pass noted
 
-pub notes_none : (p : PassKnowledge Entry) → NotesInOrder p p []
+pub notes_none : {M : Type 0} (p : PassKnowledge Entry M) → NotesInOrder p p []
 notes_none p = record {
   places = [];
   seen = ([], append-nil p.seen);
+  marks = ([], append-nil p.marks);
   mine = sym (append-nil p.mine);
   rising = omega arith;
   entries = tt;
 }
 
-pub notes_one : (old new : PassKnowledge Entry) (more before own : List Entry) → before ≡ old.seen ++ more
+pub notes_one : {M : Type 0} (old new : PassKnowledge Entry M) (more before own : List Entry) → IsPrefix old.marks new.marks → before ≡ old.seen ++ more
     → new.seen ≡ before ++ own → new.mine ≡ old.mine ++ range_with_len (length before) (length own)
     → NotesInOrder old new own
-notes_one old new more before own first seen mine =
+notes_one old new more before own marks first seen mine =
     let sum : length new.seen ≡ length before + length own = ap length seen ∙ length-append before own in
     let less : length old.seen ≤ length before = prefix_length old.seen before (more, sym first) in
     record {
       places = range_with_len (length before) (length own);
       seen = (more ++ own, sym (append_assoc old.seen more own) ∙ (ap (λ (l : List Entry). l ++ own) (sym first) ∙ sym seen));
+      marks = marks;
       mine = mine;
       rising = rising_range (length old.seen) (length before) (length own) (length new.seen) less (omega (arith, sum));
       entries = subst (λ (l : List Entry). AllZip (λ p e. slice_get l p ≡ Some e) (range_with_len (length before) (length own)) own)
           (sym seen) (entries_behind before own (length before) refl);
     }
 
-pub notes_append : (a b c : PassKnowledge Entry) (xs ys : List Entry) → NotesInOrder a b xs → NotesInOrder b c ys → NotesInOrder a c (xs ++ ys)
+pub notes_append : {M : Type 0} (a b c : PassKnowledge Entry M) (xs ys : List Entry) → NotesInOrder a b xs → NotesInOrder b c ys → NotesInOrder a c (xs ++ ys)
 notes_append a b c xs ys h k = record {
   places = h.places ++ k.places;
   seen = prefix_trans a.seen b.seen c.seen h.seen k.seen;
+  marks = prefix_trans a.marks b.marks c.marks h.marks k.marks;
   mine = k.mine ∙ (ap (λ (l : List ℕ). l ++ k.places) h.mine ∙ append_assoc a.mine h.places k.places);
   rising = rising_append (length a.seen) h.places (length b.seen) k.places (length c.seen) h.rising k.rising;
   entries = zip_append (λ p e. slice_get c.seen p ≡ Some e) h.places k.places xs ys

@@ -120,7 +120,7 @@ module _ {D : Type 0} (tells : Type 0) (seen : D → List ℕ) (moment : D → �
         → AllZip IsEntryOf (with_entries house.config (Refused fault) own jobs) (less_faults own)
     batch_refused house now o batch old new jobs own place fault JournalFaults.Disk opened are e n =
         as_refused house.config fault (HouseFaults.Disk place) jobs own e
-        (as_told house.config (Refused (HouseFaults.Disk place)) jobs jobs own _ refl n.own_is tt)
+        (as_told house.config (Refused (HouseFaults.Disk place)) jobs jobs own _ refl n.0.own_is tt)
     batch_refused house now o batch old new jobs own place fault JournalFaults.Memory opened are e (inl n) =
         as_refused house.config fault HouseFaults.Memory jobs own e
         (as_told house.config (Refused HouseFaults.Memory) jobs jobs own [] refl n.own_is tt)
@@ -136,7 +136,7 @@ module _ {D : Type 0} (tells : Type 0) (seen : D → List ℕ) (moment : D → �
         → AllZip IsEntryOf (with_entries house.config (Refused fault) own jobs) (less_faults own)
     loss_refused house now o old new jobs own place fault JournalFaults.Disk are e n =
         as_refused house.config fault (HouseFaults.Disk place) jobs own e
-        (as_told house.config (Refused (HouseFaults.Disk place)) jobs jobs own _ refl n.own_is tt)
+        (as_told house.config (Refused (HouseFaults.Disk place)) jobs jobs own _ refl n.0.own_is tt)
     loss_refused house now o old new jobs own place fault JournalFaults.Memory are e (inl n) =
         as_refused house.config fault HouseFaults.Memory jobs own e
         (as_told house.config (Refused HouseFaults.Memory) jobs jobs own [] refl n.own_is tt)

@@ -1,11 +1,13 @@
 -- What the calls of a worker noted as their own.
-use Rattle.std.proofs.Common.{◌≡◌, ℕ, ◌/◌, List, [], ◌∷◌, ◌++◌, sym, subst, inl, inr, append_assoc}
+use Rattle.std.proofs.Common.{◌≡◌, ◌∙◌, ℕ, ◌/◌, List, [], ◌∷◌, ◌++◌, sym, subst, inl, inr, append_assoc}
 use Rattle.pcp_base.specs.declared.datagrams.Entry.{Entry}
 use Rattle.journal_sides.specs.declared.errors.JournalFault.{JournalFault}
 use Rattle.journal_sides.specs.declared.errors.JournalFault.TheVariants as JournalFaults
 use Rattle.job_queue.specs.declared.jobs.Job.{Job}
 use Rattle.job_workers.specs.Works.{DoesCalls, IsOfHouse, Lost, Refused, Replied, WorkCall, WorkResult, WorkState}
 use Rattle.turn_lock.specs.Passes.{PassKnowledge}
+use Rattle.turn_lock.specs.Marks.{marks_beside}
+use Rattle.turned_shards.specs.declared.marks.Mark.{Mark}
 use Rattle.turned_shards.specs.declared.openings.Opening.{Opening}
 use Rattle.turned_shards.specs.declared.passes.HousePass.{HousePass}
 use Rattle.shared_house.specs.HouseCalls.{AddsTo, HouseView, Notes, before_own}
@@ -14,10 +16,11 @@ use Rattle.house_workers.specs.OwnEntries.{NotesInOrder, own_in}
 use Rattle.house_workers.proofs.NoteLemmas.{notes_append, notes_none, notes_one}
 
 -- a call that added these entries behind all that the pass then had seen
-noted : (old new : PassKnowledge Entry) (others settling own : List Entry) → Notes old new others settling own
+noted : {D : Type 0} (old new : PassKnowledge Entry (Mark D)) (others settling own : List Entry) → Notes old new others settling own
     → NotesInOrder old new own
 noted old new others settling own h =
     notes_one old new (others ++ settling) ((old.seen ++ others) ++ settling) own
+    (h.more ++ marks_beside h.mark own, sym (append_assoc old.marks h.more (marks_beside h.mark own)) ∙ sym h.marks)
     (append_assoc old.seen others settling) h.seen h.mine
 
 module _ {D : Type 0} (tells : Type 0) (seen : D → List ℕ) (moment : D → ℕ)
@@ -42,7 +45,7 @@ module _ {D : Type 0} (tells : Type 0) (seen : D → List ℕ) (moment : D → �
         (old new : HousePass D) (own : List Entry) (cause : JournalFault)
         → NotesOwn tells seen moment left_since may_leave faults now o wanted raised old new own cause
         → NotesInOrder old.history new.history own
-    noted_own now o wanted raised old new own JournalFaults.Disk h = noted_here now o _ _ old new own h
+    noted_own now o wanted raised old new own JournalFaults.Disk h = noted_here now o _ _ old new own h.0
     noted_own now o wanted raised old new own JournalFaults.Memory (inl h) = noted_here now o _ _ old new own h
     noted_own now o wanted raised old new own JournalFaults.Memory (inr h) = noted_here now o _ _ old new own h
 

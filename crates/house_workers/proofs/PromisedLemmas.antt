@@ -20,18 +20,23 @@ use Rattle.request_workers.specs.BegunHouses.{AnswersBegun, ServesBegun}
 use Rattle.request_workers.specs.Parts.{BegunState}
 use Rattle.request_workers.specs.Passes.{SplitsFirst}
 use Rattle.request_workers.specs.Served.{AreShardRuns, IsShardRun, ShardRun, out_of}
+use Rattle.turn_lock.specs.Passes.{TurnName}
+use Rattle.turned_shards.specs.declared.openings.Opening.{Opening}
 use Rattle.turned_shards.specs.declared.passes.HousePass.{HousePass}
+use Rattle.turned_shards.specs.Crashes.{doubts_in}
 use Rattle.turned_shards.specs.Shards.{served_by}
 use Rattle.shared_house.specs.declared.beginning.Begun.{Begun}
 use Rattle.shared_house.specs.Beginnings.{Begins}
+use Rattle.shared_house.specs.HouseCalls.{BeginsAt}
 use Rattle.house_workers.specs.HouseCallsOf.{calls_of}
 use Rattle.house_workers.specs.Laws.{PromisesAreKept}
 use Rattle.house_workers.specs.OwnEntries.{HandsReplies, answered_in}
 use Rattle.house_workers.specs.Promised.{IsServedAsPromised}
 use Rattle.house_workers.specs.ServingAll.{Edges, ServesToEnd}
 use Rattle.house_workers.proofs.CrashLemmas.{IsOpenedAndEnded, acknowledged, begun_pass, ended_at, first_of, kept_of, nothing_acknowledged}
-use Rattle.house_workers.proofs.EndLemmas.{count_back}
+use Rattle.house_workers.proofs.EndLemmas.{count_back, pass_at}
 use Rattle.house_workers.proofs.OwnLemmas.{noted_along}
+use Rattle.house_workers.proofs.RefusedLemmas.{refused_along}
 use Rattle.house_workers.proofs.ReplyLemmas.{hands_nothing, replies_along}
 
 some_of : {X : Type 0} (x y : X) → Some x ≡ Some y → x ≡ y
@@ -157,19 +162,22 @@ module _ {D : Type 0} (tells : Type 0) (seen : D → List ℕ) (moment : D → �
     (left_since : D → ℕ → List ℕ → Type 0) (may_leave : D → List ℕ → Type 0) (faults : D → ℕ)
   where
     -- where nothing was served
-    unserved : (config : Config) (m place : ℕ) (x : External) (p now : DiskPair D) (old last : HousePass D)
+    unserved : (turns : List (TurnName (Opening D))) (config : Config) (m place : ℕ) (x : External) (p now : DiskPair D) (old last : HousePass D)
         (out_before out_now : OutState) → out_now ≡ out_before
-        → IsOpenedAndEnded tells seen moment left_since may_leave faults config m place x p now old last
+        → IsOpenedAndEnded tells seen moment left_since may_leave faults turns config m place x p now old last
         → IsServedAsPromised tells seen moment left_since may_leave faults config m place x p now out_before out_now
-    unserved config m place x p now old last out_before out_now same whole = record {
+    unserved turns config m place x p now old last out_before out_now same whole = record {
       opening = whole.o;
       served = whole.served;
       opened = whole.opened;
       history = last.history.seen;
       promises = whole.ends.promises;
-      doubts = whole.ends.stands.kept.doubts;
+      doubts = doubts_in last.history.marks;
       crash = kept_of tells seen moment left_since may_leave faults m x whole.o p now config old last whole.opened whole.ends;
+      calls = [];
+      refused = tt;
       answered = [];
+      answered_are = refl;
       replies = subst (λ (s : OutState). HandsReplies [] out_before s) (sym same) (hands_nothing out_before);
       acknowledged = nothing_acknowledged tells seen moment left_since may_leave faults whole.o old last now whole.ends;
     }
@@ -178,11 +186,19 @@ module _ {D : Type 0} (tells : Type 0) (seen : D → List ℕ) (moment : D → �
     worked_for : (begun : Begun D) (first passes : List (HousePass D)) (config : Config) (m place : ℕ) (x : External) (p now : DiskPair D) (last : HousePass D)
         (out_before out_now : OutState)
         → (w : HasWorked (calls_of tells seen moment left_since may_leave faults begun.house) first passes place out_before out_now)
-        → IsOpenedAndEnded tells seen moment left_since may_leave faults config m place x p now w.one.run.new.pass last
+        → IsOpenedAndEnded tells seen moment left_since may_leave faults begun.house.turns config m place x p now w.one.run.new.pass last
         → IsServedAsPromised tells seen moment left_since may_leave faults config m place x p now out_before out_now
     worked_for begun first passes config m place x p now last out_before out_now w whole =
         let does = w.one.is.works.does in
         let calls = w.one.is.works.calls in
+        let old : HousePass D = w.one.run.old.pass in
+        let is = pass_at tells seen moment left_since may_leave faults begun.house 0 w.one.kept place old w.one.splits.passes w.one.began in
+        let at : old.shard ≡ place = is.1 ∙ (let e : 0 + place ≡ place = omega arith in e) in
+        let opens : BeginsAt begun.house old.shard whole.o = (
+          whole.turn,
+          subst (λ n. slice_get begun.house.turns n ≡ Some whole.turn) (sym at) whole.there,
+          whole.key,
+        ) in
         let told : HandsReplies (answered_in calls) (out_of w.one.run.old) (out_of w.one.run.new) =
         replies_along tells seen moment left_since may_leave faults begun.house calls w.one.run.old w.one.run.new does in
         record {
@@ -191,9 +207,15 @@ module _ {D : Type 0} (tells : Type 0) (seen : D → List ℕ) (moment : D → �
           opened = whole.opened;
           history = last.history.seen;
           promises = whole.ends.promises;
-          doubts = whole.ends.stands.kept.doubts;
+          doubts = doubts_in last.history.marks;
           crash = kept_of tells seen moment left_since may_leave faults m x whole.o p now config w.one.run.new.pass last whole.opened whole.ends;
+          calls = calls;
+          refused = refused_along tells seen moment left_since may_leave faults begun.house whole.o calls w.one.run.old
+              w.one.run.new last.history.seen last.history.marks
+              (record { begins = opens; config = is.0.opens whole.o opens }) does
+              (whole.ends.others, sym whole.ends.knows) (whole.ends.more, sym whole.ends.marks);
           answered = answered_in calls;
+          answered_are = refl;
           replies = subst (λ (s : OutState). HandsReplies (answered_in calls) s out_now) (sym w.before)
               (subst (λ (s : OutState). HandsReplies (answered_in calls) (out_of w.one.run.old) s) (sym w.now) told);
           acknowledged = acknowledged tells seen moment left_since may_leave faults whole.o calls w.one.run.old.pass w.one.run.new.pass last now
@@ -214,7 +236,7 @@ module _ {D : Type 0} (tells : Type 0) (seen : D → List ℕ) (moment : D → �
         let last : HousePass D = get_or serves.ended place first.0 in
         let came : slice_get serves.ended place ≡ Some last = slice_get-get_or serves.ended place first.0 many in
         let whole : (q : HousePass D) → slice_get then place ≡ Some q
-        → IsOpenedAndEnded tells seen moment left_since may_leave faults config m place x p now q last =
+        → IsOpenedAndEnded tells seen moment left_since may_leave faults begun.house.turns config m place x p now q last =
         λ q passed. ended_at tells seen moment left_since may_leave faults config m before pairs begun then serves.ended place x p now q last
         begins serves.ends at there back passed came in
         let outs : slice_get serves.then.outs place ≡ Some out_now =
@@ -224,7 +246,7 @@ module _ {D : Type 0} (tells : Type 0) (seen : D → List ℕ) (moment : D → �
               let q : HousePass D = get_or then place first.0 in
               let still : slice_get old.outs place ≡ Some out_now =
               subst (λ (s : BegunState (HousePass D)). slice_get s.outs place ≡ Some out_now) same outs in
-              unserved config m place x p now q last out_before out_now (some_of out_now out_before (sym still ∙ sent))
+              unserved begun.house.turns config m place x p now q last out_before out_now (some_of out_now out_before (sym still ∙ sent))
               (whole q (slice_get-get_or then place first.0 few))
               )
           | inr w ↦ worked_for begun begun.passes.items then config m place x p now last out_before out_now w (whole w.one.run.new.pass w.one.pass)

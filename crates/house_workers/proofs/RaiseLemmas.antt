@@ -193,7 +193,7 @@ module _ {D : Type 0} (tells : Type 0) (seen : D → List ℕ) (moment : D → �
     batch-raises : (now : ℕ) (o : Opening D) (wanted : List Entry → List Entry) (old new : HousePass D) (own : List Entry) (cause : JournalFault)
         → NotesOwn tells seen moment left_since may_leave faults now o wanted (raised_behind o) old new own cause
         → Raises o old new
-    batch-raises now o wanted old new own JournalFaults.Disk h = noted-raises now o _ old new own h
+    batch-raises now o wanted old new own JournalFaults.Disk h = noted-raises now o _ old new own h.0
     batch-raises now o wanted old new own JournalFaults.Memory (inl h) = noted-raises now o _ old new own h
     batch-raises now o wanted old new own JournalFaults.Memory (inr h) = noted-raises now o _ old new own h
 
@@ -201,7 +201,7 @@ module _ {D : Type 0} (tells : Type 0) (seen : D → List ℕ) (moment : D → �
         → NotesOwn tells seen moment left_since may_leave faults now o (λ log. loss_behind o log now new.epoch.heard)
         (raised_by_loss o now) old new own cause
         → Raises o old new
-    loss-raises now o old new own JournalFaults.Disk h = noted-raises now o _ old new own h
+    loss-raises now o old new own JournalFaults.Disk h = noted-raises now o _ old new own h.0
     loss-raises now o old new own JournalFaults.Memory (inl h) = noted-raises now o _ old new own h
     loss-raises now o old new own JournalFaults.Memory (inr h) =
         lost-by o _ now new.epoch.heard old new h.refuses.adds (seat-raised old new _ h.refuses.hears)

@@ -1,8 +1,9 @@
 -- What a crash leaves of the journals of a house that was served (our own).
-use Rattle.std.specs.Prelude.{◌≡◌, ◌⊎◌, ℕ, List, [], ◌++◌, length, Some}
-use Rattle.std.specs.List.{AllZip, slice_get}
+use Rattle.std.specs.Prelude.{◌≡◌, ◌⊎◌, ℕ, ◌/◌, List, [], ◌∷◌, ◌++◌, length, map, Some}
+use Rattle.std.specs.List.{AllByRecursion, AllZip, slice_get}
 use Rattle.pcp_base.specs.declared.addresses.Address.{Address}
 use Rattle.pcp_base.specs.declared.configs.External.{External}
+use Rattle.pcp_base.specs.declared.datagrams.Datagram.{Datagram}
 use Rattle.pcp_base.specs.declared.datagrams.Entry.{Entry}
 use Rattle.pcp_base.specs.Apply.{apply_all}
 use Rattle.pcp_base.specs.States.{State}
@@ -13,9 +14,14 @@ use Rattle.shard_book.specs.Addresses.{renumbering}
 use Rattle.shard_book.specs.Openings.{OpensBook}
 use Rattle.lease_histories.specs.Entries.{Served}
 use Rattle.lease_histories.specs.Legal.{records_of, state_after}
+use Rattle.lease_house.specs.declared.faults.HouseFault.TheVariants.{Disk}
+use Rattle.job_queue.specs.declared.jobs.Job.{Job}
+use Rattle.job_queue.specs.declared.jobs.Job.TheVariants.{Packet, Lose}
+use Rattle.job_workers.specs.Works.{Refused, WorkCall}
 use Rattle.turned_shards.specs.declared.openings.Opening.{Opening}
 use Rattle.turned_shards.specs.Crashes.{IsInDoubt, StandsAlong}
 use Rattle.turned_shards.specs.Shards.{served_by}
+use Rattle.shared_house.specs.HouseCalls.{batch_behind, loss_behind}
 use Rattle.house_workers.specs.OwnEntries.{AreRising}
 
 -- The entries of all answered batches stand in the history, in order and each in a place of its own,
@@ -55,3 +61,34 @@ pub record IsRecovered (x : Served) (opening : State) (doubts : List (List Entry
   pub in_doubt : (behind ≡ []) ⊎ IsInDoubt x opening doubts first behind
   pub now_is : now ≡ apply_all (state_after opening (first ++ behind))
       (renumbering m address (state_after opening (first ++ behind)))
+
+-- The jobs of a call ask for these entries behind this history, where the word told this base.
+abbrev pub IsAskedFor : {D : Type 0} → Opening D → List Entry → (now heard : ℕ) → List Job → List Entry
+    → Type 0
+IsAskedFor o log now heard jobs entries =
+    ((batch : List Datagram) × (jobs ≡ map Packet batch)
+    × (entries ≡ batch_behind o log now heard batch))
+    ⊎ ((jobs ≡ Lose ∷ []) × (entries ≡ loss_behind o log now heard))
+
+-- A disk refused the call: its entry is a fault, and what was in doubt at that is what its jobs ask for,
+-- decided behind the history before it. Or, where the journal couldn't be read, it is nothing, or what was
+-- in doubt there before.
+pub record IsRefusedAlong {D : Type 0} (o : Opening D) (history : List Entry)
+    (doubts : List (List Entry)) (call : WorkCall) : Type 0 where
+  pub before : List Entry
+  pub fault : Entry
+  pub more : List Entry
+  pub history_is : history ≡ before ++ fault ∷ more
+  pub own : call.own ≡ fault ∷ []
+  pub doubt : List Entry
+  pub there : slice_get doubts (length before) ≡ Some doubt
+  pub heard : ℕ
+  pub asked : IsAskedFor o before (call.time / 1000) heard call.jobs doubt
+      ⊎ ((doubt ≡ []) ⊎ IsInDoubt (served_by o) o.book.state doubts before doubt)
+
+-- so it is with each of these calls that a disk refused
+abbrev pub AreRefusedAlong : {D : Type 0} → Opening D → List Entry → List (List Entry) → List WorkCall
+    → Type 0
+AreRefusedAlong o history doubts calls =
+    AllByRecursion (λ c. (place : ℕ) → c.result ≡ Refused (Disk place) →
+    IsRefusedAlong o history doubts c) calls

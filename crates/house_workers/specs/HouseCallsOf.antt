@@ -12,7 +12,7 @@ use Rattle.job_workers.specs.HouseCalls.{HouseCalls}
 use Rattle.turned_shards.specs.declared.openings.Opening.{Opening}
 use Rattle.turned_shards.specs.declared.passes.HousePass.{HousePass}
 use Rattle.turned_shards.specs.BatchEntries.{fault_at}
-use Rattle.shared_house.specs.HouseCalls.{AsksTheWord, BeginsAt, HearsHouse, HouseView, IsPassOf, LosesHouse, RefusesWith, ServesHouse, SplitsHouse, batch_behind, before_own, loss_behind, raised_behind, raised_by_loss}
+use Rattle.shared_house.specs.HouseCalls.{AsksTheWord, BeginsAt, HearsHouse, HouseView, IsPassOf, LosesHouse, MarksDoubt, RefusesWith, ServesHouse, SplitsHouse, batch_behind, before_own, loss_behind, raised_behind, raised_by_loss}
 
 module _ {D : Type 0} where
   -- the history of the external address at this place began with the house's configuration
@@ -67,12 +67,13 @@ module _ {D : Type 0} (tells : Type 0) (seen : D → List ℕ) (moment : D → �
       pub own_is : own
           ≡ wanted (before_own opening old refuses.adds.others refuses.adds.settling)
 
-    -- After a fault of a disk that is the call's own entry. Where memory was wanting it has none, or
-    -- those that were wanted.
+    -- After a fault of a disk that is the call's own entry, and its mark tells what is in doubt. Where
+    -- memory was wanting it has none, or those that were wanted.
     abbrev pub NotesOwn : (now : ℕ) (opening : Opening D) (wanted : List Entry → List Entry)
         (raised : List Entry → ℕ → ℕ) (old new : HousePass D) → List Entry → JournalFault → Type 0
     NotesOwn now opening wanted raised old new own JournalFaults.Disk =
         NotesHere now opening (fault_behind opening) (raised_behind opening) old new own
+        × MarksDoubt opening wanted new
     NotesOwn now opening wanted raised old new own JournalFaults.Memory =
         NotesHere now opening (λ log. []) (raised_behind opening) old new own
         ⊎ NotesHere now opening wanted raised old new own

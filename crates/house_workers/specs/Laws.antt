@@ -24,7 +24,7 @@ use Rattle.request_workers.specs.Counts.{Counts}
 use Rattle.request_workers.specs.Served.{IsShardRun, ShardRun, out_of}
 use Rattle.turned_shards.specs.declared.openings.Opening.{Opening}
 use Rattle.turned_shards.specs.declared.passes.HousePass.{HousePass}
-use Rattle.turned_shards.specs.Crashes.{StandsAlong}
+use Rattle.turned_shards.specs.Crashes.{StandsAlong, doubts_in}
 use Rattle.turned_shards.specs.FaultCounts.{HaveRisenBy}
 use Rattle.shared_house.specs.Beginnings.{Begins, first_base}
 use Rattle.shared_house.specs.HouseCalls.{BeginsAt, HouseView}
@@ -128,7 +128,7 @@ module _ (D : Type 0) (tells : Type 0) (seen : D → List ℕ) (moment : D → �
         (r : ShardRun (HousePass D)) → (is : IsRunOf house shard ds r) →
         (o : Opening D) (ended : HousePass D) (pair : DiskPair D) →
         (ends : EndsOne tells seen moment left_since may_leave faults o r.new.pass ended pair) →
-        KeepsAcknowledged tells may_leave o ends.stands.kept.doubts (answered_in is.works.calls)
+        KeepsAcknowledged tells may_leave o (doubts_in ended.history.marks) (answered_in is.works.calls)
         ended.history.seen pair
 
     -- A house that was opened, served and ended, whatever serving answered: at each moment since the

@@ -48,9 +48,11 @@ AreRising from (n ∷ ns) to = (from ≤ n) × AreRising (n + 1) ns to
 
 -- These entries stand in the history that the pass has seen, in order and each once, behind what it
 -- had seen; their places are those that it noted as its own.
-pub record NotesInOrder (old new : PassKnowledge Entry) (own : List Entry) : Type 0 where
+pub record NotesInOrder {M : Type 0} (old new : PassKnowledge Entry M) (own : List Entry)
+    : Type 0 where
   pub places : List ℕ
   pub seen : IsPrefix old.seen new.seen
+  pub marks : IsPrefix old.marks new.marks
   pub mine : new.mine ≡ old.mine ++ places
   pub rising : AreRising (length old.seen) places (length new.seen)
   pub entries : AllZip (λ place e. slice_get new.seen place ≡ Some e) places own

@@ -8,16 +8,18 @@ use Rattle.lease_disk.specs.declared.disks.DiskPair.{DiskPair}
 use Rattle.lease_histories.specs.Promises.{KeepsPromises}
 use Rattle.lease_house.specs.SoloOpenings.{OpensOne}
 use Rattle.job_workers.specs.Stations.{OutState}
+use Rattle.job_workers.specs.Works.{WorkCall}
 use Rattle.turned_shards.specs.declared.openings.Opening.{Opening}
 use Rattle.turned_shards.specs.Shards.{served_by}
-use Rattle.house_workers.specs.Crashes.{KeepsAcknowledged, KeepsServed}
-use Rattle.house_workers.specs.OwnEntries.{HandsReplies}
+use Rattle.house_workers.specs.Crashes.{AreRefusedAlong, KeepsAcknowledged, KeepsServed}
+use Rattle.house_workers.specs.OwnEntries.{HandsReplies, answered_in}
 
 -- Its journal was opened at m, and from the state that was found there one history was served. That
 -- keeps what is promised; a crash at any moment leaves what the opening leaves, or the state after some
--- first entries, or, right behind a fault, that with what was in doubt there. The outbox was handed the
--- replies of entries that stand in the history, and at the end each image stands for all of it, or, where
--- it ends in a fault, for that with what was in doubt there.
+-- first entries, or, right behind a fault, that with what was in doubt there: where a disk refused a call
+-- of its worker, what the jobs of that call ask for. The outbox was handed the replies of entries that
+-- stand in the history, and at the end each image stands for all of it, or, where it ends in a fault, for
+-- that with what was in doubt there.
 pub record IsServedAsPromised {D : Type 0} (tells : Type 0) (seen : D → List ℕ) (moment : D → ℕ)
     (left_since : D → ℕ → List ℕ → Type 0) (may_leave : D → List ℕ → Type 0) (faults : D → ℕ)
     (config : Config) (m place : ℕ) (x : External) (before now : DiskPair D)
@@ -31,7 +33,10 @@ pub record IsServedAsPromised {D : Type 0} (tells : Type 0) (seen : D → List �
   pub doubts : List (List Entry)
   pub crash : KeepsServed tells seen moment left_since may_leave m x opening doubts history before
       now
+  pub calls : List WorkCall
+  pub refused : AreRefusedAlong opening history doubts calls
   pub answered : List Entry
+  pub answered_are : answered ≡ answered_in calls
   pub replies : HandsReplies answered out_before out_now
   pub acknowledged : KeepsAcknowledged tells may_leave opening doubts answered history now
 

@@ -66,7 +66,8 @@ pub fn crashes_are_along_histories<D: LeaseDisk>()
 
 /// What is promised of a server's answers holds of each external address, from the call's start to its end and
 /// whatever it answers: its journal was opened, and one history that keeps the promises was served from the
-/// state that was found there; a crash at any moment leaves the state after some first entries of it; and the
+/// state that was found there; a crash at any moment leaves the state after some first entries of it, or, right
+/// behind a fault, that with what was in doubt: where a disk refused a call, what this was asked for; and the
 /// outbox was handed replies of entries that stand in it, all of which the journal has at the end or, right
 /// behind a fault, with what was in doubt.
 pub fn promises_are_kept<D: LeaseDisk>()
