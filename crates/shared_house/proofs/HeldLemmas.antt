@@ -63,6 +63,21 @@ pub if-err-weaker : {X E : Type 0} (r : Result X E) (Q R : E → Type 0) → IfE
 if-err-weaker (Ok x) Q R q f = tt
 if-err-weaker (Err e) Q R q f = f e q
 
+pub if-ok-weaker : {X E : Type 0} (r : Result X E) (Q R : X → Type 0) → IfOk r Q →
+    ((x : X) → Q x → R x) → IfOk r R
+if-ok-weaker (Ok x) Q R q f = f x q
+if-ok-weaker (Err e) Q R q f = tt
+
+pub on-ok-from : {X E : Type 0} (r : Result X E) (Q : X → Type 0) (P : Type 0) → IfOk r Q →
+    ((x : X) → Q x → P) → OnOk r P
+on-ok-from (Ok x) Q P q f = f x q
+on-ok-from (Err e) Q P q f = tt
+
+pub on-err-from : {X E : Type 0} (r : Result X E) (Q : E → Type 0) (P : Type 0) → IfErr r Q →
+    ((e : E) → Q e → P) → OnErr r P
+on-err-from (Ok x) Q P q f = tt
+on-err-from (Err e) Q P q f = f e q
+
 pub if-err-two : {X E : Type 0} (r : Result X E) (P Q R : E → Type 0) → IfErr r P → IfErr r Q →
     ((e : E) → P e → Q e → R e) → IfErr r R
 if-err-two (Ok x) P Q R p q f = tt
@@ -246,6 +261,36 @@ module _ {D : Type 0} (tells : Type 0) (seen : D → List ℕ) (moment : D → �
   noted-both o now p q r s done es fs notes same = notes.1
       ∙ ap (λ (l : List Entry). after_note true l notes.0 q.history) same
       ∙ ap (after_note true fs notes.0) done.history
+
+  -- what the shard added, noted as the call's own
+  pub notes-added : (own : Bool) (es : List Entry) (t : Shard D) (p q : HousePass D) → own ≡ true →
+      t.added ≡ es → q.history ≡ after_note own t.added (mark_of t) p.history → NotesOwn es p q
+  notes-added own es t p q is same noted = (
+    mark_of t,
+    noted ∙ ap (λ (b : Bool). after_note b t.added (mark_of t) p.history) is
+        ∙ ap (λ (l : List Entry). after_note true l (mark_of t) p.history) same,
+  )
+
+  -- a settling that was refused, noted
+  pub refused-by : {X : Type 0} (r : Result X JournalFault) (own : Bool) (s t : Shard D)
+      (p q : HousePass D) → own ≡ is_err r →
+      IfErr r (StaysInDoubt tells moment left_since may_leave s t) →
+      q.history ≡ after_note own t.added (mark_of t) p.history →
+      IfErr r (λ (fault : JournalFault). NotesOwn (faults_of s.moment s.base fault) p q)
+  refused-by (Ok x) own s t p q is stays noted = tt
+  refused-by (Err fault) own s t p q is stays noted =
+      notes-added own (faults_of s.moment s.base fault) t p q is
+      (ap (λ (x : Shard D). x.added) stays.same) noted
+
+  -- a batch that was refused, noted
+  pub batch-refused : (config : Config) (now heard : ℕ) (batch : List Datagram) (s t : Shard D)
+      (p q : HousePass D) (fault : JournalFault) → RefusesBatch config now heard batch s t fault →
+      q.history ≡ after_note true t.added (mark_of t) p.history →
+      RefusesHeld s (batch_entries config now heard batch s) p q fault
+  batch-refused config now heard batch s t p q fault (inl leaves) noted =
+      inl (notes-added true (faults_of s.moment s.base fault) t p q refl leaves.added noted)
+  batch-refused config now heard batch s t p q fault (inr (is, adds)) noted =
+      inr (is, notes-added true (batch_entries config now heard batch s) t p q refl adds.added noted)
 
   -- a settling, noted
   pub settled-by : {X E : Type 0} (o : Opening D) (now : ℕ) (r : Result X E) (own : Bool)
