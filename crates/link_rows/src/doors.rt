@@ -1,10 +1,10 @@
 //! What comes and leaves by several doors, of this host to itself.
 use pcp_base::Address;
 use pcp_io::{Inbox, Incoming, ORDER_DOOR, Outbox, UdpOutbox};
-use program_links::{DoorsInbox, DoorsOutbox, Ear, Mouth, loopback_at, socket_at};
+use program_links::{DoorsInbox, DoorsOutbox, Ear, Mouth, RelayInbox, loopback_at, socket_at};
 use std::alloc::Global;
 use std::io;
-use std::net::UdpSocket;
+use std::net::{Ipv4Addr, UdpSocket};
 use std::test::Fail;
 use std::time::Duration;
 
@@ -29,7 +29,7 @@ fn inbox_of(alloc: Global, doors: &[u8]) -> io::Result<(DoorsInbox, Vec<u16>)> {
 }
 
 // By which door a datagram comes within so many takes, where its length is this one.
-fn door_of(inbox: &mut DoorsInbox, length: usize, takes: u32) -> Option<u8> {
+fn door_of<I: Inbox>(inbox: &mut I, length: usize, takes: u32) -> Option<u8> {
     let mut room = [0; 2048];
     for _ in 0..takes {
         match inbox.take(&mut room) {
@@ -68,6 +68,31 @@ fn no_door_waits_for_another(rt: HostRuntime) -> Result<(), Fail> {
         }
     }
     Err("no stop".into())
+}
+
+// A relay hears its server and announcements while its clients send more than it takes.
+#[test]
+fn no_side_of_a_relay_waits_for_the_other(rt: HostRuntime) -> Result<(), Fail> {
+    let (inner, own, told, orders) = (socket()?, socket()?, socket()?, socket()?);
+    let ports = [
+        inner.local_addr()?.port(),
+        own.local_addr()?.port(),
+        told.local_addr()?.port(),
+    ];
+    let sides = Some((told, orders));
+    let mut inbox = RelayInbox::of(rt.alloc(), THIS_HOST, Some(inner), Some(own), sides)?;
+    let server = socket()?;
+    let client = UdpSocket::bind(&rt, (Ipv4Addr::new(127, 0, 0, 2), 0))?;
+    for _ in 0..200 {
+        client.send_to(b"a", ("127.0.0.1", ports[0]))?;
+    }
+    server.send_to(b"bb", ("127.0.0.1", ports[1]))?;
+    server.send_to(b"ccc", ("127.0.0.1", ports[2]))?;
+    // In turn: what is announced, some datagrams of clients, then the server's own.
+    for (length, door) in [(3, 17), (1, 0), (2, 16)] {
+        assert!(rt; door_of(&mut inbox, length, 17) == Some(door), "{length}");
+    }
+    Ok(())
 }
 
 #[test]
