@@ -1,9 +1,10 @@
 //! The nonce that a client's command keeps in a file.
+use client_runs::nonce_by;
 use client_words::{nonce_file_of, read_nonce, write_nonce};
 use pcp_base::{Memory, Nonce};
 use pcp_io::FileSource;
 use program_texts::{make_nonce_file, nonce_cause, path_cause, read_nonce_file};
-use random_words::{Entropy, FileEntropy, SourceEntropy};
+use random_words::{FileEntropy, SourceEntropy};
 use std::alloc::Global;
 use std::io::{self, ErrorKind};
 use tool_commands::ToolStatus;
@@ -101,12 +102,5 @@ pub(crate) fn tell_file(
 /// A nonce of three random words; none where there is no such word.
 fn drawn_nonce(rt: &HostRuntime) -> Result<Option<Nonce>, Memory> {
     let mut words = system_words(rt)?;
-    let mut octets = [0u8; 12];
-    for place in 0..3 {
-        let Ok(word) = words.word() else {
-            return Ok(None);
-        };
-        octets[4 * place..4 * place + 4].copy_from_slice(&word.to_be_bytes());
-    }
-    Ok(Some(Nonce(octets)))
+    Ok(nonce_by(None, &mut words).ok())
 }
