@@ -14,7 +14,6 @@ use Rattle.ordered_index.specs.Kept.{Keying, IsKept}
 use Rattle.ordered_index.specs.Orders.{Place, place_of, port_at, place_cmp, port_cmp}
 use Rattle.cascade_ties.specs.declared.locals.NoLocal.{NoLocal}
 use Rattle.cascade_ties.specs.declared.locals.NoLocal.TheVariants.{Quota, NoPort}
-use Rattle.cascade_ties.specs.declared.locals.TheConstants.{TIE_QUOTA}
 use Rattle.cascade_ties.specs.declared.ties.Tied.{Tied}
 use Rattle.cascade_ties.specs.Ties.{Ties, TiesDiffer, ties_held, tie_at}
 
@@ -50,7 +49,7 @@ use_by (Some t) = Held t.tie.client.address
 
 -- the pool of these ties: each address holds the local ports of its ties
 pub record IsTiePool (pool : Holdings) (ts : List Tied) : Type 0 where
-  pub quota : pool.quota ≡ TIE_QUOTA
+  pub quota : pool.quota ≡ 64
   pub low : pool.udp.low ≡ pool.tcp.low
   pub high : pool.udp.high ≡ pool.tcp.high
   pub some : 1 ≤ pool.tcp.low

@@ -5,7 +5,6 @@ use Rattle.pcp_base.specs.declared.addresses.Address.{Address}
 use Rattle.pcp_base.specs.declared.leases.Endpoint.{Endpoint}
 use Rattle.pcp_base.specs.declared.leases.Protocol.{Protocol}
 use Rattle.pcp_base.specs.Tables.{EachTwo, put, same_address, same_endpoint, same_protocol}
-use Rattle.cascade_ties.specs.declared.locals.TheConstants.{TIE_QUOTA}
 use Rattle.cascade_ties.specs.declared.locals.NoLocal.{NoLocal}
 use Rattle.cascade_ties.specs.declared.locals.NoLocal.TheVariants.{Quota, NoPort}
 use Rattle.cascade_ties.specs.declared.ties.Tied.{Tied}
@@ -67,10 +66,10 @@ abbrev pub or_no_port : Option ℕ → Result ℕ NoLocal
 or_no_port None = Err NoPort
 or_no_port (Some port) = Ok port
 
--- the local port for an endpoint, unless its address has its quota of ties
+-- the local port for an endpoint, unless its address has 64 ties
 abbrev pub local_for : Ties → Endpoint → Result ℕ NoLocal
 local_for ts client =
-    if nat_le TIE_QUOTA (ties_held client.address ts.each) then Err Quota
+    if nat_le 64 (ties_held client.address ts.each) then Err Quota
     else or_no_port (vacant_for ts client)
 
 -- ---- what calls make of ties

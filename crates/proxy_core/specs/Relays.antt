@@ -21,7 +21,6 @@ use Rattle.pcp_options.specs.Replies.{reply_text}
 use Rattle.pcp_options.specs.Verdicts.{verdict_of}
 use Rattle.proxy_core.specs.declared.outs.ProxyOut.{ProxyOut}
 use Rattle.proxy_core.specs.declared.outs.ProxyOut.TheVariants.{Nothing, Reply, Up}
-use Rattle.proxy_core.specs.declared.outs.TheConstants.{CLIENTS_PORT}
 use Rattle.proxy_core.specs.declared.epochs.Heard.{Heard}
 use Rattle.proxy_core.specs.declared.keys.WaitingKey.{WaitingKey}
 use Rattle.proxy_core.specs.declared.waits.Waiting.{Waiting}
@@ -119,7 +118,7 @@ on_client relay d now = judged (at relay now) d (verdict_of everyone d.peer d.oc
 abbrev pub announced : Datagram → Datagram
 announced d = record {
   peer = record { 0 = v4_octets 224 0 0 1 };
-  port = CLIENTS_PORT;
+  port = 5350;
   door = 0;
   octets = d.octets;
 }

@@ -7,7 +7,6 @@ use Rattle.proxy_core.specs.declared.outs.ProxyOut.TheVariants.{Nothing, Reply, 
 use Rattle.proxy_core.specs.Runs.{Event}
 use Rattle.proxy_core.specs.Runs.Event.{Client, Server, Tick}
 use Rattle.relay_runs.specs.Machines.{Machine, next}
-use Rattle.relay_runs.specs.declared.packets.TheConstants.{SERVER_PORT}
 
 -- what goes down, and up to the server, of what a client's datagram gives
 abbrev pub down_by : ProxyOut → List Datagram
@@ -19,7 +18,7 @@ abbrev pub up_by : Address → ProxyOut → List Datagram
 up_by server Nothing = []
 up_by server (Reply d) = []
 up_by server (Up octets) =
-    record { peer = server; port = SERVER_PORT; door = 0; octets = octets } ∷ []
+    record { peer = server; port = 5351; door = 0; octets = octets } ∷ []
 
 module _ {S : Type 0} (m : Machine S) where
   -- what goes down for an event, and what goes up
