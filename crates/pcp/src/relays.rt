@@ -46,7 +46,8 @@ struct RelayLinks {
     told: Option<(UdpSocket, UdpSocket)>,
 }
 
-/// Makes the sockets of a relay of these terms, and tells, where people ask, which it lacks and why.
+/// Makes the sockets of a relay of these terms. Why it can't begin is told where people ask, and what it goes
+/// on without in any case.
 fn links_of(
     rt: &HostRuntime,
     command: &ProxyCommand,
@@ -54,22 +55,24 @@ fn links_of(
 ) -> Result<RelayLinks, Memory> {
     let alloc = rt.alloc();
     let mut causes = Vec::new(alloc);
+    let mut lacks = Vec::new(alloc);
     let inner = SocketAddr::new(ip_of(command.inner), SERVER_PORT);
     let inner = kept_socket(alloc, inner, socket_at(inner), &mut causes)?;
     let own = SocketAddr::new(ip_of(command.own), 0);
     let server = ip_of(command.server);
     if own.is_ipv4() != server.is_ipv4() {
-        causes.push(families_cause(alloc, own.ip(), server)?)?;
+        lacks.push(families_cause(alloc, own.ip(), server)?)?;
     }
     let own = kept_socket(alloc, own, socket_at(own), &mut causes)?;
     let told = match told_and_ordered() {
         Ok(told) => Some(told),
         Err(error) => {
-            causes.push(port_cause(alloc, CLIENT_PORT, error)?)?;
+            lacks.push(port_cause(alloc, CLIENT_PORT, error)?)?;
             None
         }
     };
     tell_now(rt, &causes, explains);
+    tell_now(rt, &lacks, true);
     Ok(RelayLinks { inner, own, told })
 }
 
