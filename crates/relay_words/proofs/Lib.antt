@@ -1,0 +1,5 @@
+pub mod AskLemmas
+pub mod ListLemmas
+pub mod MoreLemmas
+pub mod OlderLemmas
+pub mod TextLemmas

@@ -1,0 +1,32 @@
+//! The help of each command.
+
+use pcp_base::Memory;
+use std::alloc::Global;
+
+/// The options that may stand among those of both.
+const MORE: &str = "
+Options of both relays, each with its value in the next word:
+      --inner <ADDRESS>         Up to 16 times: clients ask at each, and are answered from there
+      --key-file <FILE>         A file with the key, in place of --key
+      --rate <N>                Requests a second, 1 to 100000; more are dropped. 20 without it
+";
+
+/// The one that a relay alone has that isn't beside a translator of its own.
+const THIRD_PARTY: &str =
+    "      --third-party <PREFIX>    Up to 16 times: whose THIRD_PARTY is passed on; without it nobody's
+";
+
+/// The text of a command's help, where the words are the name of one and `--help`.
+pub fn help_of(alloc: Global, words: &[String]) -> Result<Option<String>, Memory> {
+    let Some(help) = proxy_commands::help_of(alloc, words)? else {
+        return Ok(None);
+    };
+    let mut text = help;
+    text.push_str(MORE)?;
+    if let [name, ..] = words
+        && name.as_str() == "proxy"
+    {
+        text.push_str(THIRD_PARTY)?;
+    }
+    Ok(Some(text))
+}
