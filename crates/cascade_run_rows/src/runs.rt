@@ -68,7 +68,18 @@ fn run<R: Wait>(
     let (mut from, mut clock) = (from, clock);
     let mut down = MemoryOutbox::new(alloc, 10_000)?;
     let mut up = MemoryOutbox::new(alloc, 10_000)?;
-    let status = run_cascade(rt, alloc, words, &mut down, &mut up, &mut from, &mut clock);
+    let mut dropped = 0;
+    let status = run_cascade(
+        rt,
+        alloc,
+        words,
+        None,
+        &mut down,
+        &mut up,
+        &mut from,
+        &mut clock,
+        &mut dropped,
+    );
     Ok(Ran { status, down, up })
 }
 

@@ -3,8 +3,9 @@ use Rattle.std.specs.Prelude.{ℕ}
 use Rattle.proxy_cascade.specs.Cascades.{Cascade, Step, new_cascade, on_tick}
 use Rattle.proxy_cascade.specs.FromClients.{on_client}
 use Rattle.proxy_cascade.specs.FromServers.{on_server}
-use Rattle.proxy_commands.specs.declared.commands.CascadeCommand.{CascadeCommand}
+use Rattle.relay_rates.specs.Rates.{Rated, rated_begin}
 use Rattle.relay_runs.specs.Machines.{Machine, Move}
+use Rattle.relay_words.specs.declared.asks.CascadeAsk.{CascadeAsk}
 
 abbrev pub move_of : {X : Type 0} → Step X → Move Cascade X
 move_of step = record { state = step.cascade; out = step.out }
@@ -16,7 +17,8 @@ cascading = record {
   on_tick = λ cascade now. (on_tick cascade now).cascade;
 }
 
--- the cascade that a command begins at a time in milliseconds
-abbrev pub cascade_of : ℕ → CascadeCommand → Cascade
-cascade_of now command = new_cascade command.relay.own command.relay.server command.relay.key
-    command.low command.high now
+-- the cascade that a command begins at a time in milliseconds, behind its gate
+abbrev pub cascade_of : ℕ → CascadeAsk → Rated Cascade
+cascade_of now ask = rated_begin ask.more.rate
+    (new_cascade ask.command.relay.own ask.command.relay.server ask.command.relay.key
+    ask.command.low ask.command.high now)

@@ -7,6 +7,8 @@ use Rattle.std.proofs.Common.{◌≡◌, ◌≢◌, ◌∙◌, ◌⊎◌, inl, i
 use Rattle.std.proofs.lemmas.Bool.{cond_both, leb-true}
 use Rattle.pcp_base.proofs.Members.{All-filter}
 use Rattle.pcp_base.specs.declared.addresses.Address.{Address}
+use Rattle.pcp_base.specs.declared.configs.Config.{Config}
+use Rattle.pcp_base.specs.declared.addresses.Prefix.{Prefix}
 use Rattle.pcp_base.specs.declared.addresses.Nonce.{Nonce}
 use Rattle.pcp_base.specs.declared.asks.Answer.{Answer}
 use Rattle.pcp_base.specs.declared.asks.Answer.TheVariants.{Refused, Announced}
@@ -39,7 +41,7 @@ use Rattle.proxy_core.specs.declared.outs.ProxyOut.{ProxyOut}
 use Rattle.proxy_core.specs.declared.outs.ProxyOut.TheVariants.{Reply, Up}
 use Rattle.proxy_core.specs.declared.waits.Waiting.{Waiting}
 use Rattle.proxy_core.specs.Down.{down_body, down_error, down_items, down_success, down_text, is_success, nonce_of, refuses_added, relayed_text, with_nonce}
-use Rattle.proxy_core.specs.Everyone.{everyone}
+use Rattle.proxy_core.specs.Everyone.{judged_by}
 use Rattle.proxy_core.specs.Keys.{is_key, key_of}
 use Rattle.proxy_core.specs.Nonces.{upstream_nonce}
 use Rattle.proxy_core.specs.Relays.{Relay, Step, announced, answer_at, answered, asked, at, hearing, judged, matched, on_client, on_server, own_answer, reply_to, response_from, told_epoch, waiting_of}
@@ -102,34 +104,34 @@ asks relay d items (Some key) =
     (λ _. λ sent e. own-at relay relay.heard d (Refused (parsed Codes.NoResources)) sent (λ same. absurd cc) e)
     (λ _. λ sent e. absurd cc)
 
-judges : RefusalsAreErrors → (relay : Relay) (d : Datagram) (v : Verdict)
-    → verdict_of everyone d.peer d.octets ≡ v → GrantsBy (judged relay d v).out
-judges law relay d Silent is = λ sent e. absurd cc
-judges law relay d (Refuse refusal) is =
-    λ sent e. own-at relay relay.heard d (Refused refusal) sent (law everyone d.peer d.octets refusal is) e
-judges law relay d (Asked place ask items) is = asks relay d items (up_key relay.key d items)
+judges : RefusalsAreErrors → (config : Config) (relay : Relay) (d : Datagram) (v : Verdict)
+    → verdict_of config d.peer d.octets ≡ v → GrantsBy (judged relay d v).out
+judges law config relay d Silent is = λ sent e. absurd cc
+judges law config relay d (Refuse refusal) is =
+    λ sent e. own-at relay relay.heard d (Refused refusal) sent (law config d.peer d.octets refusal is) e
+judges law config relay d (Asked place ask items) is = asks relay d items (up_key relay.key d items)
 
 pub own-grants : RefusalsAreErrors → (relay : Relay) (d : Datagram) (now : ℕ) (sent : Datagram)
     → (on_client relay d now).out ≡ Reply sent → GrantsNothing sent.octets
-own-grants law relay d now = judges law (at relay now) d (verdict_of everyone d.peer d.octets) refl
+own-grants law relay d now = judges law (judged_by relay.third_party) (at relay now) d (verdict_of (judged_by relay.third_party) d.peer d.octets) refl
 
 -- ---- the request that waits
 
-found-by : (k : List ℕ) (key : WaitingKey) (e : WaitingKey × Waiting) (rest : Waits) (w : Waiting)
-    (b : Bool) → is_key key e.0 ≡ b → IsWaiting k e
-    → (lookup (is_key key) rest ≡ Some w → IsWaiting k (key, w))
-    → cond b (Some e.1) (lookup (is_key key) rest) ≡ Some w → IsWaiting k (key, w)
-found-by k key e rest w true is this f h =
+found-by : (trusts : List Prefix) (k : List ℕ) (key : WaitingKey) (e : WaitingKey × Waiting) (rest : Waits) (w : Waiting)
+    (b : Bool) → is_key key e.0 ≡ b → IsWaiting trusts k e
+    → (lookup (is_key key) rest ≡ Some w → IsWaiting trusts k (key, w))
+    → cond b (Some e.1) (lookup (is_key key) rest) ≡ Some w → IsWaiting trusts k (key, w)
+found-by trusts k key e rest w true is this f h =
     let same : e.1 ≡ w = cc in
     let keys = equal-key key e.0 is in
-    subst (λ x. IsWaiting k (key, x)) same (subst (λ x. IsWaiting k (x, e.1)) (sym keys) this)
-found-by k key e rest w false is this f h = f h
+    subst (λ x. IsWaiting trusts k (key, x)) same (subst (λ x. IsWaiting trusts k (x, e.1)) (sym keys) this)
+found-by trusts k key e rest w false is this f h = f h
 
-found : (k : List ℕ) (key : WaitingKey) (es : Waits) (w : Waiting)
-    → AllByRecursion (IsWaiting k) es → waiting_at key es ≡ Some w → IsWaiting k (key, w)
-found k key [] w all h = absurd cc
-found k key (e ∷ es) w all h =
-    found-by k key e es w (is_key key e.0) refl all.0 (λ t. found k key es w all.1 t) h
+found : (trusts : List Prefix) (k : List ℕ) (key : WaitingKey) (es : Waits) (w : Waiting)
+    → AllByRecursion (IsWaiting trusts k) es → waiting_at key es ≡ Some w → IsWaiting trusts k (key, w)
+found trusts k key [] w all h = absurd cc
+found trusts k key (e ∷ es) w all h =
+    found-by trusts k key e es w (is_key key e.0) refl all.0 (λ t. found trusts k key es w all.1 t) h
 
 -- the nonce and the third party of a key
 pub record IsKeyOf (key : WaitingKey) (asked : Nonce) (subject : Option Address) : Type 0 where
@@ -207,7 +209,7 @@ told-address rs h told came after same (inr r) = inr (subst (IsRenumbered rs h) 
 -- a success for the request that waits is traced, with this relay in front
 traced-down : (b : Beginning) (history : List HouseEntry) (rs : List Renumbering) (relay : Relay)
     → IsOurs b relay → (w : Waiting) (r : Response) (key : WaitingKey) (c : Common)
-    → key_of r.body (third_of r.items) ≡ Some key → IsWaiting relay.key (key, w)
+    → key_of r.body (third_of r.items) ≡ Some key → IsWaiting relay.third_party relay.key (key, w)
     → ((a : Common) → HasCommon r.body a → IsTraced b history rs relay.own (third_of r.items) a)
     → HasCommon (down_body (nonce_of w.request) r.body) c
     → IsTraced b history rs w.client (third_of (down_items w.added r.items)) c
@@ -264,7 +266,7 @@ single-down false items h = h
 success-down : RelayLaws → (b : Beginning) (history : List HouseEntry) (rs : List Renumbering)
     (relay : Relay) → IsOurs b relay → (octets : List ℕ) (w : Waiting) (r : Response)
     (key : WaitingKey) → AreOctets octets → response_of octets ≡ Some r → r.code ≡ Codes.Success
-    → key_of r.body (third_of r.items) ≡ Some key → IsWaiting relay.key (key, w)
+    → key_of r.body (third_of r.items) ≡ Some key → IsWaiting relay.third_party relay.key (key, w)
     → AreTold (IsTraced b history rs relay.own) octets
     → AreTold (IsTraced b history rs w.client) (down_success w.request w.added r)
 success-down laws b history rs relay ours octets w r key are read0 success0 at is told x c read success lasts has =
@@ -326,7 +328,7 @@ error-down request added r h =
 down-told : RelayLaws → (b : Beginning) (history : List HouseEntry) (rs : List Renumbering)
     (relay : Relay) → IsOurs b relay → (octets : List ℕ) (w : Waiting) (r : Response)
     (key : WaitingKey) → AreOctets octets → response_of octets ≡ Some r
-    → key_of r.body (third_of r.items) ≡ Some key → IsWaiting relay.key (key, w)
+    → key_of r.body (third_of r.items) ≡ Some key → IsWaiting relay.third_party relay.key (key, w)
     → AreTold (IsTraced b history rs relay.own) octets
     → AreTold (IsTraced b history rs w.client) (down_text w.request w.added r)
 down-told laws b history rs relay ours octets w r key are read at is told =
@@ -358,7 +360,7 @@ module _ (laws : RelayLaws) (b : Beginning) (history : List HouseEntry) (rs : Li
   waits-told r key None read at there h = absurd cc
   waits-told r key (Some w) read at there h =
       let same : reply_to r w ≡ sent = cc in
-      subst Told same (down-told laws b history rs relay ours d.octets w r key are read at (found relay.key key relay.waits w ours.waits there) told)
+      subst Told same (down-told laws b history rs relay ours d.octets w r key are read at (found relay.third_party relay.key key relay.waits w ours.waits there) told)
 
   matched-told : (now : ℕ) (r : Response) (key : Option WaitingKey) → response_of d.octets ≡ Some r
       → key_of r.body (third_of r.items) ≡ key

@@ -25,7 +25,7 @@ use Rattle.proxy_core.specs.declared.waits.Waiting.{Waiting}
 use Rattle.proxy_core.specs.Down.{down_text}
 use Rattle.pcp_base.specs.Tables.{same_address}
 use Rattle.proxy_core.specs.Keys.{key_of}
-use Rattle.proxy_core.specs.Everyone.{everyone}
+use Rattle.proxy_core.specs.Everyone.{judged_by}
 use Rattle.proxy_core.specs.Relays.{Relay, Step, answer_at, answered, asked, at, hearing, judged, matched, on_client, on_server, own_answer, reply_to, response_from, told_epoch, waiting_of}
 use Rattle.pcp_codec.specs.Requests.{body_of, frame_of}
 use Rattle.proxy_core.specs.Up.{up_body, up_items, up_key, up_text}
@@ -84,7 +84,7 @@ judges relay d (Refuse refusal) = answers relay d (Refused refusal)
 judges relay d (Asked place ask items) = asks relay d items (up_key relay.key d items)
 
 pub on-client : (relay : Relay) (d : Datagram) (now : ℕ) → IsOnClient (at relay now) (on_client relay d now)
-on-client relay d now = judges (at relay now) d (verdict_of everyone d.peer d.octets)
+on-client relay d now = judges (at relay now) d (verdict_of (judged_by relay.third_party) d.peer d.octets)
 
 -- ---- datagrams of the server
 

@@ -9,6 +9,7 @@ use Rattle.std.proofs.lemmas.Bool.{cond_both}
 use Rattle.sha2.specs.Sha256.{digest_bytes, final_hash, initial_hash_256, sha256}
 use Rattle.pcp_base.proofs.Members.{All-filter}
 use Rattle.pcp_base.specs.declared.addresses.Address.{Address}
+use Rattle.pcp_base.specs.declared.configs.Config.{Config}
 use Rattle.pcp_base.specs.declared.addresses.Nonce.{Nonce}
 use Rattle.pcp_base.specs.declared.asks.Answer.TheVariants.{Refused, Announced}
 use Rattle.pcp_base.specs.declared.asks.Refusal.{Refusal}
@@ -39,7 +40,7 @@ use Rattle.proxy_core.specs.declared.outs.ProxyOut.{ProxyOut}
 use Rattle.proxy_core.specs.declared.outs.ProxyOut.TheVariants.{Nothing, Reply, Up}
 use Rattle.proxy_core.specs.declared.waits.Waiting.{Waiting}
 use Rattle.proxy_core.specs.Down.{down_body, down_error, down_items, down_success, down_text, is_success, nonce_of, refuses_added, relayed_text}
-use Rattle.proxy_core.specs.Everyone.{everyone}
+use Rattle.proxy_core.specs.Everyone.{judged_by}
 use Rattle.proxy_core.specs.Keys.{is_key, key_of}
 use Rattle.proxy_core.specs.Nonces.{upstream_nonce}
 use Rattle.proxy_core.specs.Relays.{Relay, Step, answer_at, answered, asked, at, hearing, judged, matched, on_client, on_server, on_tick, own_answer, reply_to, response_from, told_epoch, waiting_of}
@@ -182,18 +183,18 @@ asks laws relay d items (Some key) h peer are b is =
       up-message laws relay d items h.own peer b is,
     ))
 
-judges : OctetLaws → (relay : Relay) (d : Datagram) (v : Verdict) → RelayIsValue relay → AreOctets d.peer.0
-    → AreOctets d.octets → verdict_of everyone d.peer d.octets ≡ v → IsClientStep (judged relay d v)
-judges laws relay d Silent h peer are is = (h, tt)
-judges laws relay d (Refuse refusal) h peer are is = (h, refused-at laws relay.heard relay.last d refusal are)
-judges laws relay d (Asked place ask items) h peer are is =
-    let octets = laws.asked everyone d.peer d.octets place ask items are is in
+judges : OctetLaws → (config : Config) (relay : Relay) (d : Datagram) (v : Verdict) → RelayIsValue relay → AreOctets d.peer.0
+    → AreOctets d.octets → verdict_of config d.peer d.octets ≡ v → IsClientStep (judged relay d v)
+judges laws config relay d Silent h peer are is = (h, tt)
+judges laws config relay d (Refuse refusal) h peer are is = (h, refused-at laws relay.heard relay.last d refusal are)
+judges laws config relay d (Asked place ask items) h peer are is =
+    let octets = laws.asked config d.peer d.octets place ask items are is in
     asks laws relay d items (up_key relay.key d items) h peer are octets.0 octets.1
 
 pub client-message : OctetLaws → (relay : Relay) (d : Datagram) (now : ℕ) → RelayIsValue relay → AreOctets d.peer.0
     → AreOctets d.octets → IsClientStep (on_client relay d now)
 client-message laws relay d now h peer are =
-    judges laws (at relay now) d (verdict_of everyone d.peer d.octets) (record { own = h.own; waits = h.waits }) peer are refl
+    judges laws (judged_by relay.third_party) (at relay now) d (verdict_of (judged_by relay.third_party) d.peer d.octets) (record { own = h.own; waits = h.waits }) peer are refl
 
 -- ---- datagrams of the server
 

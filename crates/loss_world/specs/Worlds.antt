@@ -3,6 +3,7 @@
 use Rattle.std.specs.Prelude.{◌≡◌, ◌<◌, ◌≤◌, ℕ, List, [], length, map, Option, Some, None, ⊤}
 use Rattle.std.specs.List.{AllByRecursion}
 use Rattle.pcp_base.specs.declared.addresses.Address.{Address}
+use Rattle.pcp_base.specs.declared.addresses.Prefix.{Prefix}
 use Rattle.pcp_base.specs.declared.asks.Ask.{Ask}
 use Rattle.pcp_base.specs.declared.asks.Ask.TheVariants as Asks
 use Rattle.pcp_base.specs.declared.configs.Config.{Config}
@@ -73,6 +74,8 @@ pub record RelayTerms : Type 0 where
   pub own : Address
   pub server : Address
   pub key : List ℕ
+  -- whose THIRD_PARTY it passes on
+  pub third_party : List Prefix
 
 pub record ClientTerms : Type 0 where
   pub own : Address
@@ -80,7 +83,8 @@ pub record ClientTerms : Type 0 where
   pub port : ℕ
 
 abbrev pub relay_begun : RelayTerms → RelayHost
-relay_begun t = record { relay = new_relay t.own t.server t.key; origin = None }
+relay_begun t =
+    record { relay = new_relay t.own t.server t.key t.third_party; origin = None }
 
 abbrev pub client_begun : ClientTerms → ClientHost
 client_begun t = record { client = idle t.server t.own; port = t.port; origin = None }

@@ -5,6 +5,7 @@ ghost use Rattle.std.specs.Prelude.{◌≡◌, ◌≢◌};
 ghost use Rattle.std.specs.declared.io.ErrorKind.TheVariants.{OutOfMemory};
 ghost use Rattle.server_commands.specs.declared.statuses.Status.TheVariants as Statuses;
 
+mod keys;
 mod meetings;
 mod nonces;
 mod orders;
@@ -114,12 +115,12 @@ map, unmap, peer, announce
       Without --server they ask the router of this host's default route, and
       without --own from the address by which the system reaches it.
 
-proxy Relays what clients ask at port 5351 of its inner address to a server, and
+proxy Relays what clients ask at port 5351 of its inner addresses to a server, and
       the replies to them, until it is stopped by the octet ff and 'stop', sent
-      from 127.0.0.1 to port 5350 of 127.0.0.1. KEY has 64 hexadecimal digits that
-      no client knows.
+      from 127.0.0.1 to port 5350 of 127.0.0.1. The file has 64 hexadecimal digits
+      that no client knows. --third-party PREFIX says who may ask for others.
 
-          pcp proxy --server 192.0.2.9 --own 192.0.2.2 --inner 10.0.0.2 --key KEY
+          pcp proxy --server 192.0.2.9 --own 192.0.2.2 --inner 10.0.0.2 --key-file key
 
 cascade
       Relays as proxy does, for clients behind a translator of this host: it asks
@@ -127,7 +128,7 @@ cascade
       the client's, and tells the client what the server gave for that.
 
           pcp cascade --server 192.0.2.9 --own 192.0.2.2 --inner 10.0.0.2 \\
-              --low 20000 --high 29999 --key KEY
+              --low 20000 --high 29999 --key-file key
 
 Exit status, and the line on standard error:
 
@@ -373,7 +374,7 @@ fn order(rt: &HostRuntime, words: &[String], explains: bool) -> Ended {
 
 /// Runs the relay, or prints its help.
 fn relay<R: Wait>(waits: &R, rt: &HostRuntime, words: &[String], explains: bool) -> Ended {
-    match proxy_commands::help_of(rt.alloc(), words) {
+    match relay_words::help_of(rt.alloc(), words) {
         Ok(Some(help)) => Ended::with(rt, tell(rt, help.as_str())),
         Ok(None) => match relay_over(waits, rt, words, explains) {
             Ok(status) => Ended::with_tool(rt, words, status, explains),

@@ -3,7 +3,7 @@ use client_runs::nonce_by;
 use client_words::{nonce_file_of, read_nonce, write_nonce};
 use pcp_base::{Memory, Nonce};
 use pcp_io::FileSource;
-use program_texts::{make_nonce_file, nonce_cause, path_cause, read_nonce_file};
+use program_texts::{make_nonce_file, nonce_cause, path_cause, read_short_file};
 use random_words::{FileEntropy, SourceEntropy};
 use std::alloc::Global;
 use std::io::{self, ErrorKind};
@@ -32,7 +32,7 @@ pub(crate) fn filed_nonce(
     let Some(path) = nonce_file_of(alloc, words)? else {
         return Ok(Ok(None));
     };
-    match read_nonce_file(rt, path) {
+    match read_short_file(rt, path) {
         Ok(Some(octets)) => Ok(Ok(Some(octets))),
         Ok(None) if !may_delete(words) => new_nonce(rt, path, causes),
         Ok(None) => unread(rt, path, io::Error::from(ErrorKind::NotFound), causes),
@@ -72,7 +72,7 @@ fn new_nonce(
     let text = write_nonce(alloc, &nonce)?;
     match make_nonce_file(rt, path, &text) {
         Ok(()) => Ok(Ok(Some(text))),
-        Err(error) if error.kind() == ErrorKind::AlreadyExists => match read_nonce_file(rt, path) {
+        Err(error) if error.kind() == ErrorKind::AlreadyExists => match read_short_file(rt, path) {
             Ok(octets) => Ok(Ok(octets)),
             Err(error) => unread(rt, path, error, causes),
         },

@@ -21,7 +21,7 @@ impl Mouth {
     /// Whether the datagram went out. What waits for a host that doesn't answer counts on the buffer of
     /// the socket that sent it, so refusals, which anyone can cause in another's name, have one of their
     /// own.
-    fn goes_out(&mut self, peer: Address, port: u16, octets: &[u8]) -> bool {
+    pub(crate) fn goes_out(&mut self, peer: Address, port: u16, octets: &[u8]) -> bool {
         if is_refusal(octets) {
             self.refuses.send(self.door, peer, port, octets).is_ok()
         } else {

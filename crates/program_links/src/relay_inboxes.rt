@@ -10,10 +10,11 @@ use pcp_io::{Inbox, Incoming, LONGEST_DATAGRAM, ORDER_DOOR};
 use std::alloc::Global;
 use std::net::UdpSocket;
 
-/// The first door of a relay that isn't an inner one: there the server answers.
+/// The first door of a relay that isn't an inner one, of which there are 16 at most: there the server
+/// answers.
 const OWN_DOOR: u8 = 16;
 
-/// What clients send to the inner address of a relay, and what the server sends to its own address or
+/// What clients send to the inner addresses of a relay, and what the server sends to its own address or
 /// announces. What has the server's address counts from upstream alone, and from there nothing else
 /// counts. Orders come by 127.0.0.1, port 5350, alone.
 #[derive(Drop)]
@@ -23,13 +24,13 @@ pub struct RelayInbox {
 }
 
 impl RelayInbox {
-    /// The inbox of these sockets: the inner one, the own one, and those of `told_and_ordered`, without
-    /// which no announcements of IPv4 are heard, and no orders. Without the inner or the own one, each take
-    /// fails. The one error is want of memory.
+    /// The inbox of these sockets: the inner ones, at most 16, whose doors count from 0, the own one, and
+    /// those of `told_and_ordered`, without which no announcements of IPv4 are heard, and no orders. Without
+    /// one of the inner ones or the own one, each take fails. The one error is want of memory.
     pub fn of(
         alloc: Global,
         server: Address,
-        inner: Option<UdpSocket>,
+        inner: Vec<Option<UdpSocket>>,
         own: Option<UdpSocket>,
         told: Option<(UdpSocket, UdpSocket)>,
     ) -> Result<RelayInbox, Memory> {
@@ -39,7 +40,11 @@ impl RelayInbox {
             ears.push(Ear::of(OWN_DOOR + 1, Some(told)))?;
         }
         push_ear(&mut ears, OWN_DOOR + 2, told_by_v6())?;
-        ears.push(Ear::of(0, inner))?;
+        let mut door = 0u8;
+        for socket in inner {
+            ears.push(Ear::of(door, socket))?;
+            door = door.saturating_add(1);
+        }
         ears.push(Ear::of(OWN_DOOR, own))?;
         let ears = DoorsInbox::of(alloc, ears)?;
         Ok(RelayInbox { server, ears })
@@ -82,7 +87,7 @@ fn from_upstream(server: &Address, incoming: Incoming) -> Incoming
     }
 }
 
-/// What counts of what came to the inner address: datagrams of others than the server.
+/// What counts of what came to an inner address: datagrams of others than the server.
 fn from_clients(server: &Address, incoming: Incoming) -> Incoming
     ensures gives { result ≡ from_clients server.now incoming }
     ensures fits { filled result ≤ filled incoming }

@@ -118,6 +118,16 @@ pub fn nonce_cause(alloc: Global, path: &str) -> Result<String, Memory> {
     Ok(format!(in alloc; "{path}: expected 24 hexadecimal digits, and a line feed or nothing")?)
 }
 
+/// That the file of this path has no key. The one error is want of memory.
+pub fn key_cause(alloc: Global, path: &str) -> Result<String, Memory> {
+    Ok(format!(in alloc; "{path}: expected 64 hexadecimal digits, and a line feed or nothing")?)
+}
+
+/// How many datagrams of clients a relay dropped. The one error is want of memory.
+pub fn dropped_text(alloc: Global, dropped: u64) -> Result<String, Memory> {
+    Ok(format!(in alloc; "dropped {dropped} datagrams of clients above --rate")?)
+}
+
 /// What people are told where so many threads can't be made. The one error is want of memory.
 pub fn threads_cause(alloc: Global, count: u32) -> Result<String, Memory> {
     Ok(format!(in alloc; "{count} threads can't be made")?)

@@ -1,15 +1,15 @@
-//! Files that keep the nonce of a mapping, so that the same words renew it.
+//! Files that keep the nonce of a mapping, so that the same words renew it, or the key of a relay.
 use std::alloc::Global;
 use std::fs::{self, File, OpenOptions};
 use std::io::{self, ErrorKind, Read, Write};
 use std::os::unix::fs::OpenOptionsExt;
 use std::path::Path;
 
-/// The most octets that are read of a file: more than a nonce's text has.
-const MOST_OCTETS: usize = 64;
+/// The most octets that are read of a file: more than the text of a nonce or a key has.
+const MOST_OCTETS: usize = 128;
 
-/// What the file has, at most its first 64 octets; none where there is no such file.
-pub fn read_nonce_file(rt: &HostRuntime, path: &str) -> io::Result<Option<Vec<u8>>> {
+/// What the file has, at most its first 128 octets; none where there is no such file.
+pub fn read_short_file(rt: &HostRuntime, path: &str) -> io::Result<Option<Vec<u8>>> {
     match File::open(rt, path) {
         Ok(mut file) => Ok(Some(first_octets(rt.alloc(), &mut file)?)),
         Err(error) if error.kind() == ErrorKind::NotFound => Ok(None),

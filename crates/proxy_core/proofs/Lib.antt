@@ -4,5 +4,6 @@ pub mod OrderLemmas
 pub mod PartLemmas
 pub mod PutLemmas
 pub mod RunLemmas
+pub mod TrustLemmas
 pub mod VerdictFacts
 pub mod WaitLemmas

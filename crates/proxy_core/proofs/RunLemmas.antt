@@ -20,7 +20,8 @@ use Rattle.proxy_core.specs.declared.keys.WaitingKey.{WaitingKey}
 use Rattle.proxy_core.specs.declared.waits.Waiting.{Waiting}
 use Rattle.proxy_core.specs.declared.outs.ProxyOut.{ProxyOut}
 use Rattle.proxy_core.specs.declared.outs.ProxyOut.TheVariants.{Up}
-use Rattle.proxy_core.specs.Everyone.{everyone}
+use Rattle.pcp_base.specs.declared.addresses.Prefix.{Prefix}
+use Rattle.proxy_core.specs.Everyone.{judged_by}
 use Rattle.proxy_core.specs.Keys.{is_key, key_of}
 use Rattle.proxy_core.specs.Relays.{Relay, Step, new_relay, at, hearing, judged, asked, matched, answered, own_answer, waiting_of, reply_to, on_client, announced, response_from}
 use Rattle.proxy_core.specs.Runs.{Event, next, run, WentUp, StandsForPair, IsAnnouncement, RepliesStandForPairs}
@@ -38,47 +39,53 @@ pub record Same (a b : Relay) : Type 0 where
   pub own : a.own ≡ b.own
   pub server : a.server ≡ b.server
   pub key : a.key ≡ b.key
+  pub third_party : a.third_party ≡ b.third_party
 
 same-forwarded : (relay : Relay) (d : Datagram) (items : List Item) (k : WaitingKey) (text : List ℕ) (b : Bool) →
     Same (cond {A = Step ProxyOut} b
     (record { relay = relay; out = own_answer relay d (Refused (parsed NoResources)) })
     (record { relay = record relay { waits = kept k (waiting_of d items relay.last) relay.waits }; out = Up text })).relay relay
-same-forwarded relay d items k text true = record { own = refl; server = refl; key = refl }
-same-forwarded relay d items k text false = record { own = refl; server = refl; key = refl }
+same-forwarded relay d items k text true = record { own = refl; server = refl; key = refl; third_party = refl }
+same-forwarded relay d items k text false = record { own = refl; server = refl; key = refl; third_party = refl }
 
 same-asked : (relay : Relay) (d : Datagram) (items : List Item) (k : Option WaitingKey) → Same (asked relay d items k).relay relay
-same-asked relay d items None = record { own = refl; server = refl; key = refl }
+same-asked relay d items None = record { own = refl; server = refl; key = refl; third_party = refl }
 same-asked relay d items (Some k) =
     same-forwarded relay d items k (up_text relay.key relay.own d items) (is_full k relay.waits || nat_lt MESSAGE_OCTETS (length (up_text relay.key relay.own d items)))
 
 same-judged : (relay : Relay) (d : Datagram) (v : Verdict) → Same (judged relay d v).relay relay
-same-judged relay d Silent = record { own = refl; server = refl; key = refl }
-same-judged relay d (Refuse r) = record { own = refl; server = refl; key = refl }
+same-judged relay d Silent = record { own = refl; server = refl; key = refl; third_party = refl }
+same-judged relay d (Refuse r) = record { own = refl; server = refl; key = refl; third_party = refl }
 same-judged relay d (Asked place ask items) = same-asked relay d items (up_key relay.key d items)
 
 same-matched : (relay : Relay) (d : Datagram) (r : Response) (k : Option WaitingKey) → Same (matched relay d r k).relay relay
-same-matched relay d r None = record { own = refl; server = refl; key = refl }
-same-matched relay d r (Some k) = record { own = refl; server = refl; key = refl }
+same-matched relay d r None = record { own = refl; server = refl; key = refl; third_party = refl }
+same-matched relay d r (Some k) = record { own = refl; server = refl; key = refl; third_party = refl }
 
 same-answered : (relay : Relay) (d : Datagram) (r : Option Response) → Same (answered relay d r).relay relay
-same-answered relay d None = record { own = refl; server = refl; key = refl }
+same-answered relay d None = record { own = refl; server = refl; key = refl; third_party = refl }
 same-answered relay d (Some r) =
     let there = same-matched (hearing relay r.epoch) d r (key_of r.body (third_of r.items)) in
-    record { own = there.own; server = there.server; key = there.key }
+    record { own = there.own; server = there.server; key = there.key; third_party = there.third_party }
 
 pub same-next : (relay : Relay) (e : Event) → Same (next relay e) relay
-same-next relay (Client d now) = let there = same-judged (at relay now) d (verdict_of everyone d.peer d.octets) in
-    record { own = there.own; server = there.server; key = there.key }
+same-next relay (Client d now) = let there = same-judged (at relay now) d (verdict_of (judged_by relay.third_party) d.peer d.octets) in
+    record { own = there.own; server = there.server; key = there.key; third_party = there.third_party }
 same-next relay (Server d now) = let there = same-answered (at relay now) d (response_from relay.server d) in
-    record { own = there.own; server = there.server; key = there.key }
-same-next relay (Tick now) = record { own = refl; server = refl; key = refl }
+    record { own = there.own; server = there.server; key = there.key; third_party = there.third_party }
+same-next relay (Tick now) = record { own = refl; server = refl; key = refl; third_party = refl }
 
 same-run : (relay : Relay) (es : List Event) → Same (run relay es) relay
-same-run relay [] = record { own = refl; server = refl; key = refl }
+same-run relay [] = record { own = refl; server = refl; key = refl; third_party = refl }
 same-run relay (e ∷ es) =
     let front = same-next relay e in
     let rest = same-run (next relay e) es in
-    record { own = rest.own ∙ front.own; server = rest.server ∙ front.server; key = rest.key ∙ front.key }
+    record {
+      own = rest.own ∙ front.own;
+      server = rest.server ∙ front.server;
+      key = rest.key ∙ front.key;
+      third_party = rest.third_party ∙ front.third_party;
+    }
 
 run-more : (relay : Relay) (es : List Event) (e : Event) → run relay (es ++ e ∷ []) ≡ next (run relay es) e
 run-more relay [] e = refl
@@ -147,7 +154,7 @@ all-map P Q f (e ∷ es) a = (f e a.0, all-map P Q f es a.1)
 
 -- a client's request
 went : (start : Relay) (events : List Event) (request : Datagram) (now place : ℕ) (ask : Ask) (items : List Item) →
-    verdict_of everyone request.peer request.octets ≡ Asked place ask items →
+    verdict_of (judged_by start.third_party) request.peer request.octets ≡ Asked place ask items →
     (on_client (run start events) request now).out ≡ Up (up_text start.key start.own request items) →
     WentUp start (events ++ Client request now ∷ []) request items
 went start events request now place ask items judged out = record {
@@ -172,7 +179,7 @@ module _ (start : Relay) (events : List Event) (d : Datagram) (now : ℕ) where
   Gives step = (on_client (run start events) d now ≡ step) → AllByRecursion After step.relay.waits
 
   gives-forwarded : (place : ℕ) (ask : Ask) (items : List Item) (k : WaitingKey) (b : Bool) → AllByRecursion After here.waits →
-      verdict_of everyone d.peer d.octets ≡ Asked place ask items → up_key here.key d items ≡ Some k →
+      verdict_of (judged_by here.third_party) d.peer d.octets ≡ Asked place ask items → up_key here.key d items ≡ Some k →
       Gives (cond {A = Step ProxyOut} b
       (record { relay = here; out = own_answer here d (Refused (parsed NoResources)) })
       (record { relay = record here { waits = kept k (waiting_of d items here.last) here.waits }; out = Up (up_text here.key here.own d items) }))
@@ -185,7 +192,7 @@ module _ (start : Relay) (events : List Event) (d : Datagram) (now : ℕ) where
           request = d;
           items = items;
           since = here.last;
-          asked_up = went start events d now place ask items v out;
+          asked_up = went start events d now place ask items (ap (λ t. verdict_of (judged_by t) d.peer d.octets) (sym same.third_party) ∙ v) out;
           key = ap (λ key. up_key key d items) (sym same.key) ∙ h;
           waits = refl;
         },
@@ -193,19 +200,19 @@ module _ (start : Relay) (events : List Event) (d : Datagram) (now : ℕ) where
       )
 
   gives-asked : (place : ℕ) (ask : Ask) (items : List Item) (k : Option WaitingKey) → AllByRecursion After here.waits →
-      verdict_of everyone d.peer d.octets ≡ Asked place ask items → up_key here.key d items ≡ k → Gives (asked here d items k)
+      verdict_of (judged_by here.third_party) d.peer d.octets ≡ Asked place ask items → up_key here.key d items ≡ k → Gives (asked here d items k)
   gives-asked place ask items None all v h is = all
   gives-asked place ask items (Some k) all v h is =
       gives-forwarded place ask items k (is_full k here.waits || nat_lt MESSAGE_OCTETS (length (up_text here.key here.own d items))) all v h is
 
-  gives-judged : (v : Verdict) → AllByRecursion After here.waits → verdict_of everyone d.peer d.octets ≡ v → Gives (judged here d v)
+  gives-judged : (v : Verdict) → AllByRecursion After here.waits → verdict_of (judged_by here.third_party) d.peer d.octets ≡ v → Gives (judged here d v)
   gives-judged Silent all v is = all
   gives-judged (Refuse r) all v is = all
   gives-judged (Asked place ask items) all v is = gives-asked place ask items (up_key here.key d items) all v refl is
 
   client-stands : AllByRecursion (Stands start events) (run start events).waits → AllByRecursion After (on_client (run start events) d now).relay.waits
   client-stands all =
-      gives-judged (verdict_of everyone d.peer d.octets)
+      gives-judged (verdict_of (judged_by here.third_party) d.peer d.octets)
       (all-map (Stands start events) After (λ e s. stands-more start events (Client d now ∷ []) e s) (run start events).waits all) refl refl
 
 matched-all : (P : Entry → Type 0) (relay : Relay) (d : Datagram) (r : Response) (k : Option WaitingKey) → AllByRecursion P relay.waits → AllByRecursion P (matched relay d r k).relay.waits
@@ -236,20 +243,21 @@ from-there start events (e ∷ rest) all =
     let group : (events ++ e ∷ []) ++ rest ≡ events ++ e ∷ rest = append_assoc events (e ∷ []) rest in
     subst (λ es. AllByRecursion (Stands start es) (run start es).waits) group all-rest
 
-pub all-stand : (own server : Address) (key : List ℕ) (events : List Event) → AllByRecursion (Stands (new_relay own server key) events) (run (new_relay own server key) events).waits
-all-stand own server key events = from-there (new_relay own server key) [] events tt
+pub all-stand : (own server : Address) (key : List ℕ) (third_party : List Prefix) (events : List Event)
+    → AllByRecursion (Stands (new_relay own server key third_party) events) (run (new_relay own server key third_party) events).waits
+all-stand own server key third_party events = from-there (new_relay own server key third_party) [] events tt
 
 -- ---- what is sent down
 
-module _ (own server : Address) (key : List ℕ) (events : List Event) (d sent : Datagram) where
+module _ (own server : Address) (key : List ℕ) (third_party : List Prefix) (events : List Event) (d sent : Datagram) where
   abbrev begin : Relay
-  begin = new_relay own server key
+  begin = new_relay own server key third_party
 
   pair-at : (r : Response) (k : WaitingKey) (o : Option Waiting) → response_from server d ≡ Some r → key_of r.body (third_of r.items) ≡ Some k →
       waiting_at k (run begin events).waits ≡ o → option_map (reply_to r) o ≡ Some sent → StandsForPair begin events d sent
   pair-at r k None read is h out = absurd cc
   pair-at r k (Some w) read is h out =
-      let at_key = found (Stands begin events) (is_key k) (run begin events).waits w (all-stand own server key events) h in
+      let at_key = found (Stands begin events) (is_key k) (run begin events).waits w (all-stand own server key third_party events) h in
       let same : k ≡ at_key.0 = equal-key k at_key.0 at_key.2 in
       let s = at_key.1 in
       let told : reply_to r w ≡ sent = cc in
@@ -276,7 +284,8 @@ module _ (own server : Address) (key : List ℕ) (events : List Event) (d sent :
   out-answered relay (Some r) w read out = out-matched (hearing relay r.epoch) r (key_of r.body (third_of r.items)) w read refl out
 
 pub replies-stand : RepliesStandForPairs
-replies-stand own server key events d now sent out =
-    let same = same-run (new_relay own server key) events in
-    out-answered own server key events d sent (at (run (new_relay own server key) events) now) (response_from (run (new_relay own server key) events).server d)
+replies-stand own server key third_party events d now sent out =
+    let begin = new_relay own server key third_party in
+    let same = same-run begin events in
+    out-answered own server key third_party events d sent (at (run begin events) now) (response_from (run begin events).server d)
     refl (ap (λ s. response_from s d) (sym same.server)) out

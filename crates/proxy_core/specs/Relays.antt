@@ -3,6 +3,7 @@
 use Rattle.std.specs.Prelude.{ℕ, ◌+◌, ◌-◌, ◌/◌, ◌^◌, max, min, nat_lt, ◌||◌, List, [], length, Option, Some, None, if◌then◌else◌}
 use Rattle.std.specs.Option.{is_none, option_map}
 use Rattle.pcp_base.specs.declared.addresses.Address.{Address}
+use Rattle.pcp_base.specs.declared.addresses.Prefix.{Prefix}
 use Rattle.pcp_base.specs.declared.asks.Answer.{Answer}
 use Rattle.pcp_base.specs.declared.asks.Answer.TheVariants.{Refused, Announced}
 use Rattle.pcp_base.specs.declared.codes.Code.TheVariants.{NoResources}
@@ -25,7 +26,7 @@ use Rattle.proxy_core.specs.declared.epochs.Heard.{Heard}
 use Rattle.proxy_core.specs.declared.keys.WaitingKey.{WaitingKey}
 use Rattle.proxy_core.specs.declared.waits.Waiting.{Waiting}
 use Rattle.proxy_core.specs.Down.{down_text}
-use Rattle.proxy_core.specs.Everyone.{everyone}
+use Rattle.proxy_core.specs.Everyone.{judged_by}
 use Rattle.proxy_core.specs.Keys.{key_of}
 use Rattle.proxy_core.specs.Up.{up_key, up_text}
 use Rattle.proxy_core.specs.Waits.{Waits, waiting_at, others, kept, is_full, still}
@@ -37,6 +38,8 @@ pub record Relay : Type 0 where
   pub server : Address
   -- 32 octets that no client knows
   pub key : List ℕ
+  -- whose THIRD_PARTY is passed on
+  pub third_party : List Prefix
   -- the last epoch that the server told, and when
   pub heard : Option Heard
   pub waits : Waits
@@ -44,9 +47,16 @@ pub record Relay : Type 0 where
   pub last : ℕ
 
 -- a relay that heard nothing
-abbrev pub new_relay : Address → Address → List ℕ → Relay
-new_relay own server key =
-    record { own = own; server = server; key = key; heard = None; waits = []; last = 0 }
+abbrev pub new_relay : Address → Address → List ℕ → List Prefix → Relay
+new_relay own server key third_party = record {
+  own = own;
+  server = server;
+  key = key;
+  third_party = third_party;
+  heard = None;
+  waits = [];
+  last = 0;
+}
 
 -- the relay at a time
 abbrev pub at : Relay → ℕ → Relay
@@ -110,7 +120,8 @@ judged relay d (Asked place ask items) = asked relay d items (up_key relay.key d
 
 -- a datagram came from a client
 abbrev pub on_client : Relay → Datagram → ℕ → Step ProxyOut
-on_client relay d now = judged (at relay now) d (verdict_of everyone d.peer d.octets)
+on_client relay d now =
+    judged (at relay now) d (verdict_of (judged_by relay.third_party) d.peer d.octets)
 
 -- ---- datagrams of the server
 

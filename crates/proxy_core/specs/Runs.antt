@@ -3,6 +3,7 @@
 use Rattle.std.specs.Prelude.{◌≡◌, ℕ, List, [], ◌∷◌, ◌++◌, Some, None, ◌⊎◌}
 use Rattle.std.specs.Option.{is_none}
 use Rattle.pcp_base.specs.declared.addresses.Address.{Address}
+use Rattle.pcp_base.specs.declared.addresses.Prefix.{Prefix}
 use Rattle.pcp_base.specs.declared.asks.Ask.{Ask}
 use Rattle.pcp_base.specs.declared.datagrams.Datagram.{Datagram}
 use Rattle.pcp_options.specs.declared.options.Item.{Item}
@@ -12,7 +13,7 @@ use Rattle.pcp_options.specs.Asking.{third_of}
 use Rattle.pcp_options.specs.Verdicts.{verdict_of}
 use Rattle.proxy_core.specs.declared.outs.ProxyOut.TheVariants.{Up}
 use Rattle.proxy_core.specs.Down.{down_text}
-use Rattle.proxy_core.specs.Everyone.{everyone}
+use Rattle.proxy_core.specs.Everyone.{judged_by}
 use Rattle.proxy_core.specs.Keys.{key_of}
 use Rattle.proxy_core.specs.Relays.{Relay, new_relay, on_client, on_server, on_tick, announced, response_from}
 use Rattle.proxy_core.specs.Up.{up_key, up_text}
@@ -43,7 +44,8 @@ pub record WentUp (start : Relay) (events : List Event) (request : Datagram) (it
   pub came : events ≡ before ++ Client request now ∷ behind
   pub place : ℕ
   pub ask : Ask
-  pub judged : verdict_of everyone request.peer request.octets ≡ Asked place ask items
+  pub judged : verdict_of (judged_by start.third_party) request.peer request.octets
+      ≡ Asked place ask items
   pub went : (on_client (run start before) request now).out
       ≡ Up (up_text start.key start.own request items)
 
@@ -74,7 +76,8 @@ pub record IsAnnouncement (server : Address) (d sent : Datagram) : Type 0 where
 -- whatever came before, and whatever comes now
 abbrev pub RepliesStandForPairs : Type 0
 RepliesStandForPairs =
-    (own server : Address) (key : List ℕ) (events : List Event) (d : Datagram) (now : ℕ)
-    (sent : Datagram)
-    → (on_server (run (new_relay own server key) events) d now).out ≡ Some sent
-    → StandsForPair (new_relay own server key) events d sent ⊎ IsAnnouncement server d sent
+    (own server : Address) (key : List ℕ) (third_party : List Prefix) (events : List Event)
+    (d : Datagram) (now : ℕ) (sent : Datagram)
+    → (on_server (run (new_relay own server key third_party) events) d now).out ≡ Some sent
+    → StandsForPair (new_relay own server key third_party) events d sent
+    ⊎ IsAnnouncement server d sent

@@ -1,7 +1,7 @@
 //! The configuration by which a relay judges requests.
 ghost use Rattle.std.specs.Prelude.{◌≡◌, true, IfOk};
 ghost use Rattle.pcp_base.specs.Pairing.{holds};
-ghost use Rattle.proxy_core.specs.Everyone.{every_address, everyone};
+ghost use Rattle.proxy_core.specs.Everyone.{every_address, judged_by};
 
 use pcp_base::{
     Address, Addresses, Config, External, Externals, Memory, Orders, Prefix, Prefixes, Subscriber,
@@ -15,10 +15,10 @@ const EVERY_ADDRESS: Prefix = Prefix {
     address: Address([0; 16]),
 };
 
-/// A configuration in which every address may ask, also for every other: the permission is the
-/// upstream server's to give. No lease is made by it.
-pub(crate) fn everyone(alloc: Global) -> Result<Config, Memory>
-    ensures { IfOk result (λ config. config ≡ everyone) }
+/// A configuration in which every address may ask, and what has one of these prefixes also for
+/// others. Whether the relay itself may is the upstream server's to say. No lease is made by it.
+pub(crate) fn judged_by(alloc: Global, third_party: Prefixes) -> Result<Config, Memory>
+    ensures { IfOk result (λ config. config ≡ judged_by third_party) }
 {
     let external = External {
         address: Address([0; 16]),
@@ -33,7 +33,7 @@ pub(crate) fn everyone(alloc: Global) -> Result<Config, Memory>
         quota: 1,
         lifetime_min: 1,
         lifetime_max: 1,
-        third_party: Prefixes::of(vec![in alloc; EVERY_ADDRESS]?),
+        third_party,
         externals: Externals::of(vec![in alloc; external]?),
         subscribers: Subscribers::of(vec![in alloc; subscriber]?),
         listen: Addresses::of(Vec::new(alloc)),

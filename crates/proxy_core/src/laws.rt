@@ -8,8 +8,8 @@ pub fn replies_stand_for_pairs()
     ensures { RepliesStandForPairs }
 {}
 
-/// Each step of a relay keeps its addresses and its key, and that what waits is a client's request,
-/// judged as every address may ask, under the key of its reply.
+/// Each step of a relay keeps its addresses, its key and its prefixes, and that what waits is a client's request,
+/// judged by whose THIRD_PARTY the relay passes on, under the key of its reply.
 pub fn waits_are_kept()
     ensures { WaitsAreKept }
 {}

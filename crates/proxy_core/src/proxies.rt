@@ -2,7 +2,8 @@
 ghost use Rattle.std.specs.Prelude.{◌≡◌, ◌≤◌, [], length, max, Some, None, IfOk, OnErr, option_map};
 ghost use Rattle.pcp_codec.specs.declared.layout.TheConstants.{HEAD_OCTETS};
 ghost use Rattle.pcp_options.specs.Verdicts.{verdict_of};
-ghost use Rattle.proxy_core.specs.Everyone.{everyone};
+ghost use Rattle.pcp_base.specs.declared.configs.Config.{Config};
+ghost use Rattle.proxy_core.specs.Everyone.{judged_by};
 ghost use Rattle.pcp_base.specs.Refusals.{parsed};
 ghost use Rattle.pcp_base.specs.declared.codes.Code.TheVariants.{NoResources};
 ghost use Rattle.pcp_options.specs.Asking.{third_of};
@@ -15,13 +16,13 @@ ghost use Rattle.proxy_core.specs.WaitOrder.{AreWaits};
 
 use crate::downstream::{announced, reply_to};
 use crate::epochs::Heard;
-use crate::everyone::everyone;
+use crate::everyone::judged_by;
 use crate::keys::{WaitingKey, key_of};
 use crate::outs::ProxyOut;
 use crate::upstream::{third_in, up_key, up_text};
 use crate::waits::{MOST_WAITING, Waiting, Waits, drop_over, is_full, keep};
 use lru::LruCache;
-use pcp_base::{Address, Answer, Ask, Code, Config, Datagram, Memory, Octets, Refusal};
+use pcp_base::{Address, Answer, Ask, Code, Config, Datagram, Memory, Octets, Prefixes, Refusal};
 use pcp_codec::MESSAGE_OCTETS;
 use pcp_options::{Items, Response, ResponseRefused, Verdict, judge, read_response, write_reply};
 use std::alloc::Global;
@@ -82,23 +83,31 @@ pub struct Proxy {
 
 impl Model for Proxy {
     ghost use Rattle.std.specs.Prelude.{◌≡◌};
-    ghost use Rattle.proxy_core.specs.Everyone.{everyone};
-    ghost use Rattle.proxy_core.specs.Parts.{relay_of};
+    ghost use Rattle.proxy_core.specs.Everyone.{judged_by};
+    ghost use Rattle.proxy_core.specs.Parts.{relay_of, trusting};
     ghost use Rattle.proxy_core.specs.Relays.{Relay};
     ghost use Rattle.proxy_core.specs.WaitOrder.{AreWaits};
 
     ghost Value = { Relay };
 
-    ghost view = { λ p. relay_of p.terms p.waits.entries };
+    ghost view = { λ p. trusting p.judging.third_party (relay_of p.terms p.waits.entries) };
 
-    ghost invariant = { λ p. AreWaits p.terms.last_ms p.waits × (p.judging ≡ everyone) };
+    ghost invariant = { λ p. AreWaits p.terms.last_ms p.waits
+        × (p.judging ≡ judged_by p.judging.third_party) };
 }
 
 impl Proxy {
-    /// A relay with this address of its own, this upstream server, and a key that no client knows.
-    /// It has heard no epoch, and nothing waits.
-    pub fn new(alloc: Global, own: Address, server: Address, key: [u8; 32]) -> Result<Proxy, Memory>
-        ensures { IfOk result (λ relay. relay ≡ new_relay own server key) }
+    /// A relay with this address of its own, this upstream server, a key that no client knows, and
+    /// the prefixes of those whose THIRD_PARTY it passes on. It has heard no epoch, and nothing
+    /// waits.
+    pub fn new(
+        alloc: Global,
+        own: Address,
+        server: Address,
+        key: [u8; 32],
+        third_party: Prefixes,
+    ) -> Result<Proxy, Memory>
+        ensures { IfOk result (λ relay. relay ≡ new_relay own server key third_party) }
     {
         Ok(Proxy {
             terms: RelayTerms {
@@ -108,17 +117,18 @@ impl Proxy {
                 heard: None,
                 last_ms: 0,
             },
-            judging: everyone(alloc)?,
+            judging: judged_by(alloc, third_party)?,
             waits: no_waits(alloc)?,
         })
     }
 
     /// What is to be sent for a datagram of a client. It is judged as a server does, but every
-    /// address may ask (RFC 6887, section 8.2). What is refused and ANNOUNCE are answered by the
-    /// relay itself, with the last epoch that it heard and the seconds since; MAP and PEER go
-    /// upstream, with code 8 (NO_RESOURCES) in their place where 4,096 others wait, or the
-    /// rewritten request would pass 1100 octets. `Nothing` where the datagram is silent, or an
-    /// answer of the relay's own is due and no epoch was heard.
+    /// address may ask (RFC 6887, section 8.2), and what has one of the relay's prefixes also for
+    /// others (section 13.1). What is refused and ANNOUNCE are answered by the relay itself, with
+    /// the last epoch that it heard and the seconds since; MAP and PEER go upstream, with code 8
+    /// (NO_RESOURCES) in their place where 4,096 others wait, or the rewritten request would pass
+    /// 1100 octets. `Nothing` where the datagram is silent, or an answer of the relay's own is due
+    /// and no epoch was heard.
     pub fn from_client(
         &mut self,
         alloc: Global,
@@ -191,7 +201,8 @@ fn answer_client(
     datagram: &Datagram,
     verdict: Verdict,
 ) -> Result<ProxyOut, Memory>
-    requires judged { verdict ≡ verdict_of everyone datagram.now.peer datagram.now.octets }
+    requires judged { (config : Config)
+        × (verdict ≡ verdict_of config datagram.now.peer datagram.now.octets) }
     requires kept { AreWaits terms.now.last_ms waits.old }
     ensures ok { IfOk result (λ out.
         judged (relay_of terms.now waits.old.entries) datagram.now verdict

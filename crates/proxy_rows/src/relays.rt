@@ -1,5 +1,5 @@
 //! That a relay's texts mean these octets, and that its calls succeed with ample memory.
-use pcp_base::{Address, Code, Datagram, Memory, Nonce, Octets};
+use pcp_base::{Address, Code, Datagram, Memory, Nonce, Octets, Prefix, Prefixes};
 use proxy_core::{Proxy, ProxyOut, upstream_nonce, write_relayed};
 use std::alloc::Global;
 use std::test::Fail;
@@ -71,8 +71,14 @@ fn under(alloc: Global, head: &[u8; 24], message: &[u8]) -> Result<Vec<u8>, Memo
     Ok(octets)
 }
 
+// The relay passes on the THIRD_PARTY of 10.0.0.7.
 fn new_relay(alloc: Global) -> Result<Proxy, Memory> {
-    Proxy::new(alloc, OWN, SERVER, [7; 32])
+    let trusted = Prefix {
+        bits: 128,
+        address: Address::v4(10, 0, 0, 7),
+    };
+    let third_party = Prefixes::of(vec![in alloc; trusted]?);
+    Proxy::new(alloc, OWN, SERVER, [7; 32], third_party)
 }
 
 // What goes up of the request of 10.0.0.last by this door; nothing is an empty text.
@@ -182,6 +188,33 @@ fn is_nothing(out: &ProxyOut) -> bool {
 fn announcements(rt: HostRuntime) -> Result<(), Fail> {
     let alloc = rt.alloc();
     assert!(rt; is_announced(alloc, &mut new_relay(alloc)?)?);
+    Ok(())
+}
+
+// The request of 10.0.0.last for 10.0.0.9.
+fn for_another(alloc: Global, last: u8) -> Result<Datagram, Memory> {
+    let mut octets = request(alloc, last, DOOR)?.octets.items().to_vec(alloc)?;
+    octets.extend_from_slice(&[1, 0, 0, 16])?;
+    octets.extend_from_slice(&Address::v4(10, 0, 0, 9).0)?;
+    datagram(alloc, Address::v4(10, 0, 0, last), DOOR, &octets)
+}
+
+// The code of the relay's own reply to that; none where the request goes up.
+fn refused(alloc: Global, relay: &mut Proxy, last: u8) -> Result<Option<u8>, Memory> {
+    match relay.from_client(alloc, &for_another(alloc, last)?, 2_000)? {
+        ProxyOut::Reply(reply) => Ok(reply.octets.items().get(3).copied()),
+        _ => Ok(None),
+    }
+}
+
+// 10.0.0.7 may ask for another host, and nobody else.
+#[test]
+fn third_parties(rt: HostRuntime) -> Result<(), Fail> {
+    let alloc = rt.alloc();
+    let mut relay = new_relay(alloc)?;
+    relay.from_server(alloc, &datagram(alloc, SERVER, 0, &TOLD)?, 1_900)?;
+    assert!(rt; refused(alloc, &mut relay, 7)? == None);
+    assert!(rt; refused(alloc, &mut relay, 6)? == Some(5));
     Ok(())
 }
 

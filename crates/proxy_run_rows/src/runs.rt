@@ -72,7 +72,18 @@ fn run<R: Wait>(
 ) -> Result<Ran, Memory> {
     let (mut from, mut up, mut clock) = (from, up, clock);
     let mut down = outbox(alloc)?;
-    let status = run_proxy(rt, alloc, words, &mut down, &mut up, &mut from, &mut clock);
+    let mut dropped = 0;
+    let status = run_proxy(
+        rt,
+        alloc,
+        words,
+        None,
+        &mut down,
+        &mut up,
+        &mut from,
+        &mut clock,
+        &mut dropped,
+    );
     Ok(Ran { status, down, up })
 }
 

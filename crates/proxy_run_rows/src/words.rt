@@ -1,6 +1,7 @@
 //! Words of the relays' commands, and their help.
 use pcp_base::{Address, Memory};
-use proxy_commands::{CascadeCommand, ProxyCommand, cascade_command_of, command_of, help_of};
+use proxy_commands::{CascadeCommand, ProxyCommand, cascade_command_of, command_of};
+use relay_words::{ProxyAsk, cascade_ask_of, help_of, key_file_of, proxy_ask_of};
 use std::alloc::Global;
 use std::test::Fail;
 
@@ -159,5 +160,113 @@ fn help_has_an_example(rt: HostRuntime) -> Result<(), Fail> {
         )?
     );
     assert!(rt; help_of(alloc, &words_of(alloc, "proxy")?)?.is_none());
+    Ok(())
+}
+
+// What a `proxy` says in front of its options.
+static FRONT: &str = "proxy --server 192.0.2.9 --own 10.0.0.2 --inner 10.0.0.1";
+
+static KEY: &str = "000102030405060708090a0b0c0d0e0f101112131415161718191a1b1c1d1e1f";
+
+// Options of it, and whether it is a command with them and a file that has the key.
+static OPTIONS: [(&str, bool); 14] = [
+    ("--key-file FILE", true),
+    ("--key-file FILE --key-file FILE", false),
+    ("--key-file FILE --rate 1", true),
+    ("--rate 100000 --key-file FILE", true),
+    ("--rate 0 --key-file FILE", false),
+    ("--rate 100001 --key-file FILE", false),
+    ("--rate 020 --key-file FILE", false),
+    ("--rate 1 --rate 1 --key-file FILE", false),
+    (
+        "--third-party 10.0.0.0/8 --third-party 2001:db8::/32 --key-file FILE",
+        true,
+    ),
+    ("--third-party 10.0.0.0/33 --key-file FILE", false),
+    ("--inner 10.0.1.1 --inner fe80::1 --key-file FILE", true),
+    ("--inner host --key-file FILE", false),
+    ("--rate 1", false),
+    ("--key-file", false),
+];
+
+fn read_options(
+    alloc: Global,
+    options: &str,
+    filed: Option<&str>,
+) -> Result<Option<ProxyAsk>, Memory> {
+    let mut words = words_of(alloc, FRONT)?;
+    for word in options.split(' ') {
+        words.push(String::from_str(alloc, word)?)?;
+    }
+    proxy_ask_of(alloc, &words, filed)
+}
+
+#[test]
+fn options_among_the_words(rt: HostRuntime) -> Result<(), Fail> {
+    let alloc = rt.alloc();
+    for (options, is) in &OPTIONS {
+        let found = read_options(alloc, options, Some(KEY))?;
+        assert!(rt; found.is_some() == *is, "{options}");
+    }
+    // no file, and one without a key
+    assert!(rt; read_options(alloc, "--key-file FILE", None)?.is_none());
+    assert!(rt; read_options(alloc, "--key-file FILE", Some("07"))?.is_none());
+    Ok(())
+}
+
+#[test]
+fn what_options_say(rt: HostRuntime) -> Result<(), Fail> {
+    let alloc = rt.alloc();
+    let text =
+        "--inner 10.0.1.1 --third-party 10.0.0.5/32 --rate 7 --inner 10.0.2.1 --key-file FILE";
+    let ask = read_options(alloc, text, Some(KEY))?.ok_or("a command")?;
+    assert!(rt; ask.command.inner == Address::v4(10, 0, 0, 1));
+    assert!(rt; ask.command.key[31] == 31);
+    let inner = [Address::v4(10, 0, 1, 1), Address::v4(10, 0, 2, 1)];
+    assert!(rt; ask.more.inner.items() == inner.as_slice());
+    assert!(rt; ask.more.third_party.items().len() == 1 && ask.more.rate == 7);
+    let text = "proxy --key-file FILE";
+    assert!(rt; key_file_of(alloc, &words_of(alloc, text)?)? == Some("FILE"));
+    Ok(())
+}
+
+// As many options as may stand, and one more.
+fn many(alloc: Global, name: &str, value: &str, count: u32) -> Result<bool, Memory> {
+    let mut words = words_of(alloc, FRONT)?;
+    for word in ["--key", KEY] {
+        words.push(String::from_str(alloc, word)?)?;
+    }
+    for _ in 0..count {
+        words.push(String::from_str(alloc, name)?)?;
+        words.push(String::from_str(alloc, value)?)?;
+    }
+    Ok(proxy_ask_of(alloc, &words, None)?.is_some())
+}
+
+#[test]
+fn most_options(rt: HostRuntime) -> Result<(), Fail> {
+    let alloc = rt.alloc();
+    assert!(rt; many(alloc, "--third-party", "10.0.0.0/8", 16)?);
+    assert!(rt; !many(alloc, "--third-party", "10.0.0.0/8", 17)?);
+    // beside the first one
+    assert!(rt; many(alloc, "--inner", "10.0.1.1", 15)?);
+    assert!(rt; !many(alloc, "--inner", "10.0.1.1", 16)?);
+    Ok(())
+}
+
+// A cascade has no prefixes.
+#[test]
+fn cascades_pass_none_on(rt: HostRuntime) -> Result<(), Fail> {
+    let alloc = rt.alloc();
+    for (more, is) in [("--rate 5", true), ("--third-party 10.0.0.0/8", false)] {
+        let mut words = words_of(alloc, CASCADE_FRONT)?;
+        for word in "--low 20000 --high 29999".split(' ').chain(more.split(' ')) {
+            words.push(String::from_str(alloc, word)?)?;
+        }
+        assert!(rt;
+            cascade_ask_of(alloc, &words, None)?.is_some() == is,
+            "{more}"
+        );
+    }
     Ok(())
 }

@@ -17,7 +17,8 @@ use Rattle.proxy_core.specs.declared.epochs.Heard.{Heard}
 use Rattle.proxy_core.specs.declared.keys.WaitingKey.{WaitingKey}
 use Rattle.proxy_core.specs.declared.outs.ProxyOut.{ProxyOut}
 use Rattle.proxy_core.specs.declared.outs.ProxyOut.TheVariants.{Nothing, Reply, Up}
-use Rattle.proxy_core.specs.Everyone.{everyone}
+use Rattle.pcp_base.specs.declared.addresses.Prefix.{Prefix}
+use Rattle.proxy_core.specs.Everyone.{judged_by}
 use Rattle.proxy_core.specs.Relays.{Relay, Step, answer_at, asked, at, judged, new_relay, on_client, on_server, own_answer, waiting_of}
 use Rattle.proxy_core.specs.Runs.{Event, RepliesStandForPairs, next, run}
 use Rattle.proxy_core.specs.Runs.Event.{Client, Server, Tick}
@@ -25,6 +26,8 @@ use Rattle.proxy_core.specs.Up.{up_key, up_text}
 use Rattle.proxy_core.specs.Waits.{is_full, kept}
 use Rattle.proxy_runs.specs.Answers.{Answers, DownIsAnswered, IsAnswered}
 use Rattle.proxy_runs.specs.Proxying.{proxying}
+use Rattle.relay_rates.specs.Rates.{new_gate}
+use Rattle.relay_rates.specs.Sifting.{SendsDownSifted, passing}
 use Rattle.relay_runs.specs.Machines as machines
 use Rattle.relay_runs.specs.Sending.{down_by, down_for, down_for_all}
 
@@ -80,16 +83,16 @@ all-said : (start : Relay) (front : List Event) (d : Datagram) (now : ℕ) (out 
 all-said start front d now None h = tt
 all-said start front d now (Some sent) h = (h sent refl, tt)
 
-one-answered : RepliesStandForPairs → (own server : Address) (key : List ℕ) (front : List Event) (e : Event) →
-    AllByRecursion (Answers (new_relay own server key) front e) (down_for proxying (run (new_relay own server key) front) e)
-one-answered law own server key front (Client d now) =
-    let start = new_relay own server key in
+one-answered : RepliesStandForPairs → (own server : Address) (key : List ℕ) (third_party : List Prefix) (front : List Event) (e : Event) →
+    AllByRecursion (Answers (new_relay own server key third_party) front e) (down_for proxying (run (new_relay own server key third_party) front) e)
+one-answered law own server key third_party front (Client d now) =
+    let start = new_relay own server key third_party in
     let relay = run start front in
-    all-to start front d now (on_client relay d now).out (judged-to (at relay now) d (verdict_of everyone d.peer d.octets))
-one-answered law own server key front (Server d now) =
-    let start = new_relay own server key in
-    all-said start front d now (on_server (run start front) d now).out (λ sent h. law own server key front d now sent h)
-one-answered law own server key front (Tick now) = tt
+    all-to start front d now (on_client relay d now).out (judged-to (at relay now) d (verdict_of (judged_by relay.third_party) d.peer d.octets))
+one-answered law own server key third_party front (Server d now) =
+    let start = new_relay own server key third_party in
+    all-said start front d now (on_server (run start front) d now).out (λ sent h. law own server key third_party front d now sent h)
+one-answered law own server key third_party front (Tick now) = tt
 
 -- ---- and for all
 
@@ -101,9 +104,9 @@ all-weaker : (P Q : Datagram → Type 0) (xs : List Datagram) → ((x : Datagram
 all-weaker P Q [] f h = tt
 all-weaker P Q (x ∷ xs) f h = (f x h.0, all-weaker P Q xs f h.1)
 
-module _ (law : RepliesStandForPairs) (own server : Address) (key : List ℕ) where
+module _ (law : RepliesStandForPairs) (own server : Address) (key : List ℕ) (third_party : List Prefix) where
   abbrev start : Relay
-  start = new_relay own server key
+  start = new_relay own server key third_party
 
   from-front : (front es : List Event) → AllByRecursion (IsAnswered start (front ++ es)) (down_for_all proxying (run start front) es)
   from-front front [] = tt
@@ -115,7 +118,11 @@ module _ (law : RepliesStandForPairs) (own server : Address) (key : List ℕ) wh
       (subst (λ (all : List Event). AllByRecursion (IsAnswered start all) (down_for_all proxying (run start (front ++ e ∷ [])) es)) (sym more) (from-front (front ++ e ∷ []) es)) in
       all-append (IsAnswered start (front ++ e ∷ es)) (down_for proxying (run start front) e) (down_for_all proxying (machines.next proxying (run start front) e) es)
       (all-weaker (Answers start front e) (IsAnswered start (front ++ e ∷ es)) (down_for proxying (run start front) e)
-      (λ sent h. record { before = front; event = e; behind = es; came = refl; answers = h }) (one-answered law own server key front e)) rest
+      (λ sent h. record { before = front; event = e; behind = es; came = refl; answers = h }) (one-answered law own server key third_party front e)) rest
 
-pub down-answered : RepliesStandForPairs → DownIsAnswered
-down-answered law own server key events = from-front law own server key [] events
+-- behind a gate, by what it sends for what passes
+pub down-answered : RepliesStandForPairs → SendsDownSifted proxying → DownIsAnswered
+down-answered law sifts own server key third_party rate events =
+    let start = new_relay own server key third_party in
+    let passed = passing (new_gate rate) events in
+    subst (AllByRecursion (IsAnswered start passed)) (sym (sifts (new_gate rate) start events)) (from-front law own server key third_party [] passed)

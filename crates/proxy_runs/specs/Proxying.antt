@@ -1,7 +1,8 @@
 -- A relay of THIRD_PARTY as its run sees it (our own).
-use Rattle.proxy_commands.specs.declared.commands.ProxyCommand.{ProxyCommand}
 use Rattle.proxy_core.specs.Relays.{Relay, Step, new_relay, on_client, on_server, on_tick}
+use Rattle.relay_rates.specs.Rates.{Rated, rated_begin}
 use Rattle.relay_runs.specs.Machines.{Machine, Move}
+use Rattle.relay_words.specs.declared.asks.ProxyAsk.{ProxyAsk}
 
 abbrev pub move_of : {X : Type 0} → Step X → Move Relay X
 move_of step = record { state = step.relay; out = step.out }
@@ -13,6 +14,7 @@ proxying = record {
   on_tick = λ relay now. (on_tick relay now).relay;
 }
 
--- the relay that a command begins
-abbrev pub relay_of : ProxyCommand → Relay
-relay_of command = new_relay command.own command.server command.key
+-- the relay that a command begins, behind its gate
+abbrev pub relay_of : ProxyAsk → Rated Relay
+relay_of ask = rated_begin ask.more.rate
+    (new_relay ask.command.own ask.command.server ask.command.key ask.more.third_party)

@@ -27,6 +27,8 @@ pub(crate) enum Form {
     Transport,
     /// Exactly so many hexadecimal digits.
     Digits(usize),
+    /// A prefix of hosts.
+    Prefix,
     /// A prefix of remote peers, and a port of theirs or none.
     Remote,
     /// Nothing.
@@ -43,6 +45,7 @@ impl fmt::Display for Form {
             Form::External => f.write_str("an external address of the configuration"),
             Form::Transport => f.write_str("tcp or udp"),
             Form::Digits(count) => write!(f, "{count} hexadecimal digits"),
+            Form::Prefix => f.write_str("a prefix such as 10.0.0.0/24"),
             Form::Remote => f.write_str("a prefix such as 198.51.100.0/24, and ,PORT or nothing"),
             Form::Flag => f.write_str("no value"),
             Form::Hex(most) => write!(f, "-, or hexadecimal digits, two an octet, at most {most}"),
@@ -62,6 +65,7 @@ impl Form {
             Form::Hex(most) => is_hex(text, most),
             Form::Transport => matches!(text, b"tcp" | b"udp"),
             Form::Digits(count) => text.len() == count && are_digits(text),
+            Form::Prefix => Prefix::read(text).is_ok(),
             Form::Remote => is_remote(text),
             Form::Flag => false,
         }

@@ -11,11 +11,24 @@ struct Choice {
     needed: bool,
 }
 
-/// The option that may be given several times.
-const MANY: &str = "filter";
+/// The relays.
+const RELAYS: [&str; 2] = ["proxy", "cascade"];
+
+/// The options of a relay that may be given up to [`MOST_TIMES`].
+const MANY_OF_RELAYS: [&str; 2] = ["inner", "third-party"];
+
+/// How often.
+const MOST_TIMES: usize = 16;
 
 /// The options whose values stand in words of their own.
-const APART: [&str; 4] = ["nonce", "nonce-file", "third-party", "filter"];
+const APART: [&str; 6] = [
+    "nonce",
+    "nonce-file",
+    "third-party",
+    "filter",
+    "rate",
+    "key-file",
+];
 
 /// Whom a client asks and from where, which its words may leave to the program.
 static TARGET: [Choice; 2] = [
@@ -125,9 +138,28 @@ static RELAY: [Choice; 4] = [
     Choice {
         name: "key",
         form: Form::Digits(64),
-        needed: true,
+        needed: false,
     },
 ];
+
+static GATE: [Choice; 2] = [
+    Choice {
+        name: "key-file",
+        form: Form::Path,
+        needed: false,
+    },
+    Choice {
+        name: "rate",
+        form: Form::Number(1, 100_000),
+        needed: false,
+    },
+];
+
+static TRUSTED: [Choice; 1] = [Choice {
+    name: "third-party",
+    form: Form::Prefix,
+    needed: false,
+}];
 
 static LOCALS: [Choice; 2] = [
     Choice {
@@ -175,8 +207,8 @@ fn choices_of(command: &str, words: &[String]) -> Option<Choices> {
         "unmap" if has_remote(words) => Some(groups_of(&TARGET, &TRIES, &MAPPING, &PEER)),
         "unmap" => Some(groups_of(&TARGET, &TRIES, &MAPPING, &MAP)),
         "announce" => Some(groups_of(&TARGET, &TRIES, &[], &[])),
-        "proxy" => Some(groups_of(&RELAY, &[], &[], &[])),
-        "cascade" => Some(groups_of(&RELAY, &LOCALS, &[], &[])),
+        "proxy" => Some(groups_of(&RELAY, &GATE, &TRUSTED, &[])),
+        "cascade" => Some(groups_of(&RELAY, &GATE, &LOCALS, &[])),
         _ => None,
     }
 }
@@ -228,7 +260,39 @@ pub fn tool_cause(alloc: Global, words: &[String]) -> Result<Option<String>, Mem
     if let Some(line) = missing_cause(alloc, choices, &given)? {
         return Ok(Some(line));
     }
+    if RELAYS.contains(&command.as_str()) {
+        return relay_cause(alloc, &given);
+    }
     nonce_cause(alloc, command.as_str(), &given)
+}
+
+/// Whether this option of the command may be given several times.
+fn may_repeat(command: &str, name: &str) -> bool {
+    if RELAYS.contains(&command) {
+        MANY_OF_RELAYS.contains(&name)
+    } else {
+        name == "filter"
+    }
+}
+
+/// How often the option is among these.
+fn times_of(name: &str, given: &[&str]) -> usize {
+    given.iter().filter(|other| **other == name).count()
+}
+
+/// What is wrong with the key of a relay, or with how often an option stands.
+fn relay_cause(alloc: Global, given: &[&str]) -> Result<Option<String>, Memory> {
+    for name in MANY_OF_RELAYS {
+        if times_of(name, given) > MOST_TIMES {
+            return Ok(Some(format!(in alloc; "--{name}: more than {MOST_TIMES} times")?));
+        }
+    }
+    let line = match (given.contains(&"key"), given.contains(&"key-file")) {
+        (true, true) => "--key and --key-file: one of both",
+        (false, false) => "--key: missing",
+        _ => return Ok(None),
+    };
+    Ok(Some(String::from_str(alloc, line)?))
 }
 
 /// Which word is none, and why; the options' names are left in `given`.
@@ -252,7 +316,7 @@ fn word_cause<'a>(
         let Some(choice) = choice_in(choices, name) else {
             return Ok(Some(format!(in alloc; "{word}: no option of {command}")?));
         };
-        if name != MANY && given.contains(&name) {
+        if !may_repeat(command, name) && given.contains(&name) {
             return Ok(Some(format!(in alloc; "--{name}: given twice")?));
         }
         if value.is_some() && APART.contains(&name) {

@@ -39,7 +39,7 @@ static WORDS: [(&str, &str); 12] = [
 ];
 
 // Words of tools, and what is told of them; nothing where no cause is found.
-static TOOLS: [(&str, &str); 21] = [
+static TOOLS: [(&str, &str); 27] = [
     (
         "map --server 192.0.2.9 --own 10.0.0.5 --protocol udp --port 5000",
         "",
@@ -92,6 +92,30 @@ static TOOLS: [(&str, &str); 21] = [
     (
         "proxy --server 192.0.2.9 --own 192.0.2.2 --inner 10.0.0.2 --key SHORT",
         "--key: expected 64 hexadecimal digits",
+    ),
+    (
+        "proxy --server 192.0.2.9 --own 192.0.2.2 --inner 10.0.0.2 --inner 10.0.1.2",
+        "--key: missing",
+    ),
+    (
+        "proxy --server 192.0.2.9 --own 192.0.2.2 --inner 10.0.0.2 --key-file a --key-file b",
+        "--key-file: given twice",
+    ),
+    (
+        "proxy --third-party 10.0.0.0/8 --third-party 10.0.0.0/33",
+        "--third-party: expected a prefix such as 10.0.0.0/24",
+    ),
+    (
+        "proxy --rate 0",
+        "--rate: expected a whole number from 1 to 100000",
+    ),
+    (
+        "cascade --third-party 10.0.0.0/8",
+        "--third-party: no option of cascade",
+    ),
+    (
+        "map --third-party 10.0.0.5 --third-party 10.0.0.6",
+        "--third-party: given twice",
     ),
     ("stop", ""),
 ];

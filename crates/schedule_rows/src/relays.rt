@@ -1,7 +1,7 @@
 //! Relays, and what they make of packets.
 
 use crate::packets::{Came, Origin, Packet};
-use pcp_base::{Address, Datagram, Memory};
+use pcp_base::{Address, Datagram, Memory, Prefixes};
 use proxy_core::{Proxy, ProxyOut};
 use std::alloc::Global;
 
@@ -14,15 +14,16 @@ pub(crate) struct Relay {
     origin: Option<Origin>,
 }
 
-/// A relay with a key of octets that are all the same.
+/// A relay with a key of octets that are all the same, which passes on the THIRD_PARTY of these.
 pub(crate) fn new_relay(
     alloc: Global,
     own: Address,
     server: Address,
     key: u8,
+    third_party: Prefixes,
 ) -> Result<Relay, Memory> {
     Ok(Relay {
-        proxy: Proxy::new(alloc, own, server, [key; 32])?,
+        proxy: Proxy::new(alloc, own, server, [key; 32], third_party)?,
         own,
         server,
         origin: None,

@@ -8,7 +8,7 @@ use crate::packets::{Came, Origin, Packet, is_bound, number_at, received};
 use crate::relays::{self, Relay, new_relay};
 use lease_disk::{DiskPair, LeaseDisk, MemoryDisk};
 use lease_house::SoloHouse;
-use pcp_base::{Address, Datagram, Memory, Octets};
+use pcp_base::{Address, Datagram, Memory, Octets, Prefix, Prefixes};
 use std::alloc::Global;
 use std::test::Fail;
 
@@ -41,10 +41,17 @@ struct World {
     replies: Vec<Octets>,
 }
 
+// The far relay passes on the THIRD_PARTY of the near one.
 fn relays(alloc: Global) -> Result<(Relay, Relay), Memory> {
+    let near = Prefix {
+        bits: 128,
+        address: NEAR,
+    };
+    let none = Prefixes::of(Vec::new(alloc));
+    let trusted = Prefixes::of(vec![in alloc; near]?);
     Ok((
-        new_relay(alloc, NEAR, FAR, 7)?,
-        new_relay(alloc, FAR, SERVER, 9)?,
+        new_relay(alloc, NEAR, FAR, 7, none)?,
+        new_relay(alloc, FAR, SERVER, 9, trusted)?,
     ))
 }
 

@@ -1,7 +1,7 @@
 //! What clients find of an epoch after a loss, alone and behind a relay, and that calls succeed with
 //! ample memory.
 use client_core::{Client, EpochFound};
-use pcp_base::{Address, Datagram, Memory, Octets};
+use pcp_base::{Address, Datagram, Memory, Octets, Prefixes};
 use proxy_core::{Proxy, ProxyOut};
 use std::alloc::Global;
 use std::test::Fail;
@@ -83,7 +83,8 @@ fn losses_are_found(rt: HostRuntime) -> Result<(), Fail> {
 #[test]
 fn a_loss_is_found_behind_a_relay(rt: HostRuntime) -> Result<(), Fail> {
     let alloc = rt.alloc();
-    let mut relay = Proxy::new(alloc, RELAY, SERVER, [7; 32])?;
+    let none = Prefixes::of(Vec::new(alloc));
+    let mut relay = Proxy::new(alloc, RELAY, SERVER, [7; 32], none)?;
     let mut client = Client::new(alloc, RELAY, CLIENT)?;
     relay.from_server(alloc, &response(alloc, SERVER, 10)?, 0)?;
     let request = datagram(alloc, CLIENT, &REQUEST)?;
