@@ -1,11 +1,14 @@
 -- The port that the pool of ties picks.
-use Rattle.std.proofs.Common.{◌≡◌, ℕ, zero, suc, ◌+◌, ◌-◌, ◌<◌, ◌≤◌, ◌&&◌, ◌||◌, nat_le, min, Bool, true, false, not, cond, List, [], ◌∷◌, find, Option, Some, None, Result, Ok, Err, refl, sym, ap, ◌∙◌, subst, arith, inl, inr, ◌⊎◌}
+use Rattle.std.proofs.Common.{◌≡◌, ℕ, zero, suc, ◌+◌, ◌-◌, ◌<◌, ◌≤◌, ◌&&◌, ◌||◌, nat_le, min, Bool, true, false, not, cond, List, [], ◌∷◌, find, Option, Some, None, is_some, replicate, Result, Ok, Err, refl, sym, ap, ◌∙◌, subst, arith, inl, inr, ◌⊎◌}
+use Rattle.std.specs.FinMap.{FinMap, contains_key}
 use Rattle.std.specs.List.{list_any, range_with_len}
+use Rattle.std.specs.Ordering.{nat_cmp}
 use Rattle.std.proofs.lemmas.Bool.{and_parts, leb-true}
 use Rattle.std.proofs.lemmas.Bool.Decides.{nat_tests}
 use Rattle.pcp_base.specs.declared.leases.Endpoint.{Endpoint}
 use Rattle.pcp_base.specs.declared.leases.Protocol.{Protocol}
 use Rattle.pcp_base.specs.declared.leases.Protocol.TheVariants.{Tcp, Udp}
+use Rattle.pcp_base.specs.Tables.{same_address}
 use Rattle.pcp_base.proofs.Members.{All-from_IsIn}
 use Rattle.external_pool.specs.declared.asks.PickAsk.{PickAsk}
 use Rattle.external_pool.specs.declared.asks.Picked.{Picked}
@@ -21,8 +24,8 @@ use Rattle.cascade_ties.specs.declared.locals.NoLocal.{NoLocal}
 use Rattle.cascade_ties.specs.declared.locals.NoLocal.TheVariants.{Quota}
 use Rattle.cascade_ties.specs.declared.locals.TheConstants.{TIE_QUOTA}
 use Rattle.cascade_ties.specs.declared.ties.Tied.{Tied}
-use Rattle.cascade_ties.specs.Kept.{IsTiePool, no_local, ties_of, use_by}
-use Rattle.cascade_ties.specs.Ties.{Ties, has_local, is_vacant, least_vacant, local_for, or_no_port, tie_at, ties_held, vacant_for}
+use Rattle.cascade_ties.specs.Kept.{IsTiePool, no_local, rest_in, ties_of, use_by}
+use Rattle.cascade_ties.specs.Ties.{Ties, has_local, is_vacant, least_vacant, local_for, or_no_port, spot, tie_at, ties_held, vacant_for}
 use Rattle.cascade_ties.proofs.OneLemmas.{find-nothing}
 
 -- what is told of an answer of the pool
@@ -38,13 +41,21 @@ judged : (o : Option Picked) → to_local (Asking.or_no_port o) ≡ or_no_port (
 judged None = refl
 judged (Some run) = refl
 
-free_tie : (p : Tied → Bool) (ts : List Tied) → Uses.is_free_use (use_by (find p ts)) ≡ not (list_any p ts)
-free_tie p [] = refl
-free_tie p (t ∷ ts) = step (p t) (free_tie p ts)
+free_rest : (o : Option ℕ) → Uses.is_free_use (use_by None o) ≡ not (is_some o)
+free_rest None = refl
+free_rest (Some until) = refl
+
+free_tie : (p : Tied → Bool) (o : Option ℕ) (ts : List Tied) → Uses.is_free_use (use_by (find p ts) o) ≡ (not (list_any p ts) && not (is_some o))
+free_tie p o [] = free_rest o
+free_tie p o (t ∷ ts) = step (p t) (free_tie p o ts)
   where
-    step : (b : Bool) → Uses.is_free_use (use_by (find p ts)) ≡ not (list_any p ts) → Uses.is_free_use (use_by (cond b (Some t) (find p ts))) ≡ not (b || list_any p ts)
+    step : (b : Bool) → Uses.is_free_use (use_by (find p ts) o) ≡ (not (list_any p ts) && not (is_some o)) → Uses.is_free_use (use_by (cond b (Some t) (find p ts)) o) ≡ (not (b || list_any p ts) && not (is_some o))
     step true later = refl
     step false later = later
+
+and_three : (a b c : Bool) → (a && (b && c)) ≡ (a && b && c)
+and_three true b c = refl
+and_three false b c = refl
 
 -- the least number of a range that passes is found
 find_range : (p : ℕ → Bool) (n a s : ℕ) → a ≤ s → s < a + n → p s ≡ true → ((i : ℕ) → i < s → p i ≡ false) → find p (range_with_len a n) ≡ Some s
@@ -57,9 +68,9 @@ find_range p (suc n) a s from to t below = step (p a) refl (λ low. find_range p
         let other : ¬ (a ≡ s) = λ same. absurd (let both : true ≡ false = sym t ∙ ap p (sym same) ∙ e in cc) in
         later (grind (arith, from, other))
 
-module _ (pool : Holdings) (ts : List Tied) (is : IsTiePool pool ts) (client : Endpoint) where
+module _ (pool : Holdings) (rests : FinMap nat_cmp ℕ) (ts : List Tied) (is : IsTiePool pool (rest_in rests) ts) (client : Endpoint) where
   abbrev table : Ties
-  table = ties_of pool ts
+  table = ties_of pool rests ts
 
   abbrev uses : Uses.PortUses
   uses = uses_of pool client.protocol
@@ -75,11 +86,17 @@ module _ (pool : Holdings) (ts : List Tied) (is : IsTiePool pool ts) (client : E
   range_same : (port : ℕ) → Uses.is_in_range uses.low uses.high port ≡ (nat_le pool.tcp.low port && nat_le port pool.tcp.high)
   range_same port = ap (λ (n : ℕ). nat_le n port && nat_le port uses.high) (low_of client.protocol) ∙ ap (λ (n : ℕ). nat_le pool.tcp.low port && nat_le port n) (high_of client.protocol)
 
-  free_same : (port : ℕ) → Uses.is_free_use (Uses.use_at uses.each port) ≡ not (list_any (has_local client.protocol port) ts)
-  free_same port = ap Uses.is_free_use (is.uses client.protocol port) ∙ free_tie (has_local client.protocol port) ts
+  rests_at : (port : ℕ) → is_some (rest_in rests client.protocol port) ≡ contains_key rests (spot client.protocol port)
+  rests_at port = refl
+
+  free_same : (port : ℕ) → Uses.is_free_use (Uses.use_at uses.each port) ≡ (not (list_any (has_local client.protocol port) ts) && not (contains_key rests (spot client.protocol port)))
+  free_same port = ap Uses.is_free_use (is.uses client.protocol port) ∙ free_tie (has_local client.protocol port) (rest_in rests client.protocol port) ts
+      ∙ ap (λ (b : Bool). not (list_any (has_local client.protocol port) ts) && not b) (rests_at port)
 
   vacant_same : (port : ℕ) → Uses.is_vacant uses port ≡ is_vacant table client.protocol port
-  vacant_same port = ap (λ (b : Bool). b && Uses.is_free_use (Uses.use_at uses.each port)) (range_same port) ∙ ap (λ (b : Bool). nat_le pool.tcp.low port && nat_le port pool.tcp.high && b) (free_same port)
+  vacant_same port = ap (λ (b : Bool). b && Uses.is_free_use (Uses.use_at uses.each port)) (range_same port)
+      ∙ ap (λ (b : Bool). nat_le pool.tcp.low port && nat_le port pool.tcp.high && b) (free_same port)
+      ∙ and_three (nat_le pool.tcp.low port && nat_le port pool.tcp.high) (not (list_any (has_local client.protocol port) ts)) (not (contains_key rests (spot client.protocol port)))
 
   run_vacant : (start : ℕ) → IsVacantRun uses 1 None start → is_vacant table client.protocol start ≡ true
   run_vacant start run = sym (vacant_same start) ∙ run.vacant start (omega arith) (omega arith)
@@ -91,37 +108,43 @@ module _ (pool : Holdings) (ts : List Tied) (is : IsTiePool pool ts) (client : E
   }
 
   -- a free use is one that isn't held
-  free_by : (o : Option Tied) → Uses.is_free_to client.address client.port (use_by o) ≡ Uses.is_free_use (use_by o)
-  free_by None = refl
-  free_by (Some t) = refl
+  no_one : (b : Bool) → (b && false) ≡ false
+  no_one true = refl
+  no_one false = refl
 
-  open_same : (port : ℕ) → Uses.is_open uses client.address client.port port ≡ is_vacant table client.protocol port
+  free_by : (o : Option Tied) (rest : Option ℕ) → Uses.is_free_to client.address 1 (use_by o rest) ≡ Uses.is_free_use (use_by o rest)
+  free_by None None = refl
+  free_by None (Some until) = no_one (same_address (record { 0 = replicate 16 0 }) client.address)
+  free_by (Some t) rest = refl
+
+  open_same : (port : ℕ) → Uses.is_open uses client.address 1 port ≡ is_vacant table client.protocol port
   open_same port =
       ap (λ (b : Bool). Uses.is_in_range uses.low uses.high port && b)
-      (ap (Uses.is_free_to client.address client.port) (is.uses client.protocol port) ∙ free_by (tie_at client.protocol port ts) ∙ sym (ap Uses.is_free_use (is.uses client.protocol port)))
+      (ap (Uses.is_free_to client.address 1) (is.uses client.protocol port) ∙ free_by (tie_at client.protocol port ts) (rest_in rests client.protocol port) ∙ sym (ap Uses.is_free_use (is.uses client.protocol port)))
       ∙ vacant_same port
 
   plus_zero : (n : ℕ) → n + 0 ≡ n
   plus_zero n = omega arith
 
-  back_vacant : GoesBack uses client.address client.port None client.port 1 → is_vacant table client.protocol client.port ≡ true
+  back_vacant : GoesBack uses client.address 1 None client.port 1 → is_vacant table client.protocol client.port ≡ true
   back_vacant back =
-      sym (open_same client.port) ∙ ap (λ (n : ℕ). Uses.is_open uses client.address n client.port) (sym (plus_zero client.port))
-      ∙ ap (Uses.is_open uses client.address (client.port + 0)) (sym (plus_zero client.port)) ∙ back.opened 0 (omega arith)
+      sym (open_same client.port) ∙ ap (λ (n : ℕ). Uses.is_open uses client.address n client.port) (sym (plus_zero 1))
+      ∙ ap (Uses.is_open uses client.address (1 + 0)) (sym (plus_zero client.port)) ∙ back.opened 0 (omega arith)
 
-  vacant_back : is_vacant table client.protocol client.port ≡ true → GoesBack uses client.address client.port None client.port 1
+  vacant_back : is_vacant table client.protocol client.port ≡ true → GoesBack uses client.address 1 None client.port 1
   vacant_back h = record {
     opened = λ i few. (let same : i ≡ 0 = omega (arith, few) in
-        ap (λ (n : ℕ). Uses.is_open uses client.address (client.port + n) (client.port + n)) same
-        ∙ ap (λ (n : ℕ). Uses.is_open uses client.address n n) (plus_zero client.port) ∙ open_same client.port ∙ h);
+        ap (λ (n : ℕ). Uses.is_open uses client.address (1 + n) (client.port + n)) same
+        ∙ ap (λ (n : ℕ). Uses.is_open uses client.address (1 + 0) n) (plus_zero client.port)
+        ∙ ap (λ (n : ℕ). Uses.is_open uses client.address n client.port) (plus_zero 1) ∙ open_same client.port ∙ h);
     remainder = tt;
   }
 
   not_zero : client.port ≡ 0 → is_vacant table client.protocol client.port ≡ false
   not_zero same = false_by (is_vacant table client.protocol client.port) (λ t.
-      let p = and_parts _ _ t in let q = and_parts _ _ p.0 in let low = leb-true pool.tcp.low client.port q.0 in let some = is.some in omega (arith, low, some, same))
+      let p = and_parts _ _ (and_parts _ _ t).0 in let q = and_parts _ _ p.0 in let low = leb-true pool.tcp.low client.port q.0 in let some = is.some in omega (arith, low, some, same))
 
-  stays_out : ((client.port ≡ 0) ⊎ (¬ GoesBack uses client.address client.port None client.port 1)) → is_vacant table client.protocol client.port ≡ false
+  stays_out : ((client.port ≡ 0) ⊎ (¬ GoesBack uses client.address 1 None client.port 1)) → is_vacant table client.protocol client.port ≡ false
   stays_out (inl same) = not_zero same
   stays_out (inr stays) = false_by (is_vacant table client.protocol client.port) (λ t. stays (vacant_back t))
 
@@ -135,7 +158,7 @@ module _ (pool : Holdings) (ts : List Tied) (is : IsTiePool pool ts) (client : E
       let within = found.within in
       let one : run.count ≡ 1 = omega (arith, some, within) in
       let here : is_vacant table client.protocol run.start ≡ true = run_vacant run.start (subst (λ (n : ℕ). IsVacantRun uses n None run.start) one found.vacant) in
-      let p = and_parts _ _ here in
+      let p = and_parts _ _ (and_parts _ _ here).0 in
       let q = and_parts _ _ p.0 in
       let low = leb-true pool.tcp.low run.start q.0 in
       let high = leb-true run.start pool.tcp.high q.1 in
@@ -143,14 +166,14 @@ module _ (pool : Holdings) (ts : List Tied) (is : IsTiePool pool ts) (client : E
       false_by (is_vacant table client.protocol i) (λ t.
       let later : run.start ≤ i = found.least i (subst (λ (n : ℕ). IsVacantRun uses n None i) (sym one) (vacant_run i t)) in omega (arith, less, later))))
 
-  picked : (o : Option Picked) → IsPick uses client.address client.port client.port None 1 o → start_of o ≡ vacant_for table client
+  picked : (o : Option Picked) → IsPick uses client.address 1 client.port None 1 o → start_of o ≡ vacant_for table client
   picked o (suggestion some back is_it) =
       ap start_of is_it ∙ sym (ap (λ (b : Bool). cond b (Some client.port) (least_vacant table client.protocol)) (back_vacant back))
   picked o (longest out found) =
       least_is o found ∙ sym (ap (λ (b : Bool). cond b (Some client.port) (least_vacant table client.protocol)) (stays_out out))
 
   abbrev pub one_port : PickAsk
-  one_port = record { internal = client.port; suggested = client.port; asked = 1; room = 1; parity = None; must = false; here = true }
+  one_port = record { internal = 1; suggested = client.port; asked = 1; room = 1; parity = None; must = false; here = true }
 
   pub pick_is : (answer : Result Picked PickRefused) → IsPickAnswer pool client.address client.protocol one_port answer → to_local answer ≡ local_for table client
   pick_is answer h = step (nat_le TIE_QUOTA (ties_held client.address ts)) refl
@@ -168,4 +191,4 @@ module _ (pool : Holdings) (ts : List Tied) (is : IsTiePool pool ts) (client : E
           let judged_pick = h.pick (omega (arith, low, quota, held)) in
           let room : min 1 (pool.quota - Rattle.external_pool.specs.Holdings.ports_held pool client.address) ≡ 1 = omega (arith, low, quota, held) in
           ap to_local judged_pick.is_answer ∙ judged judged_pick.choice
-          ∙ ap or_no_port (picked judged_pick.choice (subst (λ (n : ℕ). IsPick uses client.address client.port client.port None n judged_pick.choice) room judged_pick.is_pick))
+          ∙ ap or_no_port (picked judged_pick.choice (subst (λ (n : ℕ). IsPick uses client.address 1 client.port None n judged_pick.choice) room judged_pick.is_pick))

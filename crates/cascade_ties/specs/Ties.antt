@@ -1,22 +1,32 @@
--- Ties of clients' endpoints to local ports, in the order made, each with what waits (our own).
-use Rattle.std.specs.Prelude.{◌≡◌, ℕ, ◌+◌, ◌-◌, ◌==◌, ◌&&◌, nat_le, not, Bool, true, false, List, [], ◌∷◌, ◌++◌, filter, find, count_by, Option, Some, None, Result, Ok, Err, OnOk, OnErr, if◌then◌else◌}
+-- Ties of clients' endpoints to local ports, in the order made, each with what waits, and until when
+-- local ports rest (our own). Times are in milliseconds.
+use Rattle.std.specs.Prelude.{◌≡◌, ℕ, ◌+◌, ◌-◌, ◌*◌, ◌==◌, ◌&&◌, nat_le, nat_lt, not, Bool, true, false, List, [], ◌∷◌, ◌++◌, filter, find, count_by, Option, Some, None, unwrap_or, Result, Ok, Err, OnOk, OnErr, if◌then◌else◌}
+use Rattle.std.specs.FinMap.{FinMap, contains_key, empty, get, insert, retain_keys}
 use Rattle.std.specs.List.{list_any, range_with_len}
+use Rattle.std.specs.Ordering.{nat_cmp}
 use Rattle.pcp_base.specs.declared.addresses.Address.{Address}
 use Rattle.pcp_base.specs.declared.leases.Endpoint.{Endpoint}
 use Rattle.pcp_base.specs.declared.leases.Protocol.{Protocol}
+use Rattle.pcp_base.specs.declared.leases.Protocol.TheVariants.{Tcp, Udp}
 use Rattle.pcp_base.specs.Tables.{EachTwo, put, same_address, same_endpoint, same_protocol}
 use Rattle.cascade_ties.specs.declared.locals.NoLocal.{NoLocal}
 use Rattle.cascade_ties.specs.declared.locals.NoLocal.TheVariants.{Quota, NoPort}
 use Rattle.cascade_ties.specs.declared.ties.Tied.{Tied}
 
--- the range of local ports, and the ties
+-- the range of local ports, the ties, and until when ports rest, by their spots
 pub record Ties : Type 0 where
   pub low : ℕ
   pub high : ℕ
   pub each : List Tied
+  pub rests : FinMap nat_cmp ℕ
 
 abbrev pub no_ties : ℕ → ℕ → Ties
-no_ties low high = record { low = low; high = high; each = [] }
+no_ties low high = record { low = low; high = high; each = []; rests = empty }
+
+-- where the rest of a port stands
+abbrev pub spot : Protocol → ℕ → ℕ
+spot Tcp port = 2 * port
+spot Udp port = 2 * port + 1
 
 -- whether the tie is that of the endpoint
 abbrev pub has_client : Endpoint → Tied → Bool
@@ -46,10 +56,11 @@ TiesDiffer ts = EachTwo AreOtherTies ts
 abbrev pub ties_held : Address → List Tied → ℕ
 ties_held who ts = count_by (λ t. same_address t.tie.client.address who) ts
 
--- whether a port is in the range, and no tie of the protocol is to it
+-- whether a port is in the range, no tie of the protocol is to it, and it doesn't rest
 abbrev pub is_vacant : Ties → Protocol → ℕ → Bool
 is_vacant ts protocol port =
     nat_le ts.low port && nat_le port ts.high && not (list_any (has_local protocol port) ts.each)
+    && not (contains_key ts.rests (spot protocol port))
 
 -- the least vacant port
 unfoldable pub least_vacant : Ties → Protocol → Option ℕ
@@ -95,13 +106,32 @@ with_change ts t = record ts { each = put (has_client t.tie.client) t ts.each }
 abbrev pub without : Ties → Endpoint → Ties
 without ts client = record ts { each = filter (λ t. not (has_client client t)) ts.each }
 
--- whether a tie's time has come, in milliseconds
+-- a local port rests until a time, also behind the tie to it
+abbrev pub with_rest : Ties → Protocol → ℕ → ℕ → Ties
+with_rest ts protocol port until =
+    record ts { rests = insert ts.rests (spot protocol port) until }
+
+-- an endpoint with a tie to one local port, and a vacant port
+pub record MayMove (ts : Ties) (from : ℕ) (t : Tied) : Type 0 where
+  pub old : Tied
+  pub client : tie_of t.tie.client ts.each ≡ Some old
+  pub leaves : old.tie.local ≡ from
+  pub local : is_vacant ts t.tie.client.protocol t.tie.local ≡ true
+
+-- whether a tie's time has come
 abbrev pub is_over : ℕ → Tied → Bool
 is_over now t = nat_le t.tie.until_ms now
 
--- the others
+-- the rests that last on behind a time
+abbrev pub rests_after : ℕ → FinMap nat_cmp ℕ → FinMap nat_cmp ℕ
+rests_after now rests = retain_keys rests (λ at. nat_lt now (unwrap_or (get rests at) 0))
+
+-- the ties whose time hasn't come, and the rests that last on
 abbrev pub still : ℕ → Ties → Ties
-still now ts = record ts { each = filter (λ t. not (is_over now t)) ts.each }
+still now ts = record ts {
+  each = filter (λ t. not (is_over now t)) ts.each;
+  rests = rests_after now ts.rests;
+}
 
 -- a call that changes the ties so, or fails and changes nothing
 pub record MakesTies {X E : Type 0} (old made : Ties) (result : Result X E) (new : Ties) : Type 0

@@ -40,6 +40,25 @@ pub(crate) fn replace(kept: &mut Numbers, number: u64, tied: Tied) -> Result<(),
     kept.replace(number, tied, (local, local))
 }
 
+/// Writes a tie at a number that has one with its client, to another local port. The one error is want
+/// of memory, which changes nothing.
+pub(crate) fn move_from(
+    kept: &mut Numbers,
+    number: u64,
+    from: u16,
+    tied: Tied,
+) -> Result<(), Memory>
+    requires there { IsSome (get nat_cmp kept.old.leases number) }
+    requires port { HasEntry port_cmp kept.old.ports (port_at tied.tie.client.protocol from) number }
+    ensures ok { OnOk result (Replaces port_cmp kept.old kept.new number tied
+        (port_at tied.tie.client.protocol from) (port_of_tie tied)) }
+    ensures err { OnErr result (Stays kept.old kept.new) }
+{
+    let to = local_of(&tied);
+    let from = port_at(tied.tie.client.protocol, from);
+    kept.replace(number, tied, (from, to))
+}
+
 /// Takes out the tie with a number, of this client and with these terms.
 pub(crate) fn forget(kept: &mut Numbers, number: u64, client: &Endpoint, tie: &Tie)
     ensures { Forgets place_cmp port_cmp kept.old kept.new number (place_of client.now)

@@ -1,9 +1,11 @@
 //! The local port for a new tie.
-ghost use Rattle.std.specs.Prelude.{◌≡◌, ◌<◌, List};
+ghost use Rattle.std.specs.Prelude.{◌≡◌, ◌<◌, ℕ, List};
+ghost use Rattle.std.specs.FinMap.{FinMap};
+ghost use Rattle.std.specs.Ordering.{nat_cmp};
 ghost use Rattle.external_pool.specs.Asking.{IsPickAnswer};
 ghost use Rattle.external_pool.specs.Calls.{IsAsk};
 ghost use Rattle.cascade_ties.specs.declared.ties.Tied.{Tied};
-ghost use Rattle.cascade_ties.specs.Kept.{IsTiePool, no_local, ties_of};
+ghost use Rattle.cascade_ties.specs.Kept.{IsTiePool, no_local, rest_in, ties_of};
 ghost use Rattle.cascade_ties.specs.Ties.{local_for};
 
 use external_pool::{PickAsk, PickRefused, Picked, Pool};
@@ -47,11 +49,11 @@ fn pick<L: Ledger>(
 /// The port that the pool of these ties picks for an endpoint: one port, its own where that is
 /// vacant.
 pub(crate) fn local_for(pool: &Pool, client: &Endpoint) -> Result<u16, NoLocal>
-    ensures { (ts : List Tied) → IsTiePool pool.now ts
-        → result ≡ local_for (ties_of pool.now ts) client.now }
+    ensures { (rests : FinMap nat_cmp ℕ) (ts : List Tied) → IsTiePool pool.now (rest_in rests) ts
+        → result ≡ local_for (ties_of pool.now rests ts) client.now }
 {
     let ask = PickAsk {
-        internal: client.port,
+        internal: 1,
         suggested: client.port,
         asked: 1,
         room: 1,

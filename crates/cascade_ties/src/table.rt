@@ -2,26 +2,33 @@
 ghost use Rattle.std.specs.Prelude.{◌≡◌, ◌≤◌, ◌-◌, length, map, IfOk};
 ghost use Rattle.std.specs.Option.{option_copied};
 ghost use Rattle.std.specs.BTreeMap.{values};
-ghost use Rattle.cascade_ties.specs.Ties.{MakesTies, MayChange, MayTie, local_for, no_ties, still, tie_at, tie_of, with_change, with_tie, without};
+ghost use Rattle.expiry_wheel.specs.declared.TheConstants.{NEVER};
+ghost use Rattle.cascade_ties.specs.Ties.{MakesTies, MayChange, MayMove, MayTie, local_for, no_ties, still, tie_at, tie_of, with_change, with_rest, with_tie, without};
 
 use crate::locals::{NoLocal, TIE_QUOTA, local_for};
 use crate::lookups::Numbers;
-use crate::steps::{change_tie, drop_over, put_tie, take_tie};
+use crate::steps::{change_tie, drop_over, grant_tie, move_tie, put_tie, rest_tie, take_tie};
 use crate::ties::{Tie, Tied};
+use expiry_wheel::Wheel;
 use external_pool::Pool;
 use ordered_index::{Numbered, Slots, place_of, port_at};
 use pcp_base::{Endpoint, Memory, Protocol};
 use std::alloc::{AllocError, Global};
 use std::marker::Model;
 
-/// Ties, seen as the range of local ports and the list of ties in the order made. Each call but
-/// `list` takes logarithmic time for each tie that it finds, makes, changes or drops.
+/// Ties, seen as the range of local ports, the list of ties in the order made, and until when local
+/// ports rest. Each call but `list` takes logarithmic time for each tie that it finds, makes, changes
+/// or drops, and for each rest that it ends.
 #[derive(Drop)]
 pub struct TieTable {
     /// The ties by clients, by local ports and by their times.
     kept: Numbers,
-    /// Who holds which local ports.
+    /// Who holds which local ports, and which rest.
     pool: Pool,
+    /// Until when local ports rest, tied ones too.
+    rests: Wheel,
+    /// What the pool is handed where a port goes to rest, which takes no memory.
+    alloc: Global,
 }
 
 impl Model for TieTable {
@@ -31,9 +38,9 @@ impl Model for TieTable {
 
     ghost Value = { Ties };
 
-    ghost view = { λ t. ties_of t.pool (values t.kept.leases) };
+    ghost view = { λ t. ties_of t.pool t.rests (values t.kept.leases) };
 
-    ghost invariant = { λ t. IsTieTable t.kept t.pool };
+    ghost invariant = { λ t. IsTieTable t.kept t.pool t.rests };
 }
 
 impl TieTable {
@@ -46,7 +53,13 @@ impl TieTable {
     {
         let kept = Numbered::new(alloc)?;
         let pool = Pool::new(alloc, low, high, TIE_QUOTA)?;
-        Ok(TieTable { kept, pool })
+        let rests = Wheel::new(alloc)?;
+        Ok(TieTable {
+            kept,
+            pool,
+            rests,
+            alloc,
+        })
     }
 
     /// How many ties there are.
@@ -90,7 +103,7 @@ impl TieTable {
         requires { MayTie self.old tied }
         ensures { MakesTies self.old (with_tie self.old tied) result self.new }
     {
-        put_tie(alloc, &mut self.kept, &mut self.pool, tied)
+        put_tie(alloc, &mut self.kept, &mut self.pool, &self.rests, tied)
     }
 
     /// Puts a tie in the place of its endpoint's, which is to the same local port. The one error is
@@ -99,24 +112,70 @@ impl TieTable {
         requires { MayChange self.old tied }
         ensures { MakesTies self.old (with_change self.old tied) result self.new }
     {
-        change_tie(&mut self.kept, &self.pool, tied)
+        change_tie(&mut self.kept, &self.pool, &self.rests, tied)
     }
 
-    /// Takes out the tie of an endpoint, where it has one, and frees its local port.
+    /// Puts a tie in the place of its endpoint's, which is to the same local port, and lets the port
+    /// rest behind it until a time. The one error is want of memory, which changes nothing.
+    pub fn grant(&mut self, alloc: Global, tied: Tied, until_ms: u64) -> Result<(), Memory>
+        requires may { MayChange self.old tied }
+        requires sometime { until_ms < NEVER }
+        ensures { MakesTies self.old (with_rest (with_change self.old tied)
+            tied.tie.client.protocol tied.tie.local until_ms) result self.new }
+    {
+        let (kept, rests) = (&mut self.kept, &mut self.rests);
+        grant_tie(alloc, kept, &self.pool, rests, tied, until_ms)
+    }
+
+    /// Puts a tie to a vacant port in the place of its endpoint's, which is to the port `from`, and
+    /// lets that one rest until a time. The one error is want of memory, which changes nothing.
+    pub fn move_on(
+        &mut self,
+        alloc: Global,
+        from: u16,
+        tied: Tied,
+        until_ms: u64,
+    ) -> Result<(), Memory>
+        requires may { MayMove self.old from tied }
+        requires sometime { until_ms < NEVER }
+        ensures { MakesTies self.old (with_rest (with_change self.old tied)
+            tied.tie.client.protocol from until_ms) result self.new }
+    {
+        let (kept, pool, rests) = (&mut self.kept, &mut self.pool, &mut self.rests);
+        move_tie(alloc, kept, pool, rests, from, tied, until_ms)
+    }
+
+    /// Lets the local port of a tie rest behind it until a time. The one error is want of memory,
+    /// which changes nothing.
+    pub fn rest(&mut self, alloc: Global, tied: &Tied, until_ms: u64) -> Result<(), Memory>
+        requires tied { tie_of tied.now.tie.client self.old.each ≡ Some tied.now }
+        requires sometime { until_ms < NEVER }
+        ensures { MakesTies self.old
+            (with_rest self.old tied.now.tie.client.protocol tied.now.tie.local until_ms)
+            result self.new }
+    {
+        let tie = &tied.tie;
+        rest_tie(alloc, &mut self.rests, &tie.client, tie.local, until_ms)
+    }
+
+    /// Takes out the tie of an endpoint, where it has one, and frees its local port, which then rests
+    /// where it is to.
     pub fn remove(&mut self, client: &Endpoint)
         ensures { self.new ≡ without self.old client.now }
     {
-        take_tie(&mut self.kept, &mut self.pool, client);
+        let alloc = self.alloc;
+        take_tie(alloc, &mut self.kept, &mut self.pool, &self.rests, client);
     }
 
-    /// Takes out the ties whose time has come, frees their local ports, and counts them. It looks at
-    /// these alone, and at one more.
+    /// Takes out the ties whose time has come, frees their local ports, ends the rests that are over,
+    /// and counts the ties. It looks at these alone, and at one more of each.
     pub fn drop_over(&mut self, now_ms: u64) -> usize
         ensures ties { self.new ≡ still now_ms self.old }
         ensures count { result ≡ length self.old.each - length self.new.each }
     {
         let before = self.kept.leases.len();
-        drop_over(&mut self.kept, &mut self.pool, now_ms);
+        let (kept, pool, rests) = (&mut self.kept, &mut self.pool, &mut self.rests);
+        drop_over(self.alloc, kept, pool, rests, now_ms);
         before.saturating_sub(self.kept.leases.len())
     }
 

@@ -32,6 +32,8 @@ pub struct Waiting {
     pub door: u8,
     /// The request as the client sent it.
     pub request: Octets,
+    /// The lifetime that it asks for, in seconds.
+    pub lifetime: u32,
     /// The external port that it suggests, 0 for none.
     pub suggested: u16,
     /// The external address that it suggests.
@@ -40,6 +42,8 @@ pub struct Waiting {
     pub items: Items,
     /// When it was asked, in milliseconds.
     pub since_ms: u64,
+    /// How many local ports were asked for it after the first, each in place of one that was refused.
+    pub tries: u8,
 }
 
 /// A tie, and the request that waits for it.

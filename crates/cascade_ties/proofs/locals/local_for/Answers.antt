@@ -3,7 +3,7 @@ use Rattle.cascade_ties.proofs.PickLemmas.{pick_is, to_local}
 use Rattle.cascade_ties.proofs.locals.local_for.Goals as goal
 
 pub returns-in-Ok : goal.returns-in-Ok
-returns-in-Ok c = λ ts is. ap to_local (sym c.in-Ok.is) ∙ pick_is c.args.pool.now ts is c.args.client.now c.pick.result c.pick.ensures
+returns-in-Ok c = λ rests ts is. ap to_local (sym c.in-Ok.is) ∙ pick_is c.args.pool.now rests ts is c.args.client.now c.pick.result c.pick.ensures
 
 pub returns-in-Err : goal.returns-in-Err
-returns-in-Err c = λ ts is. ap Err c.no_local.ensures ∙ ap to_local (sym c.in-Err.is) ∙ pick_is c.args.pool.now ts is c.args.client.now c.pick.result c.pick.ensures
+returns-in-Err c = λ rests ts is. ap Err c.no_local.ensures ∙ ap to_local (sym c.in-Err.is) ∙ pick_is c.args.pool.now rests ts is c.args.client.now c.pick.result c.pick.ensures
