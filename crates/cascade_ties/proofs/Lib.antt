@@ -1,5 +1,7 @@
+pub mod MoveLemmas
 pub mod OneLemmas
 pub mod PickLemmas
 pub mod PoolKeeping
+pub mod RestLemmas
 pub mod StepLemmas
 pub mod TieKeeping

@@ -10,7 +10,7 @@ abbrev pub Once : {X : Type 0} → (X → Bool) → List X → Type 0
 Once p xs = EachTwo (λ a b. p a ≡ true → p b ≡ false) xs
 
 module _ {X : Type 0} where
-  all_after : (p : X → Bool) (a : X) (xs : List X) → p a ≡ true → AllByRecursion (λ b. p a ≡ true → p b ≡ false) xs → AllByRecursion (λ b. p b ≡ false) xs
+  pub all_after : (p : X → Bool) (a : X) (xs : List X) → p a ≡ true → AllByRecursion (λ b. p a ≡ true → p b ≡ false) xs → AllByRecursion (λ b. p b ≡ false) xs
   all_after p a [] t h = tt
   all_after p a (x ∷ xs) t h = (h.0 t, all_after p a xs t h.1)
 

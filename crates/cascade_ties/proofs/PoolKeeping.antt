@@ -95,7 +95,7 @@ along_none None n z = refl
 along_none (Some until) n z = ap (λ (k : ℕ). use_along k at_rest) z
 
 -- the port of that test
-at_that : {X : Type 0} (f : Protocol → ℕ → X) (protocol other : Protocol) (local port : ℕ) → (same_protocol protocol other && local == port) ≡ true → f other port ≡ f protocol local
+pub at_that : {X : Type 0} (f : Protocol → ℕ → X) (protocol other : Protocol) (local port : ℕ) → (same_protocol protocol other && local == port) ≡ true → f other port ≡ f protocol local
 at_that f protocol other local port e =
     let p = and_parts _ _ e in
     ap (λ (z : Protocol). f z port) (sym ((same_protocol-Decides protocol other).0 p.0)) ∙ ap (f protocol) (sym (eqb-true local port p.1))

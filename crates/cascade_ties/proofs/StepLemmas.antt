@@ -1,8 +1,9 @@
 -- A table of ties, seen from outside, after a step.
-use Rattle.std.proofs.Common.{◌≡◌, ℕ, ◌<◌, ◌≤◌, ◌&&◌, nat_le, nat_lt, Bool, true, false, not, cond, List, [], ◌∷◌, ◌++◌, length, filter, Some, None, IsSome, Result, Ok, Err, OnOk, OnErr, refl, sym, ap, ◌∙◌, subst, arith}
+use Rattle.std.proofs.Common.{◌≡◌, ℕ, ◌<◌, ◌≤◌, ◌&&◌, nat_le, nat_lt, Bool, true, false, not, cond, List, [], ◌∷◌, ◌++◌, length, filter, Option, Some, None, IsSome, Result, Ok, Err, OnOk, OnErr, refl, sym, ap, ◌∙◌, subst, arith}
 use Rattle.std.specs.List.{AllByRecursion, AllZip, list_any}
 use Rattle.std.specs.Ordering.{nat_cmp}
 use Rattle.std.specs.BTreeMap.{get, values}
+use Rattle.std.specs.FinMap.{contains_key, empty, get-empty}
 use Rattle.std.proofs.lemmas.Bool.{and_parts, leb-true, not-true}
 use Rattle.std.proofs.lemmas.Bool.Decides.{nat_tests}
 use Rattle.pcp_base.specs.declared.leases.Endpoint.{Endpoint}
@@ -24,18 +25,27 @@ use Rattle.ordered_index.proofs.Entries.{All-at}
 use Rattle.ordered_index.proofs.EntryLaws.{none_some, some_one}
 use Rattle.ordered_index.proofs.Keeping.{IsTakenOut, blank-kept, blank-values, none-found, none-gone, number-has, one-found, port-there, same-values}
 use Rattle.cascade_ties.specs.declared.ties.Tied.{Tied}
-use Rattle.cascade_ties.specs.Kept.{HasLocal, IsTiePool, IsTieTable, place_of_tie, port_of_tie, tie_keying, ties_of}
-use Rattle.cascade_ties.specs.Ties.{AreOtherTies, MakesTies, MayChange, MayTie, Ties, TiesDiffer, has_client, has_local, is_over, still, tie_of, with_change, with_tie, without}
+use Rattle.cascade_ties.specs.Kept.{HasLocal, IsTiePool, IsTieTable, at_rest, left_use, place_of_tie, port_of_tie, rest_in, tie_keying, ties_of, use_by}
+use Rattle.cascade_ties.specs.Ties.{AreOtherTies, MakesTies, MayChange, MayTie, Ties, TiesDiffer, has_client, has_local, is_over, spot, still, tie_of, with_change, with_tie, without}
 use Rattle.cascade_ties.proofs.OneLemmas.{filter-out, fewer-out, find-append, none-out}
-use Rattle.cascade_ties.proofs.PoolKeeping.{high_stays, low_stays, may_hold, may_release, put_pool, take_pool, zip_pool}
+use Rattle.cascade_ties.proofs.PoolKeeping.{alike_pool, high_stays, left_pool, low_stays, may_hold, may_release, none_here, put_pool, set_rest, set_same, take_pool, zip_pool}
+use Rattle.cascade_ties.proofs.RestLemmas.{Rests, rest_none}
 use Rattle.cascade_ties.proofs.TieKeeping.{IsSameTie, appended_ties, apart_from, client_free, client_is, is_taken, local_free, once_client, port_same, replaced_ties, replaced_zip, taken_ties, tells_client, tie_appended, tie_laws, tie_replaced, tie_stays}
 
-abbrev Numbers : Type 0
+abbrev pub Numbers : Type 0
 Numbers = Numbered Tied Place (ℕ × ℕ)
 
 -- what is seen of a table, by its parts
-seen : (new old : Holdings) (us ts : List Tied) → new.tcp.low ≡ old.tcp.low → new.tcp.high ≡ old.tcp.high → us ≡ ts → ties_of new us ≡ ties_of old ts
-seen new old us ts l h t = λ i. record { low = l i; high = h i; each = t i }
+pub seen : (rests : Rests) (new old : Holdings) (us ts : List Tied) → new.tcp.low ≡ old.tcp.low → new.tcp.high ≡ old.tcp.high → us ≡ ts → ties_of new rests us ≡ ties_of old rests ts
+seen rests new old us ts l h t = λ i. record { low = l i; high = h i; each = t i; rests = rests }
+
+pub left_low : (protocol : Protocol) (local : ℕ) (o : Option ℕ) (pool : Holdings) → (left_use protocol local o pool).tcp.low ≡ pool.tcp.low
+left_low protocol local None pool = low_stays protocol local 1 Free pool
+left_low protocol local (Some u) pool = low_stays protocol local 1 at_rest (with_use protocol local 1 Free pool) ∙ low_stays protocol local 1 Free pool
+
+pub left_high : (protocol : Protocol) (local : ℕ) (o : Option ℕ) (pool : Holdings) → (left_use protocol local o pool).tcp.high ≡ pool.tcp.high
+left_high protocol local None pool = high_stays protocol local 1 Free pool
+left_high protocol local (Some u) pool = high_stays protocol local 1 at_rest (with_use protocol local 1 Free pool) ∙ high_stays protocol local 1 Free pool
 
 filter_push : (p : Tied → Bool) (ts : List Tied) (t : Tied) → filter p ts ≡ ts → p t ≡ false → AllByRecursion (λ x. p x ≡ true) ts → filter p (ts ++ t ∷ []) ≡ ts
 filter_push p [] t h out all = ap (λ b. cond b (t ∷ []) []) out
@@ -43,14 +53,14 @@ filter_push p (x ∷ xs) t h out all =
     ap (λ b. cond b (x ∷ filter p (xs ++ t ∷ [])) (filter p (xs ++ t ∷ []))) all.0
     ∙ ap (λ zs. x ∷ zs) (filter_push p xs t (filter-all p xs all.1) out all.1)
 
-module _ (it : Numbers) (pool : Holdings) (h : IsTieTable it pool) where
+module _ (it : Numbers) (pool : Holdings) (rests : Rests) (h : IsTieTable it pool rests) where
   abbrev ts : List Tied
   ts = values it.leases
 
   -- ---- one goes
   module _ (e : Endpoint) where
-    pub none_taken : get place_cmp it.keys (place_of e) ≡ None → ties_of pool ts ≡ without (ties_of pool ts) e
-    none_taken free = ap (ties_of pool) (none-gone tie_keying tie_laws it h.ties.kept (has_client e) (place_of e) (tells_client e) free)
+    pub none_taken : get place_cmp it.keys (place_of e) ≡ None → ties_of pool rests ts ≡ without (ties_of pool rests ts) e
+    none_taken free = ap (ties_of pool rests) (none-gone tie_keying tie_laws it h.ties.kept (has_client e) (place_of e) (tells_client e) free)
 
     pub number_there : (n : ℕ) → get place_cmp it.keys (place_of e) ≡ Some n → IsSome (get nat_cmp it.leases n)
     number_there n number = number-has tie_keying tie_laws it h.ties.kept (place_of e) n number
@@ -66,35 +76,47 @@ module _ (it : Numbers) (pool : Holdings) (h : IsTieTable it pool) where
       local_at = All-at HasLocal it.leases.entries n x h.ties.locals at_n
 
       pub may_free : MayRelease pool e.address e.protocol x.tie.local 1
-      may_free = subst (λ (z : Endpoint). MayRelease pool z.address z.protocol x.tie.local 1) is_of (may_release pool ts h.pool h.ties.differ e x found_at local_at)
+      may_free = subst (λ (z : Endpoint). MayRelease pool z.address z.protocol x.tie.local 1) is_of (may_release pool (rest_in rests) ts h.pool h.ties.differ e x found_at local_at)
 
       module _ (new : Numbers) (after : Holdings) (forgets : Forgets place_cmp port_cmp it new n (place_of e) (port_at e.protocol x.tie.local))
-          (freed : after ≡ with_use e.protocol x.tie.local 1 Free pool) where
+          (left : after ≡ left_use e.protocol x.tie.local (rest_in rests e.protocol x.tie.local) pool) where
         out : IsTakenOut tie_keying (has_client e) x it new
         out = is_taken it h.ties e n x number at_n new forgets
 
-        pool_taken : IsTiePool (with_use e.protocol x.tie.local 1 Free pool) (filter (λ t. not (has_client e t)) ts)
-        pool_taken = subst (λ (z : Endpoint). IsTiePool (with_use z.protocol x.tie.local 1 Free pool) (filter (λ t. not (has_client e t)) ts)) is_of
-            (take_pool pool ts h.pool h.ties.differ e x found_at local_at)
+        within : x.tie.local + 1 ≤ 65536
+        within = let to = local_at.to in omega (arith, to)
 
-        pub taken_table : IsTieTable new after
+        pool_taken : IsTiePool (left_use e.protocol x.tie.local (rest_in rests e.protocol x.tie.local) pool) (rest_in rests) (filter (λ t. not (has_client e t)) ts)
+        pool_taken = subst (λ (z : Endpoint). IsTiePool (left_use z.protocol x.tie.local (rest_in rests z.protocol x.tie.local) pool) (rest_in rests) (filter (λ t. not (has_client e t)) ts)) is_of
+            (left_pool pool (rest_in rests) (filter (λ t. not (has_client e t)) ts) x.tie.client.protocol x.tie.local within (none_here pool (rest_in rests) ts h.pool h.ties.differ e x found_at local_at)
+            (take_pool pool (rest_in rests) ts h.pool h.ties.differ e x found_at local_at))
+
+        pub taken_table : IsTieTable new after rests
         taken_table = record {
           ties = taken_ties it h.ties e n x number at_n new out;
-          pool = subst (λ (p : Holdings). IsTiePool p (values new.leases)) (sym freed) (subst (IsTiePool (with_use e.protocol x.tie.local 1 Free pool)) (sym out.gone) pool_taken);
+          pool = subst (λ (p : Holdings). IsTiePool p (rest_in rests) (values new.leases)) (sym left)
+              (subst (IsTiePool (left_use e.protocol x.tie.local (rest_in rests e.protocol x.tie.local) pool) (rest_in rests)) (sym out.gone) pool_taken);
+          spots = h.spots;
         }
 
-        pub taken_seen : ties_of after (values new.leases) ≡ without (ties_of pool ts) e
-        taken_seen = seen after pool (values new.leases) (filter (λ t. not (has_client e t)) ts)
-            (ap (λ (p : Holdings). p.tcp.low) freed ∙ low_stays e.protocol x.tie.local 1 Free pool)
-            (ap (λ (p : Holdings). p.tcp.high) freed ∙ high_stays e.protocol x.tie.local 1 Free pool) out.gone
+        pub taken_seen : ties_of after rests (values new.leases) ≡ without (ties_of pool rests ts) e
+        taken_seen = seen rests after pool (values new.leases) (filter (λ t. not (has_client e t)) ts)
+            (ap (λ (p : Holdings). p.tcp.low) left ∙ left_low e.protocol x.tie.local (rest_in rests e.protocol x.tie.local) pool)
+            (ap (λ (p : Holdings). p.tcp.high) left ∙ left_high e.protocol x.tie.local (rest_in rests e.protocol x.tie.local) pool) out.gone
 
   -- ---- one comes
-  module _ (t : Tied) (may : MayTie (ties_of pool ts) t) where
+  module _ (t : Tied) (may : MayTie (ties_of pool rests ts) t) where
     none_there : tie_of t.tie.client ts ≡ None
     none_there = may.client
 
+    all_parts : (nat_le pool.tcp.low t.tie.local && nat_le t.tie.local pool.tcp.high && not (list_any (has_local t.tie.client.protocol t.tie.local) ts) ≡ true) × (not (contains_key rests (spot t.tie.client.protocol t.tie.local)) ≡ true)
+    all_parts = and_parts _ _ may.local
+
     parts : (nat_le pool.tcp.low t.tie.local && nat_le t.tie.local pool.tcp.high ≡ true) × (not (list_any (has_local t.tie.client.protocol t.tie.local) ts) ≡ true)
-    parts = and_parts _ _ may.local
+    parts = and_parts _ _ all_parts.0
+
+    awake : rest_in rests t.tie.client.protocol t.tie.local ≡ None
+    awake = rest_none rests (spot t.tie.client.protocol t.tie.local) (not-true _ all_parts.1)
 
     vacant : list_any (has_local t.tie.client.protocol t.tie.local) ts ≡ false
     vacant = not-true _ parts.1
@@ -109,7 +131,7 @@ module _ (it : Numbers) (pool : Holdings) (h : IsTieTable it pool) where
         record { from = omega (arith, low, some); to = omega (arith, high, top) }
 
     pub may_be_held : MayHold pool t.tie.client.protocol t.tie.local 1
-    may_be_held = may_hold pool ts h.pool t vacant local_there
+    may_be_held = may_hold pool (rest_in rests) ts h.pool t vacant local_there
 
     pub key_free : get place_cmp it.keys (place_of_tie t) ≡ None
     key_free = client_free it h.ties t.tie.client none_there
@@ -120,18 +142,19 @@ module _ (it : Numbers) (pool : Holdings) (h : IsTieTable it pool) where
     abbrev held : Holdings
     held = with_use t.tie.client.protocol t.tie.local 1 (Held t.tie.client.address) pool
 
-    pool_put : IsTiePool held (ts ++ t ∷ [])
-    pool_put = put_pool pool ts h.pool t vacant local_there
+    pool_put : IsTiePool held (rest_in rests) (ts ++ t ∷ [])
+    pool_put = put_pool pool (rest_in rests) ts h.pool t vacant local_there
 
     module _ (new : Numbers) (after : Holdings) (holds : after ≡ held) where
-      pub put_table : (n : ℕ) × Appends place_cmp port_cmp it new t (place_of_tie t) (port_of_tie t) n → IsTieTable new after
+      pub put_table : (n : ℕ) × Appends place_cmp port_cmp it new t (place_of_tie t) (port_of_tie t) n → IsTieTable new after rests
       put_table appends = record {
         ties = appended_ties it h.ties t none_there vacant new appends.0 appends.1 local_there;
-        pool = subst (λ (p : Holdings). IsTiePool p (values new.leases)) (sym holds) (subst (IsTiePool held) (sym (tie_appended it h.ties t none_there vacant new appends.0 appends.1)) pool_put);
+        pool = subst (λ (p : Holdings). IsTiePool p (rest_in rests) (values new.leases)) (sym holds) (subst (IsTiePool held (rest_in rests)) (sym (tie_appended it h.ties t none_there vacant new appends.0 appends.1)) pool_put);
+        spots = h.spots;
       }
 
-      pub put_seen : (n : ℕ) × Appends place_cmp port_cmp it new t (place_of_tie t) (port_of_tie t) n → ties_of after (values new.leases) ≡ with_tie (ties_of pool ts) t
-      put_seen appends = seen after pool (values new.leases) (ts ++ t ∷ [])
+      pub put_seen : (n : ℕ) × Appends place_cmp port_cmp it new t (place_of_tie t) (port_of_tie t) n → ties_of after rests (values new.leases) ≡ with_tie (ties_of pool rests ts) t
+      put_seen appends = seen rests after pool (values new.leases) (ts ++ t ∷ [])
           (ap (λ (p : Holdings). p.tcp.low) holds ∙ low_stays t.tie.client.protocol t.tie.local 1 (Held t.tie.client.address) pool)
           (ap (λ (p : Holdings). p.tcp.high) holds ∙ high_stays t.tie.client.protocol t.tie.local 1 (Held t.tie.client.address) pool)
           (tie_appended it h.ties t none_there vacant new appends.0 appends.1)
@@ -152,16 +175,22 @@ module _ (it : Numbers) (pool : Holdings) (h : IsTieTable it pool) where
       found_last : tie_of t.tie.client (ts ++ t ∷ []) ≡ Some t
       found_last = find-append (has_client t.tie.client) ts t none_there ∙ ap (λ b. cond b (Some t) None) itself
 
-      pub back_table : (last : Holdings) → Stays it new → last ≡ with_use t.tie.client.protocol t.tie.local 1 Free after → IsTieTable new last
+      freed_again : IsTiePool (with_use t.tie.client.protocol t.tie.local 1 Free held) (rest_in rests) ts
+      freed_again = alike_pool (with_use t.tie.client.protocol t.tie.local 1 Free held) (set_rest (rest_in rests) t.tie.client.protocol t.tie.local None) ts
+          (subst (IsTiePool (with_use t.tie.client.protocol t.tie.local 1 Free held) (set_rest (rest_in rests) t.tie.client.protocol t.tie.local None)) others_stay
+          (take_pool held (rest_in rests) (ts ++ t ∷ []) pool_put differ_push t.tie.client t found_last local_there))
+          (rest_in rests) (set_same (rest_in rests) t.tie.client.protocol t.tie.local None awake)
+
+      pub back_table : (last : Holdings) → Stays it new → last ≡ with_use t.tie.client.protocol t.tie.local 1 Free after → IsTieTable new last rests
       back_table last stays freed = record {
         ties = tie_stays it h.ties new stays;
-        pool = subst (IsTiePool last) (sym (same-values tie_keying tie_laws it h.ties.kept new stays))
-            (subst (λ (p : Holdings). IsTiePool p ts) (sym (freed ∙ ap (with_use t.tie.client.protocol t.tie.local 1 Free) holds))
-            (subst (IsTiePool (with_use t.tie.client.protocol t.tie.local 1 Free held)) others_stay (take_pool held (ts ++ t ∷ []) pool_put differ_push t.tie.client t found_last local_there)));
+        pool = subst (IsTiePool last (rest_in rests)) (sym (same-values tie_keying tie_laws it h.ties.kept new stays))
+            (subst (λ (p : Holdings). IsTiePool p (rest_in rests) ts) (sym (freed ∙ ap (with_use t.tie.client.protocol t.tie.local 1 Free) holds)) freed_again);
+        spots = h.spots;
       }
 
   -- ---- one is changed
-  module _ (t : Tied) (may : MayChange (ties_of pool ts) t) where
+  module _ (t : Tied) (may : MayChange (ties_of pool rests ts) t) where
     pub none_clash : get place_cmp it.keys (place_of_tie t) ≡ None → ⊥
     none_clash free = none_some (tie_of t.tie.client ts) may.old (sym (none-found tie_keying tie_laws it h.ties.kept (has_client t.tie.client) (place_of t.tie.client) (tells_client t.tie.client) free)) may.client
 
@@ -178,23 +207,28 @@ module _ (it : Numbers) (pool : Holdings) (h : IsTieTable it pool) where
         zip : AllZip IsSameTie ts (values new.leases)
         zip = replaced_zip it h.ties t.tie.client n x number at_n t same_tie new replaces (found_at t.tie.client n x number at_n)
 
-        changed_table : IsTieTable new pool
+        changed_table : IsTieTable new pool rests
         changed_table = record {
           ties = replaced_ties it h.ties t.tie.client n x number at_n t same_tie new replaces zip;
-          pool = zip_pool pool ts h.pool (values new.leases) zip;
+          pool = zip_pool pool (rest_in rests) ts h.pool (values new.leases) zip;
+          spots = h.spots;
         }
 
-        changed_seen : ties_of pool (values new.leases) ≡ with_change (ties_of pool ts) t
-        changed_seen = ap (ties_of pool) (tie_replaced it h.ties t.tie.client n x number at_n t same_tie new replaces)
+        changed_seen : ties_of pool rests (values new.leases) ≡ with_change (ties_of pool rests ts) t
+        changed_seen = ap (ties_of pool rests) (tie_replaced it h.ties t.tie.client n x number at_n t same_tie new replaces)
 
-      pub change_table : {X E : Type 0} (new : Numbers) (r : Result X E) → OnOk r (Replaces port_cmp it new n t (port_of_tie t) (port_of_tie t)) → OnErr r (Stays it new) → IsTieTable new pool
+      pub change_table : {X E : Type 0} (new : Numbers) (r : Result X E) → OnOk r (Replaces port_cmp it new n t (port_of_tie t) (port_of_tie t)) → OnErr r (Stays it new) → IsTieTable new pool rests
       change_table new (Ok v) ok err = changed_table new ok
-      change_table new (Err e) ok err = record { ties = tie_stays it h.ties new err; pool = subst (IsTiePool pool) (sym (same-values tie_keying tie_laws it h.ties.kept new err)) h.pool }
+      change_table new (Err e) ok err = record {
+        ties = tie_stays it h.ties new err;
+        pool = subst (IsTiePool pool (rest_in rests)) (sym (same-values tie_keying tie_laws it h.ties.kept new err)) h.pool;
+        spots = h.spots;
+      }
 
       pub change_seen : {X E : Type 0} (new : Numbers) (r : Result X E) → OnOk r (Replaces port_cmp it new n t (port_of_tie t) (port_of_tie t)) → OnErr r (Stays it new) →
-          MakesTies (ties_of pool ts) (with_change (ties_of pool ts) t) r (ties_of pool (values new.leases))
+          MakesTies (ties_of pool rests ts) (with_change (ties_of pool rests ts) t) r (ties_of pool rests (values new.leases))
       change_seen new (Ok v) ok err = record { ok = changed_seen new ok; err = tt }
-      change_seen new (Err e) ok err = record { ok = tt; err = ap (ties_of pool) (same-values tie_keying tie_laws it h.ties.kept new err) }
+      change_seen new (Err e) ok err = record { ok = tt; err = ap (ties_of pool rests) (same-values tie_keying tie_laws it h.ties.kept new err) }
 
   -- ---- those whose time has come
   over_is : (m : ℕ) (t : Tied) → is_over m t ≡ not (nat_lt m t.tie.until_ms)
@@ -214,26 +248,29 @@ module _ (it : Numbers) (pool : Holdings) (h : IsTieTable it pool) where
       found_over : tie_of x.tie.client ts ≡ Some x
       found_over = sym (one-found tie_keying tie_laws it h.ties.kept (has_client x.tie.client) (place_of x.tie.client) (tells_client x.tie.client) n x at_n refl)
 
-      pub still_less : (us : Ties) → us ≡ without (ties_of pool ts) x.tie.client → still m us ≡ still m (ties_of pool ts)
-      still_less us is = ap (still m) is ∙ ap (ties_of pool) (filter-out (has_client x.tie.client) x (λ t. not (is_over m t)) ts (once_client x.tie.client ts h.ties.differ) found_over (ap not over_at))
+      pub still_less : (us : Ties) → us ≡ without (ties_of pool rests ts) x.tie.client → still m us ≡ still m (ties_of pool rests ts)
+      still_less us is = ap (still m) is ∙ ap (ties_of pool rests) (filter-out (has_client x.tie.client) x (λ t. not (is_over m t)) ts (once_client x.tie.client ts h.ties.differ) found_over (ap not over_at))
 
-      pub fewer_left : (us : Ties) → us ≡ without (ties_of pool ts) x.tie.client → length us.each < length ts
+      pub fewer_left : (us : Ties) → us ≡ without (ties_of pool rests ts) x.tie.client → length us.each < length ts
       fewer_left us is =
           let less = fewer-out (has_client x.tie.client) x ts (once_client x.tie.client ts h.ties.differ) found_over in
           let same = ap (λ (z : Ties). length z.each) is in omega (arith, less, same)
 
-    pub all_still : IsOneEnded (λ (t : Tied). t.tie.until_ms) m it.leases None → still m (ties_of pool ts) ≡ ties_of pool ts
+    pub all_still : IsOneEnded (λ (t : Tied). t.tie.until_ms) m it.leases None → filter (λ t. not (is_over m t)) ts ≡ ts
     all_still ended =
         let none = find-none (λ (t : Tied). not (nat_lt m t.tie.until_ms)) ts (one-none (λ (t : Tied). t.tie.until_ms) it.leases h.ties.kept.ordered m ended) in
-        ap (ties_of pool) (filter-all (λ t. not (is_over m t)) ts (All-weaker (λ t. not (nat_lt m t.tie.until_ms) ≡ false) (λ t. not (is_over m t) ≡ true)
-        (λ t e. ap not (over_is m t ∙ e)) ts none))
+        filter-all (λ t. not (is_over m t)) ts (All-weaker (λ t. not (nat_lt m t.tie.until_ms) ≡ false) (λ t. not (is_over m t) ≡ true)
+        (λ t e. ap not (over_is m t ∙ e)) ts none)
 
 -- ---- a new table
 open_uses : (low high : ℕ) (protocol : Protocol) (port : ℕ) → use_of (fresh_pool low high 64) protocol port ≡ Free
 open_uses low high Tcp port = use_at-all_free 65536 port
 open_uses low high Udp port = use_at-all_free 65536 port
 
-fresh_is : (low high : ℕ) → 1 ≤ low → high ≤ 65535 → IsTiePool (fresh_pool low high 64) []
+no_rest : (protocol : Protocol) (port : ℕ) → rest_in empty protocol port ≡ None
+no_rest protocol port = get-empty nat_cmp (spot protocol port)
+
+fresh_is : (low high : ℕ) → 1 ≤ low → high ≤ 65535 → IsTiePool (fresh_pool low high 64) (rest_in empty) []
 fresh_is low high some top = record {
   quota = refl;
   low = refl;
@@ -241,14 +278,15 @@ fresh_is low high some top = record {
   some = some;
   top = top;
   whole = fresh-whole low high 64;
-  uses = open_uses low high;
+  uses = λ protocol port. open_uses low high protocol port ∙ sym (ap (use_by None) (no_rest protocol port));
   counts = λ who. let none = count-all_free who 65536 in omega (arith, none);
 }
 
-pub fresh_table : (it : Numbers) (low high : ℕ) → IsBlank place_cmp port_cmp it → 1 ≤ low → high ≤ 65535 → IsTieTable it (fresh_pool low high 64)
+pub fresh_table : (it : Numbers) (low high : ℕ) → IsBlank place_cmp port_cmp it → 1 ≤ low → high ≤ 65535 → IsTieTable it (fresh_pool low high 64) empty
 fresh_table it low high blank some top =
     let none = blank-values tie_keying it blank in
     record {
       ties = record { differ = subst TiesDiffer (sym none) tt; locals = subst (AllByRecursion HasLocal) (sym none) tt; kept = blank-kept tie_keying it blank };
-      pool = subst (IsTiePool (fresh_pool low high 64)) (sym none) (fresh_is low high some top);
+      pool = subst (IsTiePool (fresh_pool low high 64) (rest_in empty)) (sym none) (fresh_is low high some top);
+      spots = λ at until is. absurd (let no : None ≡ Some until = sym (get-empty nat_cmp at) ∙ is in cc);
     }

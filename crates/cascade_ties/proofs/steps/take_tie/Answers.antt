@@ -6,27 +6,30 @@ use Rattle.cascade_ties.proofs.steps.take_tie.Goals as goal
 
 pub returns-in_default-clause-ties : goal.returns-in_default-clause-ties
 returns-in_default-clause-ties c =
-    none_taken c.args.kept.now c.args.pool.now c.requires c.args.client.now
+    none_taken c.args.kept.now c.args.pool.now c.args.rests.now c.requires c.args.client.now
     (ap (get place_cmp c.args.kept.now.keys) (sym c.place_of.ensures) ∙ sym (c.in_default.ensures ∙ c.get.ensures.value))
 
 pub index-requires : goal.index-requires
 index-requires c =
-    number_there c.args.kept.now c.args.pool.now c.requires c.args.client.now c.in-Some.number
+    number_there c.args.kept.now c.args.pool.now c.args.rests.now c.requires c.args.client.now c.in-Some.number
     (ap (get place_cmp c.args.kept.now.keys) (sym c.place_of.ensures) ∙ sym (c.in-Some.ensures ∙ c.get.ensures.value))
 
-pub release-requires : goal.release-requires
-release-requires c =
-    may_free c.args.kept.now c.args.pool.now c.requires c.args.client.now c.in-Some.number c.index.result.now
+pub leave-requires-clause-may : goal.leave-requires-clause-may
+leave-requires-clause-may c =
+    may_free c.args.kept.now c.args.pool.now c.args.rests.now c.requires c.args.client.now c.in-Some.number c.index.result.now
     (ap (get place_cmp c.args.kept.now.keys) (sym c.place_of.ensures) ∙ sym (c.in-Some.ensures ∙ c.get.ensures.value)) c.index.ensures
 
 pub returns-clause-kept : goal.returns-clause-kept
 returns-clause-kept c =
-    taken_table c.args.kept.now c.args.pool.now c.requires c.args.client.now c.in-Some.number c.index.result.now
+    taken_table c.args.kept.now c.args.pool.now c.args.rests.now c.requires c.args.client.now c.in-Some.number c.index.result.now
     (ap (get place_cmp c.args.kept.now.keys) (sym c.place_of.ensures) ∙ sym (c.in-Some.ensures ∙ c.get.ensures.value)) c.index.ensures
-    c.forget.new.kept c.release.new.self c.forget.ensures c.release.ensures
+    c.forget.new.kept c.leave.new.pool c.forget.ensures c.leave.ensures
 
 pub returns-clause-ties : goal.returns-clause-ties
 returns-clause-ties c =
-    taken_seen c.args.kept.now c.args.pool.now c.requires c.args.client.now c.in-Some.number c.index.result.now
+    taken_seen c.args.kept.now c.args.pool.now c.args.rests.now c.requires c.args.client.now c.in-Some.number c.index.result.now
     (ap (get place_cmp c.args.kept.now.keys) (sym c.place_of.ensures) ∙ sym (c.in-Some.ensures ∙ c.get.ensures.value)) c.index.ensures
-    c.forget.new.kept c.release.new.self c.forget.ensures c.release.ensures
+    c.forget.new.kept c.leave.new.pool c.forget.ensures c.leave.ensures
+
+pub leave-requires-clause-whole : goal.leave-requires-clause-whole
+leave-requires-clause-whole c = c.requires.pool.whole

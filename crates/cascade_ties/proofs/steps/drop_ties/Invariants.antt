@@ -2,11 +2,11 @@ use Rattle.std.proofs.Common.{◌≡◌, length}
 use Rattle.std.specs.BTreeMap.{values}
 use Rattle.cascade_ties.specs.Kept.{IsTieTable, ties_of}
 use Rattle.cascade_ties.specs.Ties.{still}
-use Rattle.cascade_ties.proofs.steps.drop_over.Given as goal
+use Rattle.cascade_ties.proofs.steps.drop_ties.Given as goal
 
 abbrev pub invariant-loop : goal.invariant-loop
 invariant-loop l =
-    IsTieTable l.kept l.pool × (still l.now_ms (ties_of l.pool (values l.kept.leases)) ≡ still l.now_ms (ties_of l.initial.pool (values l.initial.kept.leases)))
+    IsTieTable l.kept l.pool l.rests × (still l.now_ms (ties_of l.pool l.rests (values l.kept.leases)) ≡ still l.now_ms (ties_of l.initial.pool l.rests (values l.initial.kept.leases)))
 
 abbrev pub decreases-loop : goal.decreases-loop
 decreases-loop l = length (values l.kept.leases)
