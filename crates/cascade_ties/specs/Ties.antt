@@ -106,6 +106,12 @@ with_change ts t = record ts { each = put (has_client t.tie.client) t ts.each }
 abbrev pub without : Ties → Endpoint → Ties
 without ts client = record ts { each = filter (λ t. not (has_client client t)) ts.each }
 
+-- an endpoint has a tie to this local port
+pub record MayRest (ts : Ties) (client : Endpoint) (local : ℕ) : Type 0 where
+  pub tied : Tied
+  pub found : tie_of client ts.each ≡ Some tied
+  pub port : tied.tie.local ≡ local
+
 -- a local port rests until a time, also behind the tie to it
 abbrev pub with_rest : Ties → Protocol → ℕ → ℕ → Ties
 with_rest ts protocol port until =

@@ -3,7 +3,7 @@ ghost use Rattle.std.specs.Prelude.{◌≡◌, ◌≤◌, ◌-◌, length, map, 
 ghost use Rattle.std.specs.Option.{option_copied};
 ghost use Rattle.std.specs.BTreeMap.{values};
 ghost use Rattle.expiry_wheel.specs.declared.TheConstants.{NEVER};
-ghost use Rattle.cascade_ties.specs.Ties.{MakesTies, MayChange, MayMove, MayTie, local_for, no_ties, still, tie_at, tie_of, with_change, with_rest, with_tie, without};
+ghost use Rattle.cascade_ties.specs.Ties.{MakesTies, MayChange, MayMove, MayRest, MayTie, local_for, no_ties, still, tie_at, tie_of, with_change, with_rest, with_tie, without};
 
 use crate::locals::{NoLocal, TIE_QUOTA, local_for};
 use crate::lookups::Numbers;
@@ -147,15 +147,19 @@ impl TieTable {
 
     /// Lets the local port of a tie rest behind it until a time. The one error is want of memory,
     /// which changes nothing.
-    pub fn rest(&mut self, alloc: Global, tied: &Tied, until_ms: u64) -> Result<(), Memory>
-        requires tied { tie_of tied.now.tie.client self.old.each ≡ Some tied.now }
+    pub fn rest(
+        &mut self,
+        alloc: Global,
+        client: &Endpoint,
+        local: u16,
+        until_ms: u64,
+    ) -> Result<(), Memory>
+        requires may { MayRest self.old client.now local }
         requires sometime { until_ms < NEVER }
-        ensures { MakesTies self.old
-            (with_rest self.old tied.now.tie.client.protocol tied.now.tie.local until_ms)
+        ensures { MakesTies self.old (with_rest self.old client.now.protocol local until_ms)
             result self.new }
     {
-        let tie = &tied.tie;
-        rest_tie(alloc, &mut self.rests, &tie.client, tie.local, until_ms)
+        rest_tie(alloc, &mut self.rests, client, local, until_ms)
     }
 
     /// Takes out the tie of an endpoint, where it has one, and frees its local port, which then rests

@@ -103,10 +103,12 @@ waiting_of d items ask now = record {
   port = d.port;
   door = d.door;
   request = d.octets;
+  lifetime = ask.lifetime;
   suggested = ask.port;
   address = ask.address;
   items = repeated items;
   since_ms = now;
+  tries = 0;
 }
 
 -- a new tie lasts as long as a request waits; nothing is granted yet

@@ -299,10 +299,12 @@ fn waiting_of(
         port: datagram.port,
         door: datagram.door,
         request: Octets::of(datagram.octets.items().to_vec(alloc)?),
+        lifetime: ask.lifetime,
         suggested: ask.port,
         address: ask.address,
         items: repeated(alloc, items)?,
         since_ms: now_ms,
+        tries: 0,
     })
 }
 

@@ -7,6 +7,7 @@ ghost use Rattle.proxy_cascade.specs.FromServers.{on_server};
 use crate::asking::answer_client;
 use crate::epochs::keeps_epoch;
 use crate::judging::for_itself;
+use crate::outs::CascadeOut;
 use crate::serving::{answer_server, response_in};
 use crate::terms::CascadeTerms;
 use cascade_ties::{Tie, TieTable};
@@ -99,15 +100,19 @@ impl Cascade {
 
     /// What is to be sent for a datagram from upstream: the reply for the client whose request waits
     /// for it, which then waits no more, or an ANNOUNCE reply to all clients where an ANNOUNCE told
-    /// an epoch that isn't valid (RFC 6887, sections 8.5 and 14.1). None where its peer isn't the
-    /// server, it is no response, nothing waits for it, or an ANNOUNCE told a valid epoch. Every
-    /// response of the server tells an epoch; from one that isn't valid on, epochs count anew.
+    /// an epoch that isn't valid (RFC 6887, sections 8.5 and 14.1). Where upstream the local port is
+    /// leased to another nonce (code 2, NOT_AUTHORIZED), and the tie isn't granted, the request goes up
+    /// once more for another local port in place of the reply, [`MOST_TRIES`](crate::MOST_TRIES) times at
+    /// most. A local port rests for the lifetime that upstream told last, also behind its tie. Nothing
+    /// where its peer isn't the server, it is no response, nothing waits for it, or an ANNOUNCE told a
+    /// valid epoch. Every response of the server tells an epoch; from one that isn't valid on, epochs
+    /// count anew.
     pub fn from_server(
         &mut self,
         alloc: Global,
         datagram: &Datagram,
         now_ms: u64,
-    ) -> Result<Option<Datagram>, Memory>
+    ) -> Result<CascadeOut, Memory>
         requires { now_ms < 1000 * 2 ^ 40 }
         ensures ok { IfOk result (λ out. on_server self.old datagram.now now_ms
             ≡ record { cascade = self.new; out = out }) }
@@ -115,7 +120,7 @@ impl Cascade {
     {
         self.tick(now_ms);
         let Some(response) = response_in(alloc, &self.terms.server, datagram)? else {
-            return Ok(None);
+            return Ok(CascadeOut::Nothing);
         };
         let valid = keeps_epoch(self.terms.heard, response.epoch, self.terms.last_ms);
         let terms = self.terms.hearing(response.epoch, valid);
@@ -135,7 +140,9 @@ impl Cascade {
         dropped as u32
     }
 
-    /// The ties, in the order made, as they were after the last call with a time.
+    /// The ties, in the order made, as they were after the last call with a time. What comes to a local
+    /// port may be handed on to the client of its tie where that is granted, and not before: until then
+    /// it may be another client's.
     pub fn ties(&self, alloc: Global) -> Result<Vec<Tie>, Memory>
         ensures { IfOk result (λ list. list.items ≡ map (λ t. t.tie) self.now.ties.each) }
     {

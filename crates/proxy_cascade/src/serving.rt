@@ -1,23 +1,29 @@
 //! What is sent for datagrams from upstream.
-ghost use Rattle.std.specs.Prelude.{◌≡◌, ◌≤◌, length, Some, None, if◌then◌else◌, IfOk, OnErr};
+ghost use Rattle.std.specs.Prelude.{◌≡◌, ◌+◌, ◌*◌, ◌<◌, ◌≤◌, length, if◌then◌else◌, IfOk, OnErr};
+ghost use Rattle.expiry_wheel.specs.declared.TheConstants.{NEVER};
+ghost use Rattle.proxy_cascade.specs.declared.outs.CascadeOut.TheVariants.{Nothing, Down};
 ghost use Rattle.pcp_codec.specs.declared.layout.TheConstants.{HEAD_OCTETS};
 ghost use Rattle.std.specs.Option.{option_copied};
 ghost use Rattle.pcp_base.specs.Protocols.{protocol_of};
 ghost use Rattle.proxy_core.specs.Down.{is_success};
 ghost use Rattle.proxy_core.specs.Relays.{response_from};
 ghost use Rattle.cascade_ties.specs.Ties.{MakesTies};
-ghost use Rattle.proxy_cascade.specs.FromServers.{announcement, ended, for_body, for_protocol, granted, is_asked_by, lease_after, still_waits, text_after, ties_after, told_lifetime};
+ghost use Rattle.proxy_cascade.specs.FromServers.{announcement, ended, for_body, for_protocol, granted, is_asked_by, is_taken, is_tried_on, lease_after, moved, next_local, still_waits, text_after, ties_after, told_lifetime};
 ghost use Rattle.proxy_cascade.specs.Kept.{AreKept, IsTime, IsTied, cascade_of, epoch_of};
 
+use crate::outs::CascadeOut;
 use crate::terms::CascadeTerms;
-use crate::texts::{announce_text, error_text, lease_text};
+use crate::texts::{again_text, announce_text, error_text, lease_text};
 use cascade_ties::{Tie, TieTable, Tied, Waiting};
 use client_core::LONGEST_LEASE;
 use pcp_base::{Address, Code, Datagram, Memory, Nonce, Octets, Protocol};
 use pcp_codec::{Body, Common};
-use pcp_options::{Response, ResponseRefused, read_response};
+use pcp_options::{Items, Response, ResponseRefused, read_response};
 use proxy_core::{CLIENTS_PORT, WAIT_MS, upstream_nonce};
 use std::alloc::Global;
+
+/// How many other local ports are asked for one request of a client, at most.
+pub const MOST_TRIES: u8 = 16;
 
 /// What the server says; none where the datagram isn't the server's, or is no response.
 pub(crate) fn response_in(
@@ -44,7 +50,7 @@ pub(crate) fn answer_server(
     ties: &mut TieTable,
     response: &Response,
     valid: bool,
-) -> Result<Option<Datagram>, Memory>
+) -> Result<CascadeOut, Memory>
     requires time { IsTime terms.now.last_ms }
     requires kept { AreKept ties.old.each }
     ensures ok { IfOk result (λ out.
@@ -56,19 +62,19 @@ pub(crate) fn answer_server(
     match &response.body {
         Body::Announce => announce(alloc, terms, valid),
         Body::Map(common) => answer_map(alloc, terms, ties, response, common),
-        Body::Peer { .. } => Ok(None),
+        Body::Peer { .. } => Ok(CascadeOut::Nothing),
     }
 }
 
 /// All clients are told where epochs began anew (RFC 6887, section 14.1).
-fn announce(alloc: Global, terms: &CascadeTerms, valid: bool) -> Result<Option<Datagram>, Memory>
+fn announce(alloc: Global, terms: &CascadeTerms, valid: bool) -> Result<CascadeOut, Memory>
     ensures { IfOk result (λ out.
-        out ≡ (if valid then None else Some (announcement (epoch_of terms.now)))) }
+        out ≡ (if valid then Nothing else Down (announcement (epoch_of terms.now)))) }
 {
     if valid {
-        return Ok(None);
+        return Ok(CascadeOut::Nothing);
     }
-    Ok(Some(Datagram {
+    Ok(CascadeOut::Down(Datagram {
         peer: Address::v4(224, 0, 0, 1),
         port: CLIENTS_PORT,
         door: 0,
@@ -83,7 +89,7 @@ fn answer_map(
     ties: &mut TieTable,
     response: &Response,
     common: &Common,
-) -> Result<Option<Datagram>, Memory>
+) -> Result<CascadeOut, Memory>
     requires time { IsTime terms.now.last_ms }
     requires kept { AreKept ties.old.each }
     ensures ok { IfOk result (λ out. for_protocol (cascade_of terms.now ties.old) response.now
@@ -93,21 +99,89 @@ fn answer_map(
     ensures err { OnErr result (ties.new ≡ ties.old) }
 {
     let Some(protocol) = Protocol::of(common.protocol) else {
-        return Ok(None);
+        return Ok(CascadeOut::Nothing);
     };
     let Some(tied) = ties.at_local(protocol, common.internal) else {
-        return Ok(None);
+        return Ok(CascadeOut::Nothing);
     };
     let tie = tied.tie;
     let Some(waiting) = still_waits(&tied.waiting, terms.last_ms) else {
-        return Ok(None);
+        return Ok(CascadeOut::Nothing);
     };
     if !is_asked_by(&terms.key, &tie, &common.nonce) {
-        return Ok(None);
+        return Ok(CascadeOut::Nothing);
+    }
+    if let Some(local) = next_local(ties, response, &tie, waiting) {
+        let text = again_text(alloc, &terms.key, &terms.own, &tie, waiting, local)?;
+        let tied = moved(alloc, tie, waiting, local)?;
+        let until_ms = rest_until(response, terms.last_ms);
+        ties.move_on(alloc, tie.local, tied, until_ms)?;
+        return Ok(CascadeOut::Up(text));
     }
     let reply = reply_for(alloc, terms, response, common, &tie, waiting)?;
-    settle(ties, response, common, tie, terms.last_ms)?;
-    Ok(Some(reply))
+    settle(alloc, ties, response, common, tie, terms.last_ms)?;
+    Ok(CascadeOut::Down(reply))
+}
+
+/// Whether upstream the port is leased to another nonce.
+fn is_taken(code: Code) -> bool
+    ensures { result ≡ is_taken code }
+{
+    match code {
+        Code::NotAuthorized => true,
+        _ => false,
+    }
+}
+
+/// Whether another local port is asked for, where one is vacant.
+fn is_tried_on(response: &Response, tie: &Tie, waiting: &Waiting) -> bool
+    ensures { result ≡ is_tried_on response.now tie.now waiting.now }
+{
+    is_taken(response.code) && !tie.granted && waiting.tries < MOST_TRIES
+}
+
+/// The local port that is asked for next; none where the error goes to the client.
+fn next_local(ties: &TieTable, response: &Response, tie: &Tie, waiting: &Waiting) -> Option<u16>
+    ensures { result ≡ next_local ties.now response.now tie.now waiting.now }
+{
+    if !is_tried_on(response, tie, waiting) {
+        return None;
+    }
+    match ties.local_for(&tie.client) {
+        Ok(local) => Some(local),
+        Err(_why) => None,
+    }
+}
+
+/// Until when the local port rests of which a response tells a lifetime, in milliseconds.
+fn rest_until(response: &Response, now_ms: u64) -> u64
+    requires { IsTime now_ms }
+    ensures until { result ≡ now_ms + 1000 * response.now.lifetime }
+    ensures sometime { result < NEVER }
+{
+    now_ms + 1000 * u64::from(response.lifetime)
+}
+
+/// The tie to another local port, and the request, which waits on.
+fn moved(alloc: Global, tie: Tie, waiting: &Waiting, local: u16) -> Result<Tied, Memory>
+    requires { waiting.now.tries < MOST_TRIES }
+    ensures { IfOk result (λ tied. tied ≡ moved tie waiting.now local) }
+{
+    let waiting = Waiting {
+        port: waiting.port,
+        door: waiting.door,
+        request: Octets::of(waiting.request.items().to_vec(alloc)?),
+        lifetime: waiting.lifetime,
+        suggested: waiting.suggested,
+        address: waiting.address,
+        items: Items::of(waiting.items.items().to_vec(alloc)?),
+        since_ms: waiting.since_ms,
+        tries: waiting.tries + 1,
+    };
+    Ok(Tied {
+        tie: Tie { local, ..tie },
+        waiting: Some(waiting),
+    })
 }
 
 /// The request that waits, unless it waited for longer than its time.
@@ -247,6 +321,7 @@ fn granted(tie: Tie, common: &Common, lifetime: u32, now_ms: u64) -> Tie
 /// What becomes of a tie after a response to it. The one error is want of memory, which changes
 /// nothing.
 fn settle(
+    alloc: Global,
     ties: &mut TieTable,
     response: &Response,
     common: &Common,
@@ -258,13 +333,17 @@ fn settle(
     ensures { MakesTies ties.old (ties_after now_ms response.now common.now tie ties.old)
         result ties.new }
 {
+    let until_ms = rest_until(response, now_ms);
     let success = is_success(response.code);
     if success && response.lifetime != 0 {
         let lifetime = told_lifetime(response.lifetime);
-        return ties.change(ended(granted(tie, common, lifetime, now_ms)));
+        return ties.grant(alloc, ended(granted(tie, common, lifetime, now_ms)), until_ms);
     }
     if !success && tie.granted {
         return ties.change(ended(tie));
+    }
+    if success || is_taken(response.code) {
+        ties.rest(alloc, &tie.client, tie.local, until_ms)?;
     }
     ties.remove(&tie.client);
     Ok(())

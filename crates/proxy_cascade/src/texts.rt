@@ -7,7 +7,9 @@ ghost use Rattle.pcp_options.specs.Replies.{reply_text, success_text};
 ghost use Rattle.pcp_options.specs.Requests.{asked_common};
 ghost use Rattle.proxy_core.specs.Down.{relayed_text};
 ghost use Rattle.proxy_cascade.specs.FromClients.{is_repeated, lease_text, repeated, up_text};
+ghost use Rattle.proxy_cascade.specs.FromServers.{again_text};
 
+use cascade_ties::{Tie, Waiting};
 use pcp_base::{Address, Answer, Ask, Code, Endpoint, MapAsk, Memory, Nonce, Octets, Refusal};
 use pcp_codec::{Body, Common};
 use pcp_options::{Item, Items, write_reply, write_request_with, write_success_with};
@@ -89,6 +91,31 @@ pub(crate) fn up_text(
     let items = repeated(alloc, items)?;
     let mut text = Vec::new(alloc);
     write_request_with(alloc, &mut text, own, ask.lifetime, &body, items.items())?;
+    Ok(Octets::of(text))
+}
+
+/// The request of a client that waits, for another local port.
+pub(crate) fn again_text(
+    alloc: Global,
+    key: &[u8; 32],
+    own: &Address,
+    tie: &Tie,
+    waiting: &Waiting,
+    local: u16,
+) -> Result<Octets, Memory>
+    ensures { IfOk result (λ text. text
+        ≡ again_text key.now own.now tie.now waiting.now local) }
+{
+    let asked = Endpoint {
+        address: *own,
+        protocol: tie.client.protocol,
+        port: local,
+    };
+    let nonce = upstream_nonce(key, &tie.client.address, &tie.nonce);
+    let body = Body::Map(map_data(&asked, nonce, waiting.suggested, waiting.address));
+    let mut text = Vec::new(alloc);
+    let items = waiting.items.items();
+    write_request_with(alloc, &mut text, own, waiting.lifetime, &body, items)?;
     Ok(Octets::of(text))
 }
 
