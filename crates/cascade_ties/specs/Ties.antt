@@ -1,7 +1,8 @@
 -- Ties of clients' endpoints to local ports, in the order made, each with what waits, and until when
 -- local ports rest (our own). Times are in milliseconds.
-use Rattle.std.specs.Prelude.{◌≡◌, ℕ, ◌+◌, ◌-◌, ◌*◌, ◌==◌, ◌&&◌, nat_le, nat_lt, not, Bool, true, false, List, [], ◌∷◌, ◌++◌, filter, find, count_by, Option, Some, None, unwrap_or, Result, Ok, Err, OnOk, OnErr, if◌then◌else◌}
-use Rattle.std.specs.FinMap.{FinMap, contains_key, empty, get, insert, retain_keys}
+use Rattle.std.specs.Prelude.{◌≡◌, ℕ, ◌+◌, ◌-◌, ◌*◌, ◌==◌, ◌&&◌, nat_le, nat_lt, not, Bool, true, false, List, [], ◌∷◌, ◌++◌, filter, find, count_by, Option, Some, None, unwrap_or, Result, Ok, Err, OnOk, OnErr, if◌then◌else◌, refl}
+use Rattle.std.specs.Coded.{Coded, code_by, coded×, coded_list, coded_ℕ}
+use Rattle.std.specs.FinMap.{FinMap, code, contains_key, empty, get, insert, retain_keys}
 use Rattle.std.specs.List.{list_any, range_with_len}
 use Rattle.std.specs.Ordering.{nat_cmp}
 use Rattle.pcp_base.specs.declared.addresses.Address.{Address}
@@ -19,6 +20,16 @@ pub record Ties : Type 0 where
   pub high : ℕ
   pub each : List Tied
   pub rests : FinMap nat_cmp ℕ
+
+-- the parts of the record, one after the other
+abbrev pub ties_code : Coded Tied → Coded Ties
+ties_code tied =
+    code_by
+    (ℕ × (ℕ × (List Tied × FinMap nat_cmp ℕ)))
+    (coded× coded_ℕ (coded× coded_ℕ (coded× (coded_list tied) (code coded_ℕ coded_ℕ))))
+    (λ t. (t.low, (t.high, (t.each, t.rests))))
+    (λ p. record { low = p.0; high = p.1.0; each = p.1.1.0; rests = p.1.1.1 })
+    (λ _. refl)
 
 abbrev pub no_ties : ℕ → ℕ → Ties
 no_ties low high = record { low = low; high = high; each = []; rests = empty }

@@ -1,5 +1,5 @@
 //! The table of ties.
-ghost use Rattle.std.specs.Prelude.{◌≡◌, ◌≤◌, ◌-◌, length, map, IfOk};
+ghost use Rattle.std.specs.Prelude.{◌≡◌, ◌<◌, ◌≤◌, ◌-◌, length, map, IfOk};
 ghost use Rattle.std.specs.Option.{option_copied};
 ghost use Rattle.std.specs.BTreeMap.{values};
 ghost use Rattle.expiry_wheel.specs.declared.TheConstants.{NEVER};
@@ -33,10 +33,13 @@ pub struct TieTable {
 
 impl Model for TieTable {
     ghost use Rattle.std.specs.BTreeMap.{values};
-    ghost use Rattle.cascade_ties.specs.Ties.{Ties};
+    ghost use Rattle.cascade_ties.specs.Ties.{Ties, ties_code};
+    ghost use Rattle.cascade_ties.specs.contracts.ties.Tied as tied;
     ghost use Rattle.cascade_ties.specs.Kept.{IsTieTable, ties_of};
 
     ghost Value = { Ties };
+
+    ghost coded = { ties_code tied.the_row.coded };
 
     ghost view = { λ t. ties_of t.pool t.rests (values t.kept.leases) };
 

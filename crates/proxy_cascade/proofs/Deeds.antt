@@ -32,7 +32,10 @@ use Rattle.cascade_ties.specs.Ties.{local_for, tie_at, tie_of}
 use Rattle.proxy_cascade.specs.declared.asking.TheConstants.{MOST_TIES}
 use Rattle.proxy_cascade.specs.Cascades.{Cascade, Step, at, for_itself, told_epoch}
 use Rattle.proxy_cascade.specs.FromClients.{answered, asked, for_again, for_local, for_map, for_new, gone, judged, of_another, on_client, renewed, tied}
-use Rattle.proxy_cascade.specs.FromServers.{announcement, for_body, for_protocol, for_tie, for_tied, for_waiting, heard_from, hearing, is_asked_by, keeps_epoch, on_server, still_waits, unmatched}
+use Rattle.proxy_cascade.specs.FromServers.{announcement, for_body, for_next, for_protocol, for_tie, for_tied, for_waiting, heard_from, hearing, is_asked_by, keeps_epoch, next_local, on_server, settled, still_waits, unmatched}
+use Rattle.proxy_cascade.specs.declared.outs.CascadeOut.{CascadeOut}
+use Rattle.proxy_cascade.specs.declared.outs.CascadeOut.TheVariants as Outs
+use Rattle.proxy_cascade.specs.declared.outs.CascadeOut.TheVariants.{Down}
 
 -- ---- datagrams of clients
 
@@ -93,15 +96,18 @@ client-deed c d now = deed-judged (at c now) d (verdict_of for_itself d.peer d.o
 
 -- ---- datagrams from upstream
 
-pub data ServerDeed (c : Cascade) (d : Datagram) (step : Step (Option Datagram)) : Type 0 where
+pub data ServerDeed (c : Cascade) (d : Datagram) (step : Step CascadeOut) : Type 0 where
   unread : response_from c.server d ≡ None → step ≡ unmatched c → ServerDeed c d step
   unasked : (r : Response) → response_from c.server d ≡ Some r → step ≡ unmatched (hearing c r.epoch) → ServerDeed c d step
   told : (r : Response) → response_from c.server d ≡ Some r → keeps_epoch c.heard r.epoch c.last ≡ false
-      → step ≡ record { cascade = hearing c r.epoch; out = Some (announcement (told_epoch (hearing c r.epoch))) } → ServerDeed c d step
+      → step ≡ record { cascade = hearing c r.epoch; out = Down (announcement (told_epoch (hearing c r.epoch))) } → ServerDeed c d step
   matched : (r : Response) (common : Common) (protocol : Protocol) (t : Tied) (w : Waiting)
       → response_from c.server d ≡ Some r → r.body ≡ Map common → protocol_of common.protocol ≡ Some protocol
       → tie_at protocol common.internal c.ties.each ≡ Some t → t.waiting ≡ Some w → is_asked_by c.key t.tie common.nonce ≡ true
-      → step ≡ for_waiting (hearing c r.epoch) r common t.tie w → ServerDeed c d step
+      → step ≡ settled (hearing c r.epoch) r common t.tie w → ServerDeed c d step
+  tried : (r : Response) (common : Common) (protocol : Protocol) (t : Tied) (w : Waiting) (local : ℕ)
+      → response_from c.server d ≡ Some r → tie_at protocol common.internal c.ties.each ≡ Some t → t.waiting ≡ Some w → next_local c.ties r t.tie w ≡ Some local
+      → step ≡ for_next (hearing c r.epoch) r common t.tie w (Some local) → ServerDeed c d step
 
 -- what still waits did wait
 pub waited : (now : ℕ) (o : Option Waiting) (w : Waiting) → still_waits now o ≡ Some w → o ≡ Some w
@@ -117,12 +123,16 @@ module _ (c : Cascade) (d : Datagram) (r : Response) (read : response_from c.ser
   here = hearing c r.epoch
 
   module _ (common : Common) (body : r.body ≡ Map common) (protocol : Protocol) (of : protocol_of common.protocol ≡ Some protocol) (t : Tied) (found : tie_at protocol common.internal c.ties.each ≡ Some t) where
+    deed-next : (w : Waiting) → t.waiting ≡ Some w → is_asked_by c.key t.tie common.nonce ≡ true → (o : Option ℕ) → next_local c.ties r t.tie w ≡ o → ServerDeed c d (for_next here r common t.tie w o)
+    deed-next w waits nonce None is = matched r common protocol t w read body of found waits nonce refl
+    deed-next w waits nonce (Some local) is = tried r common protocol t w local read found waits is refl
+
     deed-tie : (o : Option Waiting) → still_waits c.last t.waiting ≡ o → ServerDeed c d (for_tie here r common t.tie o)
     deed-tie None is = unasked r read refl
     deed-tie (Some w) is = step (is_asked_by c.key t.tie common.nonce) refl
       where
         step : (b : Bool) → is_asked_by c.key t.tie common.nonce ≡ b → ServerDeed c d (cond b (for_waiting here r common t.tie w) (unmatched here))
-        step true e = matched r common protocol t w read body of found (waited c.last t.waiting w is) e refl
+        step true e = deed-next w (waited c.last t.waiting w is) e (next_local c.ties r t.tie w) refl
         step false e = unasked r read refl
 
   deed-tied : (common : Common) → r.body ≡ Map common → (protocol : Protocol) → protocol_of common.protocol ≡ Some protocol → (o : Option Tied) → tie_at protocol common.internal c.ties.each ≡ o → ServerDeed c d (for_tied here r common o)
@@ -136,7 +146,7 @@ module _ (c : Cascade) (d : Datagram) (r : Response) (read : response_from c.ser
   deed-body : (body : Body) → r.body ≡ body → ServerDeed c d (for_body here r (keeps_epoch c.heard r.epoch c.last) body)
   deed-body Announce is = step (keeps_epoch c.heard r.epoch c.last) refl
     where
-      step : (b : Bool) → keeps_epoch c.heard r.epoch c.last ≡ b → ServerDeed c d (record { cascade = here; out = cond b None (Some (announcement (told_epoch here))) })
+      step : (b : Bool) → keeps_epoch c.heard r.epoch c.last ≡ b → ServerDeed c d (record { cascade = here; out = cond b Outs.Nothing (Down (announcement (told_epoch here))) })
       step true e = unasked r read refl
       step false e = told r read e refl
   deed-body (Map common) is = deed-protocol common is (protocol_of common.protocol) refl

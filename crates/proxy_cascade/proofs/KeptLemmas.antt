@@ -12,13 +12,13 @@ use Rattle.proxy_core.specs.Down.{is_success}
 use Rattle.cascade_ties.specs.declared.ties.Tie.{Tie}
 use Rattle.cascade_ties.specs.declared.ties.Tied.{Tied}
 use Rattle.cascade_ties.specs.declared.ties.Waiting.{Waiting}
-use Rattle.cascade_ties.specs.Ties.{MakesTies, MayChange, MayTie, Ties, has_client, has_local, is_over, still, tie_at, tie_of, with_change, with_tie, without}
+use Rattle.cascade_ties.specs.Ties.{MakesTies, MayChange, MayMove, MayTie, Ties, has_client, has_local, is_over, still, tie_at, tie_of, with_change, with_tie, without}
 use Rattle.cascade_ties.proofs.TieKeeping.{IsSameTie}
 use Rattle.proxy_cascade.specs.declared.asking.TheConstants.{MOST_TIES}
-use Rattle.proxy_cascade.specs.FromServers.{ended, granted, still_waits, ties_after, told_lifetime}
+use Rattle.proxy_cascade.specs.FromServers.{ended, granted, is_taken, moved, next_local, resting, still_waits, ties_after, told_lifetime}
 use Rattle.proxy_cascade.specs.Kept.{AreKept, HasHead, IsKept, IsTied, IsTime}
 use Rattle.proxy_cascade.proofs.Deeds.{waited}
-use Rattle.proxy_cascade.proofs.TieFacts.{differ-push, differ-put, differ-still, found-client, found-itself}
+use Rattle.proxy_cascade.proofs.TieFacts.{differ-moved, differ-push, differ-put, differ-still, found-client, found-itself, next-vacant}
 
 fewer : (p : Tied → Bool) (xs : List Tied) → length (filter p xs) ≤ length xs
 fewer p [] = omega arith
@@ -79,13 +79,28 @@ head-at ts protocol port now t w found waits h =
     subst HasHead (waited now t.waiting w waits) (All-IsIn (λ y. HasHead y.waiting) ts.each t h.heads (find-some (has_local protocol port) ts.each t found).0)
 
 pub kept-after : (now : ℕ) (r : Response) (common : Common) (t : Tied) (ts : Ties) → tie_of t.tie.client ts.each ≡ Some t → AreKept ts.each → AreKept (ties_after now r common t.tie ts).each
-kept-after now r common t ts found h = step (is_success r.code) (r.lifetime == 0) t.tie.granted
+kept-after now r common t ts found h = step (is_success r.code) (r.lifetime == 0) t.tie.granted (is_taken r.code)
   where
-    step : (b z g : Bool) → AreKept (cond b (cond z (without ts t.tie.client) (with_change ts (ended (granted t.tie common (told_lifetime r.lifetime) now)))) (cond g (with_change ts (ended t.tie)) (without ts t.tie.client))).each
-    step true true g = kept-filter (λ x. not (has_client t.tie.client x)) ts.each h
-    step true false g = kept-change ts t (ended (granted t.tie common (told_lifetime r.lifetime) now)) (record { client = refl; local = refl }) found tt h
-    step false z true = kept-change ts t (ended t.tie) (record { client = refl; local = refl }) found tt h
-    step false z false = kept-filter (λ x. not (has_client t.tie.client x)) ts.each h
+    step : (b z g k : Bool) → AreKept (cond b (cond z (without (resting now r t.tie ts) t.tie.client) (resting now r t.tie (with_change ts (ended (granted t.tie common (told_lifetime r.lifetime) now)))))
+        (cond g (with_change ts (ended t.tie)) (without (cond k (resting now r t.tie ts) ts) t.tie.client))).each
+    step true true g k = kept-filter (λ x. not (has_client t.tie.client x)) ts.each h
+    step true false g k = kept-change ts t (ended (granted t.tie common (told_lifetime r.lifetime) now)) (record { client = refl; local = refl }) found tt h
+    step false z true k = kept-change ts t (ended t.tie) (record { client = refl; local = refl }) found tt h
+    step false z false true = kept-filter (λ x. not (has_client t.tie.client x)) ts.each h
+    step false z false false = kept-filter (λ x. not (has_client t.tie.client x)) ts.each h
+
+-- the tie goes to another local port
+pub kept-moved : (ts : Ties) (r : Response) (t : Tied) (w : Waiting) (local : ℕ) → tie_of t.tie.client ts.each ≡ Some t → t.waiting ≡ Some w → next_local ts r t.tie w ≡ Some local → AreKept ts.each
+    → AreKept (with_change ts (moved t.tie w local)).each
+kept-moved ts r t w local found waits next h = record {
+  few = (let same = as_many (has_client t.tie.client) (moved t.tie w local) t ts.each found in let few = h.few in omega (arith, same, few));
+  differ = differ-moved ts t r w local found next h.differ;
+  heads = put_All (λ y. HasHead y.waiting) (has_client t.tie.client) (moved t.tie w local) ts.each
+      (subst HasHead waits (All-IsIn (λ y. HasHead y.waiting) ts.each t h.heads (find-some (has_client t.tie.client) ts.each t found).0)) h.heads;
+}
+
+pub may-move : (ts : Ties) (r : Response) (t : Tied) (w : Waiting) (local : ℕ) → tie_of t.tie.client ts.each ≡ Some t → next_local ts r t.tie w ≡ Some local → MayMove ts t.tie.local (moved t.tie w local)
+may-move ts r t w local found next = record { old = t; client = found; leaves = refl; local = next-vacant ts r t.tie w local next }
 
 -- where a call may fail and then changes nothing
 pub kept-either : {X E : Type 0} (old made new : Ties) (r : Result X E) → MakesTies old made r new → AreKept old.each → AreKept made.each → AreKept new.each

@@ -1,5 +1,5 @@
 -- What a cascade keeps, whatever comes to it, and what it sends.
-use Rattle.std.proofs.Common.{◌≡◌, ℕ, ◌-◌, ◌/◌, ◌^◌, ◌==◌, max, min, Bool, true, false, not, cond, List, [], ◌∷◌, ◌++◌, Option, Some, None, refl, sym, ap, ◌∙◌, subst, append_assoc, append-nil, arith}
+use Rattle.std.proofs.Common.{◌≡◌, ℕ, ◌+◌, ◌-◌, ◌/◌, ◌^◌, ◌==◌, max, min, Bool, true, false, not, cond, List, [], ◌∷◌, ◌++◌, Option, Some, None, refl, sym, ap, ◌∙◌, subst, append_assoc, append-nil, arith}
 use Rattle.std.specs.Prelude.{⊤}
 use Rattle.std.specs.List.{AllByRecursion}
 use Rattle.std.proofs.lemmas.Bool.{and_parts, eqb-true}
@@ -26,7 +26,8 @@ use Rattle.pcp_options.specs.Replies.{reply_text, success_text}
 use Rattle.pcp_options.specs.Verdicts.{verdict_of}
 use Rattle.proxy_core.specs.declared.epochs.Heard.{Heard}
 use Rattle.proxy_core.specs.declared.outs.ProxyOut.{ProxyOut}
-use Rattle.proxy_core.specs.declared.outs.ProxyOut.TheVariants.{Reply, Up}
+use Rattle.proxy_core.specs.declared.outs.ProxyOut.TheVariants as ProxyOuts
+use Rattle.proxy_core.specs.declared.outs.ProxyOut.TheVariants.{Reply}
 use Rattle.proxy_core.specs.declared.outs.TheConstants.{CLIENTS_PORT}
 use Rattle.proxy_core.specs.Down.{is_success, relayed_text}
 use Rattle.proxy_core.specs.Nonces.{upstream_nonce}
@@ -40,15 +41,17 @@ use Rattle.cascade_ties.specs.Ties.{Ties, TiesDiffer, has_client, has_local, is_
 use Rattle.cascade_ties.proofs.TieKeeping.{IsSameTie}
 use Rattle.proxy_cascade.specs.Cascades.{Cascade, Step, at, for_itself, told_epoch}
 use Rattle.proxy_cascade.specs.FromClients.{asked_again, lease_text, new_tie, on_client, renewed, repeated, tied, tied_with, up_text, waiting_of}
-use Rattle.proxy_cascade.specs.FromServers.{announcement, ended, for_waiting, granted, hearing, is_asked_by, keeps_epoch, on_server, text_after, ties_after, told_lifetime}
-use Rattle.proxy_cascade.specs.Laws.{AnswersTie, Beginning, IsOwnReply, IsOwnText, IsSent, RepliesAreOwn, SentIsTold, TiesAlwaysDiffer, WentUp, begun, to_asker}
+use Rattle.proxy_cascade.specs.FromServers.{again_text, announcement, ended, for_next, granted, hearing, is_asked_by, is_taken, keeps_epoch, moved, on_server, resting, settled, text_after, ties_after, told_lifetime}
+use Rattle.proxy_cascade.specs.declared.outs.CascadeOut.{CascadeOut}
+use Rattle.proxy_cascade.specs.declared.outs.CascadeOut.TheVariants.{Nothing, Down, Up}
+use Rattle.proxy_cascade.specs.Laws.{AnswersTie, asked_up, Beginning, IsOwnReply, IsOwnText, IsSent, RepliesAreOwn, SentIsTold, TiesAlwaysDiffer, WentUp, begun, to_asker, tried_up, up_by}
 use Rattle.proxy_cascade.specs.Laws.IsOwnText.{refused as own_refused, announced as own_announced, gone as own_gone}
 use Rattle.proxy_cascade.specs.Laws.IsSent.{lease as sent_lease, deletion as sent_deletion, error as sent_error, announcement as sent_announcement}
 use Rattle.proxy_cascade.specs.Runs.{epoch_after, epoch_by, epoch_in, epochs_heard, last_loss, moment_after, moment_of, next, run}
 use Rattle.proxy_cascade.proofs.Deeds.{ClientDeed, ServerDeed, client-deed, server-deed}
 use Rattle.proxy_cascade.proofs.Deeds.ClientDeed.{silent, refused, announced, deleted, again, new}
-use Rattle.proxy_cascade.proofs.Deeds.ServerDeed.{unread, unasked, told, matched}
-use Rattle.proxy_cascade.proofs.TieFacts.{client-is, differ-push, differ-put, differ-still, found-client, found-itself, same-nonce, vacant-local}
+use Rattle.proxy_cascade.proofs.Deeds.ServerDeed.{unread, unasked, told, matched, tried}
+use Rattle.proxy_cascade.proofs.TieFacts.{client-is, differ-moved, differ-push, differ-put, differ-still, found-client, found-itself, same-nonce, vacant-local}
 use Rattle.proxy_cascade.proofs.VerdictLemmas.{asks-for-itself}
 
 run-more : (c : Cascade) (es : List Event) (e : Event) → run c (es ++ e ∷ []) ≡ next (run c es) e
@@ -81,16 +84,19 @@ abbrev hearing_in : Cascade → Option Response → Cascade
 hearing_in c None = c
 hearing_in c (Some r) = hearing c r.epoch
 
-server-same : (c : Cascade) (d : Datagram) (step : Step (Option Datagram)) → ServerDeed c d step → Same step.cascade (hearing_in c (response_from c.server d))
+server-same : (c : Cascade) (d : Datagram) (step : Step CascadeOut) → ServerDeed c d step → Same step.cascade (hearing_in c (response_from c.server d))
 server-same c d step (unread read is) =
-    subst (λ (o : Option Response). Same step.cascade (hearing_in c o)) (sym read) (subst (λ (s : Step (Option Datagram)). Same s.cascade c) (sym is) (same_ties c c.ties))
+    subst (λ (o : Option Response). Same step.cascade (hearing_in c o)) (sym read) (subst (λ (s : Step CascadeOut). Same s.cascade c) (sym is) (same_ties c c.ties))
 server-same c d step (unasked r read is) =
-    subst (λ (o : Option Response). Same step.cascade (hearing_in c o)) (sym read) (subst (λ (s : Step (Option Datagram)). Same s.cascade (hearing c r.epoch)) (sym is) (same_ties (hearing c r.epoch) c.ties))
+    subst (λ (o : Option Response). Same step.cascade (hearing_in c o)) (sym read) (subst (λ (s : Step CascadeOut). Same s.cascade (hearing c r.epoch)) (sym is) (same_ties (hearing c r.epoch) c.ties))
 server-same c d step (told r read lost is) =
-    subst (λ (o : Option Response). Same step.cascade (hearing_in c o)) (sym read) (subst (λ (s : Step (Option Datagram)). Same s.cascade (hearing c r.epoch)) (sym is) (same_ties (hearing c r.epoch) c.ties))
+    subst (λ (o : Option Response). Same step.cascade (hearing_in c o)) (sym read) (subst (λ (s : Step CascadeOut). Same s.cascade (hearing c r.epoch)) (sym is) (same_ties (hearing c r.epoch) c.ties))
 server-same c d step (matched r common protocol t w read body of found waits nonce is) =
     subst (λ (o : Option Response). Same step.cascade (hearing_in c o)) (sym read)
-    (subst (λ (s : Step (Option Datagram)). Same s.cascade (hearing c r.epoch)) (sym is) (same_ties (hearing c r.epoch) (for_waiting (hearing c r.epoch) r common t.tie w).cascade.ties))
+    (subst (λ (s : Step CascadeOut). Same s.cascade (hearing c r.epoch)) (sym is) (same_ties (hearing c r.epoch) (settled (hearing c r.epoch) r common t.tie w).cascade.ties))
+server-same c d step (tried r common protocol t w local read found waits next is) =
+    subst (λ (o : Option Response). Same step.cascade (hearing_in c o)) (sym read)
+    (subst (λ (s : Step CascadeOut). Same s.cascade (hearing c r.epoch)) (sym is) (same_ties (hearing c r.epoch) (for_next (hearing c r.epoch) r common t.tie w (Some local)).cascade.ties))
 
 -- ---- epochs
 
@@ -168,16 +174,18 @@ epoch-more b es e = ap told_epoch (sym (run-more (begun b) es e)) ∙ epoch-run 
 -- ---- ties differ
 
 differ-after : (c : Cascade) (r : Response) (common : Common) (t : Tied) → tie_of t.tie.client c.ties.each ≡ Some t → TiesDiffer c.ties.each → TiesDiffer (ties_after c.last r common t.tie c.ties).each
-differ-after c r common t found h = step (is_success r.code) (r.lifetime == 0) t.tie.granted
+differ-after c r common t found h = step (is_success r.code) (r.lifetime == 0) t.tie.granted (is_taken r.code)
   where
     changed : (x : Tied) → IsSameTie t x → TiesDiffer (with_change c.ties x).each
     changed x same = differ-put c.ties.each t x same (ap (λ (e : Endpoint). tie_of e c.ties.each) (sym same.client) ∙ found) h
 
-    step : (b z g : Bool) → TiesDiffer (cond b (cond z (without c.ties t.tie.client) (with_change c.ties (ended (granted t.tie common (told_lifetime r.lifetime) c.last)))) (cond g (with_change c.ties (ended t.tie)) (without c.ties t.tie.client))).each
-    step true true g = differ-still (λ x. not (has_client t.tie.client x)) c.ties.each h
-    step true false g = changed (ended (granted t.tie common (told_lifetime r.lifetime) c.last)) (record { client = refl; local = refl })
-    step false z true = changed (ended t.tie) (record { client = refl; local = refl })
-    step false z false = differ-still (λ x. not (has_client t.tie.client x)) c.ties.each h
+    step : (b z g k : Bool) → TiesDiffer (cond b (cond z (without (resting c.last r t.tie c.ties) t.tie.client) (resting c.last r t.tie (with_change c.ties (ended (granted t.tie common (told_lifetime r.lifetime) c.last)))))
+        (cond g (with_change c.ties (ended t.tie)) (without (cond k (resting c.last r t.tie c.ties) c.ties) t.tie.client))).each
+    step true true g k = differ-still (λ x. not (has_client t.tie.client x)) c.ties.each h
+    step true false g k = changed (ended (granted t.tie common (told_lifetime r.lifetime) c.last)) (record { client = refl; local = refl })
+    step false z true k = changed (ended t.tie) (record { client = refl; local = refl })
+    step false z false true = differ-still (λ x. not (has_client t.tie.client x)) c.ties.each h
+    step false z false false = differ-still (λ x. not (has_client t.tie.client x)) c.ties.each h
 
 differ-client : (c : Cascade) (d : Datagram) (step : Step ProxyOut) → ClientDeed c d step → TiesDiffer c.ties.each → TiesDiffer step.cascade.ties.each
 differ-client c d step (silent is) h = subst (λ (s : Step ProxyOut). TiesDiffer s.cascade.ties.each) (sym is) h
@@ -191,13 +199,16 @@ differ-client c d step (new place ask items local v none given is) h =
     subst (λ (s : Step ProxyOut). TiesDiffer s.cascade.ties.each) (sym is)
     (differ-push c.ties (tied_with (new_tie ask local c.last) (waiting_of d items ask c.last)) none (vacant-local c.ties ask.endpoint local given) h)
 
-differ-server : (c : Cascade) (d : Datagram) (step : Step (Option Datagram)) → ServerDeed c d step → TiesDiffer c.ties.each → TiesDiffer step.cascade.ties.each
-differ-server c d step (unread read is) h = subst (λ (s : Step (Option Datagram)). TiesDiffer s.cascade.ties.each) (sym is) h
-differ-server c d step (unasked r read is) h = subst (λ (s : Step (Option Datagram)). TiesDiffer s.cascade.ties.each) (sym is) h
-differ-server c d step (told r read lost is) h = subst (λ (s : Step (Option Datagram)). TiesDiffer s.cascade.ties.each) (sym is) h
+differ-server : (c : Cascade) (d : Datagram) (step : Step CascadeOut) → ServerDeed c d step → TiesDiffer c.ties.each → TiesDiffer step.cascade.ties.each
+differ-server c d step (unread read is) h = subst (λ (s : Step CascadeOut). TiesDiffer s.cascade.ties.each) (sym is) h
+differ-server c d step (unasked r read is) h = subst (λ (s : Step CascadeOut). TiesDiffer s.cascade.ties.each) (sym is) h
+differ-server c d step (told r read lost is) h = subst (λ (s : Step CascadeOut). TiesDiffer s.cascade.ties.each) (sym is) h
 differ-server c d step (matched r common protocol t w read body of found waits nonce is) h =
-    subst (λ (s : Step (Option Datagram)). TiesDiffer s.cascade.ties.each) (sym is)
+    subst (λ (s : Step CascadeOut). TiesDiffer s.cascade.ties.each) (sym is)
     (differ-after (hearing c r.epoch) r common t (found-client protocol common.internal c.ties.each t h found) h)
+differ-server c d step (tried r common protocol t w local read found waits next is) h =
+    subst (λ (s : Step CascadeOut). TiesDiffer s.cascade.ties.each) (sym is)
+    (differ-moved c.ties t r w local (found-client protocol common.internal c.ties.each t h found) next h)
 
 differ-at : (c : Cascade) (now : ℕ) → TiesDiffer c.ties.each → TiesDiffer (at c now).ties.each
 differ-at c now h = differ-still (λ t. not (is_over (max c.last now) t)) c.ties.each h
@@ -224,7 +235,8 @@ record IsAsked (b : Beginning) (events : List Event) (tie : Tie) (w : Waiting) :
   pub asked : WentUp b events request ask items tie.local
   pub client : tie.client ≡ ask.endpoint
   pub nonce : tie.nonce ≡ ask.nonce
-  pub waits : w ≡ waiting_of request items ask since
+  pub tries : ℕ
+  pub waits : w ≡ record (waiting_of request items ask since) { tries = tries }
 
 abbrev StandsBy : Beginning → List Event → Tie → Option Waiting → Type 0
 StandsBy b events tie None = ⊤
@@ -241,6 +253,10 @@ went-more b events more request ask items local w = record {
   came = ap (λ es. es ++ more) w.came ∙ append_assoc w.before (Client request w.now ∷ w.behind) more;
   place = w.place;
   judged = w.judged;
+  between = w.between;
+  event = w.event;
+  rest = w.rest ++ more;
+  stands = ap (λ es. es ++ more) w.stands ∙ append_assoc w.between (w.event ∷ w.rest) more;
   went = w.went;
 }
 
@@ -254,6 +270,7 @@ stands-by b events more tie (Some w) s = record {
   asked = went-more b events more s.request s.ask s.items tie.local s.asked;
   client = s.client;
   nonce = s.nonce;
+  tries = s.tries;
   waits = s.waits;
 }
 
@@ -273,7 +290,7 @@ module _ (b : Beginning) (events : List Event) where
 
     -- this request went up now
     went-now : (place : ℕ) (ask : MapAsk) (items : List Item) (local : ℕ) → verdict_of for_itself d.peer d.octets ≡ Asked place (Asks.Map ask) items
-        → (on_client sofar d now).out ≡ Up (up_text there.key there.own ask items local) → WentUp b later d ask items local
+        → (on_client sofar d now).out ≡ ProxyOuts.Up (up_text there.key there.own ask items local) → WentUp b later d ask items local
     went-now place ask items local v out = let keys = keys-run (begun b) events in record {
       before = events;
       now = now;
@@ -281,7 +298,12 @@ module _ (b : Beginning) (events : List Event) where
       came = refl;
       place = place;
       judged = v;
-      went = out ∙ ap (λ (k : List ℕ). Up (up_text k there.own ask items local)) keys.0 ∙ ap (λ (a : Address). Up (up_text b.key a ask items local)) keys.1;
+      between = [];
+      event = Client d now;
+      rest = [];
+      stands = refl;
+      went = ap (λ es. up_by (run (begun b) es) (Client d now)) (append-nil events) ∙ ap asked_up out
+          ∙ ap (λ (k : List ℕ). Some (up_text k there.own ask items local)) keys.0 ∙ ap (λ (a : Address). Some (up_text b.key a ask items local)) keys.1;
     }
 
     stands-client : (step : Step ProxyOut) → on_client sofar d now ≡ step → ClientDeed there d step → AllByRecursion (Stands b later) there.ties.each → AllByRecursion (Stands b later) step.cascade.ties.each
@@ -299,6 +321,7 @@ module _ (b : Beginning) (events : List Event) where
           asked = went-now place ask items t.tie.local v (ap (λ (s : Step ProxyOut). s.out) (same ∙ is));
           client = client-is ask.endpoint there.ties.each t found;
           nonce = same-nonce t.tie.nonce ask.nonce nonce;
+          tries = 0;
           waits = refl;
         }) all)
     stands-client step same (new place ask items local v none given is) all =
@@ -311,32 +334,80 @@ module _ (b : Beginning) (events : List Event) where
           asked = went-now place ask items local v (ap (λ (s : Step ProxyOut). s.out) (same ∙ is));
           client = refl;
           nonce = refl;
+          tries = 0;
           waits = refl;
         }))
 
 all-after : (P : Tied → Type 0) → ((tie : Tie) → P (ended tie)) → (now : ℕ) (r : Response) (common : Common) (t : Tied) (ts : Ties) → AllByRecursion P ts.each → AllByRecursion P (ties_after now r common t.tie ts).each
-all-after P e now r common t ts all = step (is_success r.code) (r.lifetime == 0) t.tie.granted
+all-after P e now r common t ts all = step (is_success r.code) (r.lifetime == 0) t.tie.granted (is_taken r.code)
   where
-    step : (b z g : Bool) → AllByRecursion P (cond b (cond z (without ts t.tie.client) (with_change ts (ended (granted t.tie common (told_lifetime r.lifetime) now)))) (cond g (with_change ts (ended t.tie)) (without ts t.tie.client))).each
-    step true true g = All-filter P (λ x. not (has_client t.tie.client x)) ts.each all
-    step true false g = put_All P (has_client t.tie.client) (ended (granted t.tie common (told_lifetime r.lifetime) now)) ts.each (e (granted t.tie common (told_lifetime r.lifetime) now)) all
-    step false z true = put_All P (has_client t.tie.client) (ended t.tie) ts.each (e t.tie) all
-    step false z false = All-filter P (λ x. not (has_client t.tie.client x)) ts.each all
+    step : (b z g k : Bool) → AllByRecursion P (cond b (cond z (without (resting now r t.tie ts) t.tie.client) (resting now r t.tie (with_change ts (ended (granted t.tie common (told_lifetime r.lifetime) now)))))
+        (cond g (with_change ts (ended t.tie)) (without (cond k (resting now r t.tie ts) ts) t.tie.client))).each
+    step true true g k = All-filter P (λ x. not (has_client t.tie.client x)) ts.each all
+    step true false g k = put_All P (has_client t.tie.client) (ended (granted t.tie common (told_lifetime r.lifetime) now)) ts.each (e (granted t.tie common (told_lifetime r.lifetime) now)) all
+    step false z true k = put_All P (has_client t.tie.client) (ended t.tie) ts.each (e t.tie) all
+    step false z false true = All-filter P (λ x. not (has_client t.tie.client x)) ts.each all
+    step false z false false = All-filter P (λ x. not (has_client t.tie.client x)) ts.each all
 
-stands-server : (P : Tied → Type 0) → ((tie : Tie) → P (ended tie)) → (c : Cascade) (d : Datagram) (step : Step (Option Datagram)) → ServerDeed c d step → AllByRecursion P c.ties.each → AllByRecursion P step.cascade.ties.each
-stands-server P e c d step (unread read is) all = subst (λ (s : Step (Option Datagram)). AllByRecursion P s.cascade.ties.each) (sym is) all
-stands-server P e c d step (unasked r read is) all = subst (λ (s : Step (Option Datagram)). AllByRecursion P s.cascade.ties.each) (sym is) all
-stands-server P e c d step (told r read lost is) all = subst (λ (s : Step (Option Datagram)). AllByRecursion P s.cascade.ties.each) (sym is) all
-stands-server P e c d step (matched r common protocol t w read body of found waits nonce is) all =
-    subst (λ (s : Step (Option Datagram)). AllByRecursion P s.cascade.ties.each) (sym is) (all-after P e c.last r common t c.ties all)
+module _ (b : Beginning) (events : List Event) (d : Datagram) (now : ℕ) where
+  abbrev heard : List Event
+  heard = events ++ Server d now ∷ []
+
+  abbrev hearer : Cascade
+  hearer = at (run (begun b) events) now
+
+  -- a request that waited went up once more
+  went-again : (tie : Tie) (w : Waiting) (local : ℕ) → (on_server (run (begun b) events) d now).out ≡ Up (again_text hearer.key hearer.own tie w local) → IsAsked b events tie w
+      → IsAsked b heard (record tie { local = local }) (record w { tries = w.tries + 1 })
+  went-again tie w local out s = let keys = keys-run (begun b) events in record {
+    request = s.request;
+    ask = s.ask;
+    items = s.items;
+    since = s.since;
+    asked = record {
+      before = s.asked.before;
+      now = s.asked.now;
+      behind = s.asked.behind ++ Server d now ∷ [];
+      came = ap (λ es. es ++ Server d now ∷ []) s.asked.came ∙ append_assoc s.asked.before (Client s.request s.asked.now ∷ s.asked.behind) (Server d now ∷ []);
+      place = s.asked.place;
+      judged = s.asked.judged;
+      between = Client s.request s.asked.now ∷ s.asked.behind;
+      event = Server d now;
+      rest = [];
+      stands = refl;
+      went = ap (λ es. up_by (run (begun b) es) (Server d now)) (sym s.asked.came) ∙ ap tried_up out
+          ∙ ap (λ (k : List ℕ). Some (again_text k hearer.own tie w local)) keys.0 ∙ ap (λ (a : Address). Some (again_text b.key a tie w local)) keys.1
+          ∙ ap (λ (v : Waiting). Some (again_text b.key b.own tie v local)) s.waits
+          ∙ ap (λ (e : Endpoint). Some (again_text b.key b.own (record tie { client = e }) (waiting_of s.request s.items s.ask s.since) local)) s.client
+          ∙ ap (λ (n : Nonce). Some (again_text b.key b.own (record tie { client = s.ask.endpoint; nonce = n }) (waiting_of s.request s.items s.ask s.since) local)) s.nonce;
+    };
+    client = s.client;
+    nonce = s.nonce;
+    tries = w.tries + 1;
+    waits = ap (λ (v : Waiting). record v { tries = w.tries + 1 }) s.waits;
+  }
+
+  stands-server : (step : Step CascadeOut) → on_server (run (begun b) events) d now ≡ step → ServerDeed hearer d step → AllByRecursion (Stands b events) hearer.ties.each → AllByRecursion (Stands b heard) step.cascade.ties.each
+  stands-server step same (unread read is) all = subst (λ (s : Step CascadeOut). AllByRecursion (Stands b heard) s.cascade.ties.each) (sym is) (stands-more b events (Server d now) hearer.ties.each all)
+  stands-server step same (unasked r read is) all = subst (λ (s : Step CascadeOut). AllByRecursion (Stands b heard) s.cascade.ties.each) (sym is) (stands-more b events (Server d now) hearer.ties.each all)
+  stands-server step same (told r read lost is) all = subst (λ (s : Step CascadeOut). AllByRecursion (Stands b heard) s.cascade.ties.each) (sym is) (stands-more b events (Server d now) hearer.ties.each all)
+  stands-server step same (matched r common protocol t w read body of found waits nonce is) all =
+      subst (λ (s : Step CascadeOut). AllByRecursion (Stands b heard) s.cascade.ties.each) (sym is)
+      (all-after (Stands b heard) (λ tie. tt) hearer.last r common t hearer.ties (stands-more b events (Server d now) hearer.ties.each all))
+  stands-server step same (tried r common protocol t w local read found waits next is) all =
+      let stood : StandsBy b events t.tie t.waiting = All-IsIn (Stands b events) hearer.ties.each t all (find-some (has_local protocol common.internal) hearer.ties.each t found).0 in
+      let asked_it : IsAsked b events t.tie w = subst (StandsBy b events t.tie) waits stood in
+      subst (λ (s : Step CascadeOut). AllByRecursion (Stands b heard) s.cascade.ties.each) (sym is)
+      (put_All (Stands b heard) (has_client t.tie.client) (moved t.tie w local) hearer.ties.each
+      (went-again t.tie w local (ap (λ (s : Step CascadeOut). s.out) (same ∙ is)) asked_it) (stands-more b events (Server d now) hearer.ties.each all))
 
 stands-next : (b : Beginning) (events : List Event) (e : Event) → AllByRecursion (Stands b events) (run (begun b) events).ties.each → AllByRecursion (Stands b (events ++ e ∷ [])) (next (run (begun b) events) e).ties.each
 stands-next b events (Client d now) all =
     stands-client b events d now (on_client (run (begun b) events) d now) refl (client-deed (run (begun b) events) d now)
     (All-filter (Stands b (events ++ Client d now ∷ [])) (λ t. not (is_over (max (run (begun b) events).last now) t)) (run (begun b) events).ties.each (stands-more b events (Client d now) (run (begun b) events).ties.each all))
 stands-next b events (Server d now) all =
-    stands-server (Stands b (events ++ Server d now ∷ [])) (λ tie. tt) (at (run (begun b) events) now) d (on_server (run (begun b) events) d now) (server-deed (run (begun b) events) d now)
-    (All-filter (Stands b (events ++ Server d now ∷ [])) (λ t. not (is_over (max (run (begun b) events).last now) t)) (run (begun b) events).ties.each (stands-more b events (Server d now) (run (begun b) events).ties.each all))
+    stands-server b events d now (on_server (run (begun b) events) d now) refl (server-deed (run (begun b) events) d now)
+    (All-filter (Stands b events) (λ t. not (is_over (max (run (begun b) events).last now) t)) (run (begun b) events).ties.each all)
 stands-next b events (Tick now) all =
     All-filter (Stands b (events ++ Tick now ∷ [])) (λ t. not (is_over (max (run (begun b) events).last now) t)) (run (begun b) events).ties.each (stands-more b events (Tick now) (run (begun b) events).ties.each all)
 
@@ -374,10 +445,10 @@ module _ (b : Beginning) (events : List Event) (d : Datagram) (now : ℕ) (sent 
   differ-here = differ-at before now (ties-differ b events)
 
   -- the epoch that the reply has
-  epoch-here : (s : Step (Option Datagram)) (r : Response) → on_server before d now ≡ s → s.cascade.base ≡ (hearing here r.epoch).base → s.cascade.last ≡ here.last → told_epoch (hearing here r.epoch) ≡ epoch
+  epoch-here : (s : Step CascadeOut) (r : Response) → on_server before d now ≡ s → s.cascade.base ≡ (hearing here r.epoch).base → s.cascade.last ≡ here.last → told_epoch (hearing here r.epoch) ≡ epoch
   epoch-here s r same base last =
       ap (λ (n : ℕ). min ((here.last - n) / 1000) (2 ^ 32 - 1)) (sym base) ∙ ap (λ (n : ℕ). min ((n - s.cascade.base) / 1000) (2 ^ 32 - 1)) (sym last)
-      ∙ ap (λ (z : Step (Option Datagram)). told_epoch z.cascade) (sym same) ∙ epoch-more b events (Server d now)
+      ∙ ap (λ (z : Step CascadeOut). told_epoch z.cascade) (sym same) ∙ epoch-more b events (Server d now)
 
   module _ (r : Response) (common : Common) (protocol : Protocol) (t : Tied) (w : Waiting) (read : response_from here.server d ≡ Some r) (body : r.body ≡ Map common)
       (of : protocol_of common.protocol ≡ Some protocol) (found : tie_at protocol common.internal here.ties.each ≡ Some t) (s : IsAsked b events t.tie w)
@@ -466,13 +537,13 @@ module _ (b : Beginning) (events : List Event) (d : Datagram) (now : ℕ) (sent 
   stands-here : AllByRecursion (Stands b events) here.ties.each
   stands-here = All-filter (Stands b events) (λ t. not (is_over (max before.last now) t)) before.ties.each (all-stand b events)
 
-  sent-step : (s : Step (Option Datagram)) → on_server before d now ≡ s → ServerDeed here d s → s.out ≡ Some sent → IsSent b events d now epoch sent
-  sent-step s same (unread read is) out = absurd (let no : None ≡ Some sent = sym (ap (λ (z : Step (Option Datagram)). z.out) is) ∙ out in cc)
-  sent-step s same (unasked r read is) out = absurd (let no : None ≡ Some sent = sym (ap (λ (z : Step (Option Datagram)). z.out) is) ∙ out in cc)
+  sent-step : (s : Step CascadeOut) → on_server before d now ≡ s → ServerDeed here d s → s.out ≡ Down sent → IsSent b events d now epoch sent
+  sent-step s same (unread read is) out = absurd (let no : Nothing ≡ Down sent = sym (ap (λ (z : Step CascadeOut). z.out) is) ∙ out in cc)
+  sent-step s same (unasked r read is) out = absurd (let no : Nothing ≡ Down sent = sym (ap (λ (z : Step CascadeOut). z.out) is) ∙ out in cc)
   sent-step s same (told r read lost is) out =
-      let told_out : Some (announcement (told_epoch (hearing here r.epoch))) ≡ Some sent = sym (ap (λ (z : Step (Option Datagram)). z.out) is) ∙ out in
+      let told_out : Down (announcement (told_epoch (hearing here r.epoch))) ≡ Down sent = sym (ap (λ (z : Step CascadeOut). z.out) is) ∙ out in
       let sent_is : announcement (told_epoch (hearing here r.epoch)) ≡ sent = cc in
-      let now_epoch : told_epoch (hearing here r.epoch) ≡ epoch = epoch-here s r same (ap (λ (z : Step (Option Datagram)). z.cascade.base) is) (ap (λ (z : Step (Option Datagram)). z.cascade.last) is) in
+      let now_epoch : told_epoch (hearing here r.epoch) ≡ epoch = epoch-here s r same (ap (λ (z : Step CascadeOut). z.cascade.base) is) (ap (λ (z : Step CascadeOut). z.cascade.last) is) in
       sent_announcement (
         sym now_epoch ∙ epoch-anew here r.epoch lost,
         sym sent_is ∙ ap (λ (n : ℕ). record {
@@ -483,12 +554,13 @@ module _ (b : Beginning) (events : List Event) (d : Datagram) (now : ℕ) (sent 
         }) now_epoch,
       )
   sent-step s same (matched r common protocol t w read body of found waits nonce is) out =
-      let told_out : Some (record { peer = t.tie.client.address; port = w.port; door = w.door; octets = text_after (told_epoch (hearing here r.epoch)) r common t.tie w }) ≡ Some sent = sym (ap (λ (z : Step (Option Datagram)). z.out) is) ∙ out in
+      let told_out : Down (record { peer = t.tie.client.address; port = w.port; door = w.door; octets = text_after (told_epoch (hearing here r.epoch)) r common t.tie w }) ≡ Down sent = sym (ap (λ (z : Step CascadeOut). z.out) is) ∙ out in
       let sent_is : record { peer = t.tie.client.address; port = w.port; door = w.door; octets = text_after (told_epoch (hearing here r.epoch)) r common t.tie w } ≡ sent = cc in
-      let now_epoch : told_epoch (hearing here r.epoch) ≡ epoch = epoch-here s r same (ap (λ (z : Step (Option Datagram)). z.cascade.base) is) (ap (λ (z : Step (Option Datagram)). z.cascade.last) is) in
+      let now_epoch : told_epoch (hearing here r.epoch) ≡ epoch = epoch-here s r same (ap (λ (z : Step CascadeOut). z.cascade.base) is) (ap (λ (z : Step CascadeOut). z.cascade.last) is) in
       let stood : StandsBy b events t.tie t.waiting = All-IsIn (Stands b events) here.ties.each t stands-here (find-some (has_local protocol common.internal) here.ties.each t found).0 in
       let asked_it : IsAsked b events t.tie w = subst (StandsBy b events t.tie) waits stood in
       sent-by r common protocol t w read body of found asked_it nonce (told_epoch (hearing here r.epoch)) now_epoch (is_success r.code) (r.lifetime == 0) refl refl (sym sent_is)
+  sent-step s same (tried r common protocol t w local read found waits next is) out = absurd (let no : Up (again_text here.key here.own t.tie w local) ≡ Down sent = sym (ap (λ (z : Step CascadeOut). z.out) is) ∙ out in cc)
 
 pub sent-is-told : SentIsTold
 sent-is-told b events d now sent out = sent-step b events d now sent (on_server (run (begun b) events) d now) refl (server-deed (run (begun b) events) d now) out

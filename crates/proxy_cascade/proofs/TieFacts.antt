@@ -13,10 +13,15 @@ use Rattle.pcp_base.proofs.Same.{same_endpoint-Decides}
 use Rattle.cascade_ties.specs.declared.locals.NoLocal.{NoLocal}
 use Rattle.cascade_ties.specs.declared.locals.NoLocal.TheVariants.{Quota}
 use Rattle.cascade_ties.specs.declared.locals.TheConstants.{TIE_QUOTA}
+use Rattle.cascade_ties.specs.declared.ties.Tie.{Tie}
 use Rattle.cascade_ties.specs.declared.ties.Tied.{Tied}
+use Rattle.cascade_ties.specs.declared.ties.Waiting.{Waiting}
 use Rattle.cascade_ties.specs.Ties.{AreOtherTies, Ties, TiesDiffer, has_client, has_local, is_vacant, least_vacant, local_for, or_no_port, tie_at, tie_of, ties_held, vacant_for}
+use Rattle.cascade_ties.proofs.MoveLemmas.{moved-differ}
 use Rattle.cascade_ties.proofs.OneLemmas.{put-zip}
 use Rattle.cascade_ties.proofs.PoolKeeping.{find_one}
+use Rattle.pcp_options.specs.declared.responses.Response.{Response}
+use Rattle.proxy_cascade.specs.FromServers.{is_tried_on, moved, next_local, port_in}
 use Rattle.cascade_ties.proofs.TieKeeping.{IsSameTie, differ_zip, once_client, same_itself}
 
 -- equal octets are equal nonces
@@ -65,7 +70,7 @@ differ-still p ts h = EachTwo-filter AreOtherTies p ts h
 
 pub differ-push : (ts : Ties) (t : Tied) → tie_of t.tie.client ts.each ≡ None → is_vacant ts t.tie.client.protocol t.tie.local ≡ true → TiesDiffer ts.each → TiesDiffer (ts.each ++ t ∷ [])
 differ-push ts t none vacant h =
-    let free = not-true (list_any (has_local t.tie.client.protocol t.tie.local) ts.each) (and_parts (nat_le ts.low t.tie.local && nat_le t.tie.local ts.high) _ vacant).1 in
+    let free = not-true (list_any (has_local t.tie.client.protocol t.tie.local) ts.each) (and_parts (nat_le ts.low t.tie.local && nat_le t.tie.local ts.high) _ (and_parts _ _ vacant).0).1 in
     EachTwo-push AreOtherTies ts.each t h
     (All-weaker (λ y. (has_client t.tie.client y ≡ false) × (has_local t.tie.client.protocol t.tie.local y ≡ false)) (λ y. AreOtherTies y t)
     (λ y both. record { clients = both.0; locals = both.1 }) ts.each
@@ -74,3 +79,24 @@ differ-push ts t none vacant h =
 
 pub differ-put : (ts : List Tied) (x t : Tied) → IsSameTie x t → tie_of t.tie.client ts ≡ Some x → TiesDiffer ts → TiesDiffer (put (has_client t.tie.client) t ts)
 differ-put ts x t same found h = differ_zip ts (put (has_client t.tie.client) t ts) (put-zip (has_client t.tie.client) x IsSameTie t ts same_itself same found) h
+
+-- the port that is asked for next is that of a tie of the endpoint
+pub next-local : (ts : Ties) (r : Response) (tie : Tie) (w : Waiting) (local : ℕ) → next_local ts r tie w ≡ Some local → local_for ts tie.client ≡ Ok local
+next-local ts r tie w local h = step (is_tried_on r tie w) h
+  where
+    port : (o : Result ℕ NoLocal) → port_in o ≡ Some local → o ≡ Ok local
+    port (Ok n) k = let same : n ≡ local = cc in ap (λ (m : ℕ). Ok m) same
+    port (Err why) k = absurd cc
+
+    step : (b : Bool) → cond b (port_in (local_for ts tie.client)) None ≡ Some local → local_for ts tie.client ≡ Ok local
+    step true k = port (local_for ts tie.client) k
+    step false k = absurd cc
+
+pub next-vacant : (ts : Ties) (r : Response) (tie : Tie) (w : Waiting) (local : ℕ) → next_local ts r tie w ≡ Some local → is_vacant ts tie.client.protocol local ≡ true
+next-vacant ts r tie w local h = vacant-local ts tie.client local (next-local ts r tie w local h)
+
+pub differ-moved : (ts : Ties) (t : Tied) (r : Response) (w : Waiting) (local : ℕ) → tie_of t.tie.client ts.each ≡ Some t → next_local ts r t.tie w ≡ Some local → TiesDiffer ts.each
+    → TiesDiffer (put (has_client t.tie.client) (moved t.tie w local) ts.each)
+differ-moved ts t r w local found next h =
+    let free = not-true (list_any (has_local t.tie.client.protocol local) ts.each) (and_parts (nat_le ts.low local && nat_le local ts.high) _ (and_parts _ _ (next-vacant ts r t.tie w local next)).0).1 in
+    moved-differ (moved t.tie w local) t ts.each refl found (any-none (has_local t.tie.client.protocol local) ts.each free) h

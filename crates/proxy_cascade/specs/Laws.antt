@@ -1,5 +1,5 @@
 -- What holds of every cascade, whatever came to it.
-use Rattle.std.specs.Prelude.{◌≡◌, ℕ, ◌<◌, true, false, List, [], ◌∷◌, ◌++◌, Some}
+use Rattle.std.specs.Prelude.{◌≡◌, ℕ, ◌<◌, true, false, List, [], ◌∷◌, ◌++◌, Option, Some, None}
 use Rattle.pcp_base.specs.declared.addresses.Address.{Address}
 use Rattle.pcp_base.specs.declared.asks.Answer.TheVariants.{Refused, Announced}
 use Rattle.pcp_base.specs.declared.asks.Ask.TheVariants as Asks
@@ -15,15 +15,19 @@ use Rattle.pcp_options.specs.declared.responses.Response.{Response}
 use Rattle.pcp_options.specs.declared.verdicts.Verdict.TheVariants.{Asked}
 use Rattle.pcp_options.specs.Replies.{reply_text, success_text}
 use Rattle.pcp_options.specs.Verdicts.{verdict_of}
-use Rattle.proxy_core.specs.declared.outs.ProxyOut.TheVariants.{Reply, Up}
+use Rattle.proxy_core.specs.declared.outs.ProxyOut.{ProxyOut}
+use Rattle.proxy_core.specs.declared.outs.ProxyOut.TheVariants as ProxyOuts
+use Rattle.proxy_core.specs.declared.outs.ProxyOut.TheVariants.{Reply}
 use Rattle.proxy_core.specs.declared.outs.TheConstants.{CLIENTS_PORT}
 use Rattle.proxy_core.specs.Down.{is_success, relayed_text}
 use Rattle.proxy_core.specs.Nonces.{upstream_nonce}
 use Rattle.proxy_core.specs.Relays.{response_from}
 use Rattle.proxy_core.specs.Runs.{Event}
-use Rattle.proxy_core.specs.Runs.Event.{Client, Server}
+use Rattle.proxy_core.specs.Runs.Event.{Client, Server, Tick}
 use Rattle.cascade_ties.specs.declared.ties.Tied.{Tied}
 use Rattle.cascade_ties.specs.Ties.{TiesDiffer, tie_of}
+use Rattle.proxy_cascade.specs.declared.outs.CascadeOut.{CascadeOut}
+use Rattle.proxy_cascade.specs.declared.outs.CascadeOut.TheVariants.{Nothing, Down, Up}
 use Rattle.proxy_cascade.specs.Cascades.{Cascade, at, new_cascade, for_itself}
 use Rattle.proxy_cascade.specs.FromClients.{lease_text, on_client, repeated, up_text}
 use Rattle.proxy_cascade.specs.FromServers.{on_server, told_lifetime}
@@ -50,8 +54,25 @@ TiesAlwaysDiffer =
 
 -- ---- what is sent for datagrams from upstream
 
--- this MAP request with these options came among the events, was judged, and went upstream for a
--- local port
+-- the octets that go up of what a call gives
+abbrev pub asked_up : ProxyOut → Option (List ℕ)
+asked_up ProxyOuts.Nothing = None
+asked_up (Reply d) = None
+asked_up (ProxyOuts.Up octets) = Some octets
+
+abbrev pub tried_up : CascadeOut → Option (List ℕ)
+tried_up Nothing = None
+tried_up (Down d) = None
+tried_up (Up octets) = Some octets
+
+-- the octets that go up for an event
+abbrev pub up_by : Cascade → Event → Option (List ℕ)
+up_by c (Client d now) = asked_up (on_client c d now).out
+up_by c (Server d now) = tried_up (on_server c d now).out
+up_by c (Tick now) = None
+
+-- this MAP request with these options came among the events, was judged, and then, or for a later
+-- event, went upstream for a local port
 pub record WentUp (b : Beginning) (events : List Event) (request : Datagram) (ask : MapAsk)
     (items : List Item) (local : ℕ) : Type 0 where
   pub before : List Event
@@ -61,8 +82,12 @@ pub record WentUp (b : Beginning) (events : List Event) (request : Datagram) (as
   pub place : ℕ
   pub judged :
       verdict_of for_itself request.peer request.octets ≡ Asked place (Asks.Map ask) items
-  pub went : (on_client (run (begun b) before) request now).out
-      ≡ Up (up_text b.key b.own ask items local)
+  pub between : List Event
+  pub event : Event
+  pub rest : List Event
+  pub stands : Client request now ∷ behind ≡ between ++ event ∷ rest
+  pub went : up_by (run (begun b) (before ++ between)) event
+      ≡ Some (up_text b.key b.own ask items local)
 
 -- an upstream MAP response, the tie that it answers, and the request that went upstream for it: the
 -- response is for the tie's local port, and has the nonce by which the request went upstream
@@ -137,7 +162,7 @@ pub data IsSent (b : Beginning) (events : List Event) (d : Datagram) (now epoch 
 abbrev pub SentIsTold : Type 0
 SentIsTold =
     (b : Beginning) (events : List Event) (d : Datagram) (now : ℕ) (sent : Datagram)
-    → (on_server (run (begun b) events) d now).out ≡ Some sent
+    → (on_server (run (begun b) events) d now).out ≡ Down sent
     → IsSent b events d now (epoch_after b.server b.start (events ++ Server d now ∷ [])) sent
 
 -- ---- what is answered to datagrams of clients
