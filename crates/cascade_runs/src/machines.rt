@@ -1,9 +1,9 @@
 //! The cascade as its run sees it.
 ghost use Rattle.std.specs.Prelude.{◌≡◌};
-ghost use Rattle.cascade_runs.specs.Cascading.{cascading};
+ghost use Rattle.cascade_runs.specs.Cascading.{cascading, sent_of};
 
 use pcp_base::{Datagram, Memory};
-use proxy_cascade::Cascade;
+use proxy_cascade::{Cascade, CascadeOut};
 use proxy_core::ProxyOut;
 use relay_runs::RelayMachine;
 use std::alloc::Global;
@@ -31,6 +31,17 @@ impl CascadeMachine {
     }
 }
 
+/// What is sent for a datagram from upstream.
+fn sent_of(out: CascadeOut) -> ProxyOut
+    ensures { result ≡ sent_of out }
+{
+    match out {
+        CascadeOut::Nothing => ProxyOut::Nothing,
+        CascadeOut::Down(datagram) => ProxyOut::Reply(datagram),
+        CascadeOut::Up(octets) => ProxyOut::Up(octets),
+    }
+}
+
 impl RelayMachine for CascadeMachine {
     ghost machine = { cascading };
 
@@ -48,8 +59,9 @@ impl RelayMachine for CascadeMachine {
         alloc: Global,
         datagram: &Datagram,
         now_ms: u64,
-    ) -> Result<Option<Datagram>, Memory> {
-        self.cascade.from_server(alloc, datagram, now_ms)
+    ) -> Result<ProxyOut, Memory> {
+        let out = self.cascade.from_server(alloc, datagram, now_ms)?;
+        Ok(sent_of(out))
     }
 
     fn tick(&mut self, now_ms: u64) {

@@ -1,6 +1,6 @@
 -- What goes down answers what came.
 use Rattle.std.proofs.Common.{◌≡◌, ℕ, ◌||◌, Bool, true, false, cond, nat_lt, List, [], ◌∷◌, ◌++◌, length, Option, None, Some, refl, sym, ◌∙◌, subst, append_assoc}
-use Rattle.std.specs.Prelude.{⊤, option_to_list}
+use Rattle.std.specs.Prelude.{⊤}
 use Rattle.std.specs.List.{AllByRecursion}
 use Rattle.pcp_base.specs.declared.addresses.Address.{Address}
 use Rattle.pcp_base.specs.declared.asks.Answer.{Answer}
@@ -25,7 +25,7 @@ use Rattle.proxy_core.specs.Runs.Event.{Client, Server, Tick}
 use Rattle.proxy_core.specs.Up.{up_key, up_text}
 use Rattle.proxy_core.specs.Waits.{is_full, kept}
 use Rattle.proxy_runs.specs.Answers.{Answers, DownIsAnswered, IsAnswered}
-use Rattle.proxy_runs.specs.Proxying.{proxying}
+use Rattle.proxy_runs.specs.Proxying.{proxying, reply_of}
 use Rattle.relay_rates.specs.Rates.{new_gate}
 use Rattle.relay_rates.specs.Sifting.{SendsDownSifted, passing}
 use Rattle.relay_runs.specs.Machines as machines
@@ -79,7 +79,7 @@ same-next r (Tick now) = refl
 -- ---- what goes down for one event
 
 all-said : (start : Relay) (front : List Event) (d : Datagram) (now : ℕ) (out : Option Datagram)
-    → ((sent : Datagram) → out ≡ Some sent → Answers start front (Server d now) sent) → AllByRecursion (Answers start front (Server d now)) (option_to_list out)
+    → ((sent : Datagram) → out ≡ Some sent → Answers start front (Server d now) sent) → AllByRecursion (Answers start front (Server d now)) (down_by (reply_of out))
 all-said start front d now None h = tt
 all-said start front d now (Some sent) h = (h sent refl, tt)
 

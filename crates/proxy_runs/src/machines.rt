@@ -1,6 +1,6 @@
 //! The relay as its run sees it.
 ghost use Rattle.std.specs.Prelude.{◌≡◌};
-ghost use Rattle.proxy_runs.specs.Proxying.{proxying};
+ghost use Rattle.proxy_runs.specs.Proxying.{proxying, reply_of};
 
 use pcp_base::{Datagram, Memory};
 use proxy_core::{Proxy, ProxyOut};
@@ -30,6 +30,16 @@ impl ProxyMachine {
     }
 }
 
+/// What is sent for a datagram from upstream: a reply, or nothing.
+fn reply_of(reply: Option<Datagram>) -> ProxyOut
+    ensures { result ≡ reply_of reply }
+{
+    match reply {
+        None => ProxyOut::Nothing,
+        Some(datagram) => ProxyOut::Reply(datagram),
+    }
+}
+
 impl RelayMachine for ProxyMachine {
     ghost machine = { proxying };
 
@@ -47,8 +57,9 @@ impl RelayMachine for ProxyMachine {
         alloc: Global,
         datagram: &Datagram,
         now_ms: u64,
-    ) -> Result<Option<Datagram>, Memory> {
-        self.proxy.from_server(alloc, datagram, now_ms)
+    ) -> Result<ProxyOut, Memory> {
+        let reply = self.proxy.from_server(alloc, datagram, now_ms)?;
+        Ok(reply_of(reply))
     }
 
     fn tick(&mut self, now_ms: u64) {

@@ -1,6 +1,6 @@
 -- Turns of a relay's loop, one after the other.
 use Rattle.std.proofs.Common.{◌≡◌, ◌≢◌, ℕ, ◌≤◌, true, false, List, [], ◌∷◌, ◌++◌, map, Option, None, Some, refl, sym, ap, ◌∙◌, subst, inl, inr, append_assoc, arith}
-use Rattle.std.specs.Prelude.{IfSome, IsOk, OnOk, Result, Ok, Err, option_to_list, take}
+use Rattle.std.specs.Prelude.{IfSome, IsOk, OnOk, Result, Ok, Err, take}
 use Rattle.std.proofs.lemmas.List.{append-nil, map-append}
 use Rattle.pcp_base.specs.declared.addresses.Address.{Address}
 use Rattle.pcp_base.specs.declared.datagrams.Datagram.{Datagram}
@@ -126,15 +126,16 @@ module _ {S : Type 0} (m : Machine S) where
 
   -- ---- packets
 
-  pub Does-server : (server : Address) (d : Datagram) (now : ℕ) (r s : S) (reply : Option Datagram) (a b : Outs) → same_address d.peer server ≡ true
-      → m.on_server r d now ≡ record { state = s; out = reply } → Hands (option_to_list reply) a.down b.down → b.up ≡ a.up
+  pub Does-server : (server : Address) (d : Datagram) (now : ℕ) (r s : S) (out : ProxyOut) (a b : Outs) → same_address d.peer server ≡ true
+      → m.on_server r d now ≡ record { state = s; out = out } → Hands (down_by out) a.down b.down → Hands (up_by server out) a.up b.up
       → Does m server (packet_event server d now ∷ []) r s a b
-  Does-server server d now r s reply a b same e down up =
+  Does-server server d now r s out a b same e down up =
       subst (λ (x : Event). Does m server (x ∷ []) r s a b) (sym (event-server server d now same)) (record {
         relay = sym (ap (λ x. x.state) e);
         down = subst (λ (ds : List Datagram). Hands ds a.down b.down)
-            (sym (append-nil (option_to_list (m.on_server r d now).out) ∙ ap (λ x. option_to_list x.out) e)) down;
-        up = subst (λ (t : Told). Hands [] a.up t) (sym up) (Hands-none a.up);
+            (sym (append-nil (down_by (m.on_server r d now).out) ∙ ap (λ x. down_by x.out) e)) down;
+        up = subst (λ (ds : List Datagram). Hands ds a.up b.up)
+            (sym (append-nil (up_by server (m.on_server r d now).out) ∙ ap (λ x. up_by server x.out) e)) up;
       })
 
   pub Does-client : (server : Address) (d : Datagram) (now : ℕ) (r s : S) (out : ProxyOut) (a b : Outs) → same_address d.peer server ≡ false

@@ -1,6 +1,6 @@
 -- A relay as its run sees it (our own): what each call makes of its state, and what the call gives.
 -- Times are in milliseconds.
-use Rattle.std.specs.Prelude.{ℕ, List, [], ◌∷◌, Option}
+use Rattle.std.specs.Prelude.{ℕ, List, [], ◌∷◌}
 use Rattle.pcp_base.specs.declared.datagrams.Datagram.{Datagram}
 use Rattle.proxy_core.specs.declared.outs.ProxyOut.{ProxyOut}
 use Rattle.proxy_core.specs.Runs.{Event}
@@ -14,7 +14,7 @@ pub record Move (S X : Type 0) : Type 0 where
 -- what a datagram of a client does, a datagram from upstream, and a tick
 pub record Machine (S : Type 0) : Type 0 where
   pub on_client : S → Datagram → ℕ → Move S ProxyOut
-  pub on_server : S → Datagram → ℕ → Move S (Option Datagram)
+  pub on_server : S → Datagram → ℕ → Move S ProxyOut
   pub on_tick : S → ℕ → S
 
 module _ {S : Type 0} (m : Machine S) where

@@ -1,5 +1,5 @@
 -- What a relay sends for what comes to it (RFC 7648 in role).
-use Rattle.std.specs.Prelude.{List, [], ◌∷◌, ◌++◌, option_to_list}
+use Rattle.std.specs.Prelude.{List, [], ◌∷◌, ◌++◌}
 use Rattle.pcp_base.specs.declared.addresses.Address.{Address}
 use Rattle.pcp_base.specs.declared.datagrams.Datagram.{Datagram}
 use Rattle.proxy_core.specs.declared.outs.ProxyOut.{ProxyOut}
@@ -8,7 +8,7 @@ use Rattle.proxy_core.specs.Runs.{Event}
 use Rattle.proxy_core.specs.Runs.Event.{Client, Server, Tick}
 use Rattle.relay_runs.specs.Machines.{Machine, next}
 
--- what goes down, and up to the server, of what a client's datagram gives
+-- what goes down, and up to the server, of what a datagram gives
 abbrev pub down_by : ProxyOut → List Datagram
 down_by Nothing = []
 down_by (Reply d) = d ∷ []
@@ -24,12 +24,12 @@ module _ {S : Type 0} (m : Machine S) where
   -- what goes down for an event, and what goes up
   abbrev pub down_for : S → Event → List Datagram
   down_for s (Client d now) = down_by (m.on_client s d now).out
-  down_for s (Server d now) = option_to_list (m.on_server s d now).out
+  down_for s (Server d now) = down_by (m.on_server s d now).out
   down_for s (Tick now) = []
 
   abbrev pub up_for : Address → S → Event → List Datagram
   up_for server s (Client d now) = up_by server (m.on_client s d now).out
-  up_for server s (Server d now) = []
+  up_for server s (Server d now) = up_by server (m.on_server s d now).out
   up_for server s (Tick now) = []
 
   -- the same for events one after the other

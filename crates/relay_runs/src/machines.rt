@@ -24,13 +24,13 @@ pub trait RelayMachine {
         ensures { IfOk result (λ out. machine.on_client self.old datagram.now now_ms
             ≡ record { state = self.new; out = out }) };
 
-    /// What is to be sent down for a datagram from upstream.
+    /// What is to be sent for a datagram from upstream.
     fn from_server(
         &mut self,
         alloc: Global,
         datagram: &Datagram,
         now_ms: u64,
-    ) -> Result<Option<Datagram>, Memory>
+    ) -> Result<ProxyOut, Memory>
         requires { now_ms < END_OF_TIME_MS }
         ensures { IfOk result (λ out. machine.on_server self.old datagram.now now_ms
             ≡ record { state = self.new; out = out }) };

@@ -8,7 +8,7 @@ ghost use Rattle.relay_runs.specs.Steps.{Does};
 ghost use Rattle.relay_runs.specs.Turns.{IsPacket, event_of, packet_event};
 
 use crate::machines::RelayMachine;
-use crate::sends::{send_one, send_reply};
+use crate::sends::send_one;
 use pcp_base::{Address, Datagram, Memory, Octets};
 use pcp_io::{Incoming, Outbox};
 use proxy_core::ProxyOut;
@@ -17,7 +17,7 @@ use std::alloc::Global;
 /// The port on which servers listen (RFC 6887, section 19.1).
 pub const SERVER_PORT: u16 = 5_351;
 
-/// Sends what a relay gives for a client's datagram.
+/// Sends what a relay gives for a datagram.
 fn send_out<O: Outbox>(server: &Address, down: &mut O, up: &mut O, out: ProxyOut)
     ensures down { Hands (down_by out)
         (record { sent = O.sent down.old; faults = O.faults down.old })
@@ -74,8 +74,8 @@ fn relay_packet<M: RelayMachine, O: Outbox>(
     ensures err { OnErr result ((down.new ≡ down.old) × (up.new ≡ up.old)) }
 {
     if datagram.peer == *server {
-        let reply = machine.from_server(alloc, datagram, now_ms)?;
-        send_reply(down, &reply);
+        let out = machine.from_server(alloc, datagram, now_ms)?;
+        send_out(server, down, up, out);
         return Ok(());
     }
     let out = machine.from_client(alloc, datagram, now_ms)?;

@@ -1,6 +1,6 @@
 //! Datagrams to an outbox.
-ghost use Rattle.std.specs.Prelude.{◌∷◌, [], option_to_list};
-ghost use Rattle.relay_runs.specs.Handing.{Hands, HandsAll};
+ghost use Rattle.std.specs.Prelude.{◌∷◌, []};
+ghost use Rattle.relay_runs.specs.Handing.{HandsAll};
 
 use pcp_base::Datagram;
 use pcp_io::Outbox;
@@ -14,15 +14,4 @@ pub(crate) fn send_one<O: Outbox>(out: &mut O, datagram: &Datagram) -> bool
     let octets = datagram.octets.items();
     out.send(datagram.door, datagram.peer, datagram.port, octets)
         .is_ok()
-}
-
-/// Sends a reply, where there is one.
-pub(crate) fn send_reply<O: Outbox>(out: &mut O, reply: &Option<Datagram>)
-    ensures { Hands (option_to_list reply.now)
-        (record { sent = O.sent out.old; faults = O.faults out.old })
-        (record { sent = O.sent out.new; faults = O.faults out.new }) }
-{
-    if let Some(datagram) = reply {
-        send_one(out, datagram);
-    }
 }
