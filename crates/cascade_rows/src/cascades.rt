@@ -2,7 +2,7 @@
 ghost use Rattle.std.specs.Prelude.{◌≤◌, ◌<◌, ◌*◌, ◌^◌};
 
 use pcp_base::{Address, Datagram, Memory, Octets};
-use proxy_cascade::{Cascade, Tie};
+use proxy_cascade::{Cascade, CascadeOut, Tie};
 use proxy_core::ProxyOut;
 use std::alloc::Global;
 use std::test::Fail;
@@ -46,6 +46,20 @@ static UPSTREAM: [u8; 60] = [
     2, 0x81, 0, 0, 0, 0, 0x0e, 0x10, 0, 0, 0, 10, 0, 0, 0, 0, 0, 0, 0, 0, 0, 0, 0, 0, 0x3c, 0x94,
     0xfb, 0xab, 0x1c, 0xc1, 0xa1, 0x67, 0xd1, 0xab, 0xb5, 0xc4, 17, 0, 0, 0, 0x4e, 0x20, 4, 0, 0,
     0, 0, 0, 0, 0, 0, 0, 0, 0, 0xff, 0xff, 192, 0, 2, 1,
+];
+
+// the same refusal of that request: the local port is leased to another nonce for a quarter of an hour
+static TAKEN: [u8; 60] = [
+    2, 0x81, 0, 2, 0, 0, 3, 0x84, 0, 0, 0, 10, 0, 0, 0, 0, 0, 0, 0, 0, 0, 0, 0, 0, 0x3c, 0x94, 0xfb,
+    0xab, 0x1c, 0xc1, 0xa1, 0x67, 0xd1, 0xab, 0xb5, 0xc4, 17, 0, 0, 0, 0x4e, 0x20, 0, 0, 0, 0, 0, 0,
+    0, 0, 0, 0, 0, 0, 0xff, 0xff, 0, 0, 0, 0,
+];
+
+// what 192.168.1.5 asks then, for local port 20001
+static UP_FIVE_AGAIN: [u8; 60] = [
+    2, 1, 0, 0, 0, 0, 0x0e, 0x10, 0, 0, 0, 0, 0, 0, 0, 0, 0, 0, 0xff, 0xff, 198, 51, 100, 2, 0x3c,
+    0x94, 0xfb, 0xab, 0x1c, 0xc1, 0xa1, 0x67, 0xd1, 0xab, 0xb5, 0xc4, 17, 0, 0, 0, 0x4e, 0x21, 0,
+    0, 0, 0, 0, 0, 0, 0, 0, 0, 0, 0, 0, 0xff, 0xff, 0, 0, 0, 0,
 ];
 
 // as 192.168.1.5 is told it, with epoch 3
@@ -147,14 +161,21 @@ fn are_tied(alloc: Global, cascade: &mut Cascade) -> Result<bool, Memory> {
 }
 
 // what is given for the upstream server's answer
-fn answered(alloc: Global, cascade: &mut Cascade) -> Result<Option<Datagram>, Memory> {
+fn answered(alloc: Global, cascade: &mut Cascade) -> Result<CascadeOut, Memory> {
     cascade.from_server(alloc, &datagram(alloc, SERVER, 0, &UPSTREAM)?, 3_000)
 }
 
-fn is_sent(sent: &Option<Datagram>, peer: Address, port: u16, door: u8, octets: &[u8]) -> bool {
+fn is_sent(sent: &CascadeOut, peer: Address, port: u16, door: u8, octets: &[u8]) -> bool {
     match sent {
-        Some(d) => is_to(d, peer, port, door, octets),
-        None => false,
+        CascadeOut::Down(d) => is_to(d, peer, port, door, octets),
+        _ => false,
+    }
+}
+
+fn is_nothing(sent: &CascadeOut) -> bool {
+    match sent {
+        CascadeOut::Nothing => true,
+        _ => false,
     }
 }
 
@@ -164,7 +185,7 @@ fn is_answered(alloc: Global, cascade: &mut Cascade, told: &[u8]) -> Result<bool
     let first = answered(alloc, cascade)?;
     let again = answered(alloc, cascade)?;
     let client = Address::v4(192, 168, 1, 5);
-    Ok(is_sent(&first, client, 40_000, DOOR, told) && again.is_none())
+    Ok(is_sent(&first, client, 40_000, DOOR, told) && is_nothing(&again))
 }
 
 fn is_granted(tie: &Tie) -> bool {
@@ -226,5 +247,37 @@ fn announces_a_loss(alloc: Global, cascade: &mut Cascade) -> Result<bool, Memory
 fn a_loss_upstream_is_announced(rt: HostRuntime) -> Result<(), Fail> {
     let alloc = rt.alloc();
     assert!(rt; announces_a_loss(alloc, &mut new_cascade(alloc, 20_000, 20_001)?)?);
+    Ok(())
+}
+
+fn goes_up_again(sent: &CascadeOut, octets: &[u8]) -> bool {
+    match sent {
+        CascadeOut::Up(text) => text.items() == octets,
+        _ => false,
+    }
+}
+
+// Whether another local port is asked for where the first is leased to another nonce upstream, and the
+// first one is no other client's before that lease has ended.
+fn asks_for_another_port(alloc: Global, cascade: &mut Cascade) -> Result<bool, Memory> {
+    let first = is_asked_up(alloc, cascade, 5, &UP_FIVE)?;
+    let sent = cascade.from_server(alloc, &datagram(alloc, SERVER, 0, &TAKEN)?, 3_000)?;
+    let full = cascade.from_client(alloc, &request(alloc, 6, DOOR)?, 3_500)?;
+    let free = cascade.from_client(alloc, &request(alloc, 6, DOOR)?, 903_000)?;
+    let refused = match full {
+        ProxyOut::Reply(_reply) => true,
+        _ => false,
+    };
+    let up = match free {
+        ProxyOut::Up(_text) => true,
+        _ => false,
+    };
+    Ok(first && goes_up_again(&sent, &UP_FIVE_AGAIN) && refused && up)
+}
+
+#[test]
+fn another_local_port_is_asked_for(rt: HostRuntime) -> Result<(), Fail> {
+    let alloc = rt.alloc();
+    assert!(rt; asks_for_another_port(alloc, &mut new_cascade(alloc, 20_000, 20_001)?)?);
     Ok(())
 }

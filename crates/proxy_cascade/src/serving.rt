@@ -167,9 +167,10 @@ fn moved(alloc: Global, tie: Tie, waiting: &Waiting, local: u16) -> Result<Tied,
     requires { waiting.now.tries < MOST_TRIES }
     ensures { IfOk result (λ tied. tied ≡ moved tie waiting.now local) }
 {
+    let door = waiting.door;
     let waiting = Waiting {
         port: waiting.port,
-        door: waiting.door,
+        door,
         request: Octets::of(waiting.request.items().to_vec(alloc)?),
         lifetime: waiting.lifetime,
         suggested: waiting.suggested,
