@@ -16,9 +16,12 @@ pub(crate) struct CascadeMachine {
 }
 
 impl Model for CascadeMachine {
+    ghost use Rattle.cascade_ties.specs.contracts.ties.Tied as tied;
     ghost use Rattle.proxy_cascade.specs.Cascades as cascades;
 
     ghost Value = { cascades.Cascade };
+
+    ghost coded = { cascades.cascade_code tied.the_row.coded };
 
     ghost view = { λ m. m.cascade };
 }

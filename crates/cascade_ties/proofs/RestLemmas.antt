@@ -4,11 +4,14 @@ use Rattle.std.specs.FinMap.{FinMap, contains_key, get, insert, len, remove, ret
 use Rattle.std.specs.Ordering.{nat_cmp}
 use Rattle.std.specs.Cmp.{nat_cmp_total}
 use Rattle.std.specs.BTreeMap.{values}
-use Rattle.std.proofs.lemmas.Bool.{eqb-true}
+use Rattle.std.proofs.lemmas.Bool.{eq-eqb, eqb-true}
 use Rattle.std.proofs.lemmas.Bool.Decides.{nat_tests}
+use Rattle.pcp_base.specs.declared.leases.Endpoint.{Endpoint}
 use Rattle.pcp_base.specs.declared.leases.Protocol.{Protocol}
 use Rattle.pcp_base.specs.declared.leases.Protocol.TheVariants.{Tcp, Udp}
 use Rattle.pcp_base.specs.Tables.{same_protocol}
+use Rattle.pcp_base.proofs.Members.{All-IsIn, find-some}
+use Rattle.pcp_base.proofs.Same.{same_endpoint-Decides, same_protocol-Decides}
 use Rattle.expiry_wheel.specs.Due.{IsNextDue}
 use Rattle.expiry_wheel.proofs.Maps.{get-inserted, get-removed}
 use Rattle.external_pool.specs.Calls.{WakesPort}
@@ -18,9 +21,10 @@ use Rattle.external_pool.specs.declared.uses.Use.TheVariants.{Free}
 use Rattle.ordered_index.specs.declared.numbered.Numbered.{Numbered}
 use Rattle.ordered_index.specs.Orders.{Place}
 use Rattle.cascade_ties.specs.declared.ties.Tied.{Tied}
-use Rattle.cascade_ties.specs.Kept.{AreSpots, IsTiePool, IsTieTable, port_of_spot, protocol_at, reserved, rest_in, use_by}
-use Rattle.cascade_ties.specs.Ties.{rests_after, spot, tie_at}
-use Rattle.cascade_ties.proofs.PoolKeeping.{alike_pool, at_that, mark_pool, same_pool, set_rest}
+use Rattle.cascade_ties.specs.Kept.{AreSpots, HasLocal, IsTiePool, IsTieTable, port_of_spot, protocol_at, reserved, rest_in, use_by}
+use Rattle.cascade_ties.specs.Ties.{has_client, has_local, rests_after, spot, tie_at, tie_of}
+use Rattle.cascade_ties.proofs.PoolKeeping.{alike_pool, at_that, find_one, mark_pool, same_pool, set_rest}
+use Rattle.cascade_ties.proofs.TieKeeping.{once_local}
 
 abbrev pub Rests : Type 0
 Rests = FinMap nat_cmp ℕ
@@ -220,3 +224,17 @@ none_over m now all = one_map _ _ (λ q. get-after now m q ∙ step q (get m q) 
     step : (q : ℕ) (o : Option ℕ) → get m q ≡ o → lasting now o ≡ o
     step q None e = never_lasts now
     step q (Some u) e = let less = all q u e in let yes : nat_lt now u ≡ true = grind (arith, nat_tests, less) in ap (λ b. cond b (Some u) None) yes
+
+-- the tie of an endpoint stands at its local port
+pub tie_there : (it : Numbered Tied Place (ℕ × ℕ)) (pool : Holdings) (m : Rests) (h : IsTieTable it pool m) (e : Endpoint) (x : Tied) (local : ℕ) → tie_of e (values it.leases) ≡ Some x → x.tie.local ≡ local
+    → (tie_at e.protocol local (values it.leases) ≡ Some x) × (local ≤ 65535)
+tie_there it pool m h e x local found port =
+    let stands = find-some (has_client e) (values it.leases) x found in
+    let client : x.tie.client ≡ e = (same_endpoint-Decides x.tie.client e).0 stands.1 in
+    let itself : has_local x.tie.client.protocol x.tie.local x ≡ true = ap (λ (b : Bool). b && x.tie.local == x.tie.local) ((same_protocol-Decides x.tie.client.protocol x.tie.client.protocol).1 refl) ∙ eq-eqb x.tie.local x.tie.local refl in
+    let there = find_one (has_local x.tie.client.protocol x.tie.local) (values it.leases) x (once_local x.tie.client.protocol x.tie.local (values it.leases) h.ties.differ) stands.0 itself in
+    let within = (All-IsIn HasLocal (values it.leases) x h.ties.locals stands.0).to in
+    (
+      ap (λ (z : Endpoint). tie_at z.protocol local (values it.leases)) (sym client) ∙ ap (λ (n : ℕ). tie_at x.tie.client.protocol n (values it.leases)) (sym port) ∙ there,
+      omega (arith, within, port),
+    )

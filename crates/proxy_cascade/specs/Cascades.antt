@@ -1,11 +1,26 @@
 -- A relay beside a translator of its own, and what time makes of it (RFC 7648 in role; the rules
 -- are our own). Times are in milliseconds; one that is smaller than the last counts as the last.
-use Rattle.std.specs.Prelude.{ℕ, ◌-◌, ◌/◌, ◌^◌, max, min, List, [], length, Option, None}
+use Rattle.std.specs.Prelude.{◌≡◌, ℕ, ◌-◌, ◌/◌, ◌^◌, max, min, List, [], length, Option, Some, None, refl, ap}
+use Rattle.std.specs.Coded.{Coded, code_by, coded×, coded_list, coded_option, coded_ℕ}
 use Rattle.pcp_base.specs.declared.addresses.Address.{Address}
 use Rattle.pcp_base.specs.declared.configs.Config.{Config}
 use Rattle.proxy_core.specs.declared.epochs.Heard.{Heard}
 use Rattle.proxy_core.specs.Everyone.{everyone}
-use Rattle.cascade_ties.specs.Ties.{Ties, no_ties, still}
+use Rattle.cascade_ties.specs.declared.ties.Tied.{Tied}
+use Rattle.cascade_ties.specs.Ties.{Ties, no_ties, still, ties_code}
+
+-- an epoch that was heard as a pair, and back
+abbrev pub pair_in : Option Heard → Option (ℕ × ℕ)
+pair_in None = None
+pair_in (Some h) = Some (h.epoch, h.at_ms)
+
+abbrev pub heard_in : Option (ℕ × ℕ) → Option Heard
+heard_in None = None
+heard_in (Some p) = Some (record { epoch = p.0; at_ms = p.1 })
+
+pub heard_again : (o : Option Heard) → heard_in (pair_in o) ≡ o
+heard_again None = refl
+heard_again (Some h) = refl
 
 pub record Cascade : Type 0 where
   -- the address of its own, whose ports are tied
@@ -22,6 +37,28 @@ pub record Cascade : Type 0 where
   pub heard : Option Heard
   -- the last time
   pub last : ℕ
+
+-- the parts of the record, one after the other
+abbrev pub cascade_code : Coded Tied → Coded Cascade
+cascade_code tied =
+    code_by
+    (List ℕ × (List ℕ × (List ℕ × (Ties × (ℕ × (Option (ℕ × ℕ) × ℕ))))))
+    (coded× (coded_list coded_ℕ)
+    (coded× (coded_list coded_ℕ)
+    (coded× (coded_list coded_ℕ)
+    (coded× (ties_code tied)
+    (coded× coded_ℕ (coded× (coded_option (coded× coded_ℕ coded_ℕ)) coded_ℕ))))))
+    (λ c. (c.own.0, (c.server.0, (c.key, (c.ties, (c.base, (pair_in c.heard, c.last)))))))
+    (λ p. record {
+      own = record { 0 = p.0 };
+      server = record { 0 = p.1.0 };
+      key = p.1.1.0;
+      ties = p.1.1.1.0;
+      base = p.1.1.1.1.0;
+      heard = heard_in p.1.1.1.1.1.0;
+      last = p.1.1.1.1.1.1;
+    })
+    (λ c. ap (λ h. record c { heard = h }) (heard_again c.heard))
 
 -- one without a tie, which heard nothing
 abbrev pub new_cascade : Address → Address → List ℕ → ℕ → ℕ → ℕ → Cascade

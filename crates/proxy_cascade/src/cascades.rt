@@ -31,10 +31,13 @@ pub struct Cascade {
 
 impl Model for Cascade {
     ghost use Rattle.std.specs.Prelude.{◌≡◌};
+    ghost use Rattle.cascade_ties.specs.contracts.ties.Tied as tied;
     ghost use Rattle.proxy_cascade.specs.Cascades as model;
     ghost use Rattle.proxy_cascade.specs.Kept.{IsKept, cascade_of};
 
     ghost Value = { model.Cascade };
+
+    ghost coded = { model.cascade_code tied.the_row.coded };
 
     ghost view = { λ c. cascade_of c.terms c.ties };
 
