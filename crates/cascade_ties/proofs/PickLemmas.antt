@@ -22,7 +22,6 @@ use Rattle.external_pool.specs.PortUses as Uses
 use Rattle.ordered_index.proofs.Entries.{false_by}
 use Rattle.cascade_ties.specs.declared.locals.NoLocal.{NoLocal}
 use Rattle.cascade_ties.specs.declared.locals.NoLocal.TheVariants.{Quota}
-use Rattle.cascade_ties.specs.declared.locals.TheConstants.{TIE_QUOTA}
 use Rattle.cascade_ties.specs.declared.ties.Tied.{Tied}
 use Rattle.cascade_ties.specs.Kept.{IsTiePool, no_local, rest_in, ties_of, use_by}
 use Rattle.cascade_ties.specs.Ties.{Ties, has_local, is_vacant, least_vacant, local_for, or_no_port, spot, tie_at, ties_held, vacant_for}
@@ -176,16 +175,16 @@ module _ (pool : Holdings) (rests : FinMap nat_cmp ℕ) (ts : List Tied) (is : I
   one_port = record { internal = 1; suggested = client.port; asked = 1; room = 1; parity = None; must = false; here = true }
 
   pub pick_is : (answer : Result Picked PickRefused) → IsPickAnswer pool client.address client.protocol one_port answer → to_local answer ≡ local_for table client
-  pick_is answer h = step (nat_le TIE_QUOTA (ties_held client.address ts)) refl
+  pick_is answer h = step (nat_le 64 (ties_held client.address ts)) refl
     where
-      step : (b : Bool) → nat_le TIE_QUOTA (ties_held client.address ts) ≡ b → to_local answer ≡ cond b (Err Quota) (or_no_port (vacant_for table client))
+      step : (b : Bool) → nat_le 64 (ties_held client.address ts) ≡ b → to_local answer ≡ cond b (Err Quota) (or_no_port (vacant_for table client))
       step true e =
-          let low = leb-true TIE_QUOTA (ties_held client.address ts) e in
+          let low = leb-true 64 (ties_held client.address ts) e in
           let quota = is.quota in
           let held = is.counts client.address in
           ap to_local (h.quota (omega (arith, low, quota, held)))
       step false e =
-          let low : ties_held client.address ts < TIE_QUOTA = grind (arith, nat_tests, e) in
+          let low : ties_held client.address ts < 64 = grind (arith, nat_tests, e) in
           let quota = is.quota in
           let held = is.counts client.address in
           let judged_pick = h.pick (omega (arith, low, quota, held)) in

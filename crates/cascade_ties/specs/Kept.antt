@@ -79,15 +79,15 @@ rest_in rests protocol port = get rests (spot protocol port)
 -- the pool of these ties: each address holds the local ports of its ties, and others rest
 pub record IsTiePool (pool : Holdings) (rest : Protocol → ℕ → Option ℕ) (ts : List Tied) : Type 0
   where
-  pub quota : pool.quota ≡ 64
-  pub low : pool.udp.low ≡ pool.tcp.low
-  pub high : pool.udp.high ≡ pool.tcp.high
-  pub some : 1 ≤ pool.tcp.low
-  pub top : pool.tcp.high ≤ 65535
-  pub whole : IsWhole pool
-  pub uses : (protocol : Protocol) (port : ℕ) →
-      use_of pool protocol port ≡ use_by (tie_at protocol port ts) (rest protocol port)
-  pub counts : (who : Address) → ports_held pool who ≡ ties_held who ts
+    pub quota : pool.quota ≡ 64
+    pub low : pool.udp.low ≡ pool.tcp.low
+    pub high : pool.udp.high ≡ pool.tcp.high
+    pub some : 1 ≤ pool.tcp.low
+    pub top : pool.tcp.high ≤ 65535
+    pub whole : IsWhole pool
+    pub uses : (protocol : Protocol) (port : ℕ) →
+        use_of pool protocol port ≡ use_by (tie_at protocol port ts) (rest protocol port)
+    pub counts : (who : Address) → ports_held pool who ≡ ties_held who ts
 
 -- why there is no local port, by what the pool says
 abbrev pub no_local : PickRefused → NoLocal

@@ -1,8 +1,7 @@
 //! The table of ties.
-ghost use Rattle.std.specs.Prelude.{◌≡◌, ◌<◌, ◌≤◌, ◌-◌, length, map, IfOk};
+ghost use Rattle.std.specs.Prelude.{◌≡◌, ◌<◌, ◌≤◌, ◌-◌, ◌^◌, length, map, IfOk};
 ghost use Rattle.std.specs.Option.{option_copied};
 ghost use Rattle.std.specs.BTreeMap.{values};
-ghost use Rattle.expiry_wheel.specs.declared.TheConstants.{NEVER};
 ghost use Rattle.cascade_ties.specs.Ties.{MakesTies, MayChange, MayMove, MayRest, MayTie, local_for, no_ties, still, tie_at, tie_of, with_change, with_rest, with_tie, without};
 
 use crate::locals::{NoLocal, TIE_QUOTA, local_for};
@@ -122,7 +121,7 @@ impl TieTable {
     /// rest behind it until a time. The one error is want of memory, which changes nothing.
     pub fn grant(&mut self, alloc: Global, tied: Tied, until_ms: u64) -> Result<(), Memory>
         requires may { MayChange self.old tied }
-        requires sometime { until_ms < NEVER }
+        requires sometime { until_ms < 2 ^ 64 - 1 }
         ensures { MakesTies self.old (with_rest (with_change self.old tied)
             tied.tie.client.protocol tied.tie.local until_ms) result self.new }
     {
@@ -140,7 +139,7 @@ impl TieTable {
         until_ms: u64,
     ) -> Result<(), Memory>
         requires may { MayMove self.old from tied }
-        requires sometime { until_ms < NEVER }
+        requires sometime { until_ms < 2 ^ 64 - 1 }
         ensures { MakesTies self.old (with_rest (with_change self.old tied)
             tied.tie.client.protocol from until_ms) result self.new }
     {
@@ -158,7 +157,7 @@ impl TieTable {
         until_ms: u64,
     ) -> Result<(), Memory>
         requires may { MayRest self.old client.now local }
-        requires sometime { until_ms < NEVER }
+        requires sometime { until_ms < 2 ^ 64 - 1 }
         ensures { MakesTies self.old (with_rest self.old client.now.protocol local until_ms)
             result self.new }
     {
