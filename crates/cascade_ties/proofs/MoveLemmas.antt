@@ -102,8 +102,7 @@ module _ (t : Tied) where
       step : (b : Bool) → has_client t.tie.client y ≡ b → cond b (Some y) (tie_of t.tie.client ys) ≡ Some x → (tie_of t.tie.client ys ≡ Some x → TiesDiffer (put (has_client t.tie.client) t ys))
           → TiesDiffer (cond b (t ∷ ys) (y ∷ put (has_client t.tie.client) t ys))
       step true e k later =
-          let one : y ≡ x = cc in
-          (
+          let one : y ≡ x = cc in (
             All-weaker (λ b. AreOtherTies y b × (has_local t.tie.client.protocol t.tie.local b ≡ false)) (λ b. AreOtherTies t b)
                 (λ b both. other_to y b (ap (λ (z : Tied). z.tie.client) one ∙ same) both.0 both.1) ys
                 (All-both (λ b. AreOtherTies y b) (λ b. has_local t.tie.client.protocol t.tie.local b ≡ false) ys two.0 free.1),
@@ -121,7 +120,7 @@ module _ (it : Numbers) (pool : Holdings) (rests : Rests) (h : IsTieTable it poo
   abbrev old : Tied
   old = may.old
 
-  same_client : old.tie.client ≡ t.tie.client
+  pub same_client : old.tie.client ≡ t.tie.client
   same_client = (same_endpoint-Decides old.tie.client t.tie.client).0 (find-some (has_client t.tie.client) ts old may.client).1
 
   all_parts : (nat_le pool.tcp.low t.tie.local && nat_le t.tie.local pool.tcp.high && not (list_any (has_local t.tie.client.protocol t.tie.local) ts) ≡ true) × (not (contains_key rests (spot t.tie.client.protocol t.tie.local)) ≡ true)
@@ -155,7 +154,7 @@ module _ (it : Numbers) (pool : Holdings) (rests : Rests) (h : IsTieTable it poo
   may_be_held_too = may_hold pool rest ts h.pool t vacant local_there
 
   -- the old local port is another one
-  old_isnt : has_local t.tie.client.protocol t.tie.local old ≡ false
+  pub old_isnt : has_local t.tie.client.protocol t.tie.local old ≡ false
   old_isnt = All-IsIn (λ y. has_local t.tie.client.protocol t.tie.local y ≡ false) ts old all_free (find-some (has_client t.tie.client) ts old may.client).0
 
   abbrev held : Holdings
@@ -200,8 +199,8 @@ module _ (it : Numbers) (pool : Holdings) (rests : Rests) (h : IsTieTable it poo
       step : (b : Bool) → has_local other port t ≡ b → tie_at other port us ≡ tie_at other port (ts ++ t ∷ [])
       step true u =
           let none : AllByRecursion (λ y. has_local other port y ≡ false) ts = All-weaker (λ y. has_local t.tie.client.protocol t.tie.local y ≡ false) (λ y. has_local other port y ≡ false)
-              (λ y f. false_by (has_local other port y) (λ v. clash (has_local t.tie.client.protocol t.tie.local y)
-              ((tells_local t.tie.client.protocol t.tie.local).from y ((tells_local other port).to y v ∙ sym ((tells_local other port).to t u))) f)) ts all_free in
+          (λ y f. false_by (has_local other port y) (λ v. clash (has_local t.tie.client.protocol t.tie.local y)
+          ((tells_local t.tie.client.protocol t.tie.local).from y ((tells_local other port).to y v ∙ sym ((tells_local other port).to t u))) f)) ts all_free in
           put-new (has_client t.tie.client) old t (has_local other port) ts may.client none u
           ∙ sym (find-append (has_local other port) ts t (find-nothing (has_local other port) ts none) ∙ ap (λ b. cond b (Some t) None) u)
       step false u = put-same (has_client t.tie.client) old t (has_local other port) ts may.client e u ∙ sym (find-before (has_local other port) ts t u)
@@ -209,8 +208,8 @@ module _ (it : Numbers) (pool : Holdings) (rests : Rests) (h : IsTieTable it poo
   moved_pool : IsTiePool (left_use t.tie.client.protocol from (rest t.tie.client.protocol from) held) rest us
   moved_pool =
       let freed = freed_pool held rest (ts ++ t ∷ []) both old old_held old_local us none_at_old same_elsewhere
-          (λ who. (let a = put-count (has_client t.tie.client) old t (λ (y : Tied). same_address y.tie.client.address who) ts may.client in
-          let b = count-append (λ (y : Tied). same_address y.tie.client.address who) ts t in omega (arith, a, b))) in
+      (λ who. (let a = put-count (has_client t.tie.client) old t (λ (y : Tied). same_address y.tie.client.address who) ts may.client in
+      let b = count-append (λ (y : Tied). same_address y.tie.client.address who) ts t in omega (arith, a, b))) in
       let there = left_pool held rest us old.tie.client.protocol old.tie.local (let to = old_local.to in omega (arith, to)) (none_at_old old.tie.client.protocol old.tie.local (itself old)) freed in
       subst (λ (n : ℕ). IsTiePool (left_use t.tie.client.protocol n (rest t.tie.client.protocol n) held) rest us) may.leaves
       (subst (λ (e : Endpoint). IsTiePool (left_use e.protocol old.tie.local (rest e.protocol old.tie.local) held) rest us) same_client there)
@@ -220,8 +219,8 @@ module _ (it : Numbers) (pool : Holdings) (rests : Rests) (h : IsTieTable it poo
   back_pool =
       let none : tie_at t.tie.client.protocol t.tie.local ts ≡ None = find-nothing (has_local t.tie.client.protocol t.tie.local) ts all_free in
       let there : use_of held t.tie.client.protocol t.tie.local ≡ Held t.tie.client.address =
-          both.uses t.tie.client.protocol t.tie.local ∙ ap (λ (o : Option Tied). use_by o (rest t.tie.client.protocol t.tie.local))
-          (find-append (has_local t.tie.client.protocol t.tie.local) ts t none ∙ ap (λ b. cond b (Some t) None) (itself t)) in
+      both.uses t.tie.client.protocol t.tie.local ∙ ap (λ (o : Option Tied). use_by o (rest t.tie.client.protocol t.tie.local))
+      (find-append (has_local t.tie.client.protocol t.tie.local) ts t none ∙ ap (λ b. cond b (Some t) None) (itself t)) in
       alike_pool (with_use t.tie.client.protocol t.tie.local 1 Free held) (set_rest rest t.tie.client.protocol t.tie.local None) ts
       (freed_pool held rest (ts ++ t ∷ []) both t there local_there ts
       (λ other port e. at_that (λ z n. tie_at z n ts) t.tie.client.protocol other t.tie.local port e ∙ none)
@@ -233,8 +232,8 @@ module _ (it : Numbers) (pool : Holdings) (rests : Rests) (h : IsTieTable it poo
   may_free_again =
       let none : tie_at t.tie.client.protocol t.tie.local ts ≡ None = find-nothing (has_local t.tie.client.protocol t.tie.local) ts all_free in
       let there : use_of held t.tie.client.protocol t.tie.local ≡ Held t.tie.client.address =
-          both.uses t.tie.client.protocol t.tie.local ∙ ap (λ (o : Option Tied). use_by o (rest t.tie.client.protocol t.tie.local))
-          (find-append (has_local t.tie.client.protocol t.tie.local) ts t none ∙ ap (λ b. cond b (Some t) None) (itself t)) in
+      both.uses t.tie.client.protocol t.tie.local ∙ ap (λ (o : Option Tied). use_by o (rest t.tie.client.protocol t.tie.local))
+      (find-append (has_local t.tie.client.protocol t.tie.local) ts t none ∙ ap (λ b. cond b (Some t) None) (itself t)) in
       record {
         ports = record { from = local_there.from; some = omega arith; end = (let to = local_there.to in omega (arith, to)) };
         held = λ port low high. (let same : port ≡ t.tie.local = omega (arith, low, high) in ap (use_of held t.tie.client.protocol) same ∙ there);

@@ -1,5 +1,6 @@
 -- Until when local ports rest, by what stands at each spot.
-use Rattle.std.proofs.Common.{◌≡◌, ℕ, ◌+◌, ◌-◌, ◌*◌, ◌/◌, ◌%◌, ◌<◌, ◌≤◌, ◌&&◌, ◌==◌, nat_lt, Bool, true, false, not, cond, List, Option, Some, None, is_some, unwrap_or, refl, sym, ap, ◌∙◌, subst, arith}
+use Rattle.std.proofs.Common.{◌≡◌, ℕ, ◌+◌, ◌-◌, ◌*◌, ◌/◌, ◌%◌, ◌<◌, ◌≤◌, ◌&&◌, ◌==◌, nat_lt, Bool, true, false, not, cond, List, filter, Option, Some, None, is_some, unwrap_or, refl, sym, ap, ◌∙◌, subst, arith}
+use Rattle.std.specs.Bool.{OnTrue, OnFalse}
 use Rattle.std.specs.FinMap.{FinMap, contains_key, get, insert, len, remove, retain_keys, get-retain_keys, len-insert, same_map, nat_cmp-IsAntisymmetric}
 use Rattle.std.specs.Ordering.{nat_cmp}
 use Rattle.std.specs.Cmp.{nat_cmp_total}
@@ -21,9 +22,9 @@ use Rattle.external_pool.specs.declared.uses.Use.TheVariants.{Free}
 use Rattle.ordered_index.specs.declared.numbered.Numbered.{Numbered}
 use Rattle.ordered_index.specs.Orders.{Place}
 use Rattle.cascade_ties.specs.declared.ties.Tied.{Tied}
-use Rattle.cascade_ties.specs.Kept.{AreSpots, HasLocal, IsTiePool, IsTieTable, port_of_spot, protocol_at, reserved, rest_in, use_by}
-use Rattle.cascade_ties.specs.Ties.{has_client, has_local, rests_after, spot, tie_at, tie_of}
-use Rattle.cascade_ties.proofs.PoolKeeping.{alike_pool, at_that, find_one, mark_pool, same_pool, set_rest}
+use Rattle.cascade_ties.specs.Kept.{AreSpots, HasLocal, IsTiePool, IsTieTable, port_of_spot, protocol_at, reserved, rest_in, ties_of, use_by}
+use Rattle.cascade_ties.specs.Ties.{Ties, has_client, has_local, is_over, rests_after, spot, still, tie_at, tie_of}
+use Rattle.cascade_ties.proofs.PoolKeeping.{alike_pool, at_that, find_one, high_stays, low_stays, mark_pool, same_pool, set_rest}
 use Rattle.cascade_ties.proofs.TieKeeping.{once_local}
 
 abbrev pub Rests : Type 0
@@ -65,12 +66,15 @@ given_back m at u some = one_map _ _ (λ q. get-inserted (remove m at) at u q �
 get-self : (m : Rests) (at u : ℕ) → get (insert m at u) at ≡ Some u
 get-self m at u = let same : (at == at) ≡ true = grind (arith, nat_tests) in get-inserted m at u at ∙ ap (λ b. cond b (Some u) (get m at)) same
 
-pub has_reserved : (m : Rests) (at u : ℕ) → contains_key (reserved m at u) at ≡ true
+has_reserved : (m : Rests) (at u : ℕ) → contains_key (reserved m at u) at ≡ true
 has_reserved m at u = step (contains_key m at) refl
   where
     step : (b : Bool) → contains_key m at ≡ b → contains_key (cond b m (insert m at u)) at ≡ true
     step true e = e
     step false e = ap is_some (get-self m at u)
+
+pub has_room : (m : Rests) (at u : ℕ) (room : Rests) → room ≡ reserved m at u → contains_key room at ≡ true
+has_room m at u room roomy = ap (λ (k : Rests). contains_key k at) roomy ∙ has_reserved m at u
 
 pub reserved_made : (m : Rests) (at u : ℕ) → insert (reserved m at u) at u ≡ insert m at u
 reserved_made m at u = step (contains_key m at)
@@ -88,7 +92,7 @@ reserved_back m at u = step (contains_key m at) refl
 
 -- ---- spots
 
-spot_test : (p q : Protocol) (a n : ℕ) → (spot q n == spot p a) ≡ (same_protocol p q && a == n)
+pub spot_test : (p q : Protocol) (a n : ℕ) → (spot q n == spot p a) ≡ (same_protocol p q && a == n)
 spot_test Tcp Tcp a n = grind (arith, nat_tests)
 spot_test Tcp Udp a n = grind (arith, nat_tests)
 spot_test Udp Tcp a n = grind (arith, nat_tests)
@@ -148,16 +152,42 @@ module _ (pool : Holdings) (m : Rests) (ts : List Tied) (is : IsTiePool pool (re
       by : (o : Option Tied) → tie_at p a ts ≡ o → IsTiePool new (rest_in (remove m (spot p a))) ts
       by (Some x) e =
           let asleep : woke ≡ false = wakes.answer ∙ ap is_resting (is.uses p a ∙ ap (λ (t : Option Tied). use_by t (rest_in m p a)) e) in
-          let same : new ≡ pool = wakes.unchanged asleep in
+          let same : new ≡ pool = subst (λ (b : Bool). OnFalse b (new ≡ pool)) asleep wakes.unchanged in
           subst (λ (h : Holdings). IsTiePool h (rest_in (remove m (spot p a))) ts) (sym same)
           (alike_pool pool (set_rest (rest_in m) p a None) ts (tied_pool x e None) (rest_in (remove m (spot p a))) (λ q n. sym (removed_at m p a q n)))
       by None e =
           let rests : woke ≡ true = wakes.answer ∙ ap is_resting (is.uses p a ∙ ap (λ (t : Option Tied). use_by t (rest_in m p a)) e ∙ ap (use_by None) some) in
-          let same : new ≡ with_use p a 1 Free pool = wakes.woken rests in
+          let same : new ≡ with_use p a 1 Free pool = subst (λ (b : Bool). OnTrue b (new ≡ with_use p a 1 Free pool)) rests wakes.woken in
           subst (λ (h : Holdings). IsTiePool h (rest_in (remove m (spot p a))) ts) (sym same)
           (alike_pool (with_use p a 1 Free pool) (set_rest (rest_in m) p a None) ts (mark_pool pool (rest_in m) ts is p a None within e) (rest_in (remove m (spot p a))) (λ q n. sym (removed_at m p a q n)))
 
+-- a port that rests does so until any time alike
+any_rest : (o : Option Tied) (v u : ℕ) → use_by o (Some v) ≡ use_by o (Some u)
+any_rest None v u = refl
+any_rest (Some t) v u = refl
+
+some_in : (o : Option ℕ) → is_some o ≡ true → (v : ℕ) × (o ≡ Some v)
+some_in None h = absurd cc
+some_in (Some v) h = (v, refl)
+
 module _ (it : Numbered Tied Place (ℕ × ℕ)) (pool : Holdings) (m : Rests) (h : IsTieTable it pool m) where
+  -- another time for a rest that is there
+  pub renewed_table : (at u : ℕ) → contains_key m at ≡ true → IsTieTable it pool (insert m at u)
+  renewed_table at u has = record {
+    ties = h.ties;
+    pool = same_pool pool (rest_in m) (values it.leases) h.pool (rest_in (insert m at u)) (λ q n. told q n (spot q n == at) refl);
+    spots = spots_insert m at u (h.spots at there.0 there.1) h.spots;
+  }
+    where
+      there : (v : ℕ) × (get m at ≡ Some v)
+      there = some_in (get m at) has
+
+      told : (q : Protocol) (n : ℕ) (b : Bool) → (spot q n == at) ≡ b → use_by (tie_at q n (values it.leases)) (get m (spot q n)) ≡ use_by (tie_at q n (values it.leases)) (get (insert m at u) (spot q n))
+      told q n true e =
+          ap (use_by (tie_at q n (values it.leases))) (ap (get m) (eqb-true (spot q n) at e) ∙ there.1) ∙ any_rest (tie_at q n (values it.leases)) there.0 u
+          ∙ sym (ap (use_by (tie_at q n (values it.leases))) (get-inserted m at u (spot q n) ∙ ap (λ b. cond b (Some u) (get m (spot q n))) e))
+      told q n false e = sym (ap (use_by (tie_at q n (values it.leases))) (get-inserted m at u (spot q n) ∙ ap (λ b. cond b (Some u) (get m (spot q n))) e))
+
   pub rested_table : (p : Protocol) (a : ℕ) (x : Tied) → tie_at p a (values it.leases) ≡ Some x → a ≤ 65535 → (u : ℕ) → IsTieTable it pool (insert m (spot p a) u)
   rested_table p a x found small u = record {
     ties = h.ties;
@@ -233,8 +263,42 @@ tie_there it pool m h e x local found port =
     let client : x.tie.client ≡ e = (same_endpoint-Decides x.tie.client e).0 stands.1 in
     let itself : has_local x.tie.client.protocol x.tie.local x ≡ true = ap (λ (b : Bool). b && x.tie.local == x.tie.local) ((same_protocol-Decides x.tie.client.protocol x.tie.client.protocol).1 refl) ∙ eq-eqb x.tie.local x.tie.local refl in
     let there = find_one (has_local x.tie.client.protocol x.tie.local) (values it.leases) x (once_local x.tie.client.protocol x.tie.local (values it.leases) h.ties.differ) stands.0 itself in
-    let within = (All-IsIn HasLocal (values it.leases) x h.ties.locals stands.0).to in
-    (
+    let within = (All-IsIn HasLocal (values it.leases) x h.ties.locals stands.0).to in (
       ap (λ (z : Endpoint). tie_at z.protocol local (values it.leases)) (sym client) ∙ ap (λ (n : ℕ). tie_at x.tie.client.protocol n (values it.leases)) (sym port) ∙ there,
       omega (arith, within, port),
     )
+
+-- room for the rest of a port that has a tie tells nothing of it
+pub unreserved_table : (it : Numbered Tied Place (ℕ × ℕ)) (pool : Holdings) (m : Rests) (p : Protocol) (a u : ℕ) (x : Tied) → AreSpots m → tie_at p a (values it.leases) ≡ Some x
+    → IsTieTable it pool (reserved m (spot p a) u) → IsTieTable it pool m
+unreserved_table it pool m p a u x spots found = step (contains_key m (spot p a))
+  where
+    told : (q : Protocol) (n : ℕ) (b : Bool) → (same_protocol p q && a == n) ≡ b → use_by (tie_at q n (values it.leases)) (cond b (Some u) (rest_in m q n)) ≡ use_by (tie_at q n (values it.leases)) (rest_in m q n)
+    told q n true e = let there : tie_at q n (values it.leases) ≡ Some x = at_that (λ z k. tie_at z k (values it.leases)) p q a n e ∙ found in
+        ap (λ (t : Option Tied). use_by t (Some u)) there ∙ sym (ap (λ (t : Option Tied). use_by t (rest_in m q n)) there)
+    told q n false e = refl
+
+    step : (b : Bool) → IsTieTable it pool (cond b m (insert m (spot p a) u)) → IsTieTable it pool m
+    step true h = h
+    step false h = record {
+      ties = h.ties;
+      pool = same_pool pool (rest_in (insert m (spot p a) u)) (values it.leases) h.pool (rest_in m)
+          (λ q n. ap (use_by (tie_at q n (values it.leases))) (inserted_at m p a u q n) ∙ told q n (same_protocol p q && a == n) refl);
+      spots = spots;
+    }
+
+-- the range stays where a port wakes
+pub woken_low : (pool new : Holdings) (p : Protocol) (a : ℕ) (woke : Bool) → WakesPort pool p a woke new → new.tcp.low ≡ pool.tcp.low
+woken_low pool new p a true wakes = ap (λ (h : Holdings). h.tcp.low) wakes.woken ∙ low_stays p a 1 Free pool
+woken_low pool new p a false wakes = ap (λ (h : Holdings). h.tcp.low) wakes.unchanged
+
+pub woken_high : (pool new : Holdings) (p : Protocol) (a : ℕ) (woke : Bool) → WakesPort pool p a woke new → new.tcp.high ≡ pool.tcp.high
+woken_high pool new p a true wakes = ap (λ (h : Holdings). h.tcp.high) wakes.woken ∙ high_stays p a 1 Free pool
+woken_high pool new p a false wakes = ap (λ (h : Holdings). h.tcp.high) wakes.unchanged
+
+pub still_woken : (now : ℕ) (us ts : Ties) → us.low ≡ ts.low → us.high ≡ ts.high → us.each ≡ ts.each → rests_after now us.rests ≡ rests_after now ts.rests → still now us ≡ still now ts
+still_woken now us ts low high each rests = λ i. record { low = low i; high = high i; each = filter (λ t. not (is_over now t)) (each i); rests = rests i }
+
+-- where nothing is over, all are still there
+pub still_all : (now : ℕ) (pool : Holdings) (rests : Rests) (us : List Tied) → filter (λ t. not (is_over now t)) us ≡ us → rests_after now rests ≡ rests → still now (ties_of pool rests us) ≡ ties_of pool rests us
+still_all now pool rests us each lasts = λ i. record { low = pool.tcp.low; high = pool.tcp.high; each = each i; rests = lasts i }

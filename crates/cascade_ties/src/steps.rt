@@ -1,9 +1,8 @@
 //! Steps over ties, until when local ports rest, and the pool of them.
-ghost use Rattle.std.specs.Prelude.{◌≡◌, ◌<◌, length, not, filter, OnOk, OnErr};
+ghost use Rattle.std.specs.Prelude.{◌≡◌, ◌<◌, ◌-◌, ◌^◌, length, not, filter, OnOk, OnErr};
 ghost use Rattle.std.specs.Bool.{OnTrue, OnFalse};
 ghost use Rattle.std.specs.BTreeMap.{values};
 ghost use Rattle.std.specs.FinMap.{insert, len};
-ghost use Rattle.expiry_wheel.specs.declared.TheConstants.{NEVER};
 ghost use Rattle.cascade_ties.specs.Kept.{IsTieTable, ties_of};
 ghost use Rattle.cascade_ties.specs.Ties.{MakesTies, MayChange, MayMove, MayTie, is_over, rests_after, spot, still, with_change, with_rest, with_tie, without};
 
@@ -74,7 +73,7 @@ pub(crate) fn grant_tie(
 ) -> Result<(), Memory>
     requires kept { IsTieTable kept.old pool.now rests.old }
     requires may { MayChange (ties_of pool.now rests.old (values kept.old.leases)) tied }
-    requires sometime { until_ms < NEVER }
+    requires sometime { until_ms < 2 ^ 64 - 1 }
     ensures kept { IsTieTable kept.new pool.now rests.new }
     ensures ties { MakesTies (ties_of pool.now rests.old (values kept.old.leases))
         (with_rest (with_change (ties_of pool.now rests.old (values kept.old.leases)) tied)
@@ -131,7 +130,7 @@ pub(crate) fn move_tie(
 ) -> Result<(), Memory>
     requires kept { IsTieTable kept.old pool.old rests.old }
     requires may { MayMove (ties_of pool.old rests.old (values kept.old.leases)) from tied }
-    requires sometime { until_ms < NEVER }
+    requires sometime { until_ms < 2 ^ 64 - 1 }
     ensures kept { IsTieTable kept.new pool.new rests.new }
     ensures ties { MakesTies (ties_of pool.old rests.old (values kept.old.leases))
         (with_rest (with_change (ties_of pool.old rests.old (values kept.old.leases)) tied)
@@ -153,7 +152,7 @@ pub(crate) fn rest_tie(
     local: u16,
     until_ms: u64,
 ) -> Result<(), Memory>
-    requires { until_ms < NEVER }
+    requires { until_ms < 2 ^ 64 - 1 }
     ensures ok { OnOk result
         (rests.new ≡ insert rests.old (spot client.now.protocol local) until_ms) }
     ensures err { OnErr result (rests.new ≡ rests.old) }
@@ -187,13 +186,7 @@ pub(crate) fn take_tie(
 }
 
 /// Takes out a tie whose time has come; false where there is none.
-fn drop_one(
-    alloc: Global,
-    kept: &mut Numbers,
-    pool: &mut Pool,
-    rests: &Wheel,
-    now_ms: u64,
-) -> bool
+fn drop_one(alloc: Global, kept: &mut Numbers, pool: &mut Pool, rests: &Wheel, now_ms: u64) -> bool
     requires { IsTieTable kept.old pool.old rests.now }
     ensures kept { IsTieTable kept.new pool.new rests.now }
     ensures still { still now_ms (ties_of pool.new rests.now (values kept.new.leases))
@@ -217,8 +210,7 @@ fn drop_ties(alloc: Global, kept: &mut Numbers, pool: &mut Pool, rests: &Wheel, 
     ensures kept { IsTieTable kept.new pool.new rests.now }
     ensures still { still now_ms (ties_of pool.new rests.now (values kept.new.leases))
         ≡ still now_ms (ties_of pool.old rests.now (values kept.old.leases)) }
-    ensures all {
-        filter (λ t. not (is_over now_ms t)) (values kept.new.leases) ≡ values kept.new.leases }
+    ensures all { filter (λ t. not (is_over now_ms t)) (values kept.new.leases) ≡ values kept.new.leases }
 {
     while drop_one(alloc, kept, pool, rests, now_ms) {}
 }
