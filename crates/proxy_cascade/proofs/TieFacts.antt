@@ -1,8 +1,8 @@
 -- What ties tell of one another.
-use Rattle.std.proofs.Common.{◌≡◌, ℕ, ◌&&◌, nat_le, Bool, true, false, cond, List, [], ◌∷◌, ◌++◌, filter, Option, Some, None, Result, Ok, Err, refl, sym, ap, ◌∙◌, subst}
+use Rattle.std.proofs.Common.{◌≡◌, ℕ, ◌<◌, ◌&&◌, nat_le, Bool, true, false, cond, List, [], ◌∷◌, ◌++◌, filter, Option, Some, None, Result, Ok, Err, refl, sym, ap, ◌∙◌, subst}
 use Rattle.std.specs.List.{list_any}
 use Rattle.std.specs.Str.{bytes_eq}
-use Rattle.std.proofs.lemmas.Bool.{and_parts, not-true}
+use Rattle.std.proofs.lemmas.Bool.{and_parts, ltb-true, not-true}
 use Rattle.std.proofs.lemmas.Slice.Eq.{bytes_eq-Decides}
 use Rattle.pcp_base.specs.declared.addresses.Nonce.{Nonce}
 use Rattle.pcp_base.specs.declared.leases.Endpoint.{Endpoint}
@@ -12,7 +12,6 @@ use Rattle.pcp_base.proofs.Members.{All-both, All-weaker, EachTwo-filter, EachTw
 use Rattle.pcp_base.proofs.Same.{same_endpoint-Decides}
 use Rattle.cascade_ties.specs.declared.locals.NoLocal.{NoLocal}
 use Rattle.cascade_ties.specs.declared.locals.NoLocal.TheVariants.{Quota}
-use Rattle.cascade_ties.specs.declared.locals.TheConstants.{TIE_QUOTA}
 use Rattle.cascade_ties.specs.declared.ties.Tie.{Tie}
 use Rattle.cascade_ties.specs.declared.ties.Tied.{Tied}
 use Rattle.cascade_ties.specs.declared.ties.Waiting.{Waiting}
@@ -57,7 +56,7 @@ vacant-for ts e local h = step (is_vacant ts e.protocol e.port) refl h
     step false t k = vacant-least ts e.protocol local k
 
 pub vacant-local : (ts : Ties) (e : Endpoint) (local : ℕ) → local_for ts e ≡ Ok local → is_vacant ts e.protocol local ≡ true
-vacant-local ts e local h = step (nat_le TIE_QUOTA (ties_held e.address ts.each)) h
+vacant-local ts e local h = step (nat_le 64 (ties_held e.address ts.each)) h
   where
     step : (b : Bool) → cond {A = Result ℕ NoLocal} b (Err Quota) (or_no_port (vacant_for ts e)) ≡ Ok local → is_vacant ts e.protocol local ≡ true
     step true k = absurd cc
@@ -100,3 +99,11 @@ pub differ-moved : (ts : Ties) (t : Tied) (r : Response) (w : Waiting) (local : 
 differ-moved ts t r w local found next h =
     let free = not-true (list_any (has_local t.tie.client.protocol local) ts.each) (and_parts (nat_le ts.low local && nat_le local ts.high) _ (and_parts _ _ (next-vacant ts r t.tie w local next)).0).1 in
     moved-differ (moved t.tie w local) t ts.each refl found (any-none (has_local t.tie.client.protocol local) ts.each free) h
+
+-- fewer than 16 other ports were asked for by then
+pub next-fewer : (ts : Ties) (r : Response) (tie : Tie) (w : Waiting) (local : ℕ) → next_local ts r tie w ≡ Some local → w.tries < 16
+next-fewer ts r tie w local h = step (is_tried_on r tie w) refl h
+  where
+    step : (b : Bool) → is_tried_on r tie w ≡ b → cond b (port_in (local_for ts tie.client)) None ≡ Some local → w.tries < 16
+    step true e k = ltb-true w.tries 16 (and_parts _ _ e).1
+    step false e k = absurd cc

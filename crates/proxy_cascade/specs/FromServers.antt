@@ -97,20 +97,23 @@ abbrev pub is_taken : Code → Bool
 is_taken NotAuthorized = true
 is_taken other = false
 
--- what becomes of the ties after an error: a tie that isn't granted goes
+-- what becomes of the ties after a success: the tie is granted, or with lifetime 0 taken away
+abbrev pub ties_given : ℕ → Response → Common → Tie → Ties → Ties
+ties_given now r common tie ts =
+    if r.lifetime == 0 then without (resting now r tie ts) tie.client
+    else resting now r tie
+    (with_change ts (ended (granted tie common (told_lifetime r.lifetime) now)))
+
+-- after an error: a tie that isn't granted goes
 abbrev pub ties_left : ℕ → Response → Tie → Ties → Ties
 ties_left now r tie ts =
     if tie.granted then with_change ts (ended tie)
     else without (if is_taken r.code then resting now r tie ts else ts) tie.client
 
--- and after all responses: a success grants the tie, or with lifetime 0 takes it away
+-- and after all responses
 abbrev pub ties_after : ℕ → Response → Common → Tie → Ties → Ties
 ties_after now r common tie ts =
-    if is_success r.code
-    then (if r.lifetime == 0 then without (resting now r tie ts) tie.client
-    else resting now r tie
-    (with_change ts (ended (granted tie common (told_lifetime r.lifetime) now))))
-    else ties_left now r tie ts
+    if is_success r.code then ties_given now r common tie ts else ties_left now r tie ts
 
 -- ---- another local port
 

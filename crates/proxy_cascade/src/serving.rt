@@ -1,14 +1,13 @@
 //! What is sent for datagrams from upstream.
-ghost use Rattle.std.specs.Prelude.{◌≡◌, ◌+◌, ◌*◌, ◌<◌, ◌≤◌, length, if◌then◌else◌, IfOk, OnErr};
-ghost use Rattle.expiry_wheel.specs.declared.TheConstants.{NEVER};
+ghost use Rattle.std.specs.Prelude.{◌≡◌, ◌+◌, ◌-◌, ◌*◌, ◌^◌, ◌<◌, ◌≤◌, length, if◌then◌else◌, IfOk, OnErr};
 ghost use Rattle.proxy_cascade.specs.declared.outs.CascadeOut.TheVariants.{Nothing, Down};
 ghost use Rattle.pcp_codec.specs.declared.layout.TheConstants.{HEAD_OCTETS};
 ghost use Rattle.std.specs.Option.{option_copied};
 ghost use Rattle.pcp_base.specs.Protocols.{protocol_of};
 ghost use Rattle.proxy_core.specs.Down.{is_success};
 ghost use Rattle.proxy_core.specs.Relays.{response_from};
-ghost use Rattle.cascade_ties.specs.Ties.{MakesTies};
-ghost use Rattle.proxy_cascade.specs.FromServers.{announcement, ended, for_body, for_protocol, granted, is_asked_by, is_taken, is_tried_on, lease_after, moved, next_local, still_waits, text_after, ties_after, told_lifetime};
+ghost use Rattle.cascade_ties.specs.Ties.{MakesTies, with_rest, without};
+ghost use Rattle.proxy_cascade.specs.FromServers.{announcement, ended, for_body, for_protocol, granted, is_asked_by, is_taken, is_tried_on, lease_after, moved, next_local, still_waits, text_after, ties_after, ties_given, ties_left, told_lifetime};
 ghost use Rattle.proxy_cascade.specs.Kept.{AreKept, IsTime, IsTied, cascade_of, epoch_of};
 
 use crate::outs::CascadeOut;
@@ -157,7 +156,7 @@ fn next_local(ties: &TieTable, response: &Response, tie: &Tie, waiting: &Waiting
 fn rest_until(response: &Response, now_ms: u64) -> u64
     requires { IsTime now_ms }
     ensures until { result ≡ now_ms + 1000 * response.now.lifetime }
-    ensures sometime { result < NEVER }
+    ensures sometime { result < 2 ^ 64 - 1 }
 {
     now_ms + 1000 * u64::from(response.lifetime)
 }
@@ -319,6 +318,68 @@ fn granted(tie: Tie, common: &Common, lifetime: u32, now_ms: u64) -> Tie
     }
 }
 
+/// Takes out a tie, whose local port then rests until a time. The one error is want of memory, which
+/// changes nothing.
+fn let_rest(alloc: Global, ties: &mut TieTable, tie: Tie, until_ms: u64) -> Result<(), Memory>
+    requires tied { IsTied ties.old tie.client tie }
+    requires sometime { until_ms < 2 ^ 64 - 1 }
+    ensures { MakesTies ties.old
+        (without (with_rest ties.old tie.client.protocol tie.local until_ms) tie.client)
+        result ties.new }
+{
+    ties.rest(alloc, &tie.client, tie.local, until_ms)?;
+    ties.remove(&tie.client);
+    Ok(())
+}
+
+/// What becomes of a tie after a success. The one error is want of memory, which changes nothing.
+fn settle_success(
+    alloc: Global,
+    ties: &mut TieTable,
+    response: &Response,
+    common: &Common,
+    tie: Tie,
+    now_ms: u64,
+) -> Result<(), Memory>
+    requires time { IsTime now_ms }
+    requires tied { IsTied ties.old tie.client tie }
+    ensures { MakesTies ties.old (ties_given now_ms response.now common.now tie ties.old)
+        result ties.new }
+{
+    let until_ms = rest_until(response, now_ms);
+    if response.lifetime == 0 {
+        return let_rest(alloc, ties, tie, until_ms);
+    }
+    let lifetime = told_lifetime(response.lifetime);
+    ties.grant(
+        alloc,
+        ended(granted(tie, common, lifetime, now_ms)),
+        until_ms,
+    )
+}
+
+/// What becomes of a tie after an error. The one error is want of memory, which changes nothing.
+fn settle_error(
+    alloc: Global,
+    ties: &mut TieTable,
+    response: &Response,
+    tie: Tie,
+    now_ms: u64,
+) -> Result<(), Memory>
+    requires time { IsTime now_ms }
+    requires tied { IsTied ties.old tie.client tie }
+    ensures { MakesTies ties.old (ties_left now_ms response.now tie ties.old) result ties.new }
+{
+    if tie.granted {
+        return ties.change(ended(tie));
+    }
+    if is_taken(response.code) {
+        return let_rest(alloc, ties, tie, rest_until(response, now_ms));
+    }
+    ties.remove(&tie.client);
+    Ok(())
+}
+
 /// What becomes of a tie after a response to it. The one error is want of memory, which changes
 /// nothing.
 fn settle(
@@ -334,18 +395,8 @@ fn settle(
     ensures { MakesTies ties.old (ties_after now_ms response.now common.now tie ties.old)
         result ties.new }
 {
-    let until_ms = rest_until(response, now_ms);
-    let success = is_success(response.code);
-    if success && response.lifetime != 0 {
-        let lifetime = told_lifetime(response.lifetime);
-        return ties.grant(alloc, ended(granted(tie, common, lifetime, now_ms)), until_ms);
+    if !is_success(response.code) {
+        return settle_error(alloc, ties, response, tie, now_ms);
     }
-    if !success && tie.granted {
-        return ties.change(ended(tie));
-    }
-    if success || is_taken(response.code) {
-        ties.rest(alloc, &tie.client, tie.local, until_ms)?;
-    }
-    ties.remove(&tie.client);
-    Ok(())
+    settle_success(alloc, ties, response, common, tie, now_ms)
 }
