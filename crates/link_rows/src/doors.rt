@@ -79,8 +79,10 @@ fn no_side_of_a_relay_waits_for_the_other(rt: HostRuntime) -> Result<(), Fail> {
         own.local_addr()?.port(),
         told.local_addr()?.port(),
     ];
+    let mut inners = Vec::new(rt.alloc());
+    inners.push(Some(inner))?;
     let sides = Some((told, orders));
-    let mut inbox = RelayInbox::of(rt.alloc(), THIS_HOST, Some(inner), Some(own), sides)?;
+    let mut inbox = RelayInbox::of(rt.alloc(), THIS_HOST, inners, Some(own), sides)?;
     let server = socket()?;
     let client = UdpSocket::bind(&rt, (Ipv4Addr::new(127, 0, 0, 2), 0))?;
     for _ in 0..200 {

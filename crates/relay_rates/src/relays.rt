@@ -68,7 +68,7 @@ impl<M: RelayMachine> RelayMachine for RatedRelay<M> {
         alloc: Global,
         datagram: &Datagram,
         now_ms: u64,
-    ) -> Result<Option<Datagram>, Memory> {
+    ) -> Result<ProxyOut, Memory> {
         self.relay.from_server(alloc, datagram, now_ms)
     }
 
