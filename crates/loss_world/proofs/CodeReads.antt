@@ -51,7 +51,7 @@ under-body (Some x) text r k =
     let same = by-test _ (response_as x _ _) r k in
     sym (ap (λ (y : Response). y.body) same)
 
-read-body : (text : List ℕ) (r : Response) → response_of text ≡ Some r → r.body ≡ body_of text
+pub read-body : (text : List ℕ) (r : Response) → response_of text ≡ Some r → r.body ≡ body_of text
 read-body text r h = under-body (head_of text) text r h
 
 -- a number is that of one code

@@ -1,7 +1,7 @@
 -- A client that takes two replies with a loss between their sendings finds the second epoch invalid.
-use Rattle.std.specs.Prelude.{IsSome, map}
+use Rattle.std.specs.Prelude.{map}
 use Rattle.std.specs.List.{AllByRecursion}
-use Rattle.std.proofs.Common.{◌≡◌, ◌∙◌, ℕ, ◌+◌, ◌/◌, ◌≤◌, false, List, [], ◌∷◌, Option, Some, None, refl, ap, subst, arith}
+use Rattle.std.proofs.Common.{◌≡◌, ◌∙◌, ℕ, ◌+◌, ◌*◌, ◌/◌, ◌≤◌, false, List, [], ◌∷◌, Option, Some, None, refl, ap, subst, arith}
 use Rattle.pcp_base.proofs.Members.{All-IsIn, IsIn-from_Contains}
 use Rattle.pcp_base.specs.declared.configs.External.{External}
 use Rattle.pcp_base.specs.States.{State}
@@ -16,11 +16,12 @@ use Rattle.client_core.specs.declared.meanings.Meaning.TheVariants.{Says}
 use Rattle.client_core.specs.declared.meanings.Notice.{Notice}
 use Rattle.client_core.specs.Clients.{ClientView, heard_with, counted, epoch_found, meaning_of, heard_epoch_at}
 use Rattle.client_core.specs.EpochTests.{LossesAreHeard, heard_epoch, is_valid, is_valid_after}
-use Rattle.loss_world.specs.Disclosure.{ClientsHaveOrigins, HasBoundOrigin, LossesAreFound, RepliesHaveOrigins}
+use Rattle.proxy_core.specs.declared.epochs.Heard.{Heard}
+use Rattle.loss_world.specs.Disclosure.{ClientsHaveOrigins, HasBoundOrigin, LossesAreFound, RelaysHaveOrigins, RepliesHaveOrigins}
 use Rattle.loss_world.specs.Packets.{Loss, Origin, datagram_of, seconds}
 use Rattle.loss_world.specs.Steps.{happens, run}
 use Rattle.loss_world.specs.Worlds.{Beginning, ClientTerms, Event, IsBeginning, RelayTerms, World, begun, client_begun, relay_begun}
-use Rattle.loss_world.proofs.Invariants.{HasOrigin, IsApart, HostHeard, IsBound, IsClientHost, IsOrigin, IsPacket, IsRelay, TellsBy}
+use Rattle.loss_world.proofs.Invariants.{HasOrigin, HeardBy, IsApart, HostHeard, IsBound, IsClientHost, IsOrigin, IsPacket, IsRelay, TellsBy}
 use Rattle.loss_world.proofs.Saying.{said}
 use Rattle.loss_world.proofs.WorldSteps.{IsWorld, next-world}
 
@@ -113,10 +114,15 @@ replies-have-origins law b events p r is among read =
     let packet = All-IsIn (IsPacket w.clock w.losses) w.bag p world.bag (IsIn-from_Contains w.bag p among) in
     replies w p.origin p.out.octets p.sent r packet.origin packet.told read
 
-heard-from : (o : Option Origin) (heard : Option HeardEpoch) (t : HeardEpoch) → heard ≡ Some t → HostHeard o heard → IsSome o
+heard-from : (o : Option Origin) (heard : Option HeardEpoch) (t : HeardEpoch) → heard ≡ Some t → HostHeard o heard
+    → HasBoundOrigin o t.server (1000 * t.seconds + 999)
 heard-from None None t e h = absurd cc
 heard-from None (Some x) t e h = absurd h
-heard-from (Some o) heard t e h = refl
+heard-from (Some o) None t e h = absurd cc
+heard-from (Some o) (Some x) t e h =
+    let same : x ≡ t = cc in
+    subst (λ (y : HeardEpoch). HasBoundOrigin (Some o) y.server (1000 * y.seconds + 999)) same
+    (record { origin = o; has = refl; sent_before = h.sent; most = h.most })
 
 pub clients-have-origins : DecisionsChangeLeases → ClientsHaveOrigins
 clients-have-origins law b events host t is among heard =
@@ -124,3 +130,20 @@ clients-have-origins law b events host t is among heard =
     let world = every-world law b events is in
     let client = All-IsIn (IsClientHost w.clock w.losses) w.clients host world.clients (IsIn-from_Contains w.clients host among) in
     heard-from host.origin host.client.heard t heard client.heard
+
+relay-from : (o : Option Origin) (heard : Option Heard) (t : Heard) (last : ℕ) → heard ≡ Some t → HeardBy o heard last
+    → HasBoundOrigin o t.epoch t.at_ms
+relay-from None None t last e h = absurd cc
+relay-from None (Some x) t last e h = absurd h
+relay-from (Some o) None t last e h = absurd cc
+relay-from (Some o) (Some x) t last e h =
+    let same : x ≡ t = cc in
+    subst (λ (y : Heard). HasBoundOrigin (Some o) y.epoch y.at_ms) same
+    (record { origin = o; has = refl; sent_before = h.0.sent; most = h.0.most })
+
+pub relays-have-origins : DecisionsChangeLeases → RelaysHaveOrigins
+relays-have-origins law b events host t is among heard =
+    let w = run (begun b) events in
+    let world = every-world law b events is in
+    let relay = All-IsIn (IsRelay w.clock w.losses) w.relays host world.relays (IsIn-from_Contains w.relays host among) in
+    relay-from host.origin host.relay.heard t host.relay.last heard relay.heard

@@ -52,6 +52,14 @@ All-got P [] i x all h = absurd cc
 All-got P (y ∷ ys) zero x all h = let same : y ≡ x = cc in subst P same all.0
 All-got P (y ∷ ys) (suc i) x all h = All-got P ys i x all.1 h
 
+pub All-map : {X Y : Type 0} (P : X → Type 0) (Q : Y → Type 0) (f : X → Y) → ((x : X) → P x → Q (f x)) → (xs : List X) → AllByRecursion P xs → AllByRecursion Q (map f xs)
+All-map P Q f g [] h = tt
+All-map P Q f g (x ∷ xs) h = (g x h.0, All-map P Q f g xs h.1)
+
+pub All-mapped : {X Y : Type 0} (Q : Y → Type 0) (f : X → Y) → ((x : X) → Q (f x)) → (xs : List X) → AllByRecursion Q (map f xs)
+All-mapped Q f g [] = tt
+All-mapped Q f g (x ∷ xs) = (g x, All-mapped Q f g xs)
+
 got-set : {X : Type 0} (xs : List X) (i : ℕ) (x y : X) → slice_get xs i ≡ Some x → slice_get (slice_set xs i y) i ≡ Some y
 got-set [] i x y h = absurd cc
 got-set (z ∷ zs) zero x y h = refl

@@ -1,7 +1,7 @@
 -- What holds in every world that can come to be, of the packets, the relays and the clients (our own), and that it is kept.
 use Rattle.std.specs.Prelude.{⊤}
 use Rattle.std.specs.List.{AllByRecursion}
-use Rattle.std.proofs.Common.{◌≡◌, ℕ, ◌+◌, ◌-◌, ◌<◌, ◌≤◌, List, ◌∷◌, length, Option, Some, None, arith}
+use Rattle.std.proofs.Common.{◌≡◌, ℕ, ◌+◌, ◌-◌, ◌*◌, ◌<◌, ◌≤◌, List, ◌∷◌, length, Option, Some, None, arith}
 use Rattle.pcp_options.specs.declared.responses.Response.{Response}
 use Rattle.pcp_options.specs.ReadResponses.{response_of}
 use Rattle.client_core.specs.declared.epochs.HeardEpoch.{HeardEpoch}
@@ -49,11 +49,12 @@ pub record IsRelay (clock : ℕ) (losses : List Loss) (h : RelayHost) : Type 0 w
   pub origin : HasOrigin clock losses h.origin
   pub heard : HeardBy h.origin h.relay.heard h.relay.last
 
--- what a client heard has an origin
+-- what a client heard is bound so up to the last millisecond of its second
 abbrev pub HostHeard : Option Origin → Option HeardEpoch → Type 0
 HostHeard None None = ⊤
 HostHeard None (Some t) = ⊥
-HostHeard (Some o) heard = ⊤
+HostHeard (Some o) None = ⊤
+HostHeard (Some o) (Some t) = IsBound o t.server (1000 * t.seconds + 999)
 
 pub record IsClientHost (clock : ℕ) (losses : List Loss) (h : ClientHost) : Type 0 where
   pub last : h.client.last ≤ clock

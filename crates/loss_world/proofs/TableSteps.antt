@@ -1,6 +1,6 @@
 -- Each event leaves only leases in the tables of the house that an entry of the history granted.
 use Rattle.std.specs.List.{AllByRecursion}
-use Rattle.std.specs.Prelude.{Contains, max, min, reverse, map, slice_get, slice_set}
+use Rattle.std.specs.Prelude.{Contains, max, min, position, reverse, map, slice_get, slice_set}
 use Rattle.std.proofs.Common.{◌≡◌, ◌∙◌, ◌⊎◌, inl, inr, ℕ, zero, suc, ◌+◌, ◌^◌, ◌<◌, ◌≤◌, cond, List, [], ◌∷◌, ◌++◌, Option, Some, None, refl, ap, sym, subst, arith}
 use Rattle.std.proofs.lemmas.Bool.{cond_both}
 use Rattle.pcp_base.proofs.Members.{All-append, All-weaker, Contains-from_IsIn, IsIn-from_Contains}
@@ -16,7 +16,7 @@ use Rattle.pcp_base.specs.declared.records.Change.{Change}
 use Rattle.pcp_base.specs.declared.records.Change.TheVariants as Changes
 use Rattle.pcp_base.specs.Epoch.{epoch_of}
 use Rattle.pcp_base.specs.States.{State}
-use Rattle.pcp_base.specs.Tables.{empty_table, live, same_address}
+use Rattle.pcp_base.specs.Tables.{empty_table, live}
 use Rattle.lease_store.specs.LeaseTerms.{terms_of}
 use Rattle.lease_core.specs.Laws.{DecisionsChangeLeases}
 use Rattle.lease_histories.specs.Entries.{Request, decided_on, request_by, request_entry, request_of}
@@ -24,10 +24,9 @@ use Rattle.lease_histories.specs.HouseHistories.{HouseEntry}
 use Rattle.lease_histories.specs.PlainHouses.{PlainHouse, PlainShard, add_by, add_entry, entry_by, greatest_base, packet_entry, raised, served_at, shard_after, shards_begun, with_kept}
 use Rattle.lease_histories.specs.Routes.{route_of}
 use Rattle.client_core.specs.Clients.{after_tick, free_id, request_due}
-use Rattle.proxy_core.specs.Relays.{on_client, on_server, response_from}
 use Rattle.loss_world.specs.HouseLosses.{Cause, Loses, Restarts, Renumbers, at_address, control_entry, controlled, entries_of, house_after, is_loss, readdressed, shards_at}
 use Rattle.loss_world.specs.Packets.{Packet, datagram_of, seconds}
-use Rattle.loss_world.specs.Steps.{answered, asked, client_ends, client_ticks, client_wants, fails, from_client, from_upstream, happens, hears, is_reached, lost, origin_after, relay_ticks, second, sends, sent_by, sent_down, to_client, to_relay, to_server, wanting, with_client, with_relay}
+use Rattle.loss_world.specs.Steps.{answered, asked, by_door, client_ends, client_ticks, client_wants, comes_down, fails, from_upstream, happens, hears, is_for, is_reached, lost, relay_ticks, second, sends, to_client, to_relay, to_server, wanting, with_client}
 use Rattle.loss_world.specs.Worlds.{Beginning, ClientHost, IsBeginning, RelayHost, World, Event, ToServer, ToRelay, ToClient, RelayTicks, ClientTicks, Wants, Ends, Fails, Passes, begun}
 use Rattle.loss_world.proofs.Granted.{GrantLaws, IsMade, TableGranted, change-granted, live-granted, table-kept, table-more}
 use Rattle.loss_world.proofs.HouseFacts.{All-got, IsBy, answers}
@@ -175,7 +174,7 @@ to-server : TableLaws → (w : World) (p : Option Packet) → TablesOf w → Val
 to-server laws w None h v by f = h
 to-server laws w (Some p) h v by f =
     let d = datagram_of p in
-    cond_both (is_reached p w.server) (answered w d (packet_entry w.house (second w) d)) w TablesOf
+    cond_both (is_for p w.server) (answered w d (packet_entry w.house (second w) d)) w TablesOf
     (λ _. answer laws w d (packet_entry w.house (second w) d) h v by (f p refl).0 refl) (λ _. h)
 
 -- ---- losses
@@ -254,22 +253,19 @@ fails-at w place cause (Some shard) at h by =
 
 -- ---- what doesn't touch the house
 
-sends-tables : (w : World) (p : Option Packet) → TablesOf w → TablesOf (sends w p)
-sends-tables w None h = h
-sends-tables w (Some p) h = h
+sends-tables : (w : World) (ps : List Packet) → TablesOf w → TablesOf (sends w ps)
+sends-tables w ps h = h
+
+by-door : (w : World) (k : ℕ) (r : RelayHost) (p : Packet) (door : Option ℕ) → TablesOf w → TablesOf (by_door w k r p door)
+by-door w k r p None h = h
+by-door w k r p (Some door) h = h
 
 to-relay : (w : World) (k : ℕ) (r : Option RelayHost) (p : Option Packet) → TablesOf w → TablesOf (to_relay w k r p)
 to-relay w k None p h = h
 to-relay w k (Some r) None h = h
 to-relay w k (Some r) (Some p) h =
-    let d = datagram_of p in
-    let down = on_server r.relay d w.clock in
-    let up = on_client r.relay d w.clock in
-    let heard : RelayHost = record { relay = down.relay; origin = origin_after (response_from r.relay.server d) p.origin r.origin } in
-    cond_both (is_reached p r.relay.own) (cond (same_address p.sender r.relay.server) (from_upstream w k r p) (from_client w k r p)) w TablesOf
-    (λ _. cond_both (same_address p.sender r.relay.server) (from_upstream w k r p) (from_client w k r p) TablesOf
-    (λ _. sends-tables (with_relay w k heard) (sent_down w r.relay p.origin down.out) h)
-    (λ _. sends-tables (with_relay w k (record r { relay = up.relay })) (sent_by w r up.out) h)) (λ _. h)
+    cond_both (comes_down p r.relay) (from_upstream w k r p) (by_door w k r p (position (is_for p) r.inner)) TablesOf
+    (λ _. h) (λ _. by-door w k r p (position (is_for p) r.inner) h)
 
 relay-ticks : (w : World) (k : ℕ) (r : Option RelayHost) → TablesOf w → TablesOf (relay_ticks w k r)
 relay-ticks w k None h = h
@@ -278,7 +274,8 @@ relay-ticks w k (Some r) h = h
 to-client : (w : World) (k word : ℕ) (c : Option ClientHost) (p : Option Packet) → TablesOf w → TablesOf (to_client w k word c p)
 to-client w k word None p h = h
 to-client w k word (Some c) None h = h
-to-client w k word (Some c) (Some p) h = cond_both (is_reached p c.client.own) (hears w k c p word) w TablesOf (λ _. h) (λ _. h)
+to-client w k word (Some c) (Some p) h =
+    cond_both (is_reached p c.client.own c.client.server) (hears w k c p word) w TablesOf (λ _. h) (λ _. h)
 
 client-ticks : (w : World) (k word : ℕ) (c : Option ClientHost) → TablesOf w → TablesOf (client_ticks w k word c)
 client-ticks w k word None h = h

@@ -1,15 +1,17 @@
 -- Each success in the bag, and so each lease that a client holds, is traced to an entry of the history.
-use Rattle.std.specs.Prelude.{Contains, bytes_eq, map, replicate, unwrap_or, slice_get}
+use Rattle.std.specs.Prelude.{Contains, bytes_eq, map, position, replicate, unwrap_or, slice_get}
 use Rattle.std.specs.List.{AllByRecursion}
-use Rattle.std.proofs.Common.{◌≡◌, ◌∙◌, ◌⊎◌, inl, inr, ℕ, zero, suc, ◌+◌, true, cond, List, length, [], ◌∷◌, ◌++◌, Option, Some, None, refl, ap, sym, subst}
-use Rattle.std.proofs.lemmas.Bool.{cond_both}
+use Rattle.std.proofs.Common.{◌≡◌, ◌∙◌, ◌⊎◌, inl, inr, ℕ, zero, suc, ◌+◌, ◌==◌, ◌&&◌, ◌||◌, Bool, true, false, List, length, [], ◌∷◌, ◌++◌, Option, Some, None, refl, ap, sym, subst}
+use Rattle.std.proofs.lemmas.Bool.{and_parts, cond_both}
 use Rattle.std.proofs.lemmas.Slice.Eq.{bytes_eq-Decides}
 use Rattle.pcp_base.proofs.Members.{All-IsIn, All-append, All-weaker, Contains-from_IsIn, IsIn, IsIn-from_Contains}
 use Rattle.pcp_base.specs.declared.addresses.Address.{Address}
 use Rattle.pcp_base.specs.declared.asks.Ask.{Ask}
 use Rattle.pcp_base.specs.declared.datagrams.Datagram.{Datagram}
 use Rattle.pcp_base.specs.declared.datagrams.Entry.{Entry}
+use Rattle.pcp_announce.specs.Doors.{all_hosts_v4}
 use Rattle.pcp_codec.specs.declared.requests.Common.{Common}
+use Rattle.pcp_codec.specs.Requests.{opcode_of}
 use Rattle.pcp_options.specs.Asking.{third_of}
 use Rattle.pcp_options.specs.ReadingLaws.{WrittenSuccessesAreRead}
 use Rattle.pcp_options.specs.ReadResponses.{response_of}
@@ -28,16 +30,17 @@ use Rattle.pcp_base.specs.Epoch.{epoch_of}
 use Rattle.pcp_base.specs.Tables.{same_address}
 use Rattle.proxy_core.specs.declared.outs.ProxyOut.{ProxyOut}
 use Rattle.proxy_core.specs.declared.outs.ProxyOut.TheVariants as Outs
-use Rattle.proxy_core.specs.Relays.{Relay, on_client, on_server, on_tick, response_from}
+use Rattle.proxy_core.specs.Relays.{on_client, on_server, on_tick, response_from}
 use Rattle.proxy_core.specs.Runs as Runs
 use Rattle.loss_world.specs.Disclosure.{IsGranted, IsRenumbered, LeasesAreGranted, rewritten}
-use Rattle.loss_world.specs.HouseLosses.{Cause, Loses, Restarts, Renumbers, house_after, is_loss, updates_by}
-use Rattle.loss_world.specs.Packets.{Origin, Packet, datagram_of}
-use Rattle.loss_world.specs.Steps.{answered, asked, client_ends, client_ticks, client_wants, fails, from_client, from_upstream, happens, hears, is_reached, lost, origin_after, relay_ticks, relayed, renumbered, run, sent_by, sent_down, with_relay, second, sends, told_now, to_client, to_relay, to_server, wanting, with_client}
+use Rattle.loss_world.specs.HouseLosses.{Cause, Loses, Restarts, Renumbers, epoch_to_all, house_after, is_loss, told_by, updates_by}
+use Rattle.loss_world.specs.Packets.{Origin, Packet, datagram_by, datagram_of}
+use Rattle.loss_world.specs.Steps.{answered, asked, by_door, client_ends, client_ticks, client_wants, comes_down, fails, from_client, from_upstream, happens, hears, is_for, is_for_all, is_reached, leaves_from, lost, origin_after, relay_ticks, relayed, renumbered, run, sent_by, sent_down, sent_inside, with_relay, second, sends, told_now, to_client, to_relay, to_server, wanting, with_client}
 use Rattle.loss_world.specs.Worlds.{Beginning, ClientHost, ClientTerms, IsEventValue, RelayHost, RelayTerms, Renumbering, World, Event, ToServer, ToRelay, ToClient, RelayTicks, ClientTicks, Wants, Ends, Fails, Passes, begun, client_begun, relay_begun}
+use Rattle.loss_world.proofs.Announcements.{all-grants, announced-grants}
 use Rattle.loss_world.proofs.Hearing.{begin-world}
 use Rattle.loss_world.proofs.Held.{AreTold, SlotHolds, WantHolds, end-holds, heard-holds, slot-at, tick-holds, want-holds}
-use Rattle.loss_world.proofs.HouseFacts.{All-got, All-set}
+use Rattle.loss_world.proofs.HouseFacts.{All-got, All-mapped, All-set}
 use Rattle.loss_world.proofs.CodeReads.{GrantsNothing}
 use Rattle.loss_world.proofs.RelayDown.{IsOurs, RelayLaws, nothing-told, ours-next, own-grants, server-told}
 use Rattle.loss_world.proofs.RelayFacts.{on-client}
@@ -168,7 +171,7 @@ answer b w d (Some e) h is =
 to-server : (b : Beginning) (w : World) (p : Option Packet) → Traces b w → Traces b (to_server w p)
 to-server b w None h = h
 to-server b w (Some p) h =
-    cond_both (is_reached p w.server) (answered w (datagram_of p) (packet_entry w.house (second w) (datagram_of p))) w (Traces b)
+    cond_both (is_for p w.server) (answered w (datagram_of p) (packet_entry w.house (second w) (datagram_of p))) w (Traces b)
     (λ _. answer b w (datagram_of p) (packet_entry w.house (second w) (datagram_of p)) h refl) (λ _. h)
 
 -- ---- relays
@@ -181,61 +184,83 @@ with-relay : (b : Beginning) (w : World) (k : ℕ) (r : RelayHost) → Traces b 
 with-relay b w k r h is =
     record { relays = All-set (IsOurHost b) w.relays k r h.relays is; bag = h.bag; clients = h.clients }
 
-sends-told : (b : Beginning) (w : World) (p : Option Packet) → Traces b w
-    → ((x : Packet) → p ≡ Some x → IsToldPacket b w.history w.renumberings x) → Traces b (sends w p)
-sends-told b w None h f = h
-sends-told b w (Some x) h f = record { relays = h.relays; bag = (f x refl, h.bag); clients = h.clients }
+-- ---- what comes to a host
 
-down-packet : (b : Beginning) (w : World) (relay : Relay) (origin : Option Origin) (out : Option Datagram)
+either : (x y z : Bool) → (x || (y && z)) ≡ true → (x ≡ true) ⊎ (y ≡ true)
+either true y z h = inl refl
+either false true z h = inr refl
+either false false z h = absurd cc
+
+-- what is for all grants nothing to anybody
+told-here : (b : Beginning) (history : List HouseEntry) (rs : List Renumbering) (p : Packet) (own server : Address)
+    → is_reached p own server ≡ true → IsToldPacket b history rs p → AreTold (IsTraced b history rs own) p.out.octets
+told-here b history rs p own server here told = by (either (is_for p own) (is_for_all p) (same_address p.sender server) here)
+  where
+    by : (is_for p own ≡ true) ⊎ (is_for_all p ≡ true) → AreTold (IsTraced b history rs own) p.out.octets
+    by (inl to) = subst (λ a. AreTold (IsTraced b history rs a) p.out.octets) (same-address p.out.peer own to) told
+    by (inr all) =
+        let parts = and_parts (is_for p all_hosts_v4) (opcode_of p.out.octets == 0) all in
+        nothing-told (IsTraced b history rs own) p.out.octets (all-grants p.out.octets parts.1)
+
+sends-told : (b : Beginning) (w : World) (ps : List Packet) → Traces b w
+    → AllByRecursion (IsToldPacket b w.history w.renumberings) ps → Traces b (sends w ps)
+sends-told b w ps h are = record {
+  relays = h.relays;
+  bag = All-append (IsToldPacket b w.history w.renumberings) ps w.bag are h.bag;
+  clients = h.clients;
+}
+
+inside-told : (b : Beginning) (w : World) (r : RelayHost) (origin : Option Origin) (out : Datagram)
+    → AreTold (IsTraced b w.history w.renumberings out.peer) out.octets
+    → AllByRecursion (IsToldPacket b w.history w.renumberings) (sent_inside w r origin out)
+inside-told b w r origin out told =
+    All-mapped (IsToldPacket b w.history w.renumberings) (relayed w origin out) (λ a. told) (leaves_from r.inner out)
+
+down-packet : (b : Beginning) (w : World) (r : RelayHost) (origin : Option Origin) (out : Option Datagram)
     → ((sent : Datagram) → out ≡ Some sent → AreTold (IsTraced b w.history w.renumberings sent.peer) sent.octets)
-    → (x : Packet) → sent_down w relay origin out ≡ Some x → IsToldPacket b w.history w.renumberings x
-down-packet b w relay origin None f x e = absurd cc
-down-packet b w relay origin (Some sent) f x e =
-    let same : relayed w relay origin sent ≡ x = cc in
-    subst (IsToldPacket b w.history w.renumberings) same (f sent refl)
+    → AllByRecursion (IsToldPacket b w.history w.renumberings) (sent_down w r origin out)
+down-packet b w r origin None f = tt
+down-packet b w r origin (Some sent) f = inside-told b w r origin sent (f sent refl)
 
 from-upstream : RelayLaws → (b : Beginning) (w : World) (k : ℕ) (r : RelayHost) (p : Packet) → Traces b w
     → IsOurHost b r → IsToldPacket b w.history w.renumberings p → AreOctets p.out.octets
-    → is_reached p r.relay.own ≡ true → Traces b (from_upstream w k r p)
+    → is_reached p r.relay.own r.relay.server ≡ true → Traces b (from_upstream w k r p)
 from-upstream laws b w k r p h is told are here =
     let d = datagram_of p in
     let step = on_server r.relay d w.clock in
-    let to = same-address p.out.peer r.relay.own here in
-    let came : AreTold (IsTraced b w.history w.renumberings r.relay.own) p.out.octets =
-    subst (λ a. AreTold (IsTraced b w.history w.renumberings a) p.out.octets) to told in
-    let host : RelayHost = record {
+    let came = told-here b w.history w.renumberings p r.relay.own r.relay.server here told in
+    let host : RelayHost = record r {
       relay = step.relay;
       origin = origin_after (response_from r.relay.server d) p.origin r.origin;
     } in
-    sends-told b (with_relay w k host) (sent_down w r.relay p.origin step.out)
+    sends-told b (with_relay w k host) (sent_down w r p.origin step.out)
     (with-relay b w k host h (ours-next laws.waits b r.relay (Runs.Server d w.clock) is))
-    (down-packet b w r.relay p.origin step.out
+    (down-packet b w r p.origin step.out
     (λ sent e. server-told laws b w.history w.renumberings r.relay is d are came sent w.clock e))
 
 up-packet : (b : Beginning) (w : World) (r : RelayHost) (out : ProxyOut)
     → ((sent : Datagram) → out ≡ Outs.Reply sent → GrantsNothing sent.octets)
     → ((octets : List ℕ) → out ≡ Outs.Up octets → response_of octets ≡ None)
-    → (x : Packet) → sent_by w r out ≡ Some x → IsToldPacket b w.history w.renumberings x
-up-packet b w r Outs.Nothing f g x e = absurd cc
-up-packet b w r (Outs.Reply sent) f g x e =
-    let same : relayed w r.relay r.origin sent ≡ x = cc in
-    subst (IsToldPacket b w.history w.renumberings) same
-    (nothing-told (IsTraced b w.history w.renumberings sent.peer) sent.octets (f sent refl))
-up-packet b w r (Outs.Up octets) f g x e =
-    let none = g octets refl in
-    let out : Datagram = record { peer = r.relay.server; port = 5351; door = 0; octets = octets } in
-    let same : relayed w r.relay None out ≡ x = cc in
-    subst (IsToldPacket b w.history w.renumberings) same (λ y c read success lasts has. absurd cc)
+    → AllByRecursion (IsToldPacket b w.history w.renumberings) (sent_by w r out)
+up-packet b w r Outs.Nothing f g = tt
+up-packet b w r (Outs.Reply sent) f g =
+    inside-told b w r r.origin sent (nothing-told (IsTraced b w.history w.renumberings sent.peer) sent.octets (f sent refl))
+up-packet b w r (Outs.Up octets) f g = ((λ y c read success lasts has. let none = g octets refl in absurd cc), tt)
 
-from-client : RelayLaws → (b : Beginning) (w : World) (k : ℕ) (r : RelayHost) (p : Packet) → Traces b w
-    → IsOurHost b r → Traces b (from_client w k r p)
-from-client laws b w k r p h is =
-    let d = datagram_of p in
+from-client : RelayLaws → (b : Beginning) (w : World) (k : ℕ) (r : RelayHost) (p : Packet) (door : ℕ) → Traces b w
+    → IsOurHost b r → Traces b (from_client w k r p door)
+from-client laws b w k r p door h is =
+    let d = datagram_by door p in
     let step = on_client r.relay d w.clock in
     let host : RelayHost = record r { relay = step.relay } in
     sends-told b (with_relay w k host) (sent_by w r step.out)
     (with-relay b w k host h (ours-next laws.waits b r.relay (Runs.Client d w.clock) is))
     (up-packet b w r step.out (λ sent e. own-grants laws.errors r.relay d w.clock sent e) (on-client r.relay d w.clock).up)
+
+by-door : RelayLaws → (b : Beginning) (w : World) (k : ℕ) (r : RelayHost) (p : Packet) (door : Option ℕ) → Traces b w
+    → IsOurHost b r → Traces b (by_door w k r p door)
+by-door laws b w k r p None h is = h
+by-door laws b w k r p (Some door) h is = from-client laws b w k r p door h is
 
 to-relay : RelayLaws → (b : Beginning) (w : World) (k : ℕ) (r : Option RelayHost) (p : Option Packet)
     → Traces b w → ((x : RelayHost) → r ≡ Some x → IsOurHost b x)
@@ -246,10 +271,10 @@ to-relay laws b w k None p h f g o = h
 to-relay laws b w k (Some r) None h f g o = h
 to-relay laws b w k (Some r) (Some p) h f g o =
     let is = f r refl in
-    cond_both (is_reached p r.relay.own) (cond (same_address p.sender r.relay.server) (from_upstream w k r p) (from_client w k r p)) w (Traces b)
-    (λ here. cond_both (same_address p.sender r.relay.server) (from_upstream w k r p) (from_client w k r p) (Traces b)
-    (λ _. from-upstream laws b w k r p h is (g p refl) (o p refl).0.octets here)
-    (λ _. from-client laws b w k r p h is)) (λ _. h)
+    cond_both (comes_down p r.relay) (from_upstream w k r p) (by_door w k r p (position (is_for p) r.inner)) (Traces b)
+    (λ down. from-upstream laws b w k r p h is (g p refl) (o p refl).0.octets
+    (and_parts (same_address p.sender r.relay.server) (is_reached p r.relay.own r.relay.server) down).1)
+    (λ _. by-door laws b w k r p (position (is_for p) r.inner) h is)
 
 relay-ticks : RelayLaws → (b : Beginning) (w : World) (k : ℕ) (r : Option RelayHost) → Traces b w
     → ((x : RelayHost) → r ≡ Some x → IsOurHost b x) → Traces b (relay_ticks w k r)
@@ -273,15 +298,15 @@ to-client b w k word (Some c) None h f g = h
 to-client b w k word (Some c) (Some p) h f g =
     let T = IsTraced b w.history w.renumberings in
     let wants = (after_heard c.client (datagram_of p) w.clock word).wants in
-    cond_both (is_reached p c.client.own) (hears w k c p word) w (Traces b)
+    cond_both (is_reached p c.client.own c.client.server) (hears w k c p word) w (Traces b)
     (λ is. with-host b w k _ h
     (subst (λ a. AllByRecursion (SlotHolds (T a)) wants) (sym (own-same c.client (counted c.client w.clock) word (meaning_of c.client (datagram_of p))))
     (heard-holds (T c.client.own) c.client (datagram_of p) w.clock word
-    (subst (λ a. AreTold (T a) p.out.octets) (same-address p.out.peer c.client.own is) (g p refl)) (f c refl))))
+    (told-here b w.history w.renumberings p c.client.own c.client.server is (g p refl)) (f c refl))))
     (λ _. h)
 
 asks : (b : Beginning) (w : World) (c : ClientHost) (octets : Option (List ℕ)) → ((text : List ℕ) → octets ≡ Some text → response_of text ≡ None) → Traces b w → Traces b (sends w (asked w c octets))
-asks b w c None none h = h
+asks b w c None none h = record { relays = h.relays; bag = h.bag; clients = h.clients }
 asks b w c (Some octets) none h = record { relays = h.relays; bag = ((λ r x read success lasts has. let no = none octets refl in absurd cc), h.bag); clients = h.clients }
 
 client-ticks : (b : Beginning) (w : World) (k word : ℕ) (c : Option ClientHost) → Traces b w → ((x : ClientHost) → c ≡ Some x → HostHolds b w.history w.renumberings x) → Traces b (client_ticks w k word c)
@@ -341,13 +366,15 @@ loss law b w place shard cause after at v t h =
     let front = loss_entries w place shard cause in
     let more = front ++ w.history in
     let rs = renumbered w place cause in
-    let outs = updates_by shard.state m base cause in
+    let outs = told_by shard.state m base cause in
+    let all = epoch_to_all m base in
+    let nothing = nothing-told (IsTraced b more rs all.peer) all.octets (announced-grants m base) in
     let n : ℕ = length w.losses + 1 in
     let grows : Grows w.history more w.renumberings rs = record { entries = behind-all front w.history; renumberings = renumbered-more w place cause } in
     record {
       relays = h.relays;
       bag = All-append (IsToldPacket b more rs) (map (told_now w n (epoch_of m base)) outs) w.bag
-          (all-told b more rs w n (epoch_of m base) outs (loss-told law b w place shard cause base at v t))
+          (all-told b more rs w n (epoch_of m base) outs (nothing, loss-told law b w place shard cause base at v t))
           (All-weaker (IsToldPacket b w.history w.renumberings) (IsToldPacket b more rs) (packet-more b w.history more w.renumberings rs grows) w.bag h.bag);
       clients = All-weaker (HostHolds b w.history w.renumberings) (HostHolds b more rs) (host-more b w.history more w.renumberings rs grows) w.clients h.clients;
     }

@@ -1,9 +1,9 @@
 -- Every packet is a message: of octets, and of version 2.
 use Rattle.std.specs.List.{AllByRecursion}
-use Rattle.std.specs.Prelude.{⊤, map, nat_le, replicate, slice_get, slice_set}
+use Rattle.std.specs.Prelude.{⊤, map, nat_le, option_to_list, position, replicate, slice_get, slice_set}
 use Rattle.std.proofs.Common.{◌≡◌, ◌∙◌, ℕ, zero, suc, ◌+◌, ◌==◌, ◌&&◌, Bool, true, false, cond, List, [], ◌∷◌, length, Option, Some, None, refl, ap, sym, subst}
 use Rattle.std.proofs.lemmas.Bool.{cond_both}
-use Rattle.pcp_base.proofs.Members.{All-append}
+use Rattle.pcp_base.proofs.Members.{All-append, All-weaker}
 use Rattle.pcp_base.specs.declared.addresses.Address.{Address}
 use Rattle.pcp_base.specs.declared.asks.Answer.{Answer}
 use Rattle.pcp_base.specs.declared.asks.Answer.TheVariants.{Refused, Announced, Gone, Mapped, Peered}
@@ -18,6 +18,7 @@ use Rattle.pcp_base.specs.declared.records.Change.TheVariants as Changes
 use Rattle.pcp_base.specs.Epoch.{epoch_of}
 use Rattle.pcp_base.specs.States.{State}
 use Rattle.pcp_base.specs.Tables.{same_address}
+use Rattle.pcp_announce.specs.Doors.{all_hosts_v4}
 use Rattle.pcp_codec.specs.declared.requests.Body.{Body}
 use Rattle.pcp_codec.specs.declared.requests.Body.TheVariants.{Announce, Map, Peer}
 use Rattle.pcp_codec.specs.Fields.{octet}
@@ -48,13 +49,14 @@ use Rattle.client_core.specs.Meanings.{want_at}
 use Rattle.client_core.specs.Wants.{WantView, next_ask}
 use Rattle.proxy_core.specs.declared.outs.ProxyOut.{ProxyOut}
 use Rattle.proxy_core.specs.declared.outs.ProxyOut.TheVariants as Outs
-use Rattle.proxy_core.specs.Relays.{Relay, on_client, on_server, on_tick, response_from}
-use Rattle.loss_world.specs.HouseLosses.{Cause, Loses, Restarts, Renumbers, at_address, control_entry, controlled, house_after, is_loss, readdressed, shards_at, updates_by}
-use Rattle.loss_world.specs.Packets.{Origin, Packet, datagram_of}
-use Rattle.loss_world.specs.Steps.{answered, asked, client_ends, client_ticks, client_wants, fails, from_client, from_upstream, happens, hears, is_reached, lost, origin_after, relay_ticks, relayed, second, sends, sent_by, sent_down, to_client, to_relay, to_server, told_now, wanting, with_client, with_relay}
-use Rattle.loss_world.specs.Worlds.{AreHosts, Beginning, ClientHost, ClientTerms, IsAddressValue, IsAskValue, IsEventValue, IsThirdValue, RelayHost, RelayTerms, World, Event, ToServer, ToRelay, ToClient, RelayTicks, ClientTicks, Wants, Ends, Fails, Passes, begun, client_begun, relay_begun}
+use Rattle.proxy_core.specs.Relays.{on_client, on_server, on_tick, response_from}
+use Rattle.loss_world.specs.HouseLosses.{Cause, Loses, Restarts, Renumbers, at_address, control_entry, controlled, house_after, is_loss, readdressed, shards_at, told_by, updates_by}
+use Rattle.loss_world.specs.Packets.{Origin, Packet, datagram_by, datagram_of}
+use Rattle.loss_world.specs.Steps.{answered, asked, by_door, client_ends, client_ticks, client_wants, comes_down, fails, from_client, from_upstream, happens, hears, is_for, is_reached, leaves_from, lost, origin_after, relay_ticks, relayed, second, sends, sent_by, sent_down, sent_inside, to_client, to_relay, to_server, told_now, wanting, with_client, with_relay}
+use Rattle.loss_world.specs.Worlds.{AreHosts, Beginning, ClientHost, ClientTerms, IsAddressValue, IsAskValue, IsEventValue, IsRelayValue, IsThirdValue, RelayHost, RelayTerms, World, Event, ToServer, ToRelay, ToClient, RelayTicks, ClientTicks, Wants, Ends, Fails, Passes, begun, client_begun, relay_begun}
+use Rattle.loss_world.proofs.Announcements.{announced-message}
 use Rattle.loss_world.proofs.ClientValues.{SlotIsValue, due-value, end-value, heard-value, tick-value, want-value}
-use Rattle.loss_world.proofs.HouseFacts.{All-got, All-set}
+use Rattle.loss_world.proofs.HouseFacts.{All-got, All-map, All-set}
 use Rattle.loss_world.proofs.RelayValues as Relays
 use Rattle.loss_world.proofs.RelayValues.{IsMessage, OctetLaws, OutIsMessage, RelayIsValue, SentIsMessage, client-message, refusal-message, server-message, success-message}
 
@@ -64,8 +66,11 @@ PacketIsMessage p = IsMessage p.out.octets × AreOctets p.sender.0
 abbrev pub OutIsText : Datagram → Type 0
 OutIsText out = IsMessage out.octets
 
+abbrev IsSender : Address → Type 0
+IsSender a = AreOctets a.0
+
 abbrev HostIsRelay : RelayHost → Type 0
-HostIsRelay h = RelayIsValue h.relay
+HostIsRelay h = RelayIsValue h.relay × AllByRecursion IsSender h.inner
 
 abbrev HostIsClient : ClientHost → Type 0
 HostIsClient h = AreOctets h.client.own.0 × AllByRecursion SlotIsValue h.client.wants
@@ -234,7 +239,7 @@ to-server : ValueLaws → (w : World) (p : Option Packet) → Values w → ((x :
 to-server laws w None h f = h
 to-server laws w (Some p) h f =
     let d = datagram_of p in
-    cond_both (is_reached p w.server) (answered w d (packet_entry w.house (second w) d)) w Values
+    cond_both (is_for p w.server) (answered w d (packet_entry w.house (second w) d)) w Values
     (λ _. answer laws w d (packet_entry w.house (second w) d) h (f p refl).0 refl) (λ _. h)
 
 -- ---- relays
@@ -248,51 +253,69 @@ with-relay w k r h is = record {
   bag = h.bag;
 }
 
-sends-value : (w : World) (p : Option Packet) → Values w → ((x : Packet) → p ≡ Some x → PacketIsMessage x) → Values (sends w p)
-sends-value w None h f = h
-sends-value w (Some x) h f =
-    record { server = h.server; shards = h.shards; relays = h.relays; clients = h.clients; bag = (f x refl, h.bag) }
+sends-value : (w : World) (ps : List Packet) → Values w → AllByRecursion PacketIsMessage ps → Values (sends w ps)
+sends-value w ps h are = record {
+  server = h.server;
+  shards = h.shards;
+  relays = h.relays;
+  clients = h.clients;
+  bag = All-append PacketIsMessage ps w.bag are h.bag;
+}
 
-down-value : (w : World) (relay : Relay) (origin : Option Origin) (out : Option Datagram) → AreOctets relay.own.0
-    → SentIsMessage out → (x : Packet) → sent_down w relay origin out ≡ Some x → PacketIsMessage x
-down-value w relay origin None own is x e = absurd cc
-down-value w relay origin (Some sent) own is x e =
-    let same : relayed w relay origin sent ≡ x = cc in
-    subst PacketIsMessage same (is, own)
+one-sender : (inner : List Address) (door : ℕ) (a : Option Address) → AllByRecursion IsSender inner
+    → slice_get inner door ≡ a → AllByRecursion IsSender (option_to_list a)
+one-sender inner door None h there = tt
+one-sender inner door (Some a) h there = (All-got IsSender inner door a h there, tt)
 
-up-value : (w : World) (r : RelayHost) (out : ProxyOut) → AreOctets r.relay.own.0 → OutIsMessage out
-    → (x : Packet) → sent_by w r out ≡ Some x → PacketIsMessage x
-up-value w r Outs.Nothing own is x e = absurd cc
-up-value w r (Outs.Reply sent) own is x e =
-    let same : relayed w r.relay r.origin sent ≡ x = cc in
-    subst PacketIsMessage same (is, own)
-up-value w r (Outs.Up octets) own is x e =
-    let out : Datagram = record { peer = r.relay.server; port = 5351; door = 0; octets = octets } in
-    let same : relayed w r.relay None out ≡ x = cc in
-    subst PacketIsMessage same (is, own)
+senders : (inner : List Address) (out : Datagram) → AllByRecursion IsSender inner
+    → AllByRecursion IsSender (leaves_from inner out)
+senders inner out h =
+    cond_both (same_address out.peer all_hosts_v4) inner (option_to_list (slice_get inner out.door)) (AllByRecursion IsSender)
+    (λ _. h) (λ _. one-sender inner out.door (slice_get inner out.door) h refl)
+
+inside-value : (w : World) (r : RelayHost) (origin : Option Origin) (out : Datagram) → AllByRecursion IsSender r.inner
+    → IsMessage out.octets → AllByRecursion PacketIsMessage (sent_inside w r origin out)
+inside-value w r origin out h is =
+    All-map IsSender PacketIsMessage (relayed w origin out) (λ a own. (is, own)) (leaves_from r.inner out) (senders r.inner out h)
+
+down-value : (w : World) (r : RelayHost) (origin : Option Origin) (out : Option Datagram) → AllByRecursion IsSender r.inner
+    → SentIsMessage out → AllByRecursion PacketIsMessage (sent_down w r origin out)
+down-value w r origin None h is = tt
+down-value w r origin (Some sent) h is = inside-value w r origin sent h is
+
+up-value : (w : World) (r : RelayHost) (out : ProxyOut) → HostIsRelay r → OutIsMessage out
+    → AllByRecursion PacketIsMessage (sent_by w r out)
+up-value w r Outs.Nothing h is = tt
+up-value w r (Outs.Reply sent) h is = inside-value w r r.origin sent h.1 is
+up-value w r (Outs.Up octets) h is = ((is, h.0.own), tt)
 
 from-upstream : ValueLaws → (w : World) (k : ℕ) (r : RelayHost) (p : Packet) → Values w → HostIsRelay r
     → PacketIsMessage p → Values (from_upstream w k r p)
 from-upstream laws w k r p h is m =
     let d = datagram_of p in
     let step = on_server r.relay d w.clock in
-    let done = server-message laws.octets r.relay d w.clock is m.0 in
-    let host : RelayHost = record {
+    let done = server-message laws.octets r.relay d w.clock is.0 m.0 in
+    let host : RelayHost = record r {
       relay = step.relay;
       origin = origin_after (response_from r.relay.server d) p.origin r.origin;
     } in
-    sends-value (with_relay w k host) (sent_down w r.relay p.origin step.out) (with-relay w k host h done.0)
-    (down-value w r.relay p.origin step.out is.own done.1)
+    sends-value (with_relay w k host) (sent_down w r p.origin step.out) (with-relay w k host h (done.0, is.1))
+    (down-value w r p.origin step.out is.1 done.1)
 
-from-client : ValueLaws → (w : World) (k : ℕ) (r : RelayHost) (p : Packet) → Values w → HostIsRelay r
-    → PacketIsMessage p → Values (from_client w k r p)
-from-client laws w k r p h is m =
-    let d = datagram_of p in
+from-client : ValueLaws → (w : World) (k : ℕ) (r : RelayHost) (p : Packet) (door : ℕ) → Values w → HostIsRelay r
+    → PacketIsMessage p → Values (from_client w k r p door)
+from-client laws w k r p door h is m =
+    let d = datagram_by door p in
     let step = on_client r.relay d w.clock in
-    let done = client-message laws.octets r.relay d w.clock is m.1 m.0.octets in
+    let done = client-message laws.octets r.relay d w.clock is.0 m.1 m.0.octets in
     let host : RelayHost = record r { relay = step.relay } in
-    sends-value (with_relay w k host) (sent_by w r step.out) (with-relay w k host h done.0)
-    (up-value w r step.out is.own done.1)
+    sends-value (with_relay w k host) (sent_by w r step.out) (with-relay w k host h (done.0, is.1))
+    (up-value w r step.out is done.1)
+
+by-door : ValueLaws → (w : World) (k : ℕ) (r : RelayHost) (p : Packet) (door : Option ℕ) → Values w → HostIsRelay r
+    → PacketIsMessage p → Values (by_door w k r p door)
+by-door laws w k r p None h is m = h
+by-door laws w k r p (Some door) h is m = from-client laws w k r p door h is m
 
 to-relay : ValueLaws → (w : World) (k : ℕ) (r : Option RelayHost) (p : Option Packet) → Values w
     → ((x : RelayHost) → r ≡ Some x → HostIsRelay x) → ((x : Packet) → p ≡ Some x → PacketIsMessage x)
@@ -300,15 +323,16 @@ to-relay : ValueLaws → (w : World) (k : ℕ) (r : Option RelayHost) (p : Optio
 to-relay laws w k None p h f g = h
 to-relay laws w k (Some r) None h f g = h
 to-relay laws w k (Some r) (Some p) h f g =
-    cond_both (is_reached p r.relay.own) (cond (same_address p.sender r.relay.server) (from_upstream w k r p) (from_client w k r p)) w Values
-    (λ _. cond_both (same_address p.sender r.relay.server) (from_upstream w k r p) (from_client w k r p) Values
-    (λ _. from-upstream laws w k r p h (f r refl) (g p refl)) (λ _. from-client laws w k r p h (f r refl) (g p refl))) (λ _. h)
+    cond_both (comes_down p r.relay) (from_upstream w k r p) (by_door w k r p (position (is_for p) r.inner)) Values
+    (λ _. from-upstream laws w k r p h (f r refl) (g p refl))
+    (λ _. by-door laws w k r p (position (is_for p) r.inner) h (f r refl) (g p refl))
 
 relay-ticks : (w : World) (k : ℕ) (r : Option RelayHost) → Values w → ((x : RelayHost) → r ≡ Some x → HostIsRelay x)
     → Values (relay_ticks w k r)
 relay-ticks w k None h f = h
 relay-ticks w k (Some r) h f =
-    with-relay w k (record r { relay = (on_tick r.relay w.clock).relay }) h (Relays.tick-value r.relay w.clock (f r refl))
+    let is = f r refl in
+    with-relay w k (record r { relay = (on_tick r.relay w.clock).relay }) h (Relays.tick-value r.relay w.clock is.0, is.1)
 
 -- ---- clients
 
@@ -336,7 +360,7 @@ to-client laws w k word (Some c) None h f g = h
 to-client laws w k word (Some c) (Some p) h f g =
     let d = datagram_of p in
     let is = f c refl in
-    cond_both (is_reached p c.client.own) (hears w k c p word) w Values
+    cond_both (is_reached p c.client.own c.client.server) (hears w k c p word) w Values
     (λ _. with-host w k _ h (
       subst (λ (a : Address). AreOctets a.0) (sym (own-same c.client d w.clock word)) is.0,
       heard-value laws.octets.read c.client d w.clock word (g p refl).0.octets is.1,
@@ -354,18 +378,9 @@ due-version c None octets e = absurd cc
 due-version c (Some id) octets e = version-of c.own (want_at c.wants id) octets e
 
 asked-packet : (w : World) (c : ClientHost) (octets : Option (List ℕ)) → AreOctets c.client.own.0
-    → ((text : List ℕ) → octets ≡ Some text → IsMessage text) → (x : Packet) → asked w c octets ≡ Some x → PacketIsMessage x
-asked-packet w c None own f x e = absurd cc
-asked-packet w c (Some octets) own f x e =
-    let sent : Packet = record {
-      sender = c.client.own;
-      port = c.port;
-      out = record { peer = c.client.server; port = 5351; door = 0; octets = octets };
-      sent = w.clock;
-      origin = None;
-    } in
-    let same : sent ≡ x = cc in
-    subst PacketIsMessage same (f octets refl, own)
+    → ((text : List ℕ) → octets ≡ Some text → IsMessage text) → AllByRecursion PacketIsMessage (asked w c octets)
+asked-packet w c None own f = tt
+asked-packet w c (Some octets) own f = ((f octets refl, own), tt)
 
 client-ticks : ValueLaws → (w : World) (k word : ℕ) (c : Option ClientHost) → Values w
     → ((x : ClientHost) → c ≡ Some x → HostIsClient x) → Values (client_ticks w k word c)
@@ -414,9 +429,9 @@ all-told : (w : World) (n epoch : ℕ) (outs : List Datagram) → AreOctets w.se
 all-told w n epoch [] s h = tt
 all-told w n epoch (out ∷ outs) s h = ((h.0, s), all-told w n epoch outs s h.1)
 
-loss : (w : World) (place : ℕ) (shard : PlainShard) (cause : Cause) (after : PlainHouse) → Values w
+loss : ValueLaws → (w : World) (place : ℕ) (shard : PlainShard) (cause : Cause) (after : PlainHouse) → Values w
     → AllByRecursion ShardIsValue after.shards → UpdatesAreTexts w cause shard → Values (lost w place shard cause after)
-loss w place shard cause after h s u =
+loss laws w place shard cause after h s u =
     let m = raised (second w) shard in
     let base = greatest_base after in
     record {
@@ -424,17 +439,17 @@ loss w place shard cause after h s u =
       shards = s;
       relays = h.relays;
       clients = h.clients;
-      bag = All-append PacketIsMessage (map (told_now w (length w.losses + 1) (epoch_of m base)) (updates_by shard.state m base cause)) w.bag
-          (all-told w (length w.losses + 1) (epoch_of m base) (updates_by shard.state m base cause) h.server (u base)) h.bag;
+      bag = All-append PacketIsMessage (map (told_now w (length w.losses + 1) (epoch_of m base)) (told_by shard.state m base cause)) w.bag
+          (all-told w (length w.losses + 1) (epoch_of m base) (told_by shard.state m base cause) h.server (announced-message laws.octets m base, u base)) h.bag;
     }
 
-fails-at : (w : World) (place : ℕ) (cause : Cause) (shard : Option PlainShard) → Values w → IsEventValue (Fails place cause)
+fails-at : ValueLaws → (w : World) (place : ℕ) (cause : Cause) (shard : Option PlainShard) → Values w → IsEventValue (Fails place cause)
     → ((x : PlainShard) → shard ≡ Some x → UpdatesAreTexts w cause x) → Values (fails w place cause shard)
-fails-at w place cause None h v u = h
-fails-at w place cause (Some shard) h v u =
+fails-at laws w place cause None h v u = h
+fails-at laws w place cause (Some shard) h v u =
     let after = house_after w.house place shard (raised (second w) shard) cause in
     cond_both (is_loss shard cause) (lost w place shard cause after) w Values
-    (λ _. loss w place shard cause after h (loss-value w.house place shard (raised (second w) shard) cause v h.shards) (u shard refl)) (λ _. h)
+    (λ _. loss laws w place shard cause after h (loss-value w.house place shard (raised (second w) shard) cause v h.shards) (u shard refl)) (λ _. h)
 
 -- ---- all
 
@@ -455,7 +470,7 @@ next-values laws w (Wants k third ask) v u h =
     client-wants w k (slice_get w.clients k) third ask h (λ x there. All-got HostIsClient w.clients k x h.clients there) v.0 v.1
 next-values laws w (Ends k id) v u h =
     client-ends w k id (slice_get w.clients k) h (λ x there. All-got HostIsClient w.clients k x h.clients there)
-next-values laws w (Fails place cause) v u h = fails-at w place cause (slice_get w.house.shards place) h v u
+next-values laws w (Fails place cause) v u h = fails-at laws w place cause (slice_get w.house.shards place) h v u
 next-values laws w (Passes ms) v u h =
     record { server = h.server; shards = h.shards; relays = h.relays; clients = h.clients; bag = h.bag }
 
@@ -467,10 +482,12 @@ shards-begin [] ss h = tt
 shards-begin (x ∷ xs) [] h = tt
 shards-begin (x ∷ xs) (s ∷ ss) h = (h.0, shards-begin xs ss h.1)
 
-relays-begin : (ts : List RelayTerms) → AllByRecursion (λ t. IsAddressValue t.own × IsAddressValue t.server × AreOctets t.key) ts
-    → AllByRecursion HostIsRelay (map relay_begun ts)
+relays-begin : (ts : List RelayTerms) → AllByRecursion IsRelayValue ts → AllByRecursion HostIsRelay (map relay_begun ts)
 relays-begin [] h = tt
-relays-begin (t ∷ ts) h = (record { own = h.0.0.1; waits = tt }, relays-begin ts h.1)
+relays-begin (t ∷ ts) h = (
+  (record { own = h.0.own.1; waits = tt }, All-weaker IsAddressValue IsSender (λ a is. is.1) t.inner h.0.inner),
+  relays-begin ts h.1,
+)
 
 no-values : (n : ℕ) → AllByRecursion SlotIsValue (replicate n None)
 no-values zero = tt

@@ -1,5 +1,5 @@
 -- Each event keeps what holds of a world.
-use Rattle.std.specs.Prelude.{if◌then◌else◌, max, map, slice_get}
+use Rattle.std.specs.Prelude.{max, map, position, slice_get}
 use Rattle.std.specs.List.{AllByRecursion}
 use Rattle.std.proofs.Common.{◌≡◌, ℕ, ◌+◌, ◌-◌, ◌<◌, ◌≤◌, Bool, true, false, cond, List, [], ◌∷◌, length, Option, Some, None, refl, sym, subst, arith}
 use Rattle.std.proofs.lemmas.Bool.{cond_both}
@@ -24,14 +24,14 @@ use Rattle.client_core.specs.Clients.{ClientView, after_end, after_heard, after_
 use Rattle.proxy_core.specs.declared.outs.ProxyOut.{ProxyOut}
 use Rattle.proxy_core.specs.declared.outs.ProxyOut.TheVariants as Outs
 use Rattle.proxy_core.specs.declared.epochs.Heard.{Heard}
-use Rattle.pcp_base.specs.Tables.{same_address}
 use Rattle.proxy_core.specs.Relays.{Relay, Step, at, on_client, on_server, on_tick, response_from, told_epoch}
-use Rattle.loss_world.specs.HouseLosses.{Cause, Loses, Restarts, Renumbers, house_after, is_loss, updates_by, update_to}
-use Rattle.loss_world.specs.Packets.{Loss, Origin, Packet, datagram_of, seconds}
-use Rattle.loss_world.specs.Steps.{answered, asked, client_ends, client_ticks, client_wants, fails, from_client, from_upstream, happens, hears, is_reached, lost, origin_after, origin_heard, relay_ticks, relayed, reply_to, second, sends, sent_by, sent_down, to_client, to_relay, to_server, told_now, wanting, with_client, with_relay}
+use Rattle.loss_world.specs.HouseLosses.{Cause, Loses, Restarts, Renumbers, house_after, is_loss, told_by, updates_by, update_to}
+use Rattle.loss_world.specs.Packets.{Loss, Origin, Packet, datagram_by, datagram_of, seconds}
+use Rattle.loss_world.specs.Steps.{answered, asked, by_door, client_ends, client_ticks, client_wants, comes_down, fails, from_client, from_upstream, happens, hears, is_for, is_reached, leaves_from, lost, origin_after, origin_heard, relay_ticks, relayed, reply_to, second, sends, sent_by, sent_down, to_client, to_relay, to_server, told_now, wanting, with_client, with_relay}
 use Rattle.loss_world.specs.Worlds.{ClientHost, RelayHost, World, Event, ToServer, ToRelay, ToClient, RelayTicks, ClientTicks, Wants, Ends, Fails, Passes}
+use Rattle.loss_world.proofs.Announcements.{announced-under}
 use Rattle.loss_world.proofs.EpochReads.{IsUnder, TellsAtMost, map-update-under, peer-update-under, told-most}
-use Rattle.loss_world.proofs.HouseFacts.{All-got, All-set, IsBy, IsLost, answers, loses-house}
+use Rattle.loss_world.proofs.HouseFacts.{All-got, All-map, All-mapped, All-set, IsBy, IsLost, answers, loses-house}
 use Rattle.loss_world.proofs.Invariants.{HasOrigin, HeardBy, HostHeard, IsApart, IsBound, IsClientHost, IsPacket, IsRelay, TellsBy, client-later, loses, packet-later, passes, relay-later}
 use Rattle.client_core.specs.declared.meanings.Notice.{Notice}
 use Rattle.loss_world.proofs.Saying.{IsSaid, request-none, said}
@@ -52,10 +52,14 @@ pub record IsWorld (w : World) : Type 0 where
 
 -- ---- packets
 
-sends-more : (w : World) (p : Option Packet) → IsWorld w → ((x : Packet) → p ≡ Some x → IsPacket w.clock w.losses x) → IsWorld (sends w p)
-sends-more w None h f = h
-sends-more w (Some x) h f =
-    record { house = h.house; losses = h.losses; relays = h.relays; clients = h.clients; bag = (f x refl, h.bag) }
+sends-more : (w : World) (ps : List Packet) → IsWorld w → AllByRecursion (IsPacket w.clock w.losses) ps → IsWorld (sends w ps)
+sends-more w ps h are = record {
+  house = h.house;
+  losses = h.losses;
+  relays = h.relays;
+  clients = h.clients;
+  bag = All-append (IsPacket w.clock w.losses) ps w.bag are h.bag;
+}
 
 with-relay : (w : World) (k : ℕ) (r : RelayHost) → IsWorld w → IsRelay w.clock w.losses r → IsWorld (with_relay w k r)
 with-relay w k r h is = record {
@@ -97,8 +101,8 @@ told w losses base epoch out most past under = record {
 
 -- ---- relays
 
-own-told : (w : World) (r : RelayHost) (sent : Datagram) → IsRelay w.clock w.losses r → IsOwn (at r.relay w.clock) sent.octets → IsPacket w.clock w.losses (relayed w r.relay r.origin sent)
-own-told w r sent h own = record { sent = omega arith; origin = h.origin; told = tells r.origin own.heard (subst (λ x. HeardBy r.origin x r.relay.last) own.was h.heard) own.told }
+own-told : (w : World) (r : RelayHost) (sent : Datagram) (a : Address) → IsRelay w.clock w.losses r → IsOwn (at r.relay w.clock) sent.octets → IsPacket w.clock w.losses (relayed w r.origin sent a)
+own-told w r sent a h own = record { sent = omega arith; origin = h.origin; told = tells r.origin own.heard (subst (λ x. HeardBy r.origin x r.relay.last) own.was h.heard) own.told }
   where
     tells : (o : Option Origin) (x : Heard) → HeardBy o (Some x) r.relay.last → IsUnder sent.octets (told_epoch x (max r.relay.last w.clock)) → TellsBy o sent.octets w.clock
     tells None x k under = absurd k
@@ -111,14 +115,11 @@ own-told w r sent h own = record { sent = omega arith; origin = h.origin; told =
         record { sent = omega (arith, last, late, sent); most = omega (arith, e, last, late, sent, most) }
 
 sent-up : (w : World) (r : RelayHost) (out : ProxyOut) → IsRelay w.clock w.losses r → ((sent : Datagram) → out ≡ Outs.Reply sent → IsOwn (at r.relay w.clock) sent.octets) →
-    ((octets : List ℕ) → out ≡ Outs.Up octets → response_of octets ≡ None) → (x : Packet) → sent_by w r out ≡ Some x → IsPacket w.clock w.losses x
-sent-up w r Outs.Nothing h own up x e = absurd cc
-sent-up w r (Outs.Reply sent) h own up x e =
-    let same : relayed w r.relay r.origin sent ≡ x = cc in
-    subst (IsPacket w.clock w.losses) same (own-told w r sent h (own sent refl))
-sent-up w r (Outs.Up octets) h own up x e =
-    let same : relayed w r.relay None (record { peer = r.relay.server; port = 5351; door = 0; octets = octets }) ≡ x = cc in
-    subst (IsPacket w.clock w.losses) same (record { sent = omega arith; origin = tt; told = up octets refl })
+    ((octets : List ℕ) → out ≡ Outs.Up octets → response_of octets ≡ None) → AllByRecursion (IsPacket w.clock w.losses) (sent_by w r out)
+sent-up w r Outs.Nothing h own up = tt
+sent-up w r (Outs.Reply sent) h own up =
+    All-mapped (IsPacket w.clock w.losses) (relayed w r.origin sent) (λ a. own-told w r sent a h (own sent refl)) (leaves_from r.inner sent)
+sent-up w r (Outs.Up octets) h own up = (record { sent = omega arith; origin = tt; told = up octets refl }, tt)
 
 -- a relay whose time went on, and that heard what it had heard
 still-heard : (o : Option Origin) (a b : Option Heard) (last later : ℕ) → b ≡ a → last ≤ later → HeardBy o a last → HeardBy o b later
@@ -133,9 +134,9 @@ still-heard (Some o) (Some x) (Some y) last later e le h =
     let late = h.1 in
     subst (λ z. IsBound o z.epoch z.at_ms × (z.at_ms ≤ later)) same (h.0, omega (arith, late, le))
 
-from-client : (w : World) (k : ℕ) (r : RelayHost) (p : Packet) → IsWorld w → IsRelay w.clock w.losses r → IsWorld (from_client w k r p)
-from-client w k r p h is =
-    let d = datagram_of p in
+from-client : (w : World) (k : ℕ) (r : RelayHost) (p : Packet) (door : ℕ) → IsWorld w → IsRelay w.clock w.losses r → IsWorld (from_client w k r p door)
+from-client w k r p door h is =
+    let d = datagram_by door p in
     let f = on-client r.relay d w.clock in
     let last = is.last in
     let clock = f.last in
@@ -147,6 +148,10 @@ from-client w k r p h is =
     sends-more (with_relay w k (record r { relay = (on_client r.relay d w.clock).relay })) (sent_by w r (on_client r.relay d w.clock).out)
     (with-relay w k (record r { relay = (on_client r.relay d w.clock).relay }) h after)
     (sent-up w r (on_client r.relay d w.clock).out is f.own f.up)
+
+by-door : (w : World) (k : ℕ) (r : RelayHost) (p : Packet) (door : Option ℕ) → IsWorld w → IsRelay w.clock w.losses r → IsWorld (by_door w k r p door)
+by-door w k r p None h is = h
+by-door w k r p (Some door) h is = from-client w k r p door h is
 
 -- what comes from upstream
 
@@ -161,7 +166,7 @@ bound-later (Some o) octets r sent now last h read le past =
 
 hears-relay : (w : World) (r : RelayHost) (p : Packet) (read : Option Response) (step : Step (Option Datagram)) → IsRelay w.clock w.losses r → IsPacket w.clock w.losses p →
     ((x : Response) → read ≡ Some x → response_of p.out.octets ≡ Some x) → IsOnServer (at r.relay w.clock) read step →
-    IsRelay w.clock w.losses (record { relay = step.relay; origin = origin_after read p.origin r.origin })
+    IsRelay w.clock w.losses (record r { relay = step.relay; origin = origin_after read p.origin r.origin })
 hears-relay w r p None step h is f on =
     let clock = on.last in
     let last = h.last in
@@ -190,18 +195,18 @@ passes-down w (Some o) octets text r sent h read le most = λ x k.
     let e = most x k in
     record { sent = omega (arith, was, le); most = omega (arith, e, than, was, le) }
 
-downs : (w : World) (relay : Relay) (p : Packet) (read : Option Response) (out : Option Datagram) → IsPacket w.clock w.losses p →
+downs : (w : World) (r : RelayHost) (p : Packet) (read : Option Response) (out : Option Datagram) → IsPacket w.clock w.losses p →
     ((x : Response) → read ≡ Some x → response_of p.out.octets ≡ Some x) → ((sent : Datagram) → out ≡ Some sent → PassesOn read sent.octets) →
-    (x : Packet) → sent_down w relay p.origin out ≡ Some x → IsPacket w.clock w.losses x
-downs w relay p read None is f pass x e = absurd cc
-downs w relay p None (Some sent) is f pass x e = absurd (pass sent refl)
-downs w relay p (Some r) (Some sent) is f pass x e =
-    let same : relayed w relay p.origin sent ≡ x = cc in
-    subst (IsPacket w.clock w.losses) same (record {
+    AllByRecursion (IsPacket w.clock w.losses) (sent_down w r p.origin out)
+downs w r p read None is f pass = tt
+downs w r p None (Some sent) is f pass = absurd (pass sent refl)
+downs w r p (Some x) (Some sent) is f pass =
+    All-mapped (IsPacket w.clock w.losses) (relayed w p.origin sent)
+    (λ a. record {
       sent = omega arith;
       origin = is.origin;
-      told = passes-down w p.origin p.out.octets sent.octets r p.sent is.told (f r refl) is.sent (pass sent refl);
-    })
+      told = passes-down w p.origin p.out.octets sent.octets x p.sent is.told (f x refl) is.sent (pass sent refl);
+    }) (leaves_from r.inner sent)
 
 read-here : (b : Bool) (x : Option Response) (r : Response) → cond b x None ≡ Some r → x ≡ Some r
 read-here true x r h = h
@@ -212,19 +217,18 @@ from-upstream w k r p h is packet =
     let d = datagram_of p in
     let on = on-server r.relay d w.clock in
     let read : (x : Response) → response_from r.relay.server d ≡ Some x → response_of p.out.octets ≡ Some x = λ x e. read-here _ (response_of p.out.octets) x e in
-    let host : RelayHost = record { relay = (on_server r.relay d w.clock).relay; origin = origin_after (response_from r.relay.server d) p.origin r.origin } in
-    sends-more (with_relay w k host) (sent_down w r.relay p.origin (on_server r.relay d w.clock).out)
+    let host : RelayHost = record r { relay = (on_server r.relay d w.clock).relay; origin = origin_after (response_from r.relay.server d) p.origin r.origin } in
+    sends-more (with_relay w k host) (sent_down w r p.origin (on_server r.relay d w.clock).out)
     (with-relay w k host h (hears-relay w r p (response_from r.relay.server d) (on_server r.relay d w.clock) is packet read on))
-    (downs w r.relay p (response_from r.relay.server d) (on_server r.relay d w.clock).out packet read on.passed)
+    (downs w r p (response_from r.relay.server d) (on_server r.relay d w.clock).out packet read on.passed)
 
 to-relay : (w : World) (k : ℕ) (r : Option RelayHost) (p : Option Packet) → IsWorld w → ((x : RelayHost) → r ≡ Some x → IsRelay w.clock w.losses x) → ((x : Packet) → p ≡ Some x → IsPacket w.clock w.losses x) →
     IsWorld (to_relay w k r p)
 to-relay w k None p h f g = h
 to-relay w k (Some r) None h f g = h
 to-relay w k (Some r) (Some p) h f g =
-    cond_both (is_reached p r.relay.own) (if same_address p.sender r.relay.server then from_upstream w k r p else from_client w k r p) w IsWorld
-    (λ _. cond_both (same_address p.sender r.relay.server) (from_upstream w k r p) (from_client w k r p) IsWorld
-    (λ _. from-upstream w k r p h (f r refl) (g p refl)) (λ _. from-client w k r p h (f r refl))) (λ _. h)
+    cond_both (comes_down p r.relay) (from_upstream w k r p) (by_door w k r p (position (is_for p) r.inner)) IsWorld
+    (λ _. from-upstream w k r p h (f r refl) (g p refl)) (λ _. by-door w k r p (position (is_for p) r.inner) h (f r refl))
 
 relay-ticks : (w : World) (k : ℕ) (r : Option RelayHost) → IsWorld w → ((x : RelayHost) → r ≡ Some x → IsRelay w.clock w.losses x) → IsWorld (relay_ticks w k r)
 relay-ticks w k None h f = h
@@ -244,14 +248,20 @@ heard-last c now word Nothing = refl
 heard-last c now word (Says epoch said) = refl
 
 -- what says an epoch has an origin
-heard-origin : (c : ClientView) (now word : ℕ) (m : Meaning) (came last : Option Origin) (octets : List ℕ) (sent : ℕ) → ((epoch : ℕ) (w : Notice) → m ≡ Says epoch w → IsSaid octets epoch) → TellsBy came octets sent → HostHeard last c.heard →
+heard-origin : (c : ClientView) (now word : ℕ) (m : Meaning) (came last : Option Origin) (octets : List ℕ) (sent : ℕ) → sent ≤ now → ((epoch : ℕ) (w : Notice) → m ≡ Says epoch w → IsSaid octets epoch) → TellsBy came octets sent → HostHeard last c.heard →
     HostHeard (origin_heard m came last) (after_meaning c now word m).heard
-heard-origin c now word Nothing came last octets sent f h is = is
-heard-origin c now word (Says epoch said) None last octets sent f h is =
+heard-origin c now word Nothing came last octets sent le f h is = is
+heard-origin c now word (Says epoch said) None last octets sent le f h is =
     let s = f epoch said refl in
     let read = s.read in
     absurd cc
-heard-origin c now word (Says epoch said) (Some o) last octets sent f h is = tt
+heard-origin c now word (Says epoch said) (Some o) last octets sent le f h is =
+    let s = f epoch said refl in
+    let b = h s.response s.read in
+    let was = b.sent in
+    let most = b.most in
+    let same = s.epoch_is in
+    record { sent = omega (arith, was, le); most = omega (arith, was, le, most, same) }
 
 origin-of : (w : World) (m : Meaning) (came last : Option Origin) → HasOrigin w.clock w.losses came → HasOrigin w.clock w.losses last → HasOrigin w.clock w.losses (origin_heard m came last)
 origin-of w Nothing came last a b = b
@@ -266,21 +276,20 @@ to-client w k word (Some c) (Some p) h f g =
     let last = is.last in
     let packet = g p refl in
     let at = heard-last c.client (counted c.client w.clock) word (meaning_of c.client (datagram_of p)) in
-    cond_both (is_reached p c.client.own) (hears w k c p word) w IsWorld (λ _. with-client w k (record c {
+    let sent = packet.sent in
+    cond_both (is_reached p c.client.own c.client.server) (hears w k c p word) w IsWorld (λ _. with-client w k (record c {
       client = after_heard c.client (datagram_of p) w.clock word;
       origin = origin_heard (meaning_of c.client (datagram_of p)) p.origin c.origin;
     }) h (record {
       last = omega (arith, at, last);
       origin = origin-of w (meaning_of c.client (datagram_of p)) p.origin c.origin packet.origin is.origin;
-      heard = heard-origin c.client (counted c.client w.clock) word (meaning_of c.client (datagram_of p)) p.origin c.origin p.out.octets p.sent
+      heard = heard-origin c.client (counted c.client w.clock) word (meaning_of c.client (datagram_of p)) p.origin c.origin p.out.octets p.sent (omega (arith, sent))
           (λ epoch w e. said c.client (datagram_of p) epoch w e) packet.told is.heard;
     })) (λ _. h)
 
-asks : (w : World) (c : ClientHost) (octets : Option (List ℕ)) → ((text : List ℕ) → octets ≡ Some text → response_of text ≡ None) → (x : Packet) → asked w c octets ≡ Some x → IsPacket w.clock w.losses x
-asks w c None none x e = absurd cc
-asks w c (Some octets) none x e =
-    let same : (record { sender = c.client.own; port = c.port; out = record { peer = c.client.server; port = 5351; door = 0; octets = octets }; sent = w.clock; origin = None }) ≡ x = cc in
-    subst (IsPacket w.clock w.losses) same (record { sent = omega arith; origin = tt; told = none octets refl })
+asks : (w : World) (c : ClientHost) (octets : Option (List ℕ)) → ((text : List ℕ) → octets ≡ Some text → response_of text ≡ None) → AllByRecursion (IsPacket w.clock w.losses) (asked w c octets)
+asks w c None none = tt
+asks w c (Some octets) none = (record { sent = omega arith; origin = tt; told = none octets refl }, tt)
 
 client-ticks : (w : World) (k word : ℕ) (c : Option ClientHost) → IsWorld w → ((x : ClientHost) → c ≡ Some x → IsClientHost w.clock w.losses x) → IsWorld (client_ticks w k word c)
 client-ticks w k word None h f = h
@@ -329,14 +338,10 @@ answer law w d (Some e) h is =
 to-server : DecisionsChangeLeases → (w : World) (p : Option Packet) → IsWorld w → IsWorld (to_server w p)
 to-server law w None h = h
 to-server law w (Some p) h =
-    cond_both (is_reached p w.server) (answered w (datagram_of p) (packet_entry w.house (second w) (datagram_of p))) w IsWorld
+    cond_both (is_for p w.server) (answered w (datagram_of p) (packet_entry w.house (second w) (datagram_of p))) w IsWorld
     (λ _. answer law w (datagram_of p) (packet_entry w.house (second w) (datagram_of p)) h refl) (λ _. h)
 
 -- ---- losses
-
-All-map : {X Y : Type 0} (P : X → Type 0) (Q : Y → Type 0) (f : X → Y) → ((x : X) → P x → Q (f x)) → (xs : List X) → AllByRecursion P xs → AllByRecursion Q (map f xs)
-All-map P Q f g [] h = tt
-All-map P Q f g (x ∷ xs) h = (g x h.0, All-map P Q f g xs h.1)
 
 map-told : (a : Address) (m base : ℕ) (ls : List MapLease) → AllByRecursion (λ (out : Datagram). IsUnder out.octets (epoch_of m base)) (map (λ l. update_to l.address (map_update l a m base)) ls)
 map-told a m base [] = tt
@@ -353,6 +358,9 @@ updates-told s m base (Renumbers a) =
     All-append (λ (out : Datagram). IsUnder out.octets (epoch_of m base)) (map (λ l. update_to l.address (map_update l a m base)) (live s.table m).maps)
     (map (λ l. update_to l.endpoint.address (peer_update l a m base)) (live s.table m).peers)
     (map-told a m base (live s.table m).maps) (peer-told a m base (live s.table m).peers)
+
+all-told : (s : State) (m base : ℕ) (cause : Cause) → AllByRecursion (λ (out : Datagram). IsUnder out.octets (epoch_of m base)) (told_by s m base cause)
+all-told s m base cause = (announced-under m base, updates-told s m base cause)
 
 past-later : (now count more base after : ℕ) → now ≤ after → count ≤ more → (l : Loss) → IsPast now count base l → IsPast now more after l
 past-later now count more base after le up l h =
@@ -379,9 +387,9 @@ loss w place shard cause after h now is =
       losses = past;
       relays = All-weaker (IsRelay w.clock w.losses) (IsRelay w.clock (l ∷ w.losses)) (relay-later w.clock w.clock w.losses (l ∷ w.losses) on) w.relays h.relays;
       clients = All-weaker (IsClientHost w.clock w.losses) (IsClientHost w.clock (l ∷ w.losses)) (client-later w.clock w.clock w.losses (l ∷ w.losses) on) w.clients h.clients;
-      bag = All-append (IsPacket w.clock (l ∷ w.losses)) (map (told_now w (length w.losses + 1) epoch) (updates_by shard.state m (greatest_base after) cause)) w.bag
+      bag = All-append (IsPacket w.clock (l ∷ w.losses)) (map (told_now w (length w.losses + 1) epoch) (told_by shard.state m (greatest_base after) cause)) w.bag
           (All-map (λ (out : Datagram). IsUnder out.octets epoch) (IsPacket w.clock (l ∷ w.losses)) (told_now w (length w.losses + 1) epoch)
-          (λ out under. subst (λ n. IsPacket w.clock (l ∷ w.losses) (told_now w n epoch out)) up (told w (l ∷ w.losses) (greatest_base after) epoch out most past (λ r read. told-most out.octets epoch r under read))) (updates_by shard.state m (greatest_base after) cause) (updates-told shard.state m (greatest_base after) cause))
+          (λ out under. subst (λ n. IsPacket w.clock (l ∷ w.losses) (told_now w n epoch out)) up (told w (l ∷ w.losses) (greatest_base after) epoch out most past (λ r read. told-most out.octets epoch r under read))) (told_by shard.state m (greatest_base after) cause) (all-told shard.state m (greatest_base after) cause))
           (All-weaker (IsPacket w.clock w.losses) (IsPacket w.clock (l ∷ w.losses)) (packet-later w.clock w.clock w.losses (l ∷ w.losses) on) w.bag h.bag);
     }
 

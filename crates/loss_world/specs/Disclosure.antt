@@ -1,6 +1,6 @@
 -- What holds in every world, whatever is lost, repeated or reordered (our own): where a lease that a client holds comes
 -- from, and that a client hears of a loss (RFC 6887, section 8.5).
-use Rattle.std.specs.Prelude.{◌≡◌, ◌⊎◌, ◌+◌, ◌-◌, ◌/◌, ◌<◌, ◌≤◌, ℕ, false, IsSome, List, [], ◌∷◌, Contains, unwrap_or, Option, Some}
+use Rattle.std.specs.Prelude.{◌≡◌, ◌⊎◌, ◌+◌, ◌-◌, ◌*◌, ◌/◌, ◌<◌, ◌≤◌, ℕ, false, List, [], ◌∷◌, Contains, unwrap_or, Option, Some}
 use Rattle.std.specs.List.{AllByRecursion}
 use Rattle.pcp_base.specs.declared.addresses.Address.{Address}
 use Rattle.pcp_base.specs.declared.addresses.Nonce.{Nonce}
@@ -24,11 +24,12 @@ use Rattle.client_core.specs.Clients.{heard_of, meaning_of}
 use Rattle.client_core.specs.EpochTests.{heard_epoch, is_valid_after}
 use Rattle.client_core.specs.Meanings.{want_at}
 use Rattle.client_core.specs.Wants.{WantView}
+use Rattle.proxy_core.specs.declared.epochs.Heard.{Heard}
 use Rattle.proxy_core.specs.Nonces.{upstream_nonce}
 use Rattle.lease_histories.specs.HouseHistories.{HouseEntry}
 use Rattle.loss_world.specs.Packets.{Loss, Origin, Packet, datagram_of, seconds}
 use Rattle.loss_world.specs.Steps.{run, second}
-use Rattle.loss_world.specs.Worlds.{Beginning, ClientHost, Event, IsBeginning, IsEventValue, RelayTerms, Renumbering, World, begun}
+use Rattle.loss_world.specs.Worlds.{Beginning, ClientHost, Event, IsBeginning, IsEventValue, RelayHost, RelayTerms, Renumbering, World, begun}
 
 -- ---- where a lease comes from
 
@@ -110,11 +111,19 @@ RepliesHaveOrigins =
     IsBeginning b → Contains (run (begun b) events).bag p → response_of p.out.octets ≡ Some response →
     HasBoundOrigin p.origin response.epoch p.sent
 
--- so has what a client heard
+-- so has what a client heard, at the latest with the last millisecond of the second that it keeps
 abbrev pub ClientsHaveOrigins : Type 0
 ClientsHaveOrigins =
     (b : Beginning) (events : List Event) (host : ClientHost) (told : HeardEpoch) →
-    IsBeginning b → Contains (run (begun b) events).clients host → host.client.heard ≡ Some told → IsSome host.origin
+    IsBeginning b → Contains (run (begun b) events).clients host → host.client.heard ≡ Some told →
+    HasBoundOrigin host.origin told.server (1000 * told.seconds + 999)
+
+-- and what a relay heard
+abbrev pub RelaysHaveOrigins : Type 0
+RelaysHaveOrigins =
+    (b : Beginning) (events : List Event) (host : RelayHost) (told : Heard) →
+    IsBeginning b → Contains (run (begun b) events).relays host → host.relay.heard ≡ Some told →
+    HasBoundOrigin host.origin told.epoch told.at_ms
 
 -- ---- losses are heard
 

@@ -1,10 +1,12 @@
 -- What each event makes of a world (our own). What can't happen changes nothing.
-use Rattle.std.specs.Prelude.{ℕ, ◌+◌, Bool, List, [], ◌∷◌, ◌++◌, map, length, reverse, Option, Some, None, slice_get, slice_set, if◌then◌else◌}
+use Rattle.std.specs.Prelude.{ℕ, ◌+◌, ◌==◌, ◌&&◌, ◌||◌, Bool, List, [], ◌∷◌, ◌++◌, map, length, reverse, position, option_to_list, Option, Some, None, slice_get, slice_set, if◌then◌else◌}
 use Rattle.pcp_base.specs.declared.addresses.Address.{Address}
 use Rattle.pcp_base.specs.declared.asks.Ask.{Ask}
 use Rattle.pcp_base.specs.declared.datagrams.Datagram.{Datagram}
 use Rattle.pcp_base.specs.declared.datagrams.Entry.{Entry}
 use Rattle.pcp_base.specs.Epoch.{epoch_of}
+use Rattle.pcp_codec.specs.Requests.{opcode_of}
+use Rattle.pcp_announce.specs.Doors.{all_hosts_v4}
 use Rattle.pcp_options.specs.declared.responses.Response.{Response}
 use Rattle.lease_histories.specs.PlainHouses.{PlainHouse, PlainShard, greatest_base, packet_after, packet_entry, raised}
 use Rattle.lease_histories.specs.Routes.{route_of}
@@ -15,8 +17,8 @@ use Rattle.proxy_core.specs.declared.outs.ProxyOut.{ProxyOut}
 use Rattle.proxy_core.specs.declared.outs.ProxyOut.TheVariants as Outs
 use Rattle.pcp_base.specs.Tables.{same_address}
 use Rattle.proxy_core.specs.Relays.{Relay, on_client, on_server, on_tick, response_from}
-use Rattle.loss_world.specs.HouseLosses.{Cause, Renumbers, entries_of, house_after, is_loss, updates_by}
-use Rattle.loss_world.specs.Packets.{Origin, Packet, datagram_of, seconds}
+use Rattle.loss_world.specs.HouseLosses.{Cause, Renumbers, entries_of, house_after, is_loss, told_by}
+use Rattle.loss_world.specs.Packets.{Origin, Packet, datagram_by, datagram_of, seconds}
 use Rattle.loss_world.specs.Worlds.{World, RelayHost, ClientHost, Renumbering, Event, ToServer, ToRelay, ToClient, RelayTicks, ClientTicks, Wants, Ends, Fails, Passes}
 
 abbrev pub second : World → ℕ
@@ -31,13 +33,20 @@ abbrev pub to_servers : Address → List ℕ → Datagram
 to_servers server octets = record { peer = server; port = servers_port; door = 0; octets = octets }
 
 -- whether a packet is for the host of an address
-abbrev pub is_reached : Packet → Address → Bool
-is_reached p own = same_address p.out.peer own
+abbrev pub is_for : Packet → Address → Bool
+is_for p own = same_address p.out.peer own
 
--- with a packet more, if there is one
-abbrev pub sends : World → Option Packet → World
-sends w None = w
-sends w (Some p) = record w { bag = p ∷ w.bag }
+-- whether it tells all hosts of a side an epoch
+abbrev pub is_for_all : Packet → Bool
+is_for_all p = is_for p all_hosts_v4 && opcode_of p.out.octets == 0
+
+-- whether it comes to the host of an address with this server: it is for that host, or that server told all
+abbrev pub is_reached : Packet → Address → Address → Bool
+is_reached p own server = is_for p own || (is_for_all p && same_address p.sender server)
+
+-- with these packets more
+abbrev pub sends : World → List Packet → World
+sends w ps = record w { bag = ps ++ w.bag }
 
 -- ---- the server
 
@@ -65,7 +74,7 @@ answered w d (Some e) = record w {
 abbrev pub to_server : World → Option Packet → World
 to_server w None = w
 to_server w (Some p) =
-    if is_reached p w.server
+    if is_for p w.server
     then answered w (datagram_of p) (packet_entry w.house (second w) (datagram_of p)) else w
 
 -- ---- relays
@@ -73,48 +82,64 @@ to_server w (Some p) =
 abbrev pub with_relay : World → ℕ → RelayHost → World
 with_relay w k host = record w { relays = slice_set w.relays k host }
 
--- what a relay sends now
-abbrev pub relayed : World → Relay → Option Origin → Datagram → Packet
-relayed w relay origin out =
-    record { sender = relay.own; port = servers_port; out = out; sent = w.clock; origin = origin }
+-- what a relay sends now from an address of its own
+abbrev pub relayed : World → Option Origin → Datagram → Address → Packet
+relayed w origin out sender =
+    record { sender = sender; port = servers_port; out = out; sent = w.clock; origin = origin }
 
-abbrev pub sent_down : World → Relay → Option Origin → Option Datagram → Option Packet
-sent_down w relay origin None = None
-sent_down w relay origin (Some out) = Some (relayed w relay origin out)
+-- the inner addresses from which it leaves: each one where it is for all hosts, else that of its door
+abbrev pub leaves_from : List Address → Datagram → List Address
+leaves_from inner out =
+    if same_address out.peer all_hosts_v4 then inner else option_to_list (slice_get inner out.door)
 
--- the relay's own reply has the origin of the last epoch that it heard
-abbrev pub sent_by : World → RelayHost → ProxyOut → Option Packet
-sent_by w host Outs.Nothing = None
-sent_by w host (Outs.Reply out) = Some (relayed w host.relay host.origin out)
+abbrev pub sent_inside : World → RelayHost → Option Origin → Datagram → List Packet
+sent_inside w host origin out = map (relayed w origin out) (leaves_from host.inner out)
+
+abbrev pub sent_down : World → RelayHost → Option Origin → Option Datagram → List Packet
+sent_down w host origin None = []
+sent_down w host origin (Some out) = sent_inside w host origin out
+
+-- The relay's own reply has the origin of the last epoch that it heard. What goes up leaves from its own address.
+abbrev pub sent_by : World → RelayHost → ProxyOut → List Packet
+sent_by w host Outs.Nothing = []
+sent_by w host (Outs.Reply out) = sent_inside w host host.origin out
 sent_by w host (Outs.Up octets) =
-    Some (relayed w host.relay None (to_servers host.relay.server octets))
+    relayed w None (to_servers host.relay.server octets) host.relay.own ∷ []
 
 -- the origin of the epoch heard last, behind a datagram that may be a response
 abbrev pub origin_after : Option Response → Option Origin → Option Origin → Option Origin
 origin_after None came last = last
 origin_after (Some r) came last = came
 
--- A datagram whose peer is the relay's server comes from upstream, any other from a client.
 abbrev pub from_upstream : World → ℕ → RelayHost → Packet → World
 from_upstream w k host p = sends
-    (with_relay w k (record {
+    (with_relay w k (record host {
       relay = (on_server host.relay (datagram_of p) w.clock).relay;
       origin = origin_after (response_from host.relay.server (datagram_of p)) p.origin host.origin;
     }))
-    (sent_down w host.relay p.origin (on_server host.relay (datagram_of p) w.clock).out)
+    (sent_down w host p.origin (on_server host.relay (datagram_of p) w.clock).out)
 
-abbrev pub from_client : World → ℕ → RelayHost → Packet → World
-from_client w k host p = sends
-    (with_relay w k (record host { relay = (on_client host.relay (datagram_of p) w.clock).relay }))
-    (sent_by w host (on_client host.relay (datagram_of p) w.clock).out)
+abbrev pub from_client : World → ℕ → RelayHost → Packet → ℕ → World
+from_client w k host p door = sends
+    (with_relay w k (record host { relay = (on_client host.relay (datagram_by door p) w.clock).relay }))
+    (sent_by w host (on_client host.relay (datagram_by door p) w.clock).out)
 
+abbrev pub by_door : World → ℕ → RelayHost → Packet → Option ℕ → World
+by_door w k host p None = w
+by_door w k host p (Some door) = from_client w k host p door
+
+-- whether its server sent it to the relay, or told all
+abbrev pub comes_down : Packet → Relay → Bool
+comes_down p relay = same_address p.sender relay.server && is_reached p relay.own relay.server
+
+-- What its server sends to its own address or to all comes from upstream. Anything else for an inner address comes
+-- from a client, by the door of that one.
 abbrev pub to_relay : World → ℕ → Option RelayHost → Option Packet → World
 to_relay w k None p = w
 to_relay w k (Some host) None = w
 to_relay w k (Some host) (Some p) =
-    if is_reached p host.relay.own
-    then if same_address p.sender host.relay.server then from_upstream w k host p else from_client w k host p
-    else w
+    if comes_down p host.relay then from_upstream w k host p
+    else by_door w k host p (position (is_for p) host.inner)
 
 abbrev pub relay_ticks : World → ℕ → Option RelayHost → World
 relay_ticks w k None = w
@@ -138,17 +163,18 @@ hears w k host p word = with_client w k (record host {
 abbrev pub to_client : World → ℕ → ℕ → Option ClientHost → Option Packet → World
 to_client w k word None p = w
 to_client w k word (Some host) None = w
-to_client w k word (Some host) (Some p) = if is_reached p host.client.own then hears w k host p word else w
+to_client w k word (Some host) (Some p) =
+    if is_reached p host.client.own host.client.server then hears w k host p word else w
 
-abbrev pub asked : World → ClientHost → Option (List ℕ) → Option Packet
-asked w host None = None
-asked w host (Some octets) = Some (record {
+abbrev pub asked : World → ClientHost → Option (List ℕ) → List Packet
+asked w host None = []
+asked w host (Some octets) = (record {
   sender = host.client.own;
   port = host.port;
   out = to_servers host.client.server octets;
   sent = w.clock;
   origin = None;
-})
+}) ∷ []
 
 abbrev pub client_ticks : World → ℕ → ℕ → Option ClientHost → World
 client_ticks w k word None = w
@@ -184,7 +210,7 @@ lost w place shard cause after = record w {
   losses = (record { number = length w.losses; moment = second w }) ∷ w.losses;
   renumberings = renumbered w place cause;
   bag = map (told_now w (length w.losses + 1) (epoch_of (raised (second w) shard) (greatest_base after)))
-      (updates_by shard.state (raised (second w) shard) (greatest_base after) cause) ++ w.bag;
+      (told_by shard.state (raised (second w) shard) (greatest_base after) cause) ++ w.bag;
 }
 
 abbrev pub fails : World → ℕ → Cause → Option PlainShard → World

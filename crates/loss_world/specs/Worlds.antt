@@ -18,9 +18,11 @@ use Rattle.proxy_core.specs.Relays.{Relay, new_relay}
 use Rattle.loss_world.specs.HouseLosses.{Cause, Renumbers}
 use Rattle.loss_world.specs.Packets.{Loss, Origin, Packet, seconds}
 
--- a relay, and the origin of the last epoch that it heard
+-- a relay, its inner addresses, and the origin of the last epoch that it heard
 pub record RelayHost : Type 0 where
   pub relay : Relay
+  -- each the address of a door: the number of the door is its place
+  pub inner : List Address
   pub origin : Option Origin
 
 -- a client, its port, and the origin of the last epoch that it heard
@@ -52,7 +54,7 @@ pub record World : Type 0 where
 
 -- what may happen: each event names packets, hosts and wants by their numbers
 pub data Event : Type 0 where
-  -- a packet of the bag comes to its address
+  -- a packet of the bag comes to its address, or to a host of the side to which it was told
   ToServer : (which : ℕ) → Event
   ToRelay : (which relay : ℕ) → Event
   -- with a random word
@@ -71,7 +73,11 @@ pub data Event : Type 0 where
 
 -- what a relay and a client are told when they are begun
 pub record RelayTerms : Type 0 where
+  -- its address upstream
   pub own : Address
+  -- its addresses for clients, and for relays behind it
+  pub inner : List Address
+  -- the server's, or an inner one of the relay before it
   pub server : Address
   pub key : List ℕ
   -- whose THIRD_PARTY it passes on
@@ -79,12 +85,13 @@ pub record RelayTerms : Type 0 where
 
 pub record ClientTerms : Type 0 where
   pub own : Address
+  -- the server's, or an inner one of its relay
   pub server : Address
   pub port : ℕ
 
 abbrev pub relay_begun : RelayTerms → RelayHost
 relay_begun t =
-    record { relay = new_relay t.own t.server t.key t.third_party; origin = None }
+    record { relay = new_relay t.own t.server t.key t.third_party; inner = t.inner; origin = None }
 
 abbrev pub client_begun : ClientTerms → ClientHost
 client_begun t = record { client = idle t.server t.own; port = t.port; origin = None }
@@ -101,11 +108,18 @@ pub record Beginning : Type 0 where
 abbrev pub IsAddressValue : Address → Type 0
 IsAddressValue a = (length a.0 ≡ 16) × AreOctets a.0
 
--- the addresses are values of their type, and keys are octets
+-- the addresses of a relay are values of their type, and its key is of octets
+pub record IsRelayValue (t : RelayTerms) : Type 0 where
+  pub own : IsAddressValue t.own
+  pub inner : AllByRecursion IsAddressValue t.inner
+  pub server : IsAddressValue t.server
+  pub key : AreOctets t.key
+
+-- and so are all
 pub record AreHosts (b : Beginning) : Type 0 where
   pub server : IsAddressValue b.server
   pub externals : AllByRecursion (λ x. IsAddressValue x.address) b.config.externals
-  pub relays : AllByRecursion (λ t. IsAddressValue t.own × IsAddressValue t.server × AreOctets t.key) b.relays
+  pub relays : AllByRecursion IsRelayValue b.relays
   pub clients : AllByRecursion (λ t. IsAddressValue t.own × IsAddressValue t.server) b.clients
 
 -- the nonce and the addresses that are asked with, and those and the prefixes of filters, are of octets
