@@ -28,10 +28,10 @@ use Rattle.loss_world.specs.Packets.{Packet, datagram_of}
 use Rattle.loss_world.specs.Steps.{run}
 use Rattle.loss_world.specs.Worlds.{Beginning, ClientHost, Event, IsAddressValue, IsBeginning, IsEventValue, World, ToServer, ToClient, ClientTicks, Wants, Fails, Passes, begun}
 
-abbrev host : ℕ → Address
+abbrev pub host : ℕ → Address
 host n = record { 0 = 0 ∷ 0 ∷ 0 ∷ 0 ∷ 0 ∷ 0 ∷ 0 ∷ 0 ∷ 0 ∷ 0 ∷ 255 ∷ 255 ∷ 10 ∷ 0 ∷ 0 ∷ n ∷ [] }
 
-abbrev asking : ℕ → Ask
+abbrev pub asking : ℕ → Ask
 asking port = Asks.Map (record {
   endpoint = record { address = host 2; protocol = Protocols.Tcp; port = port };
   nonce = record { 0 = replicate 12 7 };
@@ -43,8 +43,8 @@ asking port = Asks.Map (record {
   filters = [];
 })
 
--- a server with one external port, and so much quota; without any each request is refused
-abbrev beginning_by : ℕ → Beginning
+-- a server with one external port, and so much quota; without any each request is refused. All may ask for others.
+abbrev pub beginning_by : ℕ → Beginning
 beginning_by quota = record {
   clock = 1600000;
   server = host 1;
@@ -52,7 +52,7 @@ beginning_by quota = record {
     quota = quota;
     lifetime_min = 120;
     lifetime_max = 86400;
-    third_party = [];
+    third_party = (record { bits = 0; address = host 0 }) ∷ [];
     externals = (record { address = host 9; low = 5000; high = 5000 }) ∷ [];
     subscribers = (record { prefix = record { bits = 0; address = host 0 }; external = 0 }) ∷ [];
     listen = [];
@@ -76,12 +76,12 @@ both =
     Wants 0 None (asking 80) ∷ ClientTicks 0 0 ∷ ToServer 0 ∷ ToClient 0 0 0 ∷ Passes 400000 ∷ Fails 0 Loses ∷ Passes 3000
     ∷ Wants 0 None (asking 81) ∷ ClientTicks 0 0 ∷ ToServer 0 ∷ []
 
-abbrev told_to : Option ClientHost → Option HeardEpoch
+abbrev pub told_to : Option ClientHost → Option HeardEpoch
 told_to None = None
 told_to (Some h) = h.client.heard
 
 -- what the packet that was sent last is to the client
-abbrev found_by : World → Option ClientHost → Option Packet → EpochFound
+abbrev pub found_by : World → Option ClientHost → Option Packet → EpochFound
 found_by w None p = Epochs.Unread
 found_by w (Some h) None = Epochs.Unread
 found_by w (Some h) (Some p) = (heard_of h.client (datagram_of p) w.clock).epoch
@@ -94,7 +94,7 @@ pub second-is-found : found_by (run (begun beginning) both) (slice_get (run (beg
 unfolding verdict_of_datagram verdict_of decide_map
 second-is-found = refl
 
-abbrev held_of : Option ClientHost → Option HeldLease
+abbrev pub held_of : Option ClientHost → Option HeldLease
 held_of None = None
 held_of (Some h) = held_by h.client 0
 
@@ -102,9 +102,9 @@ pub lease-is-held : held_of (slice_get (run (begun (beginning_by 1)) first).clie
 unfolding verdict_of_datagram verdict_of decide_map pick next_inside
 lease-is-held = refl
 
--- its external address changes, and the client hears so
+-- its external address changes, and the client hears so: the update was sent behind the announcement
 abbrev moved : List Event
-moved = Wants 0 None (asking 80) ∷ ClientTicks 0 0 ∷ ToServer 0 ∷ ToClient 0 0 0 ∷ Fails 0 (Renumbers (host 8)) ∷ ToClient 0 0 0 ∷ []
+moved = Wants 0 None (asking 80) ∷ ClientTicks 0 0 ∷ ToServer 0 ∷ ToClient 0 0 0 ∷ Fails 0 (Renumbers (host 8)) ∷ ToClient 1 0 0 ∷ []
 
 pub lease-is-moved : held_of (slice_get (run (begun (beginning_by 1)) moved).clients 0) ≡ Some (record { address = host 8; external = 5000; count = 1; until_ms = 5200000 })
 unfolding verdict_of_datagram verdict_of decide_map pick next_inside
@@ -112,7 +112,7 @@ lease-is-moved = refl
 
 -- ---- that world begins as the law asks, and its events name values
 
-over : (xs : List ℕ) → AllByRecursion (λ x. x < 256) xs → AreOctets xs
+pub over : (xs : List ℕ) → AllByRecursion (λ x. x < 256) xs → AreOctets xs
 over [] h i = omega arith
 over (x ∷ xs) h zero = h.0
 over (x ∷ xs) h (suc i) = over xs h.1 i
@@ -123,7 +123,7 @@ host-octets n h = (
   (omega arith, (omega arith, (omega arith, (omega arith, (omega arith, (omega arith, (omega arith, (omega arith, (omega arith, (omega arith, (omega arith, (omega arith, (omega arith, (omega arith, (h, tt))))))))))))))),
 )
 
-host-value : (n : ℕ) → n < 256 → IsAddressValue (host n)
+pub host-value : (n : ℕ) → n < 256 → IsAddressValue (host n)
 host-value n h = (refl, over (host n).0 (host-octets n h))
 
 begun-state : IsReached (record empty_state { base = 1000; address = Some (host 9); last = 1000; started = true })
@@ -145,7 +145,7 @@ config-is = record {
   lifetimes = omega arith;
   lifetime_max = omega arith;
   third_party_count = omega arith;
-  third_party = tt;
+  third_party = (omega arith, tt);
   external_count = (omega arith, omega arith);
   externals = (record { low = omega arith; ordered = omega arith; high = omega arith }, tt);
   external_addresses = (tt, tt);
@@ -169,8 +169,9 @@ is-beginning = record {
   past = (omega arith, tt);
 }
 
-sevens : AllByRecursion (λ x. x < 256) (replicate {A = ℕ} 12 7)
-sevens = (omega arith, (omega arith, (omega arith, (omega arith, (omega arith, (omega arith, (omega arith, (omega arith, (omega arith, (omega arith, (omega arith, (omega arith, tt))))))))))))
+pub sevens : (n : ℕ) → AllByRecursion (λ x. x < 256) (replicate {A = ℕ} n 7)
+sevens zero = tt
+sevens (suc n) = (omega arith, sevens n)
 
 pub are-values : AllByRecursion IsEventValue moved
-are-values = ((tt, (over (replicate {A = ℕ} 12 7) sevens, (host-value 0 (omega arith)).1, tt)), (tt, (tt, (tt, (host-value 8 (omega arith), (tt, tt))))))
+are-values = ((tt, (over (replicate {A = ℕ} 12 7) (sevens 12), (host-value 0 (omega arith)).1, tt)), (tt, (tt, (tt, (host-value 8 (omega arith), (tt, tt))))))

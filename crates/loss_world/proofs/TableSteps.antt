@@ -27,7 +27,7 @@ use Rattle.client_core.specs.Clients.{after_tick, free_id, request_due}
 use Rattle.loss_world.specs.HouseLosses.{Cause, Loses, Restarts, Renumbers, at_address, control_entry, controlled, entries_of, house_after, is_loss, readdressed, shards_at}
 use Rattle.loss_world.specs.Packets.{Packet, datagram_of, seconds}
 use Rattle.loss_world.specs.Steps.{answered, asked, by_door, client_ends, client_ticks, client_wants, comes_down, fails, from_upstream, happens, hears, is_for, is_reached, lost, relay_ticks, second, sends, to_client, to_relay, to_server, wanting, with_client}
-use Rattle.loss_world.specs.Worlds.{Beginning, ClientHost, IsBeginning, RelayHost, World, Event, ToServer, ToRelay, ToClient, RelayTicks, ClientTicks, Wants, Ends, Fails, Passes, begun}
+use Rattle.loss_world.specs.Worlds.{Beginning, ClientHost, IsBeginning, RelayHost, World, Event, ToServer, ToRelay, ToClient, RelayTicks, ClientTicks, Wants, Ends, Fails, Announces, Passes, begun}
 use Rattle.loss_world.proofs.Granted.{GrantLaws, IsMade, TableGranted, change-granted, live-granted, table-kept, table-more}
 use Rattle.loss_world.proofs.HouseFacts.{All-got, IsBy, answers}
 use Rattle.loss_world.proofs.RelayValues.{IsMessage}
@@ -311,6 +311,7 @@ next-tables laws w (ClientTicks k word) v by h = client-ticks w k word (slice_ge
 next-tables laws w (Wants k third ask) v by h = client-wants w k (slice_get w.clients k) third ask h
 next-tables laws w (Ends k id) v by h = client-ends w k id (slice_get w.clients k) h
 next-tables laws w (Fails place cause) v by h = fails-at w place cause (slice_get w.house.shards place) refl h by
+next-tables laws w Announces v by h = h
 next-tables laws w (Passes ms) v by h =
     let le : seconds w.clock ≤ seconds (w.clock + ms) = omega arith in
     record {

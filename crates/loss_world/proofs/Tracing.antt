@@ -36,7 +36,7 @@ use Rattle.loss_world.specs.Disclosure.{IsGranted, IsRenumbered, LeasesAreGrante
 use Rattle.loss_world.specs.HouseLosses.{Cause, Loses, Restarts, Renumbers, epoch_to_all, house_after, is_loss, told_by, updates_by}
 use Rattle.loss_world.specs.Packets.{Origin, Packet, datagram_by, datagram_of}
 use Rattle.loss_world.specs.Steps.{answered, asked, by_door, client_ends, client_ticks, client_wants, comes_down, fails, from_client, from_upstream, happens, hears, is_for, is_for_all, is_reached, leaves_from, lost, origin_after, relay_ticks, relayed, renumbered, run, sent_by, sent_down, sent_inside, with_relay, second, sends, told_now, to_client, to_relay, to_server, wanting, with_client}
-use Rattle.loss_world.specs.Worlds.{Beginning, ClientHost, ClientTerms, IsEventValue, RelayHost, RelayTerms, Renumbering, World, Event, ToServer, ToRelay, ToClient, RelayTicks, ClientTicks, Wants, Ends, Fails, Passes, begun, client_begun, relay_begun}
+use Rattle.loss_world.specs.Worlds.{Beginning, ClientHost, ClientTerms, IsEventValue, RelayHost, RelayTerms, Renumbering, World, Event, ToServer, ToRelay, ToClient, RelayTicks, ClientTicks, Wants, Ends, Fails, Announces, Passes, begun, client_begun, relay_begun}
 use Rattle.loss_world.proofs.Announcements.{all-grants, announced-grants}
 use Rattle.loss_world.proofs.Hearing.{begin-world}
 use Rattle.loss_world.proofs.Held.{AreTold, SlotHolds, WantHolds, end-holds, heard-holds, slot-at, tick-holds, want-holds}
@@ -194,7 +194,7 @@ either false false z h = absurd cc
 -- what is for all grants nothing to anybody
 told-here : (b : Beginning) (history : List HouseEntry) (rs : List Renumbering) (p : Packet) (own server : Address)
     → is_reached p own server ≡ true → IsToldPacket b history rs p → AreTold (IsTraced b history rs own) p.out.octets
-told-here b history rs p own server here told = by (either (is_for p own) (is_for_all p) (same_address p.sender server) here)
+told-here b history rs p own server here told = by (either (is_for p own) (is_for_all p) _ here)
   where
     by : (is_for p own ≡ true) ⊎ (is_for_all p ≡ true) → AreTold (IsTraced b history rs own) p.out.octets
     by (inl to) = subst (λ a. AreTold (IsTraced b history rs a) p.out.octets) (same-address p.out.peer own to) told
@@ -260,7 +260,7 @@ from-client laws b w k r p door h is =
 by-door : RelayLaws → (b : Beginning) (w : World) (k : ℕ) (r : RelayHost) (p : Packet) (door : Option ℕ) → Traces b w
     → IsOurHost b r → Traces b (by_door w k r p door)
 by-door laws b w k r p None h is = h
-by-door laws b w k r p (Some door) h is = from-client laws b w k r p door h is
+by-door laws b w k r p (Some door) h is = from-client laws b w k r p _ h is
 
 to-relay : RelayLaws → (b : Beginning) (w : World) (k : ℕ) (r : Option RelayHost) (p : Option Packet)
     → Traces b w → ((x : RelayHost) → r ≡ Some x → IsOurHost b x)
@@ -415,6 +415,15 @@ next-traces laws b w (Ends k id) v is t h =
     (λ x there. All-got (HostHolds b w.history w.renumberings) w.clients k x h.clients there)
 next-traces laws b w (Fails place cause) v is t h =
     fails-at laws.written b w place cause (slice_get w.house.shards place) refl v t h
+next-traces laws b w Announces v is t h =
+    let m = second w in
+    let base = greatest_base w.house in
+    let all = epoch_to_all m base in
+    record {
+      relays = h.relays;
+      bag = (nothing-told (IsTraced b w.history w.renumberings all.peer) all.octets (announced-grants m base), h.bag);
+      clients = h.clients;
+    }
 next-traces laws b w (Passes ms) v is t h = record { relays = h.relays; bag = h.bag; clients = h.clients }
 
 -- what holds of every world that begins so, and in which events name values

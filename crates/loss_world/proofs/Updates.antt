@@ -36,7 +36,7 @@ use Rattle.lease_histories.specs.PlainHouses.{raised}
 use Rattle.loss_world.specs.Disclosure.{HasCommon}
 use Rattle.loss_world.specs.HouseLosses.{Loses, Restarts, Renumbers, update_to, updates_by}
 use Rattle.loss_world.specs.Steps.{second}
-use Rattle.loss_world.specs.Worlds.{Beginning, IsAddressValue, IsEventValue, Renumbering, World, Event, ToServer, ToRelay, ToClient, RelayTicks, ClientTicks, Wants, Ends, Fails, Passes}
+use Rattle.loss_world.specs.Worlds.{Beginning, IsAddressValue, IsEventValue, Renumbering, World, Event, ToServer, ToRelay, ToClient, RelayTicks, ClientTicks, Wants, Ends, Fails, Announces, Passes}
 use Rattle.loss_world.proofs.CodeReads.{long-none}
 use Rattle.loss_world.proofs.Granted.{IsGrantedAt, MapGranted, PeerGranted, TableGranted, live-granted}
 use Rattle.loss_world.proofs.Held.{AreTold}
@@ -153,6 +153,7 @@ event-tells laws w (Fails place Loses) v h = λ shard there base. tt
 event-tells laws w (Fails place Restarts) v h = λ shard there base. tt
 event-tells laws w (Fails place (Renumbers a)) v h = λ shard there base.
     updates-messages laws w.history place a v (raised (second w) shard) base shard.state (h.tables place shard there)
+event-tells laws w Announces v h = tt
 event-tells laws w (Passes ms) v h = tt
 
 -- ---- an update is traced

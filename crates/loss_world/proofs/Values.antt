@@ -53,7 +53,7 @@ use Rattle.proxy_core.specs.Relays.{on_client, on_server, on_tick, response_from
 use Rattle.loss_world.specs.HouseLosses.{Cause, Loses, Restarts, Renumbers, at_address, control_entry, controlled, house_after, is_loss, readdressed, shards_at, told_by, updates_by}
 use Rattle.loss_world.specs.Packets.{Origin, Packet, datagram_by, datagram_of}
 use Rattle.loss_world.specs.Steps.{answered, asked, by_door, client_ends, client_ticks, client_wants, comes_down, fails, from_client, from_upstream, happens, hears, is_for, is_reached, leaves_from, lost, origin_after, relay_ticks, relayed, second, sends, sent_by, sent_down, sent_inside, to_client, to_relay, to_server, told_now, wanting, with_client, with_relay}
-use Rattle.loss_world.specs.Worlds.{AreHosts, Beginning, ClientHost, ClientTerms, IsAddressValue, IsAskValue, IsEventValue, IsRelayValue, IsThirdValue, RelayHost, RelayTerms, World, Event, ToServer, ToRelay, ToClient, RelayTicks, ClientTicks, Wants, Ends, Fails, Passes, begun, client_begun, relay_begun}
+use Rattle.loss_world.specs.Worlds.{AreHosts, Beginning, ClientHost, ClientTerms, IsAddressValue, IsAskValue, IsEventValue, IsRelayValue, IsThirdValue, RelayHost, RelayTerms, World, Event, ToServer, ToRelay, ToClient, RelayTicks, ClientTicks, Wants, Ends, Fails, Announces, Passes, begun, client_begun, relay_begun}
 use Rattle.loss_world.proofs.Announcements.{announced-message}
 use Rattle.loss_world.proofs.ClientValues.{SlotIsValue, due-value, end-value, heard-value, tick-value, want-value}
 use Rattle.loss_world.proofs.HouseFacts.{All-got, All-map, All-set}
@@ -315,7 +315,7 @@ from-client laws w k r p door h is m =
 by-door : ValueLaws → (w : World) (k : ℕ) (r : RelayHost) (p : Packet) (door : Option ℕ) → Values w → HostIsRelay r
     → PacketIsMessage p → Values (by_door w k r p door)
 by-door laws w k r p None h is m = h
-by-door laws w k r p (Some door) h is m = from-client laws w k r p door h is m
+by-door laws w k r p (Some door) h is m = from-client laws w k r p _ h is m
 
 to-relay : ValueLaws → (w : World) (k : ℕ) (r : Option RelayHost) (p : Option Packet) → Values w
     → ((x : RelayHost) → r ≡ Some x → HostIsRelay x) → ((x : Packet) → p ≡ Some x → PacketIsMessage x)
@@ -471,6 +471,13 @@ next-values laws w (Wants k third ask) v u h =
 next-values laws w (Ends k id) v u h =
     client-ends w k id (slice_get w.clients k) h (λ x there. All-got HostIsClient w.clients k x h.clients there)
 next-values laws w (Fails place cause) v u h = fails-at laws w place cause (slice_get w.house.shards place) h v u
+next-values laws w Announces v u h = record {
+  server = h.server;
+  shards = h.shards;
+  relays = h.relays;
+  clients = h.clients;
+  bag = ((announced-message laws.octets (second w) (greatest_base w.house), h.server), h.bag);
+}
 next-values laws w (Passes ms) v u h =
     record { server = h.server; shards = h.shards; relays = h.relays; clients = h.clients; bag = h.bag }
 

@@ -25,10 +25,10 @@ use Rattle.proxy_core.specs.declared.outs.ProxyOut.{ProxyOut}
 use Rattle.proxy_core.specs.declared.outs.ProxyOut.TheVariants as Outs
 use Rattle.proxy_core.specs.declared.epochs.Heard.{Heard}
 use Rattle.proxy_core.specs.Relays.{Relay, Step, at, on_client, on_server, on_tick, response_from, told_epoch}
-use Rattle.loss_world.specs.HouseLosses.{Cause, Loses, Restarts, Renumbers, house_after, is_loss, told_by, updates_by, update_to}
+use Rattle.loss_world.specs.HouseLosses.{Cause, Loses, Restarts, Renumbers, epoch_to_all, house_after, is_loss, told_by, updates_by, update_to}
 use Rattle.loss_world.specs.Packets.{Loss, Origin, Packet, datagram_by, datagram_of, seconds}
-use Rattle.loss_world.specs.Steps.{answered, asked, by_door, client_ends, client_ticks, client_wants, comes_down, fails, from_client, from_upstream, happens, hears, is_for, is_reached, leaves_from, lost, origin_after, origin_heard, relay_ticks, relayed, reply_to, second, sends, sent_by, sent_down, to_client, to_relay, to_server, told_now, wanting, with_client, with_relay}
-use Rattle.loss_world.specs.Worlds.{ClientHost, RelayHost, World, Event, ToServer, ToRelay, ToClient, RelayTicks, ClientTicks, Wants, Ends, Fails, Passes}
+use Rattle.loss_world.specs.Steps.{announces, answered, asked, by_door, client_ends, client_ticks, client_wants, comes_down, fails, from_client, from_upstream, happens, hears, is_for, is_reached, leaves_from, lost, origin_after, origin_heard, relay_ticks, relayed, reply_to, second, sends, sent_by, sent_down, to_client, to_relay, to_server, told_now, wanting, with_client, with_relay}
+use Rattle.loss_world.specs.Worlds.{ClientHost, RelayHost, World, Event, ToServer, ToRelay, ToClient, RelayTicks, ClientTicks, Wants, Ends, Fails, Announces, Passes}
 use Rattle.loss_world.proofs.Announcements.{announced-under}
 use Rattle.loss_world.proofs.EpochReads.{IsUnder, TellsAtMost, map-update-under, peer-update-under, told-most}
 use Rattle.loss_world.proofs.HouseFacts.{All-got, All-map, All-mapped, All-set, IsBy, IsLost, answers, loses-house}
@@ -151,7 +151,7 @@ from-client w k r p door h is =
 
 by-door : (w : World) (k : ℕ) (r : RelayHost) (p : Packet) (door : Option ℕ) → IsWorld w → IsRelay w.clock w.losses r → IsWorld (by_door w k r p door)
 by-door w k r p None h is = h
-by-door w k r p (Some door) h is = from-client w k r p door h is
+by-door w k r p (Some door) h is = from-client w k r p _ h is
 
 -- what comes from upstream
 
@@ -403,6 +403,23 @@ fails-at w place cause (Some shard) h there =
     (subst (λ m. IsLost (second w) (house_after w.house place shard m cause)) (sym now) (loses-house (second w) w.house place shard cause h.house there is)))
     (λ _. h)
 
+announce : (w : World) (base : ℕ) → base ≡ greatest_base w.house → IsWorld w → IsWorld (announces w base)
+announce w base is h =
+    let epoch = epoch_of (second w) base in
+    let out = epoch_to_all (second w) base in
+    let most : epoch_of (second w) base ≤ second w - greatest_base w.house = omega (arith, is) in
+    record {
+      house = h.house;
+      losses = h.losses;
+      relays = h.relays;
+      clients = h.clients;
+      bag = (
+        told w w.losses (greatest_base w.house) epoch out most h.losses
+            (λ r read. told-most out.octets epoch r (announced-under (second w) base) read),
+        h.bag,
+      );
+    }
+
 -- ---- all
 
 by-later : (m n : ℕ) → m ≤ n → (s : PlainShard) → s.last ≤ m → s.last ≤ n
@@ -439,4 +456,5 @@ next-world law w (Wants k third ask) h =
     client-wants w k (slice_get w.clients k) third ask h (λ x there. All-got (IsClientHost w.clock w.losses) w.clients k x h.clients there)
 next-world law w (Ends k id) h = client-ends w k id (slice_get w.clients k) h (λ x there. All-got (IsClientHost w.clock w.losses) w.clients k x h.clients there)
 next-world law w (Fails place cause) h = fails-at w place cause (slice_get w.house.shards place) h refl
+next-world law w Announces h = announce w (greatest_base w.house) refl h
 next-world law w (Passes ms) h = goes-on w ms h

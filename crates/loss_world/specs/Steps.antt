@@ -17,9 +17,9 @@ use Rattle.proxy_core.specs.declared.outs.ProxyOut.{ProxyOut}
 use Rattle.proxy_core.specs.declared.outs.ProxyOut.TheVariants as Outs
 use Rattle.pcp_base.specs.Tables.{same_address}
 use Rattle.proxy_core.specs.Relays.{Relay, on_client, on_server, on_tick, response_from}
-use Rattle.loss_world.specs.HouseLosses.{Cause, Renumbers, entries_of, house_after, is_loss, told_by}
+use Rattle.loss_world.specs.HouseLosses.{Cause, Renumbers, entries_of, epoch_to_all, house_after, is_loss, told_by}
 use Rattle.loss_world.specs.Packets.{Origin, Packet, datagram_by, datagram_of, seconds}
-use Rattle.loss_world.specs.Worlds.{World, RelayHost, ClientHost, Renumbering, Event, ToServer, ToRelay, ToClient, RelayTicks, ClientTicks, Wants, Ends, Fails, Passes}
+use Rattle.loss_world.specs.Worlds.{World, RelayHost, ClientHost, Renumbering, Event, ToServer, ToRelay, ToClient, RelayTicks, ClientTicks, Wants, Ends, Fails, Announces, Passes}
 
 abbrev pub second : World → ℕ
 second w = seconds w.clock
@@ -195,7 +195,7 @@ abbrev pub client_ends : World → ℕ → ℕ → Option ClientHost → World
 client_ends w k id None = w
 client_ends w k id (Some host) = with_client w k (record host { client = after_end host.client id w.clock })
 
--- ---- losses
+-- ---- losses and announcements
 
 abbrev pub renumbered : World → ℕ → Cause → List Renumbering
 renumbered w place (Renumbers a) = (record { moment = second w; place = place; address = a }) ∷ w.renumberings
@@ -219,6 +219,11 @@ fails w place cause (Some shard) =
     if is_loss shard cause
     then lost w place shard cause (house_after w.house place shard (raised (second w) shard) cause) else w
 
+abbrev pub announces : World → ℕ → World
+announces w base = record w {
+  bag = told_now w (length w.losses) (epoch_of (second w) base) (epoch_to_all (second w) base) ∷ w.bag;
+}
+
 -- ---- all
 
 abbrev pub happens : World → Event → World
@@ -230,6 +235,7 @@ happens w (ClientTicks k word) = client_ticks w k word (slice_get w.clients k)
 happens w (Wants k third ask) = client_wants w k (slice_get w.clients k) third ask
 happens w (Ends k id) = client_ends w k id (slice_get w.clients k)
 happens w (Fails place cause) = fails w place cause (slice_get w.house.shards place)
+happens w Announces = announces w (greatest_base w.house)
 happens w (Passes ms) = record w { clock = w.clock + ms }
 
 -- a whole schedule, the first event first

@@ -64,8 +64,10 @@ pub data Event : Type 0 where
   -- a client gains a want, or ends one
   Wants : (client : ℕ) → Option Address → Ask → Event
   Ends : (client id : ℕ) → Event
-  -- an external address has a loss
+  -- an external address has a loss, which the server announces
   Fails : (place : ℕ) → Cause → Event
+  -- and it announces again
+  Announces : Event
   -- so many milliseconds pass
   Passes : (ms : ℕ) → Event
 
