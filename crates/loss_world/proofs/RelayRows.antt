@@ -17,13 +17,24 @@ use Rattle.loss_world.specs.Steps.{run}
 use Rattle.loss_world.specs.Worlds.{Beginning, Event, IsBeginning, IsEventValue, IsRelayValue, RelayHost, RelayTerms, World, ToServer, ToRelay, ToClient, ClientTicks, Wants, Fails, Announces, Passes, begun}
 use Rattle.loss_world.proofs.RowWorld.{asking, beginning_by, found_by, held_of, host, host-value, is-beginning, over, sevens, told_to}
 
--- the first relay has two inner addresses; the second one asks at the second of these
+-- the first relay has two inner addresses; the second one asks at the second of these, also for others
 abbrev first_relay : RelayTerms
-first_relay =
-    record { own = host 11; inner = host 12 ∷ host 13 ∷ []; server = host 1; key = replicate 32 7 }
+first_relay = record {
+  own = host 11;
+  inner = host 12 ∷ host 13 ∷ [];
+  server = host 1;
+  key = replicate 32 7;
+  third_party = (record { bits = 128; address = host 21 }) ∷ [];
+}
 
 abbrev second_relay : RelayTerms
-second_relay = record { own = host 21; inner = host 22 ∷ []; server = host 13; key = replicate 32 7 }
+second_relay = record {
+  own = host 21;
+  inner = host 22 ∷ [];
+  server = host 13;
+  key = replicate 32 7;
+  third_party = [];
+}
 
 abbrev in_a_row : Beginning
 in_a_row = record (beginning_by 1) {
