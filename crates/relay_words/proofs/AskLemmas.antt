@@ -1,5 +1,5 @@
 -- What the words say, and that alone.
-use Rattle.std.proofs.Common.{◌≡◌, ◌≤◌, true, false, List, [], ◌∷◌, ◌++◌, map, drop, length, get_or, Option, Some, None, refl, sym, subst, ap, ◌∙◌, codes}
+use Rattle.std.proofs.Common.{◌≡◌, ◌≤◌, true, false, List, [], ◌∷◌, ◌++◌, map, drop, length, get_or, Option, Some, None, refl, sym, subst, ap, ◌∙◌, arith, codes}
 use Rattle.std.specs.Prelude.{Bool, option_map, if◌then◌else◌}
 use Rattle.clap.specs.Words.{Text}
 use Rattle.pcp_base.specs.declared.addresses.Prefix.{Prefix}
@@ -12,6 +12,9 @@ use Rattle.relay_words.specs.declared.asks.ProxyAsk.{ProxyAsk}
 use Rattle.relay_words.specs.declared.more.RelayMore.{RelayMore}
 use Rattle.relay_words.specs.Mores.{IsMore}
 use Rattle.relay_words.specs.Relaying.{IsCascade, IsProxy, IsRelay, cascade_with, has_none, older_in, proxy_with}
+use Rattle.relay_words.specs.Keys.{IsKeyed, key_words}
+use Rattle.relay_words.specs.Splits.{plain_in, values_in}
+use Rattle.relay_words.proofs.ListLemmas.{rest_of, shape_by}
 use Rattle.relay_words.proofs.TextLemmas.{none_is, the_one}
 
 module _ {C : Type 0} (IsSaid : List Text → C → Type 0) (words : List Text) (filed : Option Text) where
@@ -72,3 +75,37 @@ module _ (words : List Text) (filed : Option Text) where
       → option_map f o ≡ older_in words filed → IsOnly (IsCascadeCommand (f a)) c → IsOnly (IsMore (drop 1 words)) m → found ≡ cascade_with c m
       → IsOnly (IsCascade words filed) found
   cascade_by f o a c m found some is hc hm made = rw made (cascade_only (f a) c m (sym is ∙ ap (option_map f) some) hc hm)
+
+-- ---- the words of the older command
+
+module _ {A : Type 0} (f : A → Text) (xs : List A) (filed : Option Text) where
+  abbrev pub files : List Text
+  files = values_in (codes "--key-file") (map f (rest_of xs))
+
+  pub older_none : length xs ≡ 0 → None ≡ older_in (map f xs) filed
+  older_none none = by xs none
+    where
+      by : (ys : List A) → length ys ≡ 0 → None ≡ older_in (map f ys) filed
+      by [] none = refl
+      by (y ∷ ys) none = absurd (omega (arith, none))
+
+  module _ (d : A) (name : Text) (some : 1 ≤ length xs) (first : name ≡ f (get_or xs 0 d)) where
+    older_first : older_in (map f xs) filed ≡ option_map (λ keys. name ∷ keys ++ plain_in false (map f (rest_of xs))) (key_words files filed)
+    older_first = ap (λ (ws : List Text). older_in ws filed) (shape_by f xs d name some first)
+
+    pub older_unkeyed : (old new : List Text) (there : Bool) → there ≡ false → IsKeyed (key_words files filed) old new there → None ≡ older_in (map f xs) filed
+    older_unkeyed old new there unless is = by (key_words files filed) refl is ∙ sym older_first
+      where
+        by : (keys : Option (List Text)) → key_words files filed ≡ keys → IsKeyed keys old new there
+            → None ≡ option_map (λ keys. name ∷ keys ++ plain_in false (map f (rest_of xs))) (key_words files filed)
+        by None same is = rw same refl
+        by (Some keys) same is = absurd (cc (sym unless ∙ is.0))
+
+    pub older_keyed : (old new all : List Text) (there : Bool) → there ≡ true → old ≡ name ∷ [] → IsKeyed (key_words files filed) old new there
+        → all ≡ new ++ plain_in false (map f (rest_of xs)) → Some all ≡ older_in (map f xs) filed
+    older_keyed old new all there has one is behind = by (key_words files filed) refl is ∙ sym older_first
+      where
+        by : (keys : Option (List Text)) → key_words files filed ≡ keys → IsKeyed keys old new there
+            → Some all ≡ option_map (λ keys. name ∷ keys ++ plain_in false (map f (rest_of xs))) (key_words files filed)
+        by None same is = absurd (cc (sym has ∙ is))
+        by (Some keys) same is = rw (same, behind, is.1, one) refl

@@ -1,5 +1,5 @@
 -- Lists that begin with an item, as a slice pattern tells it.
-use Rattle.std.proofs.Common.{◌≡◌, List, [], ◌∷◌, ℕ, suc, ◌-◌, ◌≤◌, map, take, drop, length, get_or, refl, ap, ◌∙◌, arith}
+use Rattle.std.proofs.Common.{◌≡◌, List, [], ◌∷◌, suc, ◌-◌, ◌≤◌, map, take, drop, length, get_or, refl, ap, ◌∙◌, arith}
 use Rattle.std.proofs.lemmas.List.{take_all}
 
 abbrev pub rest_of : {X : Type 0} → List X → List X

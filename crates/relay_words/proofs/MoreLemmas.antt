@@ -1,5 +1,5 @@
 -- What the options among the words say, and that alone.
-use Rattle.std.proofs.Common.{◌≡◌, ℕ, ◌≤◌, ◌<◌, List, drop, length, Option, Some, None, sym, subst, ap, ◌∙◌, arith, codes}
+use Rattle.std.proofs.Common.{◌≡◌, ℕ, ◌≤◌, ◌<◌, List, drop, length, Option, Some, None, refl, sym, subst, arith, codes}
 use Rattle.std.specs.Prelude.{slice_get}
 use Rattle.clap.specs.Words.{Text}
 use Rattle.pcp_base.specs.AddressTexts.{IsAddressText, IsPrefixText}

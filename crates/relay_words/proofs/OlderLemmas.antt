@@ -1,15 +1,13 @@
 -- Words of an older command go on saying what they said.
-use Rattle.std.proofs.Common.{◌≡◌, ℕ, suc, ◌+◌, ◌≤◌, true, false, List, [], ◌∷◌, length, drop, None, refl, sym, subst, ap, arith, codes}
-use Rattle.std.specs.Prelude.{Bool, ◌||◌, ◌&&◌, Some, if◌then◌else◌}
+use Rattle.std.proofs.Common.{◌≡◌, suc, ◌≤◌, true, false, List, [], ◌∷◌, length, drop, None, refl, ap, arith, codes}
+use Rattle.std.specs.Prelude.{Bool, ◌||◌, Some}
 use Rattle.std.specs.List.{list_any}
 use Rattle.std.specs.Str.{bytes_eq}
 use Rattle.clap.specs.Words.{Text}
-use Rattle.proxy_commands.specs.declared.commands.CascadeCommand.{CascadeCommand}
-use Rattle.proxy_commands.specs.declared.commands.ProxyCommand.{ProxyCommand}
 use Rattle.relay_words.specs.Mores.{IsMore}
 use Rattle.relay_words.specs.OlderWords.{AreOlder, OlderCascadeStays, OlderProxyStays, nothing_more}
 use Rattle.relay_words.specs.Relaying.{older_in}
-use Rattle.relay_words.specs.Splits.{is_inner, is_more, plain_in, values_in, with_value}
+use Rattle.relay_words.specs.Splits.{is_inner, is_more, plain_in, values_in}
 
 neither : (a b : Bool) → (a || b) ≡ false → (a ≡ false) × (b ≡ false)
 neither true b h = absurd cc
@@ -26,18 +24,19 @@ no_values name other (word ∷ value ∷ rest) none =
       | false ↦ λ f. rw (parts.0, f) (no_values name other (value ∷ rest) parts.1)
     ]) refl
 
-no_third : (word : Text) → is_more word ≡ false → bytes_eq word (codes "--third-party") ≡ false
-no_third word none = (neither (bytes_eq word (codes "--third-party")) (bytes_eq word (codes "--rate") || bytes_eq word (codes "--key-file")) none).0
+-- the three options
+module _ (word : Text) (none : is_more word ≡ false) where
+  no_two : (bytes_eq word (codes "--third-party") || bytes_eq word (codes "--rate")) ≡ false
+  no_two = (neither (bytes_eq word (codes "--third-party") || bytes_eq word (codes "--rate")) (bytes_eq word (codes "--key-file")) none).0
 
-no_rate : (word : Text) → is_more word ≡ false → bytes_eq word (codes "--rate") ≡ false
-no_rate word none =
-    let behind = (neither (bytes_eq word (codes "--third-party")) (bytes_eq word (codes "--rate") || bytes_eq word (codes "--key-file")) none).1 in
-    (neither (bytes_eq word (codes "--rate")) (bytes_eq word (codes "--key-file")) behind).0
+  no_third : bytes_eq word (codes "--third-party") ≡ false
+  no_third = (neither (bytes_eq word (codes "--third-party")) (bytes_eq word (codes "--rate")) no_two).0
 
-no_file : (word : Text) → is_more word ≡ false → bytes_eq word (codes "--key-file") ≡ false
-no_file word none =
-    let behind = (neither (bytes_eq word (codes "--third-party")) (bytes_eq word (codes "--rate") || bytes_eq word (codes "--key-file")) none).1 in
-    (neither (bytes_eq word (codes "--rate")) (bytes_eq word (codes "--key-file")) behind).1
+  no_rate : bytes_eq word (codes "--rate") ≡ false
+  no_rate = (neither (bytes_eq word (codes "--third-party")) (bytes_eq word (codes "--rate")) no_two).1
+
+  no_file : bytes_eq word (codes "--key-file") ≡ false
+  no_file = (neither (bytes_eq word (codes "--third-party") || bytes_eq word (codes "--rate")) (bytes_eq word (codes "--key-file")) none).1
 
 -- ---- one inner address
 
@@ -50,13 +49,13 @@ none_behind [] few = refl
 none_behind (x ∷ xs) few = none_left xs few
 
 plain_seen : (rest : List Text) → list_any is_more rest ≡ false → values_in (codes "--inner") rest ≡ [] → plain_in true rest ≡ rest
-plain_seen [] none no = refl
-plain_seen (word ∷ []) none no = refl
-plain_seen (word ∷ value ∷ rest) none no =
+plain_seen [] none nil = refl
+plain_seen (word ∷ []) none nil = refl
+plain_seen (word ∷ value ∷ rest) none nil =
     let parts = neither (is_more word) (list_any is_more (value ∷ rest)) none in
     (elim (is_inner word) as (λ b. is_inner word ≡ b → plain_in true (word ∷ value ∷ rest) ≡ word ∷ value ∷ rest) [
-      | true ↦ λ t. absurd (let some : value ∷ values_in (codes "--inner") rest ≡ [] = rw (parts.0, t) at no in cc)
-      | false ↦ λ f. rw (parts.0, f) (ap (λ (words : List Text). word ∷ words) (plain_seen (value ∷ rest) parts.1 (rw (parts.0, f) at no)))
+      | true ↦ λ t. absurd (let some : value ∷ values_in (codes "--inner") rest ≡ [] = rw (parts.0, t) at nil in cc)
+      | false ↦ λ f. rw (parts.0, f) (ap (λ (words : List Text). word ∷ words) (plain_seen (value ∷ rest) parts.1 (rw (parts.0, f) at nil)))
     ]) refl
 
 plain_same : (rest : List Text) → list_any is_more rest ≡ false → length (values_in (codes "--inner") rest) ≤ 1 → plain_in false rest ≡ rest

@@ -1,5 +1,5 @@
 -- Values in text are read, and no others.
-use Rattle.std.proofs.Common.{◌≡◌, ℕ, ◌≤◌, true, false, List, [], ◌∷◌, ◌++◌, map, length, get_or, Option, Some, None, suc, refl, sym, subst, ap, ◌∙◌, append-nil, append_assoc}
+use Rattle.std.proofs.Common.{◌≡◌, ℕ, ◌≤◌, true, false, List, [], ◌∷◌, ◌++◌, map, length, get_or, Option, Some, None, refl, sym, subst, ap, ◌∙◌, append-nil, append_assoc}
 use Rattle.std.specs.Prelude.{Bool, Result, Ok, Err, IfOk, IfSome, OnErr}
 use Rattle.clap.specs.Words.{Text}
 use Rattle.pcp_base.specs.AddressTexts.{IsPrefixText}
@@ -9,7 +9,7 @@ use Rattle.pcp_base.specs.declared.errors.Memory.{Memory}
 use Rattle.client_commands.specs.Commands.{IsOnly}
 use Rattle.client_commands.specs.Values.{IsNumberAt, IsNumberText}
 use Rattle.relay_words.proofs.ListLemmas.{rest_of, shape_by}
-use Rattle.relay_words.specs.Lists.{Adds, AddsAll, AreAll}
+use Rattle.relay_words.specs.Lists.{Adds, AreAll}
 use Rattle.relay_words.specs.Mores.{rate_range}
 
 -- what is found is what is such

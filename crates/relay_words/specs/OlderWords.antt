@@ -1,5 +1,5 @@
 -- Words of an older command go on saying what they said (our own).
-use Rattle.std.specs.Prelude.{◌≡◌, ◌≤◌, false, List, [], ◌∷◌, length, Some, None, codes}
+use Rattle.std.specs.Prelude.{◌≡◌, ◌≤◌, false, List, [], ◌∷◌, length, None, codes}
 use Rattle.std.specs.List.{list_any}
 use Rattle.clap.specs.Words.{Text}
 use Rattle.proxy_commands.specs.Commands.{IsCascadeCommand, IsCommand}

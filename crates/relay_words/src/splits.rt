@@ -1,5 +1,5 @@
 //! Options among the words of a relay.
-ghost use Rattle.std.specs.Prelude.{◌≡◌, ◌∷◌, ◌++◌, [], IfOk, OnOk, map, option_map, slice_get, string_bytes};
+ghost use Rattle.std.specs.Prelude.{◌≡◌, ◌∷◌, ◌++◌, ◌||◌, ◌&&◌, [], IfOk, OnOk, map, option_map, slice_get, string_bytes};
 ghost use Rattle.relay_words.specs.Splits.{is_inner, is_more, plain_in, values_in};
 
 use pcp_base::Memory;
@@ -18,6 +18,13 @@ fn is_inner(word: &str) -> bool
     word == "--inner"
 }
 
+/// Whether the word is an option that an older command hasn't; `seen` is whether `--inner` came.
+fn is_left_out(word: &str, seen: bool) -> bool
+    ensures { result ≡ (is_more word.now || (seen && is_inner word.now)) }
+{
+    is_more(word) || (seen && is_inner(word))
+}
+
 /// Appends the words without these options and their values, and without `--inner` behind the first one.
 pub(crate) fn push_plain(
     alloc: Global,
@@ -34,7 +41,7 @@ pub(crate) fn push_plain(
     let [value, behind @ ..] = rest else {
         return push_word(alloc, word, plain);
     };
-    if is_more(word) || (seen && is_inner(word)) {
+    if is_left_out(word, seen) {
         return push_plain(alloc, behind, seen, plain);
     }
     push_word(alloc, word, plain)?;
