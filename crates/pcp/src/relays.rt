@@ -3,16 +3,16 @@ use crate::keys::{ANY_KEY, filed_key};
 use crate::tools::{kept_socket, tell_now};
 use cascade_runs::run_cascade;
 use pcp_base::{Address, Memory};
-use pcp_io::UdpOutbox;
 use program_links::{
-    CLIENT_PORT, RelayInbox, RelayOutbox, clock_from_now, inner_place, ip_of, same_socket,
-    socket_at, told_and_ordered,
+    CLIENT_PORT, RelayInbox, RelayOutbox, clock_from_now, inner_place, ip_of, socket_at,
+    told_and_ordered,
 };
 use program_texts::{dropped_text, families_cause, port_cause};
 use proxy_runs::{SERVER_PORT, run_proxy};
 use relay_words::{CascadeAsk, ProxyAsk, cascade_ask_of, proxy_ask_of};
 use std::alloc::Global;
 use std::net::{SocketAddr, UdpSocket};
+use std::slice;
 use std::sync::Wait;
 use tool_commands::ToolStatus;
 
@@ -47,11 +47,13 @@ fn terms_in(
     }
 }
 
-/// The sockets of a relay: those of its inner addresses with their places, its own one, and those of port 5350.
+/// The sockets of a relay: those of its inner addresses and its own one, with their places, and those of
+/// port 5350.
 #[derive(Drop)]
 struct RelayLinks {
     places: Vec<SocketAddr>,
     inner: Vec<Option<UdpSocket>>,
+    own_place: SocketAddr,
     own: Option<UdpSocket>,
     told: Option<(UdpSocket, UdpSocket)>,
 }
@@ -76,13 +78,14 @@ fn links_of(rt: &HostRuntime, ask: &ProxyAsk, explains: bool) -> Result<RelayLin
         places.push(at)?;
         inner.push(kept_socket(alloc, at, socket_at(at), &mut causes)?)?;
     }
-    let own = SocketAddr::new(ip_of(ask.command.own), 0);
-    let socket = kept_socket(alloc, own, socket_at(own), &mut causes)?;
+    let own_place = SocketAddr::new(ip_of(ask.command.own), 0);
+    let own = kept_socket(alloc, own_place, socket_at(own_place), &mut causes)?;
     tell_now(rt, &causes, explains);
     Ok(RelayLinks {
         places,
         inner,
-        own: socket,
+        own_place,
+        own,
         told: told_or_lacking(rt, ask)?,
     })
 }
@@ -153,7 +156,11 @@ fn relay_by<R: Wait>(
     let alloc = rt.alloc();
     let links = links_of(rt, ask, explains)?;
     let mut down = RelayOutbox::of(alloc, &links.places, &links.inner)?;
-    let mut up = UdpOutbox::of(same_socket(&links.own));
+    let mut up = RelayOutbox::of(
+        alloc,
+        slice::from_ref(&links.own_place),
+        slice::from_ref(&links.own),
+    )?;
     let RelayLinks {
         inner,
         own,

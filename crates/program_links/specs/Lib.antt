@@ -4,4 +4,5 @@ pub mod Lanes
 pub mod Links
 pub mod OrderLines
 pub mod Refusals
+pub mod Relays
 pub mod Routes

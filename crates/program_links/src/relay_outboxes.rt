@@ -1,8 +1,11 @@
-//! What a relay sends to its clients.
+//! What a relay sends.
+ghost use Rattle.std.specs.Prelude.{◌≡◌};
+ghost use Rattle.program_links.specs.Relays.{aim_at, group_at};
+
 use crate::host_links::{Links, links_of};
 use crate::outboxes::Mouth;
 use crate::sockets::{ip_of, same_socket};
-use pcp_announce::{ALL_HOSTS_V4, ALL_HOSTS_V6};
+use pcp_announce::{ALL_HOSTS_V4, ALL_HOSTS_V6, Group};
 use pcp_base::{Address, Failed, Memory};
 use pcp_io::{Outbox, UdpOutbox};
 use std::alloc::Global;
@@ -22,37 +25,61 @@ pub fn inner_place(rt: &HostRuntime, address: Address, port: u16) -> SocketAddr 
     SocketAddr::V6(SocketAddrV6::new(ip, port, 0, link))
 }
 
-/// By which a relay's clients at one of its inner addresses hear.
+/// By which a relay sends from one of its addresses.
 #[derive(Drop)]
-struct InnerMouth {
+struct RelayMouth {
+    /// the number of the door, and all hosts there
+    group: Group,
     mouth: Mouth,
-    /// all hosts of this side
-    everyone: Address,
 }
 
 /// The mouth of this door, whose socket is bound there.
-fn mouth_of(door: u8, at: SocketAddr, socket: &Option<UdpSocket>) -> InnerMouth {
-    let (everyone, scope) = match at {
-        SocketAddr::V4(_) => (ALL_HOSTS_V4, 0),
-        SocketAddr::V6(at) => (ALL_HOSTS_V6, at.scope_id()),
+fn mouth_of(door: u8, at: SocketAddr, socket: &Option<UdpSocket>) -> RelayMouth {
+    let scope = match at {
+        SocketAddr::V4(_) => 0,
+        SocketAddr::V6(at) => at.scope_id(),
     };
-    InnerMouth {
+    RelayMouth {
+        group: group_at(door, at),
         mouth: Mouth {
             door,
             speaks: UdpOutbox::on_link(same_socket(socket), scope),
             refuses: UdpOutbox::on_link(same_socket(socket), scope),
         },
-        everyone,
     }
 }
 
-/// Datagrams to a relay's clients. Each leaves by the door that it is told, but what goes to 224.0.0.1, an
-/// announcement: that leaves by each door, by one of IPv6 to ff02::1. A send never waits: each that the
-/// system doesn't take whole at once, by any of its doors, or for which there is no such door, is a fault
-/// that it counts, and nothing else is. A count that stands at 2^64 - 1 stands still.
+/// All hosts at a door that is bound there, by its family.
+fn group_at(door: u8, at: SocketAddr) -> Group
+    ensures { result ≡ group_at door at }
+{
+    let hosts = match at {
+        SocketAddr::V4(_) => ALL_HOSTS_V4,
+        SocketAddr::V6(_) => ALL_HOSTS_V6,
+    };
+    Group { door, hosts }
+}
+
+/// To whom what is for this peer by this door leaves by the door of the group; none where it doesn't.
+fn aim_at(group: &Group, door: u8, peer: Address) -> Option<Address>
+    ensures { result ≡ aim_at group.now door peer }
+{
+    if peer == ALL_HOSTS_V4 {
+        Some(group.hosts)
+    } else if door == group.door {
+        Some(peer)
+    } else {
+        None
+    }
+}
+
+/// Datagrams of a relay, to its clients or to its server. Each leaves by the door that it is told, but what
+/// goes to 224.0.0.1, an announcement: that leaves by each door, by one of IPv6 to ff02::1. A send never
+/// waits: each that the system doesn't take whole at once, by any of its doors, or for which there is no
+/// such door, is a fault that it counts, and nothing else is. A count that stands at 2^64 - 1 stands still.
 #[derive(Drop)]
 pub struct RelayOutbox {
-    mouths: Vec<InnerMouth>,
+    mouths: Vec<RelayMouth>,
     faults: u64,
 }
 
@@ -66,8 +93,6 @@ impl Model for RelayOutbox {
 }
 
 impl RelayOutbox {
-    ghost use Rattle.std.specs.Prelude.{◌≡◌};
-
     /// An outbox by these sockets, whose doors count from 0, each with the place where it is bound. By a
     /// door without a socket each send fails. The one error is want of memory.
     pub fn of(
@@ -83,35 +108,18 @@ impl RelayOutbox {
         }
         Ok(RelayOutbox { mouths, faults: 0 })
     }
-
-    /// Whether the datagram went out by this door, or by each where it is for all hosts.
-    fn goes_out(&mut self, door: u8, peer: Address, port: u16, octets: &[u8]) -> bool
-        ensures { self.new ≡ self.old }
-    {
-        if peer == ALL_HOSTS_V4 {
-            return goes_everywhere(&mut self.mouths, port, octets);
-        }
-        goes_by(&mut self.mouths, door, peer, port, octets)
-    }
 }
 
-/// Whether the datagram went out by this door.
-fn goes_by(mouths: &mut [InnerMouth], door: u8, peer: Address, port: u16, octets: &[u8]) -> bool {
-    for inner in mouths.iter_mut() {
-        if inner.mouth.door == door {
-            return inner.mouth.goes_out(peer, port, octets);
+/// Whether the datagram went out by each door by which it leaves, and it leaves by one.
+fn goes_by(mouths: &mut [RelayMouth], door: u8, peer: Address, port: u16, octets: &[u8]) -> bool {
+    let (mut leaves, mut lost) = (false, false);
+    for RelayMouth { group, mouth } in mouths.iter_mut() {
+        if let Some(host) = aim_at(group, door, peer) {
+            leaves = true;
+            lost |= !mouth.goes_out(host, port, octets);
         }
     }
-    false
-}
-
-/// Whether the datagram went out by each door, to all hosts there.
-fn goes_everywhere(mouths: &mut [InnerMouth], port: u16, octets: &[u8]) -> bool {
-    let mut everywhere = true;
-    for inner in mouths.iter_mut() {
-        everywhere &= inner.mouth.goes_out(inner.everyone, port, octets);
-    }
-    everywhere
+    leaves && !lost
 }
 
 impl Outbox for RelayOutbox {
@@ -128,7 +136,7 @@ impl Outbox for RelayOutbox {
         ensures same { OnOk result (self.new ≡ self.old) }
         ensures counted { OnErr result (self.new ≡ one_more self.old) }
     {
-        if self.goes_out(door, peer, port, octets) {
+        if goes_by(&mut self.mouths, door, peer, port, octets) {
             return Ok(());
         }
         self.faults = self.faults.saturating_add(1);
