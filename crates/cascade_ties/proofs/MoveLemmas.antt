@@ -1,5 +1,5 @@
 -- A tie that goes to another local port.
-use Rattle.std.proofs.Common.{◌≡◌, ℕ, suc, ◌+◌, ◌≤◌, ◌&&◌, ◌==◌, nat_le, Bool, true, false, not, cond, List, [], ◌∷◌, ◌++◌, find, count_by, Option, Some, None, Result, Ok, Err, OnOk, OnErr, refl, sym, ap, ◌∙◌, subst, arith}
+use Rattle.std.proofs.Common.{◌≡◌, ℕ, ◌+◌, ◌&&◌, ◌==◌, nat_le, Bool, true, false, not, cond, List, [], ◌∷◌, ◌++◌, find, count_by, Option, Some, None, refl, sym, ap, ◌∙◌, subst, arith}
 use Rattle.std.specs.List.{AllByRecursion, list_any}
 use Rattle.std.specs.Ordering.{nat_cmp}
 use Rattle.std.specs.BTreeMap.{get, values}
@@ -7,28 +7,27 @@ use Rattle.std.specs.FinMap.{contains_key}
 use Rattle.std.proofs.lemmas.Bool.{and_parts, eq-eqb, leb-true, not-true}
 use Rattle.pcp_base.specs.declared.leases.Endpoint.{Endpoint}
 use Rattle.pcp_base.specs.declared.leases.Protocol.{Protocol}
-use Rattle.pcp_base.specs.Tables.{EachTwo, put, same_address, same_endpoint}
+use Rattle.pcp_base.specs.Tables.{put, same_address, same_endpoint}
 use Rattle.pcp_base.proofs.Members.{All-IsIn, All-both, All-weaker, any-none, find-some}
 use Rattle.pcp_base.proofs.Puts.{put_All}
 use Rattle.pcp_base.proofs.Same.{same_endpoint-Decides, same_protocol-Decides}
 use Rattle.external_pool.specs.declared.uses.Use.TheVariants.{Free, Held}
 use Rattle.external_pool.specs.Calls.{MayHold, MayRelease}
 use Rattle.external_pool.specs.Holdings.{Holdings, IsWhole, use_of, with_use}
-use Rattle.ordered_index.specs.declared.numbered.Numbered.{Numbered}
 use Rattle.ordered_index.specs.MapSteps.{HasEntry}
-use Rattle.ordered_index.specs.Orders.{Place, place_of, port_at, place_cmp, port_cmp}
+use Rattle.ordered_index.specs.Orders.{place_of, port_at, place_cmp, port_cmp}
 use Rattle.ordered_index.specs.Steps.{Replaces, Stays}
 use Rattle.ordered_index.proofs.Entries.{false_by}
 use Rattle.ordered_index.proofs.EntryLaws.{tally, count-cons, none_some, some_one}
 use Rattle.ordered_index.proofs.Keeping.{none-found, port-there, replaced-kept, replaced-values, same-values}
 use Rattle.cascade_ties.specs.declared.ties.Tied.{Tied}
 use Rattle.cascade_ties.specs.Kept.{HasLocal, IsTiePool, IsTieTable, left_use, place_of_tie, port_of_tie, rest_in, tie_keying, ties_of, use_by}
-use Rattle.cascade_ties.specs.Ties.{AreOtherTies, MakesTies, MayMove, TiesDiffer, has_client, has_local, spot, tie_at, tie_of, with_change}
+use Rattle.cascade_ties.specs.Ties.{AreOtherTies, MayMove, TiesDiffer, has_client, has_local, spot, tie_at, tie_of, with_change}
 use Rattle.cascade_ties.proofs.OneLemmas.{Once, all_after, count-append, find-append, find-before, find-nothing}
 use Rattle.cascade_ties.proofs.PoolKeeping.{alike_pool, at_that, find_one, freed_pool, high_stays, left_pool, low_stays, may_hold, put_pool, set_rest, set_same}
 use Rattle.cascade_ties.proofs.RestLemmas.{Rests, rest_none}
 use Rattle.cascade_ties.proofs.StepLemmas.{Numbers, found_at, left_high, left_low, seen}
-use Rattle.cascade_ties.proofs.TieKeeping.{client_is, once_client, once_local, ports_differ, tells_client, tells_local, tie_laws, tie_stays}
+use Rattle.cascade_ties.proofs.TieKeeping.{once_local, ports_differ, tells_client, tells_local, tie_laws, tie_stays}
 
 clash : {A : Type 0} (b : Bool) → b ≡ true → b ≡ false → A
 clash b h k = absurd (let no : true ≡ false = sym h ∙ k in cc)

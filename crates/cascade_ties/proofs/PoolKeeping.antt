@@ -12,7 +12,7 @@ use Rattle.pcp_base.proofs.Same.{same_protocol-Decides}
 use Rattle.pcp_base.proofs.Members.{IsIn, All-IsIn, any-none, find-some}
 use Rattle.port_runs.specs.Ports.{is_in_run}
 use Rattle.external_pool.specs.declared.uses.Use.{Use}
-use Rattle.external_pool.specs.declared.uses.Use.TheVariants.{Free, Held, Resting}
+use Rattle.external_pool.specs.declared.uses.Use.TheVariants.{Free, Held}
 use Rattle.external_pool.specs.Calls.{MayHold, MayRelease}
 use Rattle.external_pool.specs.Holdings.{Holdings, IsWhole, use_of, ports_held, with_use}
 use Rattle.external_pool.specs.PortUses.{is_held, is_held_by, use_along, use_at}
@@ -139,8 +139,8 @@ module _ (pool : Holdings) (rest : Protocol → ℕ → Option ℕ) (ts : List T
     marked : (other : Protocol) (port : ℕ) (b : Bool) → (same_protocol protocol other && local == port) ≡ b
         → cond b (use_along (port - local) (use_by None o)) (use_of pool other port) ≡ use_by (tie_at other port ts) (cond b o (rest other port))
     marked other port true e =
-        let p = and_parts _ _ e in
-        let same = eqb-true local port p.1 in
+        let p : (same_protocol protocol other ≡ true) × ((local == port) ≡ true) = and_parts _ _ e in
+        let same : local ≡ port = eqb-true local port p.1 in
         let zero_away : port - local ≡ 0 = omega (arith, same) in
         along_none o (port - local) zero_away ∙ sym (ap (λ (t : Option Tied). use_by t o) (at_that (λ z n. tie_at z n ts) protocol other local port e ∙ none))
     marked other port false e = is.uses other port

@@ -1,7 +1,7 @@
 -- Until when local ports rest, by what stands at each spot.
-use Rattle.std.proofs.Common.{◌≡◌, ℕ, ◌+◌, ◌-◌, ◌*◌, ◌/◌, ◌%◌, ◌<◌, ◌≤◌, ◌&&◌, ◌==◌, nat_lt, Bool, true, false, not, cond, List, filter, Option, Some, None, is_some, unwrap_or, refl, sym, ap, ◌∙◌, subst, arith}
+use Rattle.std.proofs.Common.{◌≡◌, ℕ, ◌+◌, ◌/◌, ◌%◌, ◌<◌, ◌≤◌, ◌&&◌, ◌==◌, nat_lt, Bool, true, false, not, cond, List, filter, Option, Some, None, is_some, unwrap_or, refl, sym, ap, ◌∙◌, subst, arith}
 use Rattle.std.specs.Bool.{OnTrue, OnFalse}
-use Rattle.std.specs.FinMap.{FinMap, contains_key, get, insert, len, remove, retain_keys, get-retain_keys, len-insert, same_map, nat_cmp-IsAntisymmetric}
+use Rattle.std.specs.FinMap.{FinMap, contains_key, get, insert, len, remove, get-retain_keys, len-insert, same_map, nat_cmp-IsAntisymmetric}
 use Rattle.std.specs.Ordering.{nat_cmp}
 use Rattle.std.specs.Cmp.{nat_cmp_total}
 use Rattle.std.specs.BTreeMap.{values}
@@ -16,7 +16,7 @@ use Rattle.pcp_base.proofs.Same.{same_endpoint-Decides, same_protocol-Decides}
 use Rattle.expiry_wheel.specs.Due.{IsNextDue}
 use Rattle.expiry_wheel.proofs.Maps.{get-inserted, get-removed}
 use Rattle.external_pool.specs.Calls.{WakesPort}
-use Rattle.external_pool.specs.Holdings.{Holdings, use_of, with_use}
+use Rattle.external_pool.specs.Holdings.{Holdings, with_use}
 use Rattle.external_pool.specs.PortUses.{is_resting}
 use Rattle.external_pool.specs.declared.uses.Use.TheVariants.{Free}
 use Rattle.ordered_index.specs.declared.numbered.Numbered.{Numbered}

@@ -5,13 +5,12 @@ use Rattle.std.specs.List.{list_any}
 use Rattle.std.specs.BTreeMap.{values}
 use Rattle.std.specs.FinMap.{contains_key, get, insert, remove}
 use Rattle.pcp_base.specs.declared.leases.Endpoint.{Endpoint}
-use Rattle.pcp_base.specs.declared.leases.Protocol.{Protocol}
 use Rattle.pcp_base.specs.Tables.{same_protocol}
 use Rattle.expiry_wheel.proofs.Maps.{get-inserted}
 use Rattle.external_pool.specs.Holdings.{Holdings}
 use Rattle.cascade_ties.specs.declared.ties.Tied.{Tied}
 use Rattle.cascade_ties.specs.Kept.{IsTieTable, reserved, ties_of}
-use Rattle.cascade_ties.specs.Ties.{MakesTies, MayChange, MayMove, MayRest, Ties, has_local, is_vacant, spot, tie_at, tie_of, with_rest}
+use Rattle.cascade_ties.specs.Ties.{MakesTies, MayChange, MayMove, MayRest, Ties, has_local, spot, tie_at, with_rest}
 use Rattle.cascade_ties.proofs.MoveLemmas.{old_isnt, same_client}
 use Rattle.cascade_ties.proofs.RestLemmas.{Rests, has_room, renewed_table, reserved_back, reserved_made, reserved_table, rested_table, spot_test, tie_there, unreserved_table}
 use Rattle.cascade_ties.proofs.StepLemmas.{Numbers}
@@ -53,19 +52,19 @@ module _ (it : Numbers) (pool : Holdings) (m : Rests) (h : IsTieTable it pool m)
       room_table = subst (IsTieTable it pool) (sym (roomy ∙ ap (λ (n : ℕ). reserved m n u) is)) (reserved_table it pool m h e.protocol local rest.tied there.0 there.1 u)
 
       back : (fresh : Bool) (last : Rests) → fresh ≡ not (contains_key m at) → last ≡ cond fresh (remove room at) room → last ≡ m
-      back fresh last was no = no ∙ ap (λ (b : Bool). cond b (remove room at) room) was ∙ ap (λ (k : Rests). cond (not (contains_key m at)) (remove k at) k) roomy ∙ reserved_back m at u
+      back fresh last was given = given ∙ ap (λ (b : Bool). cond b (remove room at) room) was ∙ ap (λ (k : Rests). cond (not (contains_key m at)) (remove k at) k) roomy ∙ reserved_back m at u
 
       -- and then it is written, or the room is given back
       pub concluded_table : {X E : Type 0} (new : Numbers) (after : Holdings) (made : List Tied) (r : Result X E) (fresh b : Bool) (last : Rests) → IsTieTable new after room
           → MakesTies (ties_of pool room ts) (ties_of pool room made) r (ties_of after room (values new.leases))
           → fresh ≡ not (contains_key m at) → b ≡ is_ok r
           → OnTrue b (last ≡ insert room at u) → OnFalse b (last ≡ cond fresh (remove room at) room) → IsTieTable new after last
-      concluded_table new after made (Ok v) fresh true last table makes was ok yes no = subst (IsTieTable new after) (sym yes) (renewed_table new after room table at u (has_room m at u room roomy))
-      concluded_table new after made (Ok v) fresh false last table makes was ok yes no = absurd cc
-      concluded_table new after made (Err f) fresh true last table makes was ok yes no = absurd cc
-      concluded_table new after made (Err f) fresh false last table makes was ok yes no =
+      concluded_table new after made (Ok v) fresh true last table makes was ok wrote _ = subst (IsTieTable new after) (sym wrote) (renewed_table new after room table at u (has_room m at u room roomy))
+      concluded_table new after made (Ok v) fresh false last table makes was ok _ _ = absurd cc
+      concluded_table new after made (Err f) fresh true last table makes was ok _ _ = absurd cc
+      concluded_table new after made (Err f) fresh false last table makes was ok _ given =
           let same : values new.leases ≡ ts = ap (λ (z : Ties). z.each) makes.err in
-          subst (IsTieTable new after) (sym (back fresh last was no))
+          subst (IsTieTable new after) (sym (back fresh last was given))
           (unreserved_table new after m e.protocol local u rest.tied h.spots (ap (tie_at e.protocol local) same ∙ there.0)
           (subst (IsTieTable new after) (roomy ∙ ap (λ (n : ℕ). reserved m n u) is) table))
 
@@ -74,15 +73,15 @@ module _ (it : Numbers) (pool : Holdings) (m : Rests) (h : IsTieTable it pool m)
           → fresh ≡ not (contains_key m at) → b ≡ is_ok r
           → OnTrue b (last ≡ insert room at u) → OnFalse b (last ≡ cond fresh (remove room at) room)
           → MakesTies (ties_of pool m ts) (with_rest (ties_of pool m made) e.protocol local u) r (ties_of after last (values new.leases))
-      concluded_seen new after made (Ok v) fresh true last makes was ok yes no = record {
+      concluded_seen new after made (Ok v) fresh true last makes was ok wrote _ = record {
         ok = seen_of (ties_of after room (values new.leases)) (ties_of pool room made) last (insert m (spot e.protocol local) u) makes.ok
-            (yes ∙ ap (λ (k : Rests). insert k at u) roomy ∙ reserved_made m at u ∙ ap (λ (n : ℕ). insert m n u) is);
+            (wrote ∙ ap (λ (k : Rests). insert k at u) roomy ∙ reserved_made m at u ∙ ap (λ (n : ℕ). insert m n u) is);
         err = tt;
       }
-      concluded_seen new after made (Ok v) fresh false last makes was ok yes no = absurd cc
-      concluded_seen new after made (Err f) fresh true last makes was ok yes no = absurd cc
-      concluded_seen new after made (Err f) fresh false last makes was ok yes no =
-          record { ok = tt; err = seen_of (ties_of after room (values new.leases)) (ties_of pool room ts) last m makes.err (back fresh last was no) }
+      concluded_seen new after made (Ok v) fresh false last makes was ok _ _ = absurd cc
+      concluded_seen new after made (Err f) fresh true last makes was ok _ _ = absurd cc
+      concluded_seen new after made (Err f) fresh false last makes was ok _ given =
+          record { ok = tt; err = seen_of (ties_of after room (values new.leases)) (ties_of pool room ts) last m makes.err (back fresh last was given) }
 
   pub change_room : (t : Tied) (room : Rests) → MayChange (ties_of pool m ts) t → MayChange (ties_of pool room ts) t
   change_room t room may = record { old = may.old; client = may.client; local = may.local }

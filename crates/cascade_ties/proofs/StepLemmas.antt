@@ -1,5 +1,5 @@
 -- A table of ties, seen from outside, after a step.
-use Rattle.std.proofs.Common.{◌≡◌, ℕ, ◌<◌, ◌≤◌, ◌&&◌, nat_le, nat_lt, Bool, true, false, not, cond, List, [], ◌∷◌, ◌++◌, length, filter, Option, Some, None, IsSome, Result, Ok, Err, OnOk, OnErr, refl, sym, ap, ◌∙◌, subst, arith}
+use Rattle.std.proofs.Common.{◌≡◌, ℕ, ◌+◌, ◌<◌, ◌≤◌, ◌&&◌, nat_le, nat_lt, Bool, true, false, not, cond, List, [], ◌∷◌, ◌++◌, length, filter, Option, Some, None, IsSome, Result, Ok, Err, OnOk, OnErr, refl, sym, ap, ◌∙◌, subst, arith}
 use Rattle.std.specs.List.{AllByRecursion, AllZip, list_any}
 use Rattle.std.specs.Ordering.{nat_cmp}
 use Rattle.std.specs.BTreeMap.{get, values}
@@ -26,7 +26,7 @@ use Rattle.ordered_index.proofs.EntryLaws.{none_some, some_one}
 use Rattle.ordered_index.proofs.Keeping.{IsTakenOut, blank-kept, blank-values, none-found, none-gone, number-has, one-found, port-there, same-values}
 use Rattle.cascade_ties.specs.declared.ties.Tied.{Tied}
 use Rattle.cascade_ties.specs.Kept.{HasLocal, IsTiePool, IsTieTable, at_rest, left_use, place_of_tie, port_of_tie, rest_in, tie_keying, ties_of, use_by}
-use Rattle.cascade_ties.specs.Ties.{AreOtherTies, MakesTies, MayChange, MayTie, Ties, TiesDiffer, has_client, has_local, is_over, spot, still, tie_of, with_change, with_tie, without}
+use Rattle.cascade_ties.specs.Ties.{AreOtherTies, MakesTies, MayChange, MayTie, Ties, TiesDiffer, has_client, has_local, is_over, rests_after, spot, still, tie_of, with_change, with_tie, without}
 use Rattle.cascade_ties.proofs.OneLemmas.{filter-out, fewer-out, find-append, none-out}
 use Rattle.cascade_ties.proofs.PoolKeeping.{alike_pool, high_stays, left_pool, low_stays, may_hold, may_release, none_here, put_pool, set_rest, set_same, take_pool, zip_pool}
 use Rattle.cascade_ties.proofs.RestLemmas.{Rests, rest_none}
@@ -249,7 +249,7 @@ module _ (it : Numbers) (pool : Holdings) (rests : Rests) (h : IsTieTable it poo
       found_over = sym (one-found tie_keying tie_laws it h.ties.kept (has_client x.tie.client) (place_of x.tie.client) (tells_client x.tie.client) n x at_n refl)
 
       pub still_less : (us : Ties) → us ≡ without (ties_of pool rests ts) x.tie.client → still m us ≡ still m (ties_of pool rests ts)
-      still_less us is = ap (still m) is ∙ ap (ties_of pool rests) (filter-out (has_client x.tie.client) x (λ t. not (is_over m t)) ts (once_client x.tie.client ts h.ties.differ) found_over (ap not over_at))
+      still_less us is = ap (still m) is ∙ ap (ties_of pool (rests_after m rests)) (filter-out (has_client x.tie.client) x (λ t. not (is_over m t)) ts (once_client x.tie.client ts h.ties.differ) found_over (ap not over_at))
 
       pub fewer_left : (us : Ties) → us ≡ without (ties_of pool rests ts) x.tie.client → length us.each < length ts
       fewer_left us is =

@@ -4,9 +4,9 @@ use Rattle.cascade_ties.specs.Kept.{IsTieTable, ties_of}
 use Rattle.cascade_ties.specs.Ties.{still}
 use Rattle.cascade_ties.proofs.steps.drop_ties.Given as goal
 
-abbrev pub invariant-loop : goal.invariant-loop
-invariant-loop l =
+abbrev pub invariant-loop-alloc : goal.invariant-loop-alloc
+invariant-loop-alloc l =
     IsTieTable l.kept l.pool l.rests × (still l.now_ms (ties_of l.pool l.rests (values l.kept.leases)) ≡ still l.now_ms (ties_of l.initial.pool l.rests (values l.initial.kept.leases)))
 
-abbrev pub decreases-loop : goal.decreases-loop
-decreases-loop l = length (values l.kept.leases)
+abbrev pub decreases-loop-alloc : goal.decreases-loop-alloc
+decreases-loop-alloc l = length (values l.kept.leases)
