@@ -1,3 +1,4 @@
+pub mod CountLemmas
 pub mod MoveLemmas
 pub mod OneLemmas
 pub mod PickLemmas

@@ -4,7 +4,6 @@ use Rattle.std.specs.FinMap.{FinMap, contains_key}
 use Rattle.std.specs.List.{list_any, range_with_len}
 use Rattle.std.specs.Ordering.{nat_cmp}
 use Rattle.std.proofs.lemmas.Bool.{and_parts, leb-true}
-use Rattle.std.proofs.lemmas.Bool.Decides.{nat_tests}
 use Rattle.pcp_base.specs.declared.leases.Endpoint.{Endpoint}
 use Rattle.pcp_base.specs.declared.leases.Protocol.{Protocol}
 use Rattle.pcp_base.specs.declared.leases.Protocol.TheVariants.{Tcp, Udp}
@@ -17,26 +16,25 @@ use Rattle.external_pool.specs.Asking.{IsPickAnswer, answer_to}
 use Rattle.external_pool.specs.Asking as Asking
 use Rattle.external_pool.specs.Choosing.{IsVacantRun, GoesBack, IsLongest, IsPick}
 use Rattle.external_pool.specs.Choosing.IsPick.{suggestion, longest}
-use Rattle.external_pool.specs.Holdings.{Holdings, uses_of, use_of}
+use Rattle.external_pool.specs.Holdings.{Holdings, ports_held, uses_of}
 use Rattle.external_pool.specs.PortUses as Uses
 use Rattle.ordered_index.proofs.Entries.{false_by}
-use Rattle.cascade_ties.specs.declared.locals.NoLocal.{NoLocal}
-use Rattle.cascade_ties.specs.declared.locals.NoLocal.TheVariants.{Quota}
 use Rattle.cascade_ties.specs.declared.ties.Tied.{Tied}
-use Rattle.cascade_ties.specs.Kept.{IsTiePool, no_local, rest_in, ties_of, use_by}
-use Rattle.cascade_ties.specs.Ties.{Ties, has_local, is_vacant, least_vacant, local_for, or_no_port, spot, tie_at, ties_held, vacant_for}
+use Rattle.cascade_ties.specs.Kept.{IsTiePool, rest_in, ties_of, use_by}
+use Rattle.cascade_ties.specs.Ties.{Ties, has_local, is_vacant, least_vacant, spot, tie_at, vacant_for}
+use Rattle.cascade_ties.proofs.CountLemmas.{few_held}
 use Rattle.cascade_ties.proofs.OneLemmas.{find-nothing}
 
--- what is told of an answer of the pool
-abbrev pub to_local : Result Picked PickRefused → Result ℕ NoLocal
-to_local (Ok run) = Ok run.start
-to_local (Err refused) = Err (no_local refused)
+-- the port that an answer of the pool gives
+abbrev pub port_given : Result Picked PickRefused → Option ℕ
+port_given (Ok run) = Some run.start
+port_given (Err refused) = None
 
 abbrev start_of : Option Picked → Option ℕ
 start_of None = None
 start_of (Some run) = Some run.start
 
-judged : (o : Option Picked) → to_local (Asking.or_no_port o) ≡ or_no_port (start_of o)
+judged : (o : Option Picked) → port_given (Asking.or_no_port o) ≡ start_of o
 judged None = refl
 judged (Some run) = refl
 
@@ -174,20 +172,12 @@ module _ (pool : Holdings) (rests : FinMap nat_cmp ℕ) (ts : List Tied) (is : I
   abbrev pub one_port : PickAsk
   one_port = record { internal = 1; suggested = client.port; asked = 1; room = 1; parity = None; must = false; here = true }
 
-  pub pick_is : (answer : Result Picked PickRefused) → IsPickAnswer pool client.address client.protocol one_port answer → to_local answer ≡ local_for table client
-  pick_is answer h = step (nat_le 64 (ties_held client.address ts)) refl
-    where
-      step : (b : Bool) → nat_le 64 (ties_held client.address ts) ≡ b → to_local answer ≡ cond b (Err Quota) (or_no_port (vacant_for table client))
-      step true e =
-          let low = leb-true 64 (ties_held client.address ts) e in
-          let quota = is.quota in
-          let held = is.counts client.address in
-          ap to_local (h.quota (omega (arith, low, quota, held)))
-      step false e =
-          let low : ties_held client.address ts < 64 = grind (arith, nat_tests, e) in
-          let quota = is.quota in
-          let held = is.counts client.address in
-          let judged_pick = h.pick (omega (arith, low, quota, held)) in
-          let room : min 1 (pool.quota - Rattle.external_pool.specs.Holdings.ports_held pool client.address) ≡ 1 = omega (arith, low, quota, held) in
-          ap to_local judged_pick.is_answer ∙ judged judged_pick.choice
-          ∙ ap or_no_port (picked judged_pick.choice (subst (λ (n : ℕ). IsPick uses client.address 1 client.port None n judged_pick.choice) room judged_pick.is_pick))
+  pub pick_is : (answer : Result Picked PickRefused) → IsPickAnswer pool client.address client.protocol one_port answer → port_given answer ≡ vacant_for table client
+  pick_is answer h =
+      let few = few_held pool (rest_in rests) ts is client.address in
+      let quota = is.quota in
+      let held = is.counts client.address in
+      let judged_pick = h.pick (omega (arith, few, quota, held)) in
+      let room : min 1 (pool.quota - ports_held pool client.address) ≡ 1 = omega (arith, few, quota, held) in
+      ap port_given judged_pick.is_answer ∙ judged judged_pick.choice
+      ∙ picked judged_pick.choice (subst (λ (n : ℕ). IsPick uses client.address 1 client.port None n judged_pick.choice) room judged_pick.is_pick)

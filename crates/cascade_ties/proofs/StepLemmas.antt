@@ -6,12 +6,14 @@ use Rattle.std.specs.BTreeMap.{get, values}
 use Rattle.std.specs.FinMap.{contains_key, empty, get-empty}
 use Rattle.std.proofs.lemmas.Bool.{and_parts, leb-true, not-true}
 use Rattle.std.proofs.lemmas.Bool.Decides.{nat_tests}
+use Rattle.pcp_base.specs.declared.addresses.Address.{Address}
 use Rattle.pcp_base.specs.declared.leases.Endpoint.{Endpoint}
 use Rattle.pcp_base.specs.declared.leases.Protocol.{Protocol}
 use Rattle.pcp_base.specs.declared.leases.Protocol.TheVariants.{Tcp, Udp}
 use Rattle.pcp_base.proofs.Members.{All-weaker, EachTwo-push, filter-all, find-none}
 use Rattle.external_pool.specs.declared.uses.Use.TheVariants.{Free, Held}
 use Rattle.external_pool.specs.Calls.{MayHold, MayRelease}
+use Rattle.external_pool.specs.HeldCounts.{HeldCounts, held_by}
 use Rattle.external_pool.specs.Holdings.{Holdings, fresh_pool, use_of, with_use}
 use Rattle.external_pool.proofs.Counted.{count-all_free, fresh-whole}
 use Rattle.external_pool.proofs.Painted.{use_at-all_free}
@@ -25,8 +27,8 @@ use Rattle.ordered_index.proofs.Entries.{All-at}
 use Rattle.ordered_index.proofs.EntryLaws.{none_some, some_one}
 use Rattle.ordered_index.proofs.Keeping.{IsTakenOut, blank-kept, blank-values, none-found, none-gone, number-has, one-found, port-there, same-values}
 use Rattle.cascade_ties.specs.declared.ties.Tied.{Tied}
-use Rattle.cascade_ties.specs.Kept.{HasLocal, IsTiePool, IsTieTable, at_rest, left_use, place_of_tie, port_of_tie, rest_in, tie_keying, ties_of, use_by}
-use Rattle.cascade_ties.specs.Ties.{AreOtherTies, MakesTies, MayChange, MayTie, Ties, TiesDiffer, has_client, has_local, is_over, rests_after, spot, still, tie_of, with_change, with_tie, without}
+use Rattle.cascade_ties.specs.Kept.{AreCounted, HasLocal, IsTiePool, IsTieTable, at_rest, left_use, place_of_tie, port_of_tie, rest_in, tie_keying, ties_of, use_by}
+use Rattle.cascade_ties.specs.Ties.{AreOtherTies, MakesTies, MayChange, MayTie, Ties, TiesDiffer, has_client, has_local, is_over, rests_after, spot, still, ties_held, tie_of, with_change, with_tie, without}
 use Rattle.cascade_ties.proofs.OneLemmas.{filter-out, fewer-out, find-append, none-out}
 use Rattle.cascade_ties.proofs.PoolKeeping.{alike_pool, high_stays, left_pool, low_stays, may_hold, may_release, none_here, put_pool, set_rest, set_same, take_pool, zip_pool}
 use Rattle.cascade_ties.proofs.RestLemmas.{Rests, rest_none}
@@ -263,30 +265,33 @@ module _ (it : Numbers) (pool : Holdings) (rests : Rests) (h : IsTieTable it poo
         (λ t e. ap not (over_is m t ∙ e)) ts none)
 
 -- ---- a new table
-open_uses : (low high : ℕ) (protocol : Protocol) (port : ℕ) → use_of (fresh_pool low high 64) protocol port ≡ Free
+open_uses : (low high : ℕ) (protocol : Protocol) (port : ℕ) → use_of (fresh_pool low high 4294967295) protocol port ≡ Free
 open_uses low high Tcp port = use_at-all_free 65536 port
 open_uses low high Udp port = use_at-all_free 65536 port
 
 no_rest : (protocol : Protocol) (port : ℕ) → rest_in empty protocol port ≡ None
 no_rest protocol port = get-empty nat_cmp (spot protocol port)
 
-fresh_is : (low high : ℕ) → 1 ≤ low → high ≤ 65535 → IsTiePool (fresh_pool low high 64) (rest_in empty) []
+fresh_is : (low high : ℕ) → 1 ≤ low → high ≤ 65535 → IsTiePool (fresh_pool low high 4294967295) (rest_in empty) []
 fresh_is low high some top = record {
   quota = refl;
   low = refl;
   high = refl;
   some = some;
   top = top;
-  whole = fresh-whole low high 64;
+  whole = fresh-whole low high 4294967295;
   uses = λ protocol port. open_uses low high protocol port ∙ sym (ap (use_by None) (no_rest protocol port));
   counts = λ who. let none = count-all_free who 65536 in omega (arith, none);
 }
 
-pub fresh_table : (it : Numbers) (low high : ℕ) → IsBlank place_cmp port_cmp it → 1 ≤ low → high ≤ 65535 → IsTieTable it (fresh_pool low high 64) empty
+pub fresh_table : (it : Numbers) (low high : ℕ) → IsBlank place_cmp port_cmp it → 1 ≤ low → high ≤ 65535 → IsTieTable it (fresh_pool low high 4294967295) empty
 fresh_table it low high blank some top =
     let none = blank-values tie_keying it blank in
     record {
       ties = record { differ = subst TiesDiffer (sym none) tt; locals = subst (AllByRecursion HasLocal) (sym none) tt; kept = blank-kept tie_keying it blank };
-      pool = subst (IsTiePool (fresh_pool low high 64) (rest_in empty)) (sym none) (fresh_is low high some top);
+      pool = subst (IsTiePool (fresh_pool low high 4294967295) (rest_in empty)) (sym none) (fresh_is low high some top);
       spots = λ at until is. absurd (let no : None ≡ Some until = sym (get-empty nat_cmp at) ∙ is in cc);
     }
+
+pub fresh_counts : (it : Numbers) (counts : HeldCounts) → IsBlank place_cmp port_cmp it → ((who : Address) → held_by counts who ≡ 0) → AreCounted counts (values it.leases)
+fresh_counts it counts blank none who = none who ∙ sym (ap (ties_held who) (blank-values tie_keying it blank))

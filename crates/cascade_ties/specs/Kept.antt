@@ -7,16 +7,13 @@ use Rattle.std.specs.Ordering.{nat_cmp}
 use Rattle.pcp_base.specs.declared.addresses.Address.{Address}
 use Rattle.pcp_base.specs.declared.leases.Protocol.{Protocol}
 use Rattle.pcp_base.specs.declared.leases.Protocol.TheVariants.{Tcp, Udp}
-use Rattle.external_pool.specs.declared.asks.PickRefused.{PickRefused}
-use Rattle.external_pool.specs.declared.asks.PickRefused.TheVariants as Refusals
 use Rattle.external_pool.specs.declared.uses.Use.{Use}
 use Rattle.external_pool.specs.declared.uses.Use.TheVariants.{Free, Held, Resting}
+use Rattle.external_pool.specs.HeldCounts.{HeldCounts, held_by}
 use Rattle.external_pool.specs.Holdings.{Holdings, IsWhole, use_of, ports_held, with_use}
 use Rattle.ordered_index.specs.declared.numbered.Numbered.{Numbered}
 use Rattle.ordered_index.specs.Kept.{Keying, IsKept}
 use Rattle.ordered_index.specs.Orders.{Place, place_of, port_at, place_cmp, port_cmp}
-use Rattle.cascade_ties.specs.declared.locals.NoLocal.{NoLocal}
-use Rattle.cascade_ties.specs.declared.locals.NoLocal.TheVariants.{Quota, NoPort}
 use Rattle.cascade_ties.specs.declared.ties.Tied.{Tied}
 use Rattle.cascade_ties.specs.Ties.{Ties, TiesDiffer, spot, ties_held, tie_at}
 
@@ -76,10 +73,11 @@ reserved rests at until = if contains_key rests at then rests else insert rests 
 abbrev pub rest_in : FinMap nat_cmp ℕ → Protocol → ℕ → Option ℕ
 rest_in rests protocol port = get rests (spot protocol port)
 
--- the pool of these ties: each address holds the local ports of its ties, and others rest
+-- the pool of these ties: each address holds the local ports of its ties, and others rest; its quota
+-- is never reached
 pub record IsTiePool (pool : Holdings) (rest : Protocol → ℕ → Option ℕ) (ts : List Tied) : Type 0
   where
-    pub quota : pool.quota ≡ 64
+    pub quota : pool.quota ≡ 4294967295
     pub low : pool.udp.low ≡ pool.tcp.low
     pub high : pool.udp.high ≡ pool.tcp.high
     pub some : 1 ≤ pool.tcp.low
@@ -89,11 +87,9 @@ pub record IsTiePool (pool : Holdings) (rest : Protocol → ℕ → Option ℕ) 
         use_of pool protocol port ≡ use_by (tie_at protocol port ts) (rest protocol port)
     pub counts : (who : Address) → ports_held pool who ≡ ties_held who ts
 
--- why there is no local port, by what the pool says
-abbrev pub no_local : PickRefused → NoLocal
-no_local (Refusals.Quota owned) = Quota
-no_local Refusals.CannotProvide = NoPort
-no_local Refusals.NoPort = NoPort
+-- how many ties each address has
+abbrev pub AreCounted : HeldCounts → List Tied → Type 0
+AreCounted counts ts = (who : Address) → held_by counts who ≡ ties_held who ts
 
 -- what a table is seen as
 abbrev pub ties_of : Holdings → FinMap nat_cmp ℕ → List Tied → Ties

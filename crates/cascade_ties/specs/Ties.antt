@@ -88,7 +88,7 @@ abbrev pub or_no_port : Option ℕ → Result ℕ NoLocal
 or_no_port None = Err NoPort
 or_no_port (Some port) = Ok port
 
--- the local port for an endpoint, unless its address has 64 ties
+-- the local port for a new tie of an endpoint, unless its address has 64 ties
 abbrev pub local_for : Ties → Endpoint → Result ℕ NoLocal
 local_for ts client =
     if nat_le 64 (ties_held client.address ts.each) then Err Quota

@@ -5,9 +5,10 @@ ghost use Rattle.std.specs.Ordering.{nat_cmp};
 ghost use Rattle.external_pool.specs.Asking.{IsPickAnswer};
 ghost use Rattle.external_pool.specs.Calls.{IsAsk};
 ghost use Rattle.cascade_ties.specs.declared.ties.Tied.{Tied};
-ghost use Rattle.cascade_ties.specs.Kept.{IsTiePool, no_local, rest_in, ties_of};
-ghost use Rattle.cascade_ties.specs.Ties.{local_for};
+ghost use Rattle.cascade_ties.specs.Kept.{AreCounted, IsTiePool, rest_in, ties_of};
+ghost use Rattle.cascade_ties.specs.Ties.{local_for, vacant_for};
 
+use external_pool::host_counts::HostCounts;
 use external_pool::{PickAsk, PickRefused, Picked, Pool};
 use pcp_base::Endpoint;
 use std::marker::Brand;
@@ -48,9 +49,9 @@ fn pick<L: Ledger>(
 
 /// The port that the pool of these ties picks for an endpoint: one port, its own where that is
 /// vacant.
-pub(crate) fn local_for(pool: &Pool, client: &Endpoint) -> Result<u16, NoLocal>
+pub(crate) fn vacant_for(pool: &Pool, client: &Endpoint) -> Option<u16>
     ensures { (rests : FinMap nat_cmp ℕ) (ts : List Tied) → IsTiePool pool.now (rest_in rests) ts
-        → result ≡ local_for (ties_of pool.now rests ts) client.now }
+        → result ≡ vacant_for (ties_of pool.now rests ts) client.now }
 {
     let ask = PickAsk {
         internal: 1,
@@ -62,17 +63,21 @@ pub(crate) fn local_for(pool: &Pool, client: &Endpoint) -> Result<u16, NoLocal>
         here: true,
     };
     match pick::<Brand>(pool, client, &ask, Blank::new(1)) {
-        Ok(picked) => Ok(picked.start),
-        Err(refused) => Err(no_local(refused)),
+        Ok(picked) => Some(picked.start),
+        Err(_refused) => None,
     }
 }
 
-/// Why there is no local port, by what the pool says.
-fn no_local(refused: PickRefused) -> NoLocal
-    ensures { result ≡ no_local refused }
+/// The local port for a new tie of an endpoint, by the pool of these ties and their counts.
+pub(crate) fn local_for(pool: &Pool, counts: &HostCounts, client: &Endpoint) -> Result<u16, NoLocal>
+    ensures { (rests : FinMap nat_cmp ℕ) (ts : List Tied) → IsTiePool pool.now (rest_in rests) ts
+        → AreCounted counts.now ts → result ≡ local_for (ties_of pool.now rests ts) client.now }
 {
-    match refused {
-        PickRefused::Quota(_owned) => NoLocal::Quota,
-        _ => NoLocal::NoPort,
+    if !counts.is_below(&client.address, TIE_QUOTA) {
+        return Err(NoLocal::Quota);
+    }
+    match vacant_for(pool, client) {
+        Some(local) => Ok(local),
+        None => Err(NoLocal::NoPort),
     }
 }

@@ -3,7 +3,7 @@ ghost use Rattle.std.specs.Prelude.{◌≡◌, ◌<◌, ◌-◌, ◌^◌, length
 ghost use Rattle.std.specs.Bool.{OnTrue, OnFalse};
 ghost use Rattle.std.specs.BTreeMap.{values};
 ghost use Rattle.std.specs.FinMap.{insert, len};
-ghost use Rattle.cascade_ties.specs.Kept.{IsTieTable, ties_of};
+ghost use Rattle.cascade_ties.specs.Kept.{AreCounted, IsTieTable, ties_of};
 ghost use Rattle.cascade_ties.specs.Ties.{MakesTies, MayChange, MayMove, MayTie, is_over, rests_after, spot, still, with_change, with_rest, with_tie, without};
 
 use crate::changes::{append, forget, move_from, replace};
@@ -12,12 +12,13 @@ use crate::rests::{conclude, leave, next_over, port_of_spot, protocol_at, reserv
 use crate::ties::Tied;
 use expiry_wheel::Wheel;
 use external_pool::Pool;
+use external_pool::host_counts::HostCounts;
 use ordered_index::place_of;
 use pcp_base::{Endpoint, Memory};
 use std::alloc::Global;
 
 /// Appends a tie of an endpoint that has none, to a vacant port.
-pub(crate) fn put_tie(
+fn put_tie(
     alloc: Global,
     kept: &mut Numbers,
     pool: &mut Pool,
@@ -36,6 +37,33 @@ pub(crate) fn put_tie(
     pool.hold(alloc, &client.address, client.protocol, local, 1)?;
     if let Err(error) = append(kept, tied) {
         pool.release(&client.address, client.protocol, local, 1);
+        return Err(error);
+    }
+    Ok(())
+}
+
+/// Appends such a tie, and counts it.
+pub(crate) fn put_counted(
+    alloc: Global,
+    kept: &mut Numbers,
+    pool: &mut Pool,
+    counts: &mut HostCounts,
+    rests: &Wheel,
+    tied: Tied,
+) -> Result<(), Memory>
+    requires kept { IsTieTable kept.old pool.old rests.now }
+    requires counted { AreCounted counts.old (values kept.old.leases) }
+    requires may { MayTie (ties_of pool.old rests.now (values kept.old.leases)) tied }
+    ensures kept { IsTieTable kept.new pool.new rests.now }
+    ensures counted { AreCounted counts.new (values kept.new.leases) }
+    ensures ties { MakesTies (ties_of pool.old rests.now (values kept.old.leases))
+        (with_tie (ties_of pool.old rests.now (values kept.old.leases)) tied) result
+        (ties_of pool.new rests.now (values kept.new.leases)) }
+{
+    let address = tied.tie.client.address;
+    counts.raise(&address, 1)?;
+    if let Err(error) = put_tie(alloc, kept, pool, rests, tied) {
+        counts.lower(&address, 1);
         return Err(error);
     }
     Ok(())
@@ -169,11 +197,14 @@ pub(crate) fn take_tie(
     alloc: Global,
     kept: &mut Numbers,
     pool: &mut Pool,
+    counts: &mut HostCounts,
     rests: &Wheel,
     client: &Endpoint,
 )
-    requires { IsTieTable kept.old pool.old rests.now }
+    requires kept { IsTieTable kept.old pool.old rests.now }
+    requires counted { AreCounted counts.old (values kept.old.leases) }
     ensures kept { IsTieTable kept.new pool.new rests.now }
+    ensures counted { AreCounted counts.new (values kept.new.leases) }
     ensures ties { ties_of pool.new rests.now (values kept.new.leases)
         ≡ without (ties_of pool.old rests.now (values kept.old.leases)) client.now }
 {
@@ -183,12 +214,22 @@ pub(crate) fn take_tie(
     let tie = kept.leases[&number].tie;
     forget(kept, number, client, &tie);
     leave(alloc, pool, rests, client, tie.local);
+    counts.lower(&client.address, 1);
 }
 
 /// Takes out a tie whose time has come; false where there is none.
-fn drop_one(alloc: Global, kept: &mut Numbers, pool: &mut Pool, rests: &Wheel, now_ms: u64) -> bool
-    requires { IsTieTable kept.old pool.old rests.now }
+fn drop_one(
+    alloc: Global,
+    kept: &mut Numbers,
+    pool: &mut Pool,
+    counts: &mut HostCounts,
+    rests: &Wheel,
+    now_ms: u64,
+) -> bool
+    requires kept { IsTieTable kept.old pool.old rests.now }
+    requires counted { AreCounted counts.old (values kept.old.leases) }
     ensures kept { IsTieTable kept.new pool.new rests.now }
+    ensures counted { AreCounted counts.new (values kept.new.leases) }
     ensures still { still now_ms (ties_of pool.new rests.now (values kept.new.leases))
         ≡ still now_ms (ties_of pool.old rests.now (values kept.old.leases)) }
     ensures fewer { OnTrue result
@@ -200,19 +241,28 @@ fn drop_one(alloc: Global, kept: &mut Numbers, pool: &mut Pool, rests: &Wheel, n
         return false;
     };
     let client = kept.leases[&number].tie.client;
-    take_tie(alloc, kept, pool, rests, &client);
+    take_tie(alloc, kept, pool, counts, rests, &client);
     true
 }
 
 /// Takes out the ties whose time has come, and frees their local ports.
-fn drop_ties(alloc: Global, kept: &mut Numbers, pool: &mut Pool, rests: &Wheel, now_ms: u64)
-    requires { IsTieTable kept.old pool.old rests.now }
+fn drop_ties(
+    alloc: Global,
+    kept: &mut Numbers,
+    pool: &mut Pool,
+    counts: &mut HostCounts,
+    rests: &Wheel,
+    now_ms: u64,
+)
+    requires kept { IsTieTable kept.old pool.old rests.now }
+    requires counted { AreCounted counts.old (values kept.old.leases) }
     ensures kept { IsTieTable kept.new pool.new rests.now }
+    ensures counted { AreCounted counts.new (values kept.new.leases) }
     ensures still { still now_ms (ties_of pool.new rests.now (values kept.new.leases))
         ≡ still now_ms (ties_of pool.old rests.now (values kept.old.leases)) }
     ensures all { filter (λ t. not (is_over now_ms t)) (values kept.new.leases) ≡ values kept.new.leases }
 {
-    while drop_one(alloc, kept, pool, rests, now_ms) {}
+    while drop_one(alloc, kept, pool, counts, rests, now_ms) {}
 }
 
 /// Ends a rest that is over; false where there is none.
@@ -247,14 +297,17 @@ pub(crate) fn drop_over(
     alloc: Global,
     kept: &mut Numbers,
     pool: &mut Pool,
+    counts: &mut HostCounts,
     rests: &mut Wheel,
     now_ms: u64,
 )
-    requires { IsTieTable kept.old pool.old rests.old }
+    requires kept { IsTieTable kept.old pool.old rests.old }
+    requires counted { AreCounted counts.old (values kept.old.leases) }
     ensures kept { IsTieTable kept.new pool.new rests.new }
+    ensures counted { AreCounted counts.new (values kept.new.leases) }
     ensures ties { ties_of pool.new rests.new (values kept.new.leases)
         ≡ still now_ms (ties_of pool.old rests.old (values kept.old.leases)) }
 {
-    drop_ties(alloc, kept, pool, rests, now_ms);
+    drop_ties(alloc, kept, pool, counts, rests, now_ms);
     wake_all(kept, pool, rests, now_ms);
 }

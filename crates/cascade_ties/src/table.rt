@@ -2,14 +2,15 @@
 ghost use Rattle.std.specs.Prelude.{◌≡◌, ◌<◌, ◌≤◌, ◌-◌, ◌^◌, length, map, IfOk};
 ghost use Rattle.std.specs.Option.{option_copied};
 ghost use Rattle.std.specs.BTreeMap.{values};
-ghost use Rattle.cascade_ties.specs.Ties.{MakesTies, MayChange, MayMove, MayRest, MayTie, local_for, no_ties, still, tie_at, tie_of, with_change, with_rest, with_tie, without};
+ghost use Rattle.cascade_ties.specs.Ties.{MakesTies, MayChange, MayMove, MayRest, MayTie, local_for, no_ties, still, tie_at, tie_of, vacant_for, with_change, with_rest, with_tie, without};
 
-use crate::locals::{NoLocal, TIE_QUOTA, local_for};
+use crate::locals::{NoLocal, local_for, vacant_for};
 use crate::lookups::Numbers;
-use crate::steps::{change_tie, drop_over, grant_tie, move_tie, put_tie, rest_tie, take_tie};
+use crate::steps::{change_tie, drop_over, grant_tie, move_tie, put_counted, rest_tie, take_tie};
 use crate::ties::{Tie, Tied};
 use expiry_wheel::Wheel;
 use external_pool::Pool;
+use external_pool::host_counts::HostCounts;
 use ordered_index::{Numbered, Slots, place_of, port_at};
 use pcp_base::{Endpoint, Memory, Protocol};
 use std::alloc::{AllocError, Global};
@@ -24,6 +25,8 @@ pub struct TieTable {
     kept: Numbers,
     /// Who holds which local ports, and which rest.
     pool: Pool,
+    /// How many ties each address has.
+    counts: HostCounts,
     /// Until when local ports rest, tied ones too.
     rests: Wheel,
     /// What the pool is handed where a port goes to rest, which takes no memory.
@@ -34,7 +37,7 @@ impl Model for TieTable {
     ghost use Rattle.std.specs.BTreeMap.{values};
     ghost use Rattle.cascade_ties.specs.Ties.{Ties, ties_code};
     ghost use Rattle.cascade_ties.specs.contracts.ties.Tied as tied;
-    ghost use Rattle.cascade_ties.specs.Kept.{IsTieTable, ties_of};
+    ghost use Rattle.cascade_ties.specs.Kept.{AreCounted, IsTieTable, ties_of};
 
     ghost Value = { Ties };
 
@@ -42,7 +45,8 @@ impl Model for TieTable {
 
     ghost view = { λ t. ties_of t.pool t.rests (values t.kept.leases) };
 
-    ghost invariant = { λ t. IsTieTable t.kept t.pool t.rests };
+    ghost invariant = { λ t.
+        IsTieTable t.kept t.pool t.rests × AreCounted t.counts (values t.kept.leases) };
 }
 
 impl TieTable {
@@ -54,11 +58,13 @@ impl TieTable {
         ensures { IfOk result (λ ties. ties ≡ no_ties low high) }
     {
         let kept = Numbered::new(alloc)?;
-        let pool = Pool::new(alloc, low, high, TIE_QUOTA)?;
+        let pool = Pool::new(alloc, low, high, u32::MAX)?;
+        let counts = HostCounts::new(alloc)?;
         let rests = Wheel::new(alloc)?;
         Ok(TieTable {
             kept,
             pool,
+            counts,
             rests,
             alloc,
         })
@@ -91,12 +97,19 @@ impl TieTable {
         self.kept.leases.get(&number)
     }
 
-    /// The local port for an endpoint: its own where that is vacant, else the least vacant one. The
-    /// refusal is the first of [`NoLocal`] that applies.
+    /// The vacant local port for an endpoint: its own where that is vacant, else the least one.
+    pub fn vacant_for(&self, client: &Endpoint) -> Option<u16>
+        ensures { result ≡ vacant_for self.now client.now }
+    {
+        vacant_for(&self.pool, client)
+    }
+
+    /// The local port for a new tie of an endpoint: its own where that is vacant, else the least
+    /// vacant one. The refusal is the first of [`NoLocal`] that applies.
     pub fn local_for(&self, client: &Endpoint) -> Result<u16, NoLocal>
         ensures { result ≡ local_for self.now client.now }
     {
-        local_for(&self.pool, client)
+        local_for(&self.pool, &self.counts, client)
     }
 
     /// Appends a tie of an endpoint that has none, to a vacant port. The one error is want of
@@ -105,7 +118,8 @@ impl TieTable {
         requires { MayTie self.old tied }
         ensures { MakesTies self.old (with_tie self.old tied) result self.new }
     {
-        put_tie(alloc, &mut self.kept, &mut self.pool, &self.rests, tied)
+        let (kept, pool) = (&mut self.kept, &mut self.pool);
+        put_counted(alloc, kept, pool, &mut self.counts, &self.rests, tied)
     }
 
     /// Puts a tie in the place of its endpoint's, which is to the same local port. The one error is
@@ -170,7 +184,8 @@ impl TieTable {
         ensures { self.new ≡ without self.old client.now }
     {
         let alloc = self.alloc;
-        take_tie(alloc, &mut self.kept, &mut self.pool, &self.rests, client);
+        let (kept, pool) = (&mut self.kept, &mut self.pool);
+        take_tie(alloc, kept, pool, &mut self.counts, &self.rests, client);
     }
 
     /// Takes out the ties whose time has come, frees their local ports, ends the rests that are over,
@@ -181,7 +196,7 @@ impl TieTable {
     {
         let before = self.kept.leases.len();
         let (kept, pool, rests) = (&mut self.kept, &mut self.pool, &mut self.rests);
-        drop_over(self.alloc, kept, pool, rests, now_ms);
+        drop_over(self.alloc, kept, pool, &mut self.counts, rests, now_ms);
         before.saturating_sub(self.kept.leases.len())
     }
 

@@ -9,13 +9,13 @@ use Rattle.cascade_ties.proofs.table.TieTable.at_local.Goals as goal
 
 pub returns-in_default : goal.returns-in_default
 returns-in_default c =
-    no-port-found tie_keying tie_laws c.self.inside.kept c.self.invariant.ties.kept (has_local c.args.protocol c.args.port) (port_at c.args.protocol c.args.port) (tells_local c.args.protocol c.args.port)
+    no-port-found tie_keying tie_laws c.self.inside.kept c.self.invariant.0.ties.kept (has_local c.args.protocol c.args.port) (port_at c.args.protocol c.args.port) (tells_local c.args.protocol c.args.port)
     (ap (get port_cmp c.self.inside.kept.ports) (sym c.port_at.ensures) ∙ sym (c.in_default.ensures ∙ c.get.ensures.value))
     ∙ ap (λ (v : Ties). tie_at c.args.protocol c.args.port v.each) c.self.view_is
 
 pub returns : goal.returns
 returns c =
     c.get-2.ensures.value
-    ∙ port-found tie_keying tie_laws c.self.inside.kept c.self.invariant.ties.kept (has_local c.args.protocol c.args.port) (port_at c.args.protocol c.args.port) c.in-Some.number (tells_local c.args.protocol c.args.port)
+    ∙ port-found tie_keying tie_laws c.self.inside.kept c.self.invariant.0.ties.kept (has_local c.args.protocol c.args.port) (port_at c.args.protocol c.args.port) c.in-Some.number (tells_local c.args.protocol c.args.port)
     (ap (get port_cmp c.self.inside.kept.ports) (sym c.port_at.ensures) ∙ sym (c.in-Some.ensures ∙ c.get.ensures.value))
     ∙ ap (λ (v : Ties). tie_at c.args.protocol c.args.port v.each) c.self.view_is

@@ -9,13 +9,13 @@ use Rattle.cascade_ties.proofs.table.TieTable.find.Goals as goal
 
 pub returns-in_default : goal.returns-in_default
 returns-in_default c =
-    none-found tie_keying tie_laws c.self.inside.kept c.self.invariant.ties.kept (has_client c.args.client.now) (place_of c.args.client.now) (tells_client c.args.client.now)
+    none-found tie_keying tie_laws c.self.inside.kept c.self.invariant.0.ties.kept (has_client c.args.client.now) (place_of c.args.client.now) (tells_client c.args.client.now)
     (ap (get place_cmp c.self.inside.kept.keys) (sym c.place_of.ensures) ∙ sym (c.in_default.ensures ∙ c.get.ensures.value))
     ∙ ap (λ (v : Ties). tie_of c.args.client.now v.each) c.self.view_is
 
 pub returns : goal.returns
 returns c =
     c.get-2.ensures.value
-    ∙ key-found tie_keying tie_laws c.self.inside.kept c.self.invariant.ties.kept (has_client c.args.client.now) (place_of c.args.client.now) c.in-Some.number (tells_client c.args.client.now)
+    ∙ key-found tie_keying tie_laws c.self.inside.kept c.self.invariant.0.ties.kept (has_client c.args.client.now) (place_of c.args.client.now) c.in-Some.number (tells_client c.args.client.now)
     (ap (get place_cmp c.self.inside.kept.keys) (sym c.place_of.ensures) ∙ sym (c.in-Some.ensures ∙ c.get.ensures.value))
     ∙ ap (λ (v : Ties). tie_of c.args.client.now v.each) c.self.view_is

@@ -1,4 +1,4 @@
-use Rattle.cascade_ties.proofs.locals.local_for.Given as goal
+use Rattle.cascade_ties.proofs.locals.vacant_for.Given as goal
 
 -- the ledger of the steps that nobody counts
 abbrev pub ghosts-pick : goal.ghosts-pick

@@ -1,9 +1,0 @@
-use Rattle.std.proofs.Common.{sym, ap, ◌∙◌, Err}
-use Rattle.cascade_ties.proofs.PickLemmas.{pick_is, to_local}
-use Rattle.cascade_ties.proofs.locals.local_for.Goals as goal
-
-pub returns-in-Ok : goal.returns-in-Ok
-returns-in-Ok c = λ rests ts is. ap to_local (sym c.in-Ok.is) ∙ pick_is c.args.pool.now rests ts is c.args.client.now c.pick.result c.pick.ensures
-
-pub returns-in-Err : goal.returns-in-Err
-returns-in-Err c = λ rests ts is. ap Err c.no_local.ensures ∙ ap to_local (sym c.in-Err.is) ∙ pick_is c.args.pool.now rests ts is c.args.client.now c.pick.result c.pick.ensures
