@@ -22,14 +22,12 @@ use Rattle.pcp_options.specs.declared.verdicts.Verdict.TheVariants.{Silent, Refu
 use Rattle.pcp_options.specs.Verdicts.{verdict_of}
 use Rattle.proxy_core.specs.declared.outs.ProxyOut.{ProxyOut}
 use Rattle.proxy_core.specs.declared.outs.ProxyOut.TheVariants.{Nothing}
-use Rattle.proxy_core.specs.declared.waits.TheConstants.{WAIT_MS}
 use Rattle.proxy_core.specs.Relays.{response_from}
 use Rattle.cascade_ties.specs.declared.locals.NoLocal.{NoLocal}
 use Rattle.cascade_ties.specs.declared.locals.NoLocal.TheVariants.{Quota, NoPort}
 use Rattle.cascade_ties.specs.declared.ties.Tied.{Tied}
 use Rattle.cascade_ties.specs.declared.ties.Waiting.{Waiting}
 use Rattle.cascade_ties.specs.Ties.{local_for, tie_at, tie_of}
-use Rattle.proxy_cascade.specs.declared.asking.TheConstants.{MOST_TIES}
 use Rattle.proxy_cascade.specs.Cascades.{Cascade, Step, at, for_itself, told_epoch}
 use Rattle.proxy_cascade.specs.FromClients.{answered, asked, for_again, for_local, for_map, for_new, gone, judged, of_another, on_client, renewed, tied}
 use Rattle.proxy_cascade.specs.FromServers.{announcement, for_body, for_next, for_protocol, for_tie, for_tied, for_waiting, heard_from, hearing, is_asked_by, keeps_epoch, next_local, on_server, settled, still_waits, unmatched}
@@ -65,9 +63,9 @@ module _ (c : Cascade) (d : Datagram) where
         second true = refused (parsed NoResources) refl
         second false = deed-local none (local_for c.ties ask.endpoint) refl
 
-        first : (b : Bool) → ClientDeed c d (unwrap_or (cond b (Some (gone c d items ask)) (cond (nat_le MOST_TIES (length c.ties.each)) (Some (answered c d (Refused (parsed NoResources)))) None)) (for_local c d items ask (local_for c.ties ask.endpoint)))
+        first : (b : Bool) → ClientDeed c d (unwrap_or (cond b (Some (gone c d items ask)) (cond (nat_le 4096 (length c.ties.each)) (Some (answered c d (Refused (parsed NoResources)))) None)) (for_local c d items ask (local_for c.ties ask.endpoint)))
         first true = deleted ask items refl
-        first false = second (nat_le MOST_TIES (length c.ties.each))
+        first false = second (nat_le 4096 (length c.ties.each))
 
     deed-again : (t : Tied) → tie_of ask.endpoint c.ties.each ≡ Some t → ClientDeed c d (for_again c d items ask t.tie)
     deed-again t found = step (not (bytes_eq t.tie.nonce.0 ask.nonce.0)) refl
@@ -112,7 +110,7 @@ pub data ServerDeed (c : Cascade) (d : Datagram) (step : Step CascadeOut) : Type
 -- what still waits did wait
 pub waited : (now : ℕ) (o : Option Waiting) (w : Waiting) → still_waits now o ≡ Some w → o ≡ Some w
 waited now None w h = absurd cc
-waited now (Some v) w h = step (nat_le (now - v.since_ms) WAIT_MS) h
+waited now (Some v) w h = step (nat_le (now - v.since_ms) 60000) h
   where
     step : (b : Bool) → cond b (Some v) None ≡ Some w → Some v ≡ Some w
     step true k = k

@@ -14,7 +14,6 @@ use Rattle.cascade_ties.specs.declared.ties.Tied.{Tied}
 use Rattle.cascade_ties.specs.declared.ties.Waiting.{Waiting}
 use Rattle.cascade_ties.specs.Ties.{MakesTies, MayChange, MayMove, MayTie, Ties, has_client, has_local, is_over, still, tie_at, tie_of, with_change, with_tie, without}
 use Rattle.cascade_ties.proofs.TieKeeping.{IsSameTie}
-use Rattle.proxy_cascade.specs.declared.asking.TheConstants.{MOST_TIES}
 use Rattle.proxy_cascade.specs.FromServers.{ended, granted, is_taken, moved, next_local, resting, still_waits, ties_after, told_lifetime}
 use Rattle.proxy_cascade.specs.Kept.{AreKept, HasHead, IsKept, IsTied, IsTime}
 use Rattle.proxy_cascade.proofs.Deeds.{waited}
@@ -50,7 +49,7 @@ kept-change ts x t is found head h = record {
   heads = put_All (λ y. HasHead y.waiting) (has_client t.tie.client) t ts.each head h.heads;
 }
 
-pub kept-tie : (ts : Ties) (t : Tied) → MayTie ts t → length ts.each < MOST_TIES → HasHead t.waiting → AreKept ts.each → AreKept (with_tie ts t).each
+pub kept-tie : (ts : Ties) (t : Tied) → MayTie ts t → length ts.each < 4096 → HasHead t.waiting → AreKept ts.each → AreKept (with_tie ts t).each
 kept-tie ts t may less head h = record {
   few = (let more = length-append ts.each (t ∷ []) in omega (arith, more, less));
   differ = differ-push ts t may.client may.local h.differ;

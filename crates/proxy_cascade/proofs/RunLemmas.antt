@@ -28,7 +28,6 @@ use Rattle.proxy_core.specs.declared.epochs.Heard.{Heard}
 use Rattle.proxy_core.specs.declared.outs.ProxyOut.{ProxyOut}
 use Rattle.proxy_core.specs.declared.outs.ProxyOut.TheVariants as ProxyOuts
 use Rattle.proxy_core.specs.declared.outs.ProxyOut.TheVariants.{Reply}
-use Rattle.proxy_core.specs.declared.outs.TheConstants.{CLIENTS_PORT}
 use Rattle.proxy_core.specs.Down.{is_success, relayed_text}
 use Rattle.proxy_core.specs.Nonces.{upstream_nonce}
 use Rattle.proxy_core.specs.Relays.{response_from}
@@ -548,7 +547,7 @@ module _ (b : Beginning) (events : List Event) (d : Datagram) (now : ℕ) (sent 
         sym now_epoch ∙ epoch-anew here r.epoch lost,
         sym sent_is ∙ ap (λ (n : ℕ). record {
           peer = record { 0 = v4_octets 224 0 0 1 };
-          port = CLIENTS_PORT;
+          port = 5350;
           door = 0;
           octets = success_text 0 n Announce [];
         }) now_epoch,

@@ -20,7 +20,7 @@ use Rattle.cascade_ties.proofs.MoveLemmas.{moved-differ}
 use Rattle.cascade_ties.proofs.OneLemmas.{put-zip}
 use Rattle.cascade_ties.proofs.PoolKeeping.{find_one}
 use Rattle.pcp_options.specs.declared.responses.Response.{Response}
-use Rattle.proxy_cascade.specs.FromServers.{is_tried_on, moved, next_local, port_in}
+use Rattle.proxy_cascade.specs.FromServers.{is_tried_on, moved, next_local}
 use Rattle.cascade_ties.proofs.TieKeeping.{IsSameTie, differ_zip, once_client, same_itself}
 
 -- equal octets are equal nonces
@@ -79,20 +79,13 @@ differ-push ts t none vacant h =
 pub differ-put : (ts : List Tied) (x t : Tied) → IsSameTie x t → tie_of t.tie.client ts ≡ Some x → TiesDiffer ts → TiesDiffer (put (has_client t.tie.client) t ts)
 differ-put ts x t same found h = differ_zip ts (put (has_client t.tie.client) t ts) (put-zip (has_client t.tie.client) x IsSameTie t ts same_itself same found) h
 
--- the port that is asked for next is that of a tie of the endpoint
-pub next-local : (ts : Ties) (r : Response) (tie : Tie) (w : Waiting) (local : ℕ) → next_local ts r tie w ≡ Some local → local_for ts tie.client ≡ Ok local
-next-local ts r tie w local h = step (is_tried_on r tie w) h
-  where
-    port : (o : Result ℕ NoLocal) → port_in o ≡ Some local → o ≡ Ok local
-    port (Ok n) k = let same : n ≡ local = cc in ap (λ (m : ℕ). Ok m) same
-    port (Err why) k = absurd cc
-
-    step : (b : Bool) → cond b (port_in (local_for ts tie.client)) None ≡ Some local → local_for ts tie.client ≡ Ok local
-    step true k = port (local_for ts tie.client) k
-    step false k = absurd cc
-
+-- the port that is asked for next is vacant
 pub next-vacant : (ts : Ties) (r : Response) (tie : Tie) (w : Waiting) (local : ℕ) → next_local ts r tie w ≡ Some local → is_vacant ts tie.client.protocol local ≡ true
-next-vacant ts r tie w local h = vacant-local ts tie.client local (next-local ts r tie w local h)
+next-vacant ts r tie w local h = step (is_tried_on r tie w) h
+  where
+    step : (b : Bool) → cond b (vacant_for ts tie.client) None ≡ Some local → is_vacant ts tie.client.protocol local ≡ true
+    step true k = vacant-for ts tie.client local k
+    step false k = absurd cc
 
 pub differ-moved : (ts : Ties) (t : Tied) (r : Response) (w : Waiting) (local : ℕ) → tie_of t.tie.client ts.each ≡ Some t → next_local ts r t.tie w ≡ Some local → TiesDiffer ts.each
     → TiesDiffer (put (has_client t.tie.client) (moved t.tie w local) ts.each)
@@ -104,6 +97,6 @@ differ-moved ts t r w local found next h =
 pub next-fewer : (ts : Ties) (r : Response) (tie : Tie) (w : Waiting) (local : ℕ) → next_local ts r tie w ≡ Some local → w.tries < 16
 next-fewer ts r tie w local h = step (is_tried_on r tie w) refl h
   where
-    step : (b : Bool) → is_tried_on r tie w ≡ b → cond b (port_in (local_for ts tie.client)) None ≡ Some local → w.tries < 16
+    step : (b : Bool) → is_tried_on r tie w ≡ b → cond b (vacant_for ts tie.client) None ≡ Some local → w.tries < 16
     step true e k = ltb-true w.tries 16 (and_parts _ _ e).1
     step false e k = absurd cc

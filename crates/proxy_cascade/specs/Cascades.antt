@@ -1,6 +1,6 @@
 -- A relay beside a translator of its own, and what time makes of it (RFC 7648 in role; the rules
 -- are our own). Times are in milliseconds; one that is smaller than the last counts as the last.
-use Rattle.std.specs.Prelude.{◌≡◌, ℕ, ◌-◌, ◌/◌, ◌^◌, max, min, List, [], length, Option, Some, None, refl, ap}
+use Rattle.std.specs.Prelude.{◌≡◌, ℕ, ◌-◌, ◌/◌, ◌^◌, max, min, List, [], length, Option, Some, None, refl}
 use Rattle.std.specs.Coded.{Coded, code_by, coded×, coded_list, coded_option, coded_ℕ}
 use Rattle.pcp_base.specs.declared.addresses.Address.{Address}
 use Rattle.pcp_base.specs.declared.configs.Config.{Config}
@@ -58,7 +58,7 @@ cascade_code tied =
       heard = heard_in p.1.1.1.1.1.0;
       last = p.1.1.1.1.1.1;
     })
-    (λ c. ap (λ h. record c { heard = h }) (heard_again c.heard))
+    (λ c i. record c { heard = heard_again c.heard i })
 
 -- one without a tie, which heard nothing
 abbrev pub new_cascade : Address → Address → List ℕ → ℕ → ℕ → ℕ → Cascade

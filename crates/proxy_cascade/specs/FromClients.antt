@@ -24,7 +24,6 @@ use Rattle.pcp_options.specs.Requests.{asked_common, request_with}
 use Rattle.pcp_options.specs.Verdicts.{verdict_of}
 use Rattle.proxy_core.specs.declared.outs.ProxyOut.{ProxyOut}
 use Rattle.proxy_core.specs.declared.outs.ProxyOut.TheVariants.{Nothing, Reply, Up}
-use Rattle.proxy_core.specs.declared.waits.TheConstants.{WAIT_MS}
 use Rattle.proxy_core.specs.Everyone.{no_address}
 use Rattle.proxy_core.specs.Nonces.{upstream_nonce}
 use Rattle.cascade_ties.specs.declared.locals.NoLocal.{NoLocal}
@@ -120,13 +119,13 @@ new_tie ask local now = record {
   granted = false;
   address = no_address;
   external = 0;
-  until_ms = now + WAIT_MS;
+  until_ms = now + 60000;
 }
 
 -- a tie that is asked for again, as long as it isn't granted, lasts as a new one
 abbrev pub asked_again : Tie → ℕ → Tie
 asked_again tie now =
-    record tie { until_ms = if tie.granted then tie.until_ms else now + WAIT_MS }
+    record tie { until_ms = if tie.granted then tie.until_ms else now + 60000 }
 
 abbrev pub tied_with : Tie → Waiting → Tied
 tied_with tie waiting = record { tie = tie; waiting = Some waiting }

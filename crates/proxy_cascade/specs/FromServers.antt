@@ -1,6 +1,6 @@
 -- What a datagram from upstream makes of a cascade, and what is sent for it (RFC 6887, sections 8.3,
 -- 8.5 and 11.4, and RFC 7648 in role; the rules are our own).
-use Rattle.std.specs.Prelude.{ℕ, ◌+◌, ◌-◌, ◌*◌, ◌/◌, ◌==◌, ◌&&◌, nat_le, nat_lt, min, not, bytes_eq, Bool, true, false, List, [], Option, Some, None, Result, Ok, Err, if◌then◌else◌}
+use Rattle.std.specs.Prelude.{ℕ, ◌+◌, ◌-◌, ◌*◌, ◌/◌, ◌==◌, ◌&&◌, nat_le, nat_lt, min, not, bytes_eq, Bool, true, false, List, [], Option, Some, None, if◌then◌else◌}
 use Rattle.std.specs.Option.{option_map}
 use Rattle.pcp_base.specs.declared.addresses.Address.{Address}
 use Rattle.pcp_base.specs.declared.addresses.Nonce.{Nonce}
@@ -19,16 +19,13 @@ use Rattle.pcp_options.specs.Requests.{asked_common, request_with}
 use Rattle.client_core.specs.declared.epochs.HeardEpoch.{HeardEpoch}
 use Rattle.client_core.specs.EpochTests.{heard_epoch, is_valid}
 use Rattle.proxy_core.specs.declared.epochs.Heard.{Heard}
-use Rattle.proxy_core.specs.declared.outs.TheConstants.{CLIENTS_PORT}
-use Rattle.proxy_core.specs.declared.waits.TheConstants.{WAIT_MS}
 use Rattle.proxy_core.specs.Down.{is_success, relayed_text}
 use Rattle.proxy_core.specs.Nonces.{upstream_nonce}
 use Rattle.proxy_core.specs.Relays.{response_from}
-use Rattle.cascade_ties.specs.declared.locals.NoLocal.{NoLocal}
 use Rattle.cascade_ties.specs.declared.ties.Tie.{Tie}
 use Rattle.cascade_ties.specs.declared.ties.Tied.{Tied}
 use Rattle.cascade_ties.specs.declared.ties.Waiting.{Waiting}
-use Rattle.cascade_ties.specs.Ties.{Ties, local_for, tie_at, with_change, with_rest, without}
+use Rattle.cascade_ties.specs.Ties.{Ties, tie_at, vacant_for, with_change, with_rest, without}
 use Rattle.proxy_cascade.specs.declared.outs.CascadeOut.{CascadeOut}
 use Rattle.proxy_cascade.specs.declared.outs.CascadeOut.TheVariants.{Nothing, Down, Up}
 use Rattle.proxy_cascade.specs.Cascades.{Cascade, Step, at, told_epoch}
@@ -58,17 +55,17 @@ hearing c epoch = record c {
 abbrev pub announcement : ℕ → Datagram
 announcement epoch = record {
   peer = record { 0 = v4_octets 224 0 0 1 };
-  port = CLIENTS_PORT;
+  port = 5350;
   door = 0;
   octets = success_text 0 epoch Announce [];
 }
 
 -- ---- MAP
 
--- a request waits no longer than its time
+-- a request waits for a minute at most
 abbrev pub still_waits : ℕ → Option Waiting → Option Waiting
 still_waits now None = None
-still_waits now (Some w) = if nat_le (now - w.since_ms) WAIT_MS then Some w else None
+still_waits now (Some w) = if nat_le (now - w.since_ms) 60000 then Some w else None
 
 -- the tie without what waited
 abbrev pub ended : Tie → Tied
@@ -122,14 +119,9 @@ ties_after now r common tie ts =
 abbrev pub is_tried_on : Response → Tie → Waiting → Bool
 is_tried_on r tie w = is_taken r.code && not tie.granted && nat_lt w.tries 16
 
-abbrev pub port_in : Result ℕ NoLocal → Option ℕ
-port_in (Ok local) = Some local
-port_in (Err why) = None
-
--- the local port that is asked for next
+-- the local port that is asked for next; the quota was tested when the tie was made
 abbrev pub next_local : Ties → Response → Tie → Waiting → Option ℕ
-next_local ts r tie w =
-    if is_tried_on r tie w then port_in (local_for ts tie.client) else None
+next_local ts r tie w = if is_tried_on r tie w then vacant_for ts tie.client else None
 
 -- the request of that client for another local port
 abbrev pub again_text : List ℕ → Address → Tie → Waiting → ℕ → List ℕ

@@ -18,7 +18,6 @@ use Rattle.pcp_options.specs.Verdicts.{verdict_of}
 use Rattle.proxy_core.specs.declared.outs.ProxyOut.{ProxyOut}
 use Rattle.proxy_core.specs.declared.outs.ProxyOut.TheVariants as ProxyOuts
 use Rattle.proxy_core.specs.declared.outs.ProxyOut.TheVariants.{Reply}
-use Rattle.proxy_core.specs.declared.outs.TheConstants.{CLIENTS_PORT}
 use Rattle.proxy_core.specs.Down.{is_success, relayed_text}
 use Rattle.proxy_core.specs.Nonces.{upstream_nonce}
 use Rattle.proxy_core.specs.Relays.{response_from}
@@ -144,7 +143,7 @@ pub record IsToldError (b : Beginning) (events : List Event) (d : Datagram) (now
 abbrev pub IsAnnouncement : ℕ → Datagram → Type 0
 IsAnnouncement epoch sent = (epoch ≡ 0) × (sent ≡ record {
   peer = record { 0 = v4_octets 224 0 0 1 };
-  port = CLIENTS_PORT;
+  port = 5350;
   door = 0;
   octets = success_text 0 epoch Announce [];
 })

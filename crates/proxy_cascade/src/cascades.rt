@@ -1,6 +1,6 @@
 //! The cascade.
 ghost use Rattle.std.specs.Prelude.{◌≡◌, ◌≤◌, ◌<◌, ◌*◌, ◌^◌, map, IfOk, OnErr};
-ghost use Rattle.proxy_cascade.specs.Cascades.{at, for_itself, new_cascade, on_tick};
+ghost use Rattle.proxy_cascade.specs.Cascades.{at, for_itself, new_cascade, on_tick, told_epoch};
 ghost use Rattle.proxy_cascade.specs.FromClients.{on_client};
 ghost use Rattle.proxy_cascade.specs.FromServers.{on_server};
 
@@ -141,6 +141,14 @@ impl Cascade {
         let dropped = self.ties.drop_over(terms.last_ms);
         self.terms = terms;
         dropped as u32
+    }
+
+    /// The epoch that it tells, in seconds, as it was after the last call with a time (RFC 6887,
+    /// section 8.5).
+    pub fn epoch(&self) -> u32
+        ensures { result ≡ told_epoch self.now }
+    {
+        self.terms.epoch()
     }
 
     /// The ties, in the order made, as they were after the last call with a time. What comes to a local

@@ -146,10 +146,7 @@ fn next_local(ties: &TieTable, response: &Response, tie: &Tie, waiting: &Waiting
     if !is_tried_on(response, tie, waiting) {
         return None;
     }
-    match ties.local_for(&tie.client) {
-        Ok(local) => Some(local),
-        Err(_why) => None,
-    }
+    ties.vacant_for(&tie.client)
 }
 
 /// Until when the local port rests of which a response tells a lifetime, in milliseconds.
