@@ -50,9 +50,9 @@ static UPSTREAM: [u8; 60] = [
 
 // the same refusal of that request: the local port is leased to another nonce for a quarter of an hour
 static TAKEN: [u8; 60] = [
-    2, 0x81, 0, 2, 0, 0, 3, 0x84, 0, 0, 0, 10, 0, 0, 0, 0, 0, 0, 0, 0, 0, 0, 0, 0, 0x3c, 0x94, 0xfb,
-    0xab, 0x1c, 0xc1, 0xa1, 0x67, 0xd1, 0xab, 0xb5, 0xc4, 17, 0, 0, 0, 0x4e, 0x20, 0, 0, 0, 0, 0, 0,
-    0, 0, 0, 0, 0, 0, 0xff, 0xff, 0, 0, 0, 0,
+    2, 0x81, 0, 2, 0, 0, 3, 0x84, 0, 0, 0, 10, 0, 0, 0, 0, 0, 0, 0, 0, 0, 0, 0, 0, 0x3c, 0x94,
+    0xfb, 0xab, 0x1c, 0xc1, 0xa1, 0x67, 0xd1, 0xab, 0xb5, 0xc4, 17, 0, 0, 0, 0x4e, 0x20, 0, 0, 0,
+    0, 0, 0, 0, 0, 0, 0, 0, 0, 0xff, 0xff, 0, 0, 0, 0,
 ];
 
 // what 192.168.1.5 asks then, for local port 20001
@@ -279,5 +279,43 @@ fn asks_for_another_port(alloc: Global, cascade: &mut Cascade) -> Result<bool, M
 fn another_local_port_is_asked_for(rt: HostRuntime) -> Result<(), Fail> {
     let alloc = rt.alloc();
     assert!(rt; asks_for_another_port(alloc, &mut new_cascade(alloc, 20_000, 20_001)?)?);
+    Ok(())
+}
+
+// the request from 192.168.1.5 for UDP port 5000 + n, whose last octet is octet 41
+fn request_for(alloc: Global, n: u8) -> Result<Datagram, Memory> {
+    let mut octets = REQUEST.to_vec(alloc)?;
+    if let Some(octet) = octets.get_mut(41) {
+        *octet = octet.wrapping_add(n);
+    }
+    datagram(alloc, Address::v4(192, 168, 1, 5), DOOR, &octets)
+}
+
+// Whether 64 requests of a client go up, and one more doesn't.
+fn fills_its_quota(alloc: Global, cascade: &mut Cascade) -> Result<bool, Memory> {
+    for n in 0..64 {
+        cascade.from_client(alloc, &request_for(alloc, n)?, 1_000)?;
+    }
+    let beyond = cascade.from_client(alloc, &request_for(alloc, 64)?, 1_000)?;
+    let refused = match beyond {
+        ProxyOut::Reply(_reply) => true,
+        _ => false,
+    };
+    Ok(refused && cascade.ties(alloc)?.len() == 64)
+}
+
+// Whether a client with as many ties as it may have gets another local port for one of them too.
+fn asks_at_the_quota(alloc: Global, cascade: &mut Cascade) -> Result<bool, Memory> {
+    let full = fills_its_quota(alloc, cascade)?;
+    let sent = cascade.from_server(alloc, &datagram(alloc, SERVER, 0, &TAKEN)?, 3_000)?;
+    let mut up = UP_FIVE_AGAIN;
+    up[41] = 0x60;
+    Ok(full && goes_up_again(&sent, &up))
+}
+
+#[test]
+fn another_local_port_is_asked_for_at_the_quota(rt: HostRuntime) -> Result<(), Fail> {
+    let alloc = rt.alloc();
+    assert!(rt; asks_at_the_quota(alloc, &mut new_cascade(alloc, 20_000, 20_064)?)?);
     Ok(())
 }
