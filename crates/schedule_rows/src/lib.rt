@@ -1,8 +1,12 @@
-//! Tests of clients, relays and a house in a world that loses, repeats and reorders packets.
+//! Tests of clients, relays, a cascade and a house in a world that loses, repeats and reorders packets.
 #![tactic(auto)]
 
 #[cfg(test)]
+mod cascades;
+#[cfg(test)]
 mod dice;
+#[cfg(test)]
+mod epochs;
 #[cfg(test)]
 mod hosts;
 #[cfg(test)]
@@ -10,6 +14,10 @@ mod houses;
 #[cfg(test)]
 mod packets;
 #[cfg(test)]
+mod places;
+#[cfg(test)]
 mod relays;
 #[cfg(test)]
 mod schedules;
+#[cfg(test)]
+mod worlds;
