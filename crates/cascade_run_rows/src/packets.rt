@@ -33,6 +33,9 @@ static FULL_HEAD: [u8; 24] = [
     2, 0x81, 0, 8, 0, 0, 0, 30, 0, 0, 0, 1, 0, 0, 0, 0, 0, 0, 0, 0, 0, 0, 0, 0,
 ];
 
+// A success of ANNOUNCE in front of its epoch.
+static ANNOUNCE_FRONT: [u8; 8] = [2, 0x80, 0, 0, 0, 0, 0, 0];
+
 // The nonce of all clients.
 const NONCE: [u8; 12] = [0, 1, 2, 3, 4, 5, 6, 7, 8, 9, 10, 11];
 
@@ -114,6 +117,11 @@ pub(crate) fn grant_down(alloc: Global) -> Result<Octets, Memory> {
 /// What a client gets for whom no port is left.
 pub(crate) fn full_down(alloc: Global) -> Result<Octets, Memory> {
     joined(alloc, &[&FULL_HEAD, &NONCE, &UDP, &PORT, &UNSUGGESTED])
+}
+
+/// What all clients hear of this epoch, below 256.
+pub(crate) fn announcement(alloc: Global, epoch: u8) -> Result<Octets, Memory> {
+    joined(alloc, &[&ANNOUNCE_FRONT, &[0, 0, 0, epoch], &[0; 12]])
 }
 
 /// A datagram of 192.168.1.last, by the door of clients.

@@ -1,7 +1,7 @@
 //! Runs over links in memory.
 use crate::packets::{
-    CLIENT_DOOR, CLIENT_PORT, SERVER, from_client, from_server, full_down, grant_down, grant_up,
-    request, request_up,
+    CLIENT_DOOR, CLIENT_PORT, SERVER, announcement, from_client, from_server, full_down, grant_down,
+    grant_up, request, request_up,
 };
 use cascade_runs::{SERVER_PORT, run_cascade};
 use pcp_base::{Address, Datagram, Memory, Octets};
@@ -102,7 +102,7 @@ fn are_up(alloc: Global, sent: &[Datagram], clients: &[u8]) -> Result<bool, Memo
 }
 
 // Whether what was sent are these replies to these clients, in order.
-fn are_down(sent: &[Datagram], clients: &[u8], replies: &[Octets]) -> bool {
+fn are_down(sent: &[&Datagram], clients: &[u8], replies: &[Octets]) -> bool {
     for ((datagram, client), reply) in sent.iter().zip(clients).zip(replies) {
         let peer = Address::v4(192, 168, 1, *client);
         if !is_to(datagram, peer, CLIENT_PORT, CLIENT_DOOR, reply) {
@@ -110,6 +110,31 @@ fn are_down(sent: &[Datagram], clients: &[u8], replies: &[Octets]) -> bool {
         }
     }
     sent.len() == clients.len()
+}
+
+// Where all clients hear.
+const ALL_HOSTS: Address = Address([0, 0, 0, 0, 0, 0, 0, 0, 0, 0, 0xff, 0xff, 224, 0, 0, 1]);
+
+// What was sent to all clients, or to each of them.
+fn sent_to(alloc: Global, sent: &[Datagram], all: bool) -> Result<Vec<&Datagram>, Memory> {
+    let mut found = Vec::new(alloc);
+    for datagram in sent {
+        if (datagram.peer == ALL_HOSTS) == all {
+            found.push(datagram)?;
+        }
+    }
+    Ok(found)
+}
+
+// Whether these are announcements of these epochs, in order.
+fn are_announced(alloc: Global, sent: &[&Datagram], epochs: &[u8]) -> Result<bool, Memory> {
+    for (datagram, epoch) in sent.iter().zip(epochs) {
+        let wanted = announcement(alloc, *epoch)?;
+        if !is_to(datagram, ALL_HOSTS, 5_350, 0, &wanted) {
+            return Ok(false);
+        }
+    }
+    Ok(sent.len() == epochs.len())
 }
 
 // What clients are told of no port that is left, and of the grant.
@@ -128,7 +153,28 @@ fn ports_are_tied_to_clients(rt: HostRuntime) -> Result<(), Fail> {
     let ran = run(&rt, alloc, &words(alloc)?, from, clock)?;
     assert!(rt; ran.status == ToolStatus::Done);
     assert!(rt; are_up(alloc, ran.up.sent(), &[5, 6])?);
-    assert!(rt; are_down(ran.down.sent(), &[7, 5], &told(alloc)?));
+    let down = sent_to(alloc, ran.down.sent(), false)?;
+    assert!(rt; are_down(&down, &[7, 5], &told(alloc)?));
+    Ok(())
+}
+
+// One announcement an item, while any is due: the ten of a beginning are over after 127750 milliseconds.
+#[test]
+fn a_beginning_is_announced(rt: HostRuntime) -> Result<(), Fail> {
+    let alloc = rt.alloc();
+    let mut items = Vec::new(alloc);
+    for _ in 0..14 {
+        items.push(InboxItem::Quiet)?;
+    }
+    let times = vec![in alloc;
+        5_000, 5_000, 5_249, 5_250, 5_750, 6_750, 8_750, 12_750, 20_750, 36_750, 68_749, 68_750, 132_749,
+        132_750, 999_000,
+    ]?;
+    let from = MemoryInbox::new(alloc, items)?;
+    let ran = run(&rt, alloc, &words(alloc)?, from, StepClock::new(alloc, times)?)?;
+    let told = sent_to(alloc, ran.down.sent(), true)?;
+    assert!(rt; are_announced(alloc, &told, &[0, 0, 0, 1, 3, 7, 15, 31, 63, 127])?);
+    assert!(rt; ran.down.sent().len() == 10 && ran.up.sent().len() == 0);
     Ok(())
 }
 

@@ -1,7 +1,8 @@
 //! The run of the command.
 ghost use Rattle.std.specs.Prelude.{◌≡◌, ◌⊎◌, ◌<◌, map, option_map, string_bytes, IfOk};
 ghost use Rattle.cascade_runs.specs.CascadeRuns.{RunsCascade};
-ghost use Rattle.cascade_runs.specs.Cascading.{cascade_of, cascading};
+ghost use Rattle.cascade_runs.specs.Cascading.{announcing_from, cascade_of, cascading};
+ghost use Rattle.pcp_io.specs.declared.clocks.TheConstants.{END_OF_TIME_MS};
 ghost use Rattle.pcp_io.specs.Faults.{HasRisen};
 ghost use Rattle.relay_rates.specs.Rates.{rated, rated_begin};
 ghost use Rattle.relay_runs.specs.Ends.{EndsRelay};
@@ -21,13 +22,14 @@ use std::alloc::Global;
 use std::sync::Wait;
 use tool_commands::ToolStatus;
 
-/// Relays by this cascade, to which so many datagrams of clients come in a second, until the inbox
-/// gives a stop.
+/// Relays by this cascade, which begins at this time and to which so many datagrams of clients come in a
+/// second, until the inbox gives a stop.
 fn run_begun<R: Wait, O: Outbox, I: Inbox, T: Clock>(
     rt: &R,
     alloc: Global,
     server: &Address,
     cascade: Cascade,
+    now_ms: u64,
     rate: u32,
     down: &mut O,
     up: &mut O,
@@ -35,7 +37,9 @@ fn run_begun<R: Wait, O: Outbox, I: Inbox, T: Clock>(
     clock: &mut T,
     dropped: &mut u64,
 ) -> ToolStatus
-    ensures { EndsRelay (rated cascading) server.now (rated_begin rate cascade) result
+    requires { now_ms < END_OF_TIME_MS }
+    ensures { EndsRelay (rated cascading) server.now
+        (rated_begin rate (announcing_from now_ms cascade)) result
         (record {
           outs = record {
             down = record { sent = O.sent down.old; faults = O.faults down.old };
@@ -55,7 +59,7 @@ fn run_begun<R: Wait, O: Outbox, I: Inbox, T: Clock>(
           times = T.times clock.new;
         }) }
 {
-    let mut machine = RatedRelay::of(CascadeMachine::of(cascade), rate);
+    let mut machine = RatedRelay::of(CascadeMachine::begins(cascade, now_ms), rate);
     let status = run_relay(rt, alloc, server, &mut machine, down, up, from, clock);
     *dropped = machine.dropped();
     status
@@ -69,6 +73,9 @@ fn run_begun<R: Wait, O: Outbox, I: Inbox, T: Clock>(
 /// packet whose peer is the server's address came from upstream, and any other from a client. What
 /// it gives for clients is sent by `down`, and its own requests by `up`, to [`SERVER_PORT`] of the
 /// server; a send that fails is a lost packet. A `Lose` and a `Status` are ignored.
+///
+/// Its beginning is announced by `down` to port 5350 of 224.0.0.1 ten times: the k-th one, from 0, at the
+/// first item `FIRST_GAP_MS * (2^k - 1)` milliseconds behind it or later, and one at an item.
 ///
 /// `Done` after a stop; `WordsRefused` where the words are no command, and nothing was called then;
 /// `LinkFault` where the inbox failed; `Memory` where none was found for the cascade, or for a
@@ -127,6 +134,6 @@ pub fn run_cascade<R: Wait, O: Outbox, I: Inbox, T: Clock>(
     };
     let server = &relay.server;
     run_begun(
-        rt, alloc, server, cascade, more.rate, down, up, from, clock, dropped,
+        rt, alloc, server, cascade, now_ms, more.rate, down, up, from, clock, dropped,
     )
 }

@@ -23,7 +23,8 @@ proxying = record {
     state = (on_server relay d now).relay;
     out = reply_of (on_server relay d now).out;
   };
-  on_tick = λ relay now. (on_tick relay now).relay;
+  -- a relay announces nothing by itself
+  on_tick = λ relay now. record { state = (on_tick relay now).relay; out = None };
 }
 
 -- the relay that a command begins, behind its gate

@@ -62,7 +62,8 @@ impl RelayMachine for ProxyMachine {
         Ok(reply_of(reply))
     }
 
-    fn tick(&mut self, now_ms: u64) {
+    fn tick(&mut self, now_ms: u64) -> Option<[u8; 24]> {
         self.proxy.tick(now_ms);
+        None
     }
 }

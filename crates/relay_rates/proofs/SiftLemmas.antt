@@ -7,7 +7,7 @@ use Rattle.proxy_core.specs.Runs.{Event}
 use Rattle.proxy_core.specs.Runs.Event.{Client, Server, Tick}
 use Rattle.relay_rates.specs.declared.gates.RateGate.{RateGate}
 use Rattle.relay_rates.specs.Rates.{at, counted, gate_after, is_open, may_pass, new_gate, rated, taken}
-use Rattle.relay_rates.specs.Sifting.{AreRising, RatesAreKept, SendsDownSifted, SendsUpSifted, is_in, passing}
+use Rattle.relay_rates.specs.Sifting.{AreRising, RatesAreKept, is_in, passing}
 use Rattle.relay_runs.specs.Machines.{Machine}
 use Rattle.relay_runs.specs.Sending.{down_by, down_for, down_for_all, up_by, up_for, up_for_all}
 
@@ -27,7 +27,7 @@ module _ {S : Type 0} (m : Machine S) where
   down-sifted gate relay (Client d now ∷ es) =
       down-client (gate_after gate now) relay d now es (may_pass gate now) (λ s. down-sifted (gate_after gate now) s es)
   down-sifted gate relay (Server d now ∷ es) = ap (λ ds. down_for m relay (Server d now) ++ ds) (down-sifted gate (m.on_server relay d now).state es)
-  down-sifted gate relay (Tick now ∷ es) = down-sifted gate (m.on_tick relay now) es
+  down-sifted gate relay (Tick now ∷ es) = ap (λ ds. down_for m relay (Tick now) ++ ds) (down-sifted gate (m.on_tick relay now).state es)
 
   up-client : (server : Address) (gate : RateGate) (relay : S) (d : Datagram) (now : ℕ) (es : List Event) (b : Bool)
       → ((s : S) → up_for_all (rated m) server (record { gate = gate; relay = s }) es ≡ up_for_all m server s (passing gate es))
@@ -42,7 +42,7 @@ module _ {S : Type 0} (m : Machine S) where
   up-sifted server gate relay (Client d now ∷ es) =
       up-client server (gate_after gate now) relay d now es (may_pass gate now) (λ s. up-sifted server (gate_after gate now) s es)
   up-sifted server gate relay (Server d now ∷ es) = ap (λ ds. up_for m server relay (Server d now) ++ ds) (up-sifted server gate (m.on_server relay d now).state es)
-  up-sifted server gate relay (Tick now ∷ es) = up-sifted server gate (m.on_tick relay now) es
+  up-sifted server gate relay (Tick now ∷ es) = up-sifted server gate (m.on_tick relay now).state es
 
 -- ---- how many pass
 

@@ -1,5 +1,5 @@
 -- How many requests of clients a relay takes (our own). Times are in milliseconds.
-use Rattle.std.specs.Prelude.{ℕ, ◌+◌, ◌-◌, ◌/◌, ◌^◌, min, Bool, nat_lt, Option, if◌then◌else◌}
+use Rattle.std.specs.Prelude.{ℕ, ◌+◌, ◌-◌, ◌/◌, ◌^◌, min, Bool, nat_lt, if◌then◌else◌}
 use Rattle.pcp_base.specs.declared.datagrams.Datagram.{Datagram}
 use Rattle.proxy_core.specs.declared.outs.ProxyOut.{ProxyOut}
 use Rattle.proxy_core.specs.declared.outs.ProxyOut.TheVariants.{Nothing}
@@ -53,5 +53,8 @@ module _ {S : Type 0} (m : Machine S) where
       state = record { gate = s.gate; relay = (m.on_server s.relay d now).state };
       out = (m.on_server s.relay d now).out;
     };
-    on_tick = λ s now. record { gate = s.gate; relay = m.on_tick s.relay now };
+    on_tick = λ s now. record {
+      state = record { gate = s.gate; relay = (m.on_tick s.relay now).state };
+      out = (m.on_tick s.relay now).out;
+    };
   }

@@ -72,7 +72,7 @@ impl<M: RelayMachine> RelayMachine for RatedRelay<M> {
         self.relay.from_server(alloc, datagram, now_ms)
     }
 
-    fn tick(&mut self, now_ms: u64) {
-        self.relay.tick(now_ms);
+    fn tick(&mut self, now_ms: u64) -> Option<[u8; 24]> {
+        self.relay.tick(now_ms)
     }
 }

@@ -21,7 +21,7 @@ use Rattle.tool_commands.specs.declared.statuses.ToolStatus.TheVariants as Statu
 use Rattle.relay_runs.specs.Ends.{EndsRelay, Links, Outs, Relays, TellsTimes, left_with}
 use Rattle.relay_runs.specs.Handing.{Hands, Told}
 use Rattle.relay_runs.specs.Machines.{Machine, next, run}
-use Rattle.relay_runs.specs.Sending.{down_by, down_for, down_for_all, up_by, up_for, up_for_all}
+use Rattle.relay_runs.specs.Sending.{announced, down_by, down_for, down_for_all, up_by, up_for, up_for_all}
 use Rattle.relay_runs.specs.Steps.{Does, IsTurn, StandsStill, Starves, Takes}
 use Rattle.relay_runs.specs.Turns.{IsPacket, Turn, event_of, events_of, packet_event, turn_events}
 use Rattle.relay_runs.proofs.HandLemmas.{Hands-append, Hands-none}
@@ -77,19 +77,6 @@ risen-after : (before mid now : ℕ) → before ≤ mid → HasRisen mid now →
 risen-after before mid now later (inl a) = inl (omega (arith, later, a))
 risen-after before mid now later (inr b) = inr b
 
-pub starves : (incoming : Incoming) (room : List ℕ) (now : ℕ) (a b : Links) → incoming ≢ Incomings.Stop → IsNextItem a.left b.left (item_of incoming room)
-    → IsTimeNow a.times b.times now → a.faults ≤ b.faults → IfSome (item_of incoming room) IsPacket → b.outs ≡ a.outs → Starves a b
-starves (Incomings.Packet peer port door k) room now a b on given time later packet outs = record {
-  turn = record { item = Packet (record { peer = peer; port = port; door = door; octets = take k room }); time = now };
-  takes = record { given = given; time = time; later = later };
-  packet = tt;
-  outs = outs;
-}
-starves (Incomings.Lose order address) room now a b on given time later packet outs = absurd packet
-starves (Incomings.Status order) room now a b on given time later packet outs = absurd packet
-starves Incomings.Quiet room now a b on given time later packet outs = absurd packet
-starves Incomings.Stop room now a b on given time later packet outs = absurd (on refl)
-
 module _ {S : Type 0} (m : Machine S) where
   -- ---- events one after the other
 
@@ -121,8 +108,14 @@ module _ {S : Type 0} (m : Machine S) where
         (Hands-append _ _ a.up b.up c.up p.up (subst (λ (x : S). Hands (up_for_all m server x ys) b.up c.up) p.relay q.up));
   }
 
-  Does-tick : (server : Address) (r s : S) (now : ℕ) (a : Outs) → s ≡ m.on_tick r now → Does m server (Tick now ∷ []) r s a a
-  Does-tick server r s now a e = record { relay = e; down = Hands-none a.down; up = Hands-none a.up }
+  pub Does-tick : (server : Address) (r s : S) (now : ℕ) (told : Option (List ℕ)) (a b : Outs) → m.on_tick r now ≡ record { state = s; out = told }
+      → Hands (announced told) a.down b.down → b.up ≡ a.up → Does m server (Tick now ∷ []) r s a b
+  Does-tick server r s now told a b e down same = record {
+    relay = sym (ap (λ x. x.state) e);
+    down = subst (λ (ds : List Datagram). Hands ds a.down b.down)
+        (sym (append-nil (announced (m.on_tick r now).out) ∙ ap (λ x. announced x.out) e)) down;
+    up = subst (λ (told : Told). Hands [] a.up told) (sym same) (Hands-none a.up);
+  }
 
   -- ---- packets
 
@@ -183,7 +176,8 @@ module _ {S : Type 0} (m : Machine S) where
   }
 
   -- what was done, where nothing more is sent
-  relays-still : (server : Address) (start now : S) (a b c : Links) (h : HasRun server start now a b) → StandsStill b c → c.left ≡ b.left → Relays m server start h.turns h.turns a c
+  relays-still : (server : Address) (start now : S) (a b c : Links) (h : HasRun server start now a b) → StandsStill b c → c.left ≡ b.left
+      → Relays m server start h.turns (events_of server h.turns) a c
   relays-still server start now a b c h still left = record {
     items = h.items ∙ ap (left_with (map (λ (t : Turn). t.item) h.turns)) (sym left);
     times = subst (λ (ts : Option Times). TellsTimes (map (λ (t : Turn). t.time) h.turns) a.times ts) (sym still.times) h.times;
@@ -204,11 +198,14 @@ module _ {S : Type 0} (m : Machine S) where
     relays = record {
       items = items-push h.turns s.turn a b c h.items s.takes;
       times = times-more h.turns s.turn a b c h.times s.takes;
-      down = subst (λ (o : Outs). Hands (down_for_all m start (events_of server h.turns)) a.outs.down o.down) (sym s.outs) h.does.down;
-      up = subst (λ (o : Outs). Hands (up_for_all m server start (events_of server h.turns)) a.outs.up o.up) (sym s.outs) h.does.up;
+      down = both.down;
+      up = both.up;
     };
     packet = s.packet;
   }
+    where
+      both : Does m server (events_of server h.turns ++ Tick s.turn.time ∷ []) start s.ticked a.outs c.outs
+      both = Does-append server _ _ start before s.ticked a.outs b.outs c.outs h.does s.does
   turn_ends Statuses.WordsRefused server start before after a b c h turn = absurd turn
   turn_ends Statuses.WriteFault server start before after a b c h turn = absurd turn
   turn_ends Statuses.EntropyFault server start before after a b c h turn = absurd turn
@@ -220,24 +217,39 @@ module _ {S : Type 0} (m : Machine S) where
 
   -- ---- one turn
 
-  did_item : (server : Address) (r s t : S) (now : ℕ) (a b : Links) (item : InboxItem) → IsNextItem a.left b.left (Some item) → IsTimeNow a.times b.times now
-      → a.faults ≤ b.faults → s ≡ m.on_tick r now → Does m server (event_of server item now) s t a.outs b.outs → IsTurn m server r t None a b
-  did_item server r s t now a b item given time later tick does = (
+  did_item : (server : Address) (r s t : S) (now : ℕ) (a b : Links) (mid : Outs) (item : InboxItem) → IsNextItem a.left b.left (Some item) → IsTimeNow a.times b.times now
+      → a.faults ≤ b.faults → Does m server (Tick now ∷ []) r s a.outs mid → Does m server (event_of server item now) s t mid b.outs → IsTurn m server r t None a b
+  did_item server r s t now a b mid item given time later tick does = (
     record { item = item; time = now },
     record { given = given; time = time; later = later },
-    Does-append server (Tick now ∷ []) (event_of server item now) r s t a.outs a.outs b.outs (Does-tick server r s now a.outs tick) does,
+    Does-append server (Tick now ∷ []) (event_of server item now) r s t a.outs mid b.outs tick does,
   )
 
-  pub goes_on : (server : Address) (r s t : S) (incoming : Incoming) (room : List ℕ) (now : ℕ) (result : Result (Unit {0}) Memory) (a b : Links) → incoming ≢ Incomings.Stop
-      → IsNextItem a.left b.left (item_of incoming room) → IsTimeNow a.times b.times now → a.faults ≤ b.faults → s ≡ m.on_tick r now → IsOk result
-      → IfSome (item_of incoming room) (λ item. OnOk result (Does m server (event_of server item now) s t a.outs b.outs)) → IsTurn m server r t None a b
-  goes_on server r s t incoming room now (Err e) a b on given time later tick ok does = absurd cc
-  goes_on server r s t (Incomings.Packet peer port door k) room now (Ok u) a b on given time later tick ok does =
-      did_item server r s t now a b (Packet (record { peer = peer; port = port; door = door; octets = take k room })) given time later tick does
-  goes_on server r s t (Incomings.Lose order address) room now (Ok u) a b on given time later tick ok does = did_item server r s t now a b (Lose order address) given time later tick does
-  goes_on server r s t (Incomings.Status order) room now (Ok u) a b on given time later tick ok does = did_item server r s t now a b (Status order) given time later tick does
-  goes_on server r s t Incomings.Quiet room now (Ok u) a b on given time later tick ok does = did_item server r s t now a b Quiet given time later tick does
-  goes_on server r s t Incomings.Stop room now (Ok u) a b on given time later tick ok does = absurd (on refl)
+  pub starves : (server : Address) (r s : S) (incoming : Incoming) (room : List ℕ) (now : ℕ) (a b : Links) (mid : Outs) → incoming ≢ Incomings.Stop
+      → IsNextItem a.left b.left (item_of incoming room) → IsTimeNow a.times b.times now → a.faults ≤ b.faults → IfSome (item_of incoming room) IsPacket
+      → Does m server (Tick now ∷ []) r s a.outs mid → b.outs ≡ mid → Starves m server r a b
+  starves server r s (Incomings.Packet peer port door k) room now a b mid on given time later packet does same = record {
+    turn = record { item = Packet (record { peer = peer; port = port; door = door; octets = take k room }); time = now };
+    takes = record { given = given; time = time; later = later };
+    packet = tt;
+    ticked = s;
+    does = subst (λ (outs : Outs). Does m server (Tick now ∷ []) r s a.outs outs) (sym same) does;
+  }
+  starves server r s (Incomings.Lose order address) room now a b mid on given time later packet does same = absurd packet
+  starves server r s (Incomings.Status order) room now a b mid on given time later packet does same = absurd packet
+  starves server r s Incomings.Quiet room now a b mid on given time later packet does same = absurd packet
+  starves server r s Incomings.Stop room now a b mid on given time later packet does same = absurd (on refl)
+
+  pub goes_on : (server : Address) (r s t : S) (incoming : Incoming) (room : List ℕ) (now : ℕ) (result : Result (Unit {0}) Memory) (a b : Links) (mid : Outs) → incoming ≢ Incomings.Stop
+      → IsNextItem a.left b.left (item_of incoming room) → IsTimeNow a.times b.times now → a.faults ≤ b.faults → Does m server (Tick now ∷ []) r s a.outs mid → IsOk result
+      → IfSome (item_of incoming room) (λ item. OnOk result (Does m server (event_of server item now) s t mid b.outs)) → IsTurn m server r t None a b
+  goes_on server r s t incoming room now (Err e) a b mid on given time later tick ok does = absurd cc
+  goes_on server r s t (Incomings.Packet peer port door k) room now (Ok u) a b mid on given time later tick ok does =
+      did_item server r s t now a b mid (Packet (record { peer = peer; port = port; door = door; octets = take k room })) given time later tick does
+  goes_on server r s t (Incomings.Lose order address) room now (Ok u) a b mid on given time later tick ok does = did_item server r s t now a b mid (Lose order address) given time later tick does
+  goes_on server r s t (Incomings.Status order) room now (Ok u) a b mid on given time later tick ok does = did_item server r s t now a b mid (Status order) given time later tick does
+  goes_on server r s t Incomings.Quiet room now (Ok u) a b mid on given time later tick ok does = did_item server r s t now a b mid Quiet given time later tick does
+  goes_on server r s t Incomings.Stop room now (Ok u) a b mid on given time later tick ok does = absurd (on refl)
 
   -- ---- the loop
 

@@ -4,6 +4,8 @@ use Rattle.pcp_base.specs.declared.addresses.Address.{Address}
 use Rattle.pcp_io.specs.declared.inboxes.InboxItem.{InboxItem}
 use Rattle.pcp_io.specs.Faults.{HasRisen}
 use Rattle.pcp_io.specs.Times.{Times, IsTimeNow}
+use Rattle.proxy_core.specs.Runs.{Event}
+use Rattle.proxy_core.specs.Runs.Event.{Tick}
 use Rattle.tool_commands.specs.declared.statuses.ToolStatus.{ToolStatus}
 use Rattle.tool_commands.specs.declared.statuses.ToolStatus.TheVariants.{Done, LinkFault, Memory}
 use Rattle.relay_runs.specs.Handing.{Hands, Told}
@@ -37,30 +39,31 @@ TellsTimes (time ∷ times) old new =
 
 module _ {S : Type 0} (m : Machine S) (server : Address) (start : S) where
   -- Turns were taken: the inbox gave their items, and the clock told one time for each. What the
-  -- relay gives for those that are done was handed on, in order and each once.
-  pub record Relays (taken done : List Turn) (old new : Links) : Type 0 where
+  -- relay gives for these events was handed on, in order and each once.
+  pub record Relays (taken : List Turn) (events : List Event) (old new : Links) : Type 0 where
     pub items : old.left ≡ left_with (map (λ t. t.item) taken) new.left
     pub times : TellsTimes (map (λ t. t.time) taken) old.times new.times
-    pub down : Hands (down_for_all m start (events_of server done)) old.outs.down new.outs.down
-    pub up : Hands (up_for_all m server start (events_of server done)) old.outs.up new.outs.up
+    pub down : Hands (down_for_all m start events) old.outs.down new.outs.down
+    pub up : Hands (up_for_all m server start events) old.outs.up new.outs.up
 
   -- the inbox gave a stop: nothing is left
   pub record EndsByStop (old new : Links) : Type 0 where
     pub turns : List Turn
-    pub relays : Relays turns turns old new
+    pub relays : Relays turns (events_of server turns) old new
     pub stop : IfSome new.left (λ items. items ≡ [])
 
   -- the inbox failed
   pub record EndsByFault (old new : Links) : Type 0 where
     pub turns : List Turn
-    pub relays : Relays turns turns old new
+    pub relays : Relays turns (events_of server turns) old new
     pub fault : HasRisen old.faults new.faults
 
-  -- no memory was found for the packet that was taken last: nothing was handed on for it
+  -- no memory was found for the packet that was taken last: of that turn only the tick was done
   pub record EndsByMemory (old new : Links) : Type 0 where
     pub turns : List Turn
     pub last : Turn
-    pub relays : Relays (turns ++ last ∷ []) turns old new
+    pub relays : Relays (turns ++ last ∷ [])
+        (events_of server turns ++ Tick last.time ∷ []) old new
     pub packet : IsPacket last.item
 
   -- how a relay's run ended, by its status

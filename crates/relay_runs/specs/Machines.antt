@@ -1,6 +1,6 @@
 -- A relay as its run sees it (our own): what each call makes of its state, and what the call gives.
 -- Times are in milliseconds.
-use Rattle.std.specs.Prelude.{ℕ, List, [], ◌∷◌}
+use Rattle.std.specs.Prelude.{ℕ, List, [], ◌∷◌, Option}
 use Rattle.pcp_base.specs.declared.datagrams.Datagram.{Datagram}
 use Rattle.proxy_core.specs.declared.outs.ProxyOut.{ProxyOut}
 use Rattle.proxy_core.specs.Runs.{Event}
@@ -11,18 +11,19 @@ pub record Move (S X : Type 0) : Type 0 where
   pub state : S
   pub out : X
 
--- what a datagram of a client does, a datagram from upstream, and a tick
+-- What a datagram of a client does, a datagram from upstream, and a tick, which gives the octets that are
+-- announced to all clients, if any are.
 pub record Machine (S : Type 0) : Type 0 where
   pub on_client : S → Datagram → ℕ → Move S ProxyOut
   pub on_server : S → Datagram → ℕ → Move S ProxyOut
-  pub on_tick : S → ℕ → S
+  pub on_tick : S → ℕ → Move S (Option (List ℕ))
 
 module _ {S : Type 0} (m : Machine S) where
   -- the state after an event
   abbrev pub next : S → Event → S
   next s (Client d now) = (m.on_client s d now).state
   next s (Server d now) = (m.on_server s d now).state
-  next s (Tick now) = m.on_tick s now
+  next s (Tick now) = (m.on_tick s now).state
 
   -- the state after events, the first one first
   abbrev pub run : S → List Event → S

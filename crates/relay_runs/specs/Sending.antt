@@ -1,7 +1,8 @@
 -- What a relay sends for what comes to it (RFC 7648 in role).
-use Rattle.std.specs.Prelude.{List, [], ◌∷◌, ◌++◌}
+use Rattle.std.specs.Prelude.{ℕ, List, [], ◌∷◌, ◌++◌, Option, Some, None}
 use Rattle.pcp_base.specs.declared.addresses.Address.{Address}
 use Rattle.pcp_base.specs.declared.datagrams.Datagram.{Datagram}
+use Rattle.pcp_base.specs.Pairing.{v4_octets}
 use Rattle.proxy_core.specs.declared.outs.ProxyOut.{ProxyOut}
 use Rattle.proxy_core.specs.declared.outs.ProxyOut.TheVariants.{Nothing, Reply, Up}
 use Rattle.proxy_core.specs.Runs.{Event}
@@ -20,12 +21,19 @@ up_by server (Reply d) = []
 up_by server (Up octets) =
     record { peer = server; port = 5351; door = 0; octets = octets } ∷ []
 
+-- what is announced goes to all hosts of the clients' links, to the port at which clients hear (RFC 6887,
+-- section 14.1)
+abbrev pub announced : Option (List ℕ) → List Datagram
+announced None = []
+announced (Some octets) =
+    record { peer = record { 0 = v4_octets 224 0 0 1 }; port = 5350; door = 0; octets = octets } ∷ []
+
 module _ {S : Type 0} (m : Machine S) where
   -- what goes down for an event, and what goes up
   abbrev pub down_for : S → Event → List Datagram
   down_for s (Client d now) = down_by (m.on_client s d now).out
   down_for s (Server d now) = down_by (m.on_server s d now).out
-  down_for s (Tick now) = []
+  down_for s (Tick now) = announced (m.on_tick s now).out
 
   abbrev pub up_for : Address → S → Event → List Datagram
   up_for server s (Client d now) = up_by server (m.on_client s d now).out

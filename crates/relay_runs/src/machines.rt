@@ -35,8 +35,8 @@ pub trait RelayMachine {
         ensures { IfOk result (λ out. machine.on_server self.old datagram.now now_ms
             ≡ record { state = self.new; out = out }) };
 
-    /// Drops what is over.
-    fn tick(&mut self, now_ms: u64)
+    /// Drops what is over, and gives the octets that are to be announced to all clients, if any are.
+    fn tick(&mut self, now_ms: u64) -> Option<[u8; 24]>
         requires { now_ms < END_OF_TIME_MS }
-        ensures { self.new ≡ machine.on_tick self.old now_ms };
+        ensures { machine.on_tick self.old now_ms ≡ record { state = self.new; out = result } };
 }

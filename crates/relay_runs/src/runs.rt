@@ -6,6 +6,7 @@ ghost use Rattle.relay_runs.specs.Steps.{IsTurn};
 
 use crate::machines::RelayMachine;
 use crate::packets::relay_item;
+use crate::sends::announce;
 use pcp_base::Address;
 use pcp_io::{Clock, Inbox, Incoming, LONGEST_DATAGRAM, Outbox};
 use std::alloc::Global;
@@ -51,7 +52,8 @@ fn do_turn<M: RelayMachine, O: Outbox, I: Inbox, T: Clock>(
         return Some(ToolStatus::Done);
     }
     let now_ms = clock.now();
-    machine.tick(now_ms);
+    let told = machine.tick(now_ms);
+    announce(down, told);
     if relay_item(alloc, server, machine, down, up, incoming, room, now_ms).is_err() {
         return Some(ToolStatus::Memory);
     }
@@ -61,8 +63,9 @@ fn do_turn<M: RelayMachine, O: Outbox, I: Inbox, T: Clock>(
 /// Relays between clients and an upstream server until the inbox gives a stop. For each item of
 /// `from` the clock is read once, the relay ticks, and then hears the item at the same time: a
 /// packet whose peer is the server's address came from upstream, and any other from a client. What
-/// it gives for clients is sent by `down`, and its own requests by `up`, to [`SERVER_PORT`] of the
-/// server; a send that fails is a lost packet. A `Lose` and a `Status` are ignored.
+/// it gives for clients is sent by `down`, what a tick announces to port 5350 of 224.0.0.1, and its own
+/// requests by `up`, to [`SERVER_PORT`] of the server; a send that fails is a lost packet. A `Lose` and
+/// a `Status` are ignored.
 ///
 /// `Done` after a stop; `LinkFault` where the inbox failed; `Memory` where none was found for a
 /// datagram, for which nothing was sent then.
