@@ -1,10 +1,15 @@
-# `make demo` builds the proved program, stops it in the middle of the example and plays on, and does the same with a server over UDP;
+# `make try` builds the program without a proof, in minutes, and shows it at work; nothing that it shows is proved. `make demo` builds the
+# proved program, stops it in the middle of the example and plays on, and does the same with a server over UDP;
 # `make test` is the merge gate; `make rows` runs the commands of rows/ over the proved program; `make edits` tries each wrong body of edits/, or those of some
-# crates (`make edits NAMES="lease_disk pcp_codec"`), which the prover must refuse; `make help` prints the program's usage. `make install`
+# crates (`make edits NAMES="lease_disk pcp_codec"`), which the prover must refuse; `make index` writes what documents say of the tree anew;
+# `make help` prints the program's usage. `make install`
 # puts the proved program, its page, units for systemd, and a configuration and the ports for them below DESTDIR and PREFIX.
-.PHONY: demo test rows edits help install
+.PHONY: try demo test rows edits index help install
 
 PREFIX = /usr/local
+
+try:
+	@python3 examples/try.py
 
 demo:
 	@cd crates/pcp && rt run -- --version
@@ -20,6 +25,9 @@ rows:
 
 edits:
 	@.ci/edits $(NAMES)
+
+index:
+	@.ci/index --write
 
 help:
 	@cd crates/pcp && rt run -- --help
