@@ -67,6 +67,8 @@ def build():
     if PCP.exists() and PCP.stat().st_mtime > max(it.stat().st_mtime for it in sources()):
         say(f"{PCP.relative_to(TOP)} is as new as its sources")
         return
+    if not shutil.which("rt"):
+        sys.exit("try: no rt on the path: the Rattle kit has it, in its folder bin")
     say("building pcp without a proof: two to five minutes. What follows shows how it works, and proves nothing")
     begun = time.monotonic()
     with tempfile.TemporaryDirectory(prefix="pcp-try-") as folder:
