@@ -190,7 +190,7 @@ def names_of(path):
 
 
 def calls(path):
-    """The public calls of a source file: each with the first sentence of its comment, and the names of its clauses."""
+    """The public calls of a source file: each with the first sentence of its comment, and its clauses, by kind and name, if it has one."""
     found, said, scope = [], [], ""
     clauses = None
     for line in path.read_text(encoding="utf-8").splitlines():
@@ -207,7 +207,8 @@ def calls(path):
             clauses = []
             found.append((scope, head[1], first_paragraph(said), clauses))
         elif clauses is not None and (clause := CLAUSE.match(line)):
-            clauses.append(clause[2] or clause[1])
+            law = re.match(r"\s*ensures \{ (\w+) \}$", line)
+            clauses.append((clause[1], clause[2] or (law[1] if law else "")))
         if bare and not bare.startswith("#["):
             said = []
         if line.rstrip() in ("{", "    {") or re.match(r"\s*}$", line):
