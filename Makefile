@@ -41,5 +41,6 @@ install:
 	  install -D -m 644 "crates/pcp/out/$$unit" "$(DESTDIR)$(PREFIX)/lib/systemd/system/$$unit" || exit 1; \
 	done
 	install -D -m 644 examples/server.toml $(DESTDIR)$(PREFIX)/share/doc/pcp/server.toml
+	install -D -m 755 examples/nft_ports.sh $(DESTDIR)$(PREFIX)/share/doc/pcp/nft_ports.sh
 	install -D -m 644 examples/first.toml $(DESTDIR)$(PREFIX)/share/doc/pcp/first.toml
 	install -D -m 644 examples/site.env $(DESTDIR)$(PREFIX)/share/doc/pcp/site.env
