@@ -3,7 +3,7 @@
 # `make test` is the merge gate; `make rows` runs the commands of rows/ over the proved program; `make edits` tries each wrong body of edits/, or those of some
 # crates (`make edits NAMES="lease_disk pcp_codec"`), which the prover must refuse; `make index` writes what documents say of the tree anew;
 # `make help` prints the program's usage. `make install`
-# puts the proved program, its page, units for systemd, and a configuration and the ports for them below DESTDIR and PREFIX.
+# puts the proved program, its page, units for systemd, and examples for them and for a relay's firewall below DESTDIR and PREFIX.
 .PHONY: try demo test rows edits index help install
 
 PREFIX = /usr/local
@@ -44,3 +44,4 @@ install:
 	install -D -m 755 examples/nft_ports.sh $(DESTDIR)$(PREFIX)/share/doc/pcp/nft_ports.sh
 	install -D -m 644 examples/first.toml $(DESTDIR)$(PREFIX)/share/doc/pcp/first.toml
 	install -D -m 644 examples/site.env $(DESTDIR)$(PREFIX)/share/doc/pcp/site.env
+	install -D -m 644 examples/relay.nft $(DESTDIR)$(PREFIX)/share/doc/pcp/relay.nft
