@@ -1,7 +1,7 @@
 //! Runs over links in memory.
 use crate::packets::{
-    CLIENT_DOOR, CLIENT_PORT, SERVER, announcement, from_client, from_server, full_down, grant_down,
-    grant_up, request, request_up,
+    CLIENT_DOOR, CLIENT_PORT, SERVER, announcement, from_client, from_server, full_down,
+    grant_down, grant_up, request, request_up,
 };
 use cascade_runs::{SERVER_PORT, run_cascade};
 use pcp_base::{Address, Datagram, Memory, Octets};
@@ -167,11 +167,17 @@ fn a_beginning_is_announced(rt: HostRuntime) -> Result<(), Fail> {
         items.push(InboxItem::Quiet)?;
     }
     let times = vec![in alloc;
-        5_000, 5_000, 5_249, 5_250, 5_750, 6_750, 8_750, 12_750, 20_750, 36_750, 68_749, 68_750, 132_749,
-        132_750, 999_000,
+        5_000, 5_000, 5_249, 5_250, 5_750, 6_750, 8_750, 12_750, 20_750, 36_750, 68_749, 68_750,
+        132_749, 132_750, 999_000,
     ]?;
     let from = MemoryInbox::new(alloc, items)?;
-    let ran = run(&rt, alloc, &words(alloc)?, from, StepClock::new(alloc, times)?)?;
+    let ran = run(
+        &rt,
+        alloc,
+        &words(alloc)?,
+        from,
+        StepClock::new(alloc, times)?,
+    )?;
     let told = sent_to(alloc, ran.down.sent(), true)?;
     assert!(rt; are_announced(alloc, &told, &[0, 0, 0, 1, 3, 7, 15, 31, 63, 127])?);
     assert!(rt; ran.down.sent().len() == 10 && ran.up.sent().len() == 0);

@@ -1,1 +1,1 @@
-pub mod TickLemmas
+pub mod RunLemmas

@@ -9,7 +9,7 @@ use Rattle.proxy_core.specs.declared.outs.ProxyOut.TheVariants as ProxyOuts
 use Rattle.cascade_ties.specs.declared.ties.Tied.{Tied}
 use Rattle.proxy_cascade.specs.declared.outs.CascadeOut.{CascadeOut}
 use Rattle.proxy_cascade.specs.declared.outs.CascadeOut.TheVariants.{Nothing, Down, Up}
-use Rattle.proxy_cascade.specs.Cascades.{Cascade, Step, cascade_code, new_cascade, on_tick, told_epoch}
+use Rattle.proxy_cascade.specs.Cascades.{Cascade, cascade_code, new_cascade, on_tick, told_epoch}
 use Rattle.proxy_cascade.specs.FromClients.{on_client}
 use Rattle.proxy_cascade.specs.FromServers.{on_server}
 use Rattle.relay_rates.specs.Rates.{Rated, rated_begin}

@@ -1,5 +1,5 @@
 //! The cascade as its run sees it.
-ghost use Rattle.std.specs.Prelude.{◌≡◌};
+ghost use Rattle.std.specs.Prelude.{◌≡◌, ◌<◌};
 ghost use Rattle.cascade_runs.specs.Cascading.{announcing_from, cascading, sent_of};
 ghost use Rattle.pcp_io.specs.declared.clocks.TheConstants.{END_OF_TIME_MS};
 
@@ -87,7 +87,14 @@ impl RelayMachine for CascadeMachine {
             return None;
         }
         // The epoch is the cascade's, which counts milliseconds and may begin anew.
-        write_head(&mut told, ANNOUNCE_OPCODE, 0, 0, self.cascade.epoch(), &[0; 12]);
+        write_head(
+            &mut told,
+            ANNOUNCE_OPCODE,
+            0,
+            0,
+            self.cascade.epoch(),
+            &[0; 12],
+        );
         Some(told)
     }
 }
