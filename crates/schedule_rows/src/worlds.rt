@@ -178,24 +178,25 @@ pub(crate) fn comes(
     dice: &mut Dice,
 ) -> Result<(), Memory> {
     let wire = &mut world.wire;
-    if hears(came, dice) {
+    if is_heard(came, dice) {
         relays::hears(alloc, &mut world.far, wire, came)?;
     }
-    if hears(came, dice) {
+    if is_heard(came, dice) {
         relays::hears(alloc, &mut world.near, wire, came)?;
     }
-    if hears(came, dice) {
+    if is_heard(came, dice) {
         cascades::hears(alloc, &mut world.beside, wire, came)?;
     }
     for host in &mut world.hosts {
-        if hears(came, dice) {
+        if is_heard(came, dice) {
             hosts::hears(alloc, host, wire, came, dice.roll(65_536))?;
         }
     }
     Ok(())
 }
 
-fn hears(came: &Came, dice: &mut Dice) -> bool {
+// What was sent to all comes to half of those to which it may.
+fn is_heard(came: &Came, dice: &mut Dice) -> bool {
     came.to != ALL || dice.roll(2) == 0
 }
 
