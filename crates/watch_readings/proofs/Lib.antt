@@ -1,0 +1,3 @@
+mod CopyLemmas
+mod DiskLemmas
+mod ReadingLemmas

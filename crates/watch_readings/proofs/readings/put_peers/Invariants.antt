@@ -1,0 +1,6 @@
+use Rattle.std.proofs.Common.{◌≡◌, ◌++◌, map, take}
+use Rattle.journal_watch.specs.declared.happenings.Happening.TheVariants.{FoundPeer}
+use Rattle.watch_readings.proofs.readings.put_peers.Given as goal
+
+abbrev pub invariant-loop-lease : goal.invariant-loop-lease
+invariant-loop-lease l = l.told.items ≡ l.fn.told.items ++ map FoundPeer (take l.lease-index l.peers)
