@@ -1,0 +1,3 @@
+pub mod InMemory
+pub mod Looks
+pub mod Runs
