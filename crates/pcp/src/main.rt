@@ -12,11 +12,13 @@ mod orders;
 mod relays;
 mod serve;
 mod tools;
+mod watches;
 
 use crate::orders::{may_order, order_over};
 use crate::relays::{may_relay, relay_over};
 use crate::serve::{Served, externals_in, serve_over};
 use crate::tools::{ask_by, may_ask, means_of, tell_now};
+use crate::watches::watch;
 use client_words::help_of;
 use config_source::config_of;
 use journal_dump::Looked;
@@ -40,11 +42,13 @@ use std::process::ExitCode;
 use std::sync::Wait;
 use std::thread::Threads;
 use tool_commands::ToolStatus;
+use watch_files::may_watch;
 
 const USAGE: &str = "usage: pcp serve CONFIG JOURNALS PORT LANEPORT
        pcp play CONFIG SCRIPT JOURNALS START
        pcp dump CONFIG JOURNALS
        pcp load CONFIG JOURNALS START NUMBER COUNT
+       pcp watch CONFIG JOURNALS --once
        pcp stop JOURNALS
        pcp lose JOURNALS ADDRESS
        pcp status JOURNALS
@@ -85,6 +89,11 @@ play  Opens the journals at START and answers the Port Control Protocol requests
 dump  Writes as JSON what the journals hold, and changes nothing in them.
 
           pcp dump examples/first.toml journals
+
+watch Writes the live leases of the server that runs over JOURNALS, a line of JSON
+      each, and changes nothing. It waits for nobody, and nobody waits for it.
+
+          pcp watch examples/first.toml journals --once
 
 load  Opens the journals at START, serves COUNT requests (at most 1000000) that
       NUMBER (below 2^64) makes, a hundred a second, and writes a summary.
@@ -301,6 +310,7 @@ fn run<R: Threads + Wait + Sync>(
         }
         _ if may_order(words) => order(rt, words, explains),
         _ if may_ask(words) => ask(threads, rt, words, explains),
+        _ if may_watch(words) => watch(rt, words, explains),
         _ if may_relay(words) => relay(threads, rt, words, explains),
         _ => serve_or_run(threads, rt, words, explains),
     }
