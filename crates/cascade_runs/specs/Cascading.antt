@@ -71,7 +71,7 @@ cascading = record {
 abbrev pub announcing_from : ℕ → Cascade → Announcing
 announcing_from now c = record { cascade = c; schedule = begun (now / 1000) true now }
 
--- the cascade that a command begins at a time, behind its gate
+-- the cascade that a command begins at a time, behind its gates
 abbrev pub cascade_of : ℕ → CascadeAsk → Rated Announcing
 cascade_of now ask = rated_begin ask.more.rate (announcing_from now
     (new_cascade ask.command.relay.own ask.command.relay.server ask.command.relay.key

@@ -26,10 +26,11 @@ use Rattle.proxy_core.specs.Up.{up_key, up_text}
 use Rattle.proxy_core.specs.Waits.{is_full, kept}
 use Rattle.proxy_runs.specs.Answers.{Answers, DownIsAnswered, IsAnswered}
 use Rattle.proxy_runs.specs.Proxying.{proxying, reply_of}
-use Rattle.relay_rates.specs.Rates.{new_gate}
-use Rattle.relay_rates.specs.Sifting.{SendsDownSifted, passing}
+use Rattle.relay_rates.specs.declared.gates.RateGate.{RateGate}
+use Rattle.relay_rates.specs.Rates.{is_told, let_on, may_pass, new_gate}
+use Rattle.relay_rates.specs.Sifting.{SendsDownSifted, passing, sifted_down, sifted_for, told_next}
 use Rattle.relay_runs.specs.Machines as machines
-use Rattle.relay_runs.specs.Sending.{down_by, down_for, down_for_all}
+use Rattle.relay_runs.specs.Sending.{down_by, down_for}
 
 -- ---- the relay's own reply goes to the sender
 
@@ -108,21 +109,37 @@ module _ (law : RepliesStandForPairs) (own server : Address) (key : List ℕ) (t
   abbrev start : Relay
   start = new_relay own server key third_party
 
-  from-front : (front es : List Event) → AllByRecursion (IsAnswered start (front ++ es)) (down_for_all proxying (run start front) es)
-  from-front front [] = tt
-  from-front front (e ∷ es) =
+  -- what a gate lets on was sent
+  let-on-all : (P : Datagram → Type 0) (told : RateGate) (out : ProxyOut) (now : ℕ) → AllByRecursion P (down_by out) → AllByRecursion P (down_by (let_on told out now))
+  let-on-all P told out now h = by (is_told out) (may_pass told now)
+    where
+      by : (x y : Bool) → AllByRecursion P (down_by (cond x (cond y out Nothing) out))
+      by true true = h
+      by true false = tt
+      by false y = h
+
+  sifted-all : (P : Datagram → Type 0) (told : RateGate) (relay : Relay) (e : Event) → AllByRecursion P (down_for proxying relay e) → AllByRecursion P (sifted_for proxying told relay e)
+  sifted-all P told relay (Client d now) h = h
+  sifted-all P told relay (Server d now) h = let-on-all P told (reply_of (on_server relay d now).out) now h
+  sifted-all P told relay (Tick now) h = h
+
+  from-front : (told : RateGate) (front es : List Event) → AllByRecursion (IsAnswered start (front ++ es)) (sifted_down proxying told (run start front) es)
+  from-front told front [] = tt
+  from-front told front (e ∷ es) =
       let more : front ++ e ∷ es ≡ (front ++ e ∷ []) ++ es = sym (append_assoc front (e ∷ []) es) in
       let after : run start (front ++ e ∷ []) ≡ machines.next proxying (run start front) e = run-append start front (e ∷ []) ∙ same-next (run start front) e in
-      let rest : AllByRecursion (IsAnswered start (front ++ e ∷ es)) (down_for_all proxying (machines.next proxying (run start front) e) es) =
-      subst (λ (r : Relay). AllByRecursion (IsAnswered start (front ++ e ∷ es)) (down_for_all proxying r es)) after
-      (subst (λ (all : List Event). AllByRecursion (IsAnswered start all) (down_for_all proxying (run start (front ++ e ∷ [])) es)) (sym more) (from-front (front ++ e ∷ []) es)) in
-      all-append (IsAnswered start (front ++ e ∷ es)) (down_for proxying (run start front) e) (down_for_all proxying (machines.next proxying (run start front) e) es)
+      let gate = told_next proxying told (run start front) e in
+      let rest : AllByRecursion (IsAnswered start (front ++ e ∷ es)) (sifted_down proxying gate (machines.next proxying (run start front) e) es) =
+      subst (λ (r : Relay). AllByRecursion (IsAnswered start (front ++ e ∷ es)) (sifted_down proxying gate r es)) after
+      (subst (λ (all : List Event). AllByRecursion (IsAnswered start all) (sifted_down proxying gate (run start (front ++ e ∷ [])) es)) (sym more) (from-front gate (front ++ e ∷ []) es)) in
+      all-append (IsAnswered start (front ++ e ∷ es)) (sifted_for proxying told (run start front) e) (sifted_down proxying gate (machines.next proxying (run start front) e) es)
+      (sifted-all (IsAnswered start (front ++ e ∷ es)) told (run start front) e
       (all-weaker (Answers start front e) (IsAnswered start (front ++ e ∷ es)) (down_for proxying (run start front) e)
-      (λ sent h. record { before = front; event = e; behind = es; came = refl; answers = h }) (one-answered law own server key third_party front e)) rest
+      (λ sent h. record { before = front; event = e; behind = es; came = refl; answers = h }) (one-answered law own server key third_party front e))) rest
 
--- behind a gate, by what it sends for what passes
+-- behind its gates, by what it sends for what passes
 pub down-answered : RepliesStandForPairs → SendsDownSifted proxying → DownIsAnswered
 down-answered law sifts own server key third_party rate events =
     let start = new_relay own server key third_party in
     let passed = passing (new_gate rate) events in
-    subst (AllByRecursion (IsAnswered start passed)) (sym (sifts (new_gate rate) start events)) (from-front law own server key third_party [] passed)
+    subst (AllByRecursion (IsAnswered start passed)) (sym (sifts (new_gate rate) (new_gate rate) start events)) (from-front law own server key third_party (new_gate rate) [] passed)

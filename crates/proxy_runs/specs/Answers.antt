@@ -30,7 +30,7 @@ pub record IsAnswered (start : Relay) (events : List Event) (sent : Datagram) : 
   pub came : events ≡ before ++ event ∷ behind
   pub answers : Answers start before event sent
 
--- whatever comes to a relay that heard nothing, behind its gate: what goes down answers what passed
+-- whatever comes to a relay that heard nothing, behind its gates: what goes down answers what passed
 abbrev pub DownIsAnswered : Type 0
 DownIsAnswered =
     (own server : Address) (key : List ℕ) (third_party : List Prefix) (rate : ℕ)

@@ -27,7 +27,7 @@ proxying = record {
   on_tick = λ relay now. record { state = (on_tick relay now).relay; out = None };
 }
 
--- the relay that a command begins, behind its gate
+-- the relay that a command begins, behind its gates
 abbrev pub relay_of : ProxyAsk → Rated Relay
 relay_of ask = rated_begin ask.more.rate
     (new_relay ask.command.own ask.command.server ask.command.key ask.more.third_party)

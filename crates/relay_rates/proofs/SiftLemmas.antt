@@ -1,48 +1,69 @@
 -- What passes a gate is all that its relay hears, and no more of a second than may.
-use Rattle.std.proofs.Common.{◌≡◌, ◌-◌, ◌^◌, min, ℕ, suc, ◌+◌, ◌<◌, ◌≤◌, ◌/◌, ◌==◌, nat_lt, Bool, true, false, cond, List, [], ◌∷◌, ◌++◌, length, filter, refl, sym, subst, ap, ◌∙◌, arith}
+use Rattle.std.proofs.Common.{◌≡◌, ◌-◌, ◌^◌, min, ℕ, suc, ◌+◌, ◌<◌, ◌≤◌, ◌/◌, ◌==◌, ◌&&◌, nat_lt, Bool, true, false, cond, List, [], ◌∷◌, ◌++◌, length, filter, refl, sym, subst, ap, ◌∙◌, arith}
 use Rattle.std.proofs.lemmas.Bool.{eq-eqb, eqb-false, eqb-true, ltb-false, ltb-true, true≢false}
 use Rattle.pcp_base.specs.declared.addresses.Address.{Address}
 use Rattle.pcp_base.specs.declared.datagrams.Datagram.{Datagram}
 use Rattle.proxy_core.specs.Runs.{Event}
 use Rattle.proxy_core.specs.Runs.Event.{Client, Server, Tick}
+use Rattle.proxy_core.specs.declared.outs.ProxyOut.{ProxyOut}
+use Rattle.proxy_core.specs.declared.outs.ProxyOut.TheVariants.{Nothing, Reply, Up}
 use Rattle.relay_rates.specs.declared.gates.RateGate.{RateGate}
-use Rattle.relay_rates.specs.Rates.{at, counted, gate_after, is_open, may_pass, new_gate, rated, taken}
-use Rattle.relay_rates.specs.Sifting.{AreRising, RatesAreKept, is_in, passing}
+use Rattle.relay_rates.specs.Rates.{at, counted, gate_after, is_open, is_told, let_on, may_pass, new_gate, rated, taken, told_after}
+use Rattle.relay_rates.specs.Sifting.{AreRising, RatesAreKept, TellingIsKept, going_on, is_in, is_said_in, passing, sifted_down}
 use Rattle.relay_runs.specs.Machines.{Machine}
-use Rattle.relay_runs.specs.Sending.{down_by, down_for, down_for_all, up_by, up_for, up_for_all}
+use Rattle.relay_runs.specs.Sending.{down_by, down_for, down_for_all, up_by, up_for_all}
 
 -- ---- what is sent
 
 module _ {S : Type 0} (m : Machine S) where
-  down-client : (gate : RateGate) (relay : S) (d : Datagram) (now : ℕ) (es : List Event) (b : Bool)
-      → ((s : S) → down_for_all (rated m) (record { gate = gate; relay = s }) es ≡ down_for_all m s (passing gate es))
-      → down_by (taken m gate relay d now b).out ++ down_for_all (rated m) (taken m gate relay d now b).state es
-      ≡ down_for_all m relay (cond b (Client d now ∷ passing gate es) (passing gate es))
-  down-client gate relay d now es true rest = ap (λ ds. down_by (m.on_client relay d now).out ++ ds) (rest (m.on_client relay d now).state)
-  down-client gate relay d now es false rest = rest relay
+  -- a datagram of a client, that passes or not
+  down-client : (gate told : RateGate) (relay : S) (d : Datagram) (now : ℕ) (es : List Event) (b : Bool)
+      → ((s : S) → down_for_all (rated m) (record { gate = gate; told = told; relay = s }) es ≡ sifted_down m told s (passing gate es))
+      → down_by (taken m (record { gate = gate; told = told; relay = relay }) d now b).out
+      ++ down_for_all (rated m) (taken m (record { gate = gate; told = told; relay = relay }) d now b).state es
+      ≡ sifted_down m told relay (cond b (Client d now ∷ passing gate es) (passing gate es))
+  down-client gate told relay d now es true rest = ap (λ ds. down_by (m.on_client relay d now).out ++ ds) (rest (m.on_client relay d now).state)
+  down-client gate told relay d now es false rest = rest relay
 
-  pub down-sifted : (gate : RateGate) (relay : S) (events : List Event)
-      → down_for_all (rated m) (record { gate = gate; relay = relay }) events ≡ down_for_all m relay (passing gate events)
-  down-sifted gate relay [] = refl
-  down-sifted gate relay (Client d now ∷ es) =
-      down-client (gate_after gate now) relay d now es (may_pass gate now) (λ s. down-sifted (gate_after gate now) s es)
-  down-sifted gate relay (Server d now ∷ es) = ap (λ ds. down_for m relay (Server d now) ++ ds) (down-sifted gate (m.on_server relay d now).state es)
-  down-sifted gate relay (Tick now ∷ es) = ap (λ ds. down_for m relay (Tick now) ++ ds) (down-sifted gate (m.on_tick relay now).state es)
+  pub down-sifted : (gate told : RateGate) (relay : S) (events : List Event)
+      → down_for_all (rated m) (record { gate = gate; told = told; relay = relay }) events ≡ sifted_down m told relay (passing gate events)
+  down-sifted gate told relay [] = refl
+  down-sifted gate told relay (Client d now ∷ es) =
+      down-client (gate_after gate now) told relay d now es (may_pass gate now) (λ s. down-sifted (gate_after gate now) told s es)
+  down-sifted gate told relay (Server d now ∷ es) =
+      let out = (m.on_server relay d now).out in
+      ap (λ ds. down_by (let_on told out now) ++ ds) (down-sifted gate (told_after told out now) (m.on_server relay d now).state es)
+  down-sifted gate told relay (Tick now ∷ es) = ap (λ ds. down_for m relay (Tick now) ++ ds) (down-sifted gate told (m.on_tick relay now).state es)
 
-  up-client : (server : Address) (gate : RateGate) (relay : S) (d : Datagram) (now : ℕ) (es : List Event) (b : Bool)
-      → ((s : S) → up_for_all (rated m) server (record { gate = gate; relay = s }) es ≡ up_for_all m server s (passing gate es))
-      → up_by server (taken m gate relay d now b).out ++ up_for_all (rated m) server (taken m gate relay d now b).state es
+  up-client : (server : Address) (gate told : RateGate) (relay : S) (d : Datagram) (now : ℕ) (es : List Event) (b : Bool)
+      → ((s : S) → up_for_all (rated m) server (record { gate = gate; told = told; relay = s }) es ≡ up_for_all m server s (passing gate es))
+      → up_by server (taken m (record { gate = gate; told = told; relay = relay }) d now b).out
+      ++ up_for_all (rated m) server (taken m (record { gate = gate; told = told; relay = relay }) d now b).state es
       ≡ up_for_all m server relay (cond b (Client d now ∷ passing gate es) (passing gate es))
-  up-client server gate relay d now es true rest = ap (λ ds. up_by server (m.on_client relay d now).out ++ ds) (rest (m.on_client relay d now).state)
-  up-client server gate relay d now es false rest = rest relay
+  up-client server gate told relay d now es true rest = ap (λ ds. up_by server (m.on_client relay d now).out ++ ds) (rest (m.on_client relay d now).state)
+  up-client server gate told relay d now es false rest = rest relay
 
-  pub up-sifted : (server : Address) (gate : RateGate) (relay : S) (events : List Event)
-      → up_for_all (rated m) server (record { gate = gate; relay = relay }) events ≡ up_for_all m server relay (passing gate events)
-  up-sifted server gate relay [] = refl
-  up-sifted server gate relay (Client d now ∷ es) =
-      up-client server (gate_after gate now) relay d now es (may_pass gate now) (λ s. up-sifted server (gate_after gate now) s es)
-  up-sifted server gate relay (Server d now ∷ es) = ap (λ ds. up_for m server relay (Server d now) ++ ds) (up-sifted server gate (m.on_server relay d now).state es)
-  up-sifted server gate relay (Tick now ∷ es) = up-sifted server gate (m.on_tick relay now).state es
+  -- what is told goes down alone
+  up-let-on : (server : Address) (told : RateGate) (out : ProxyOut) (now : ℕ) → up_by server (let_on told out now) ≡ up_by server out
+  up-let-on server told Nothing now = refl
+  up-let-on server told (Up octets) now = refl
+  up-let-on server told (Reply d) now = by (is_told (Reply d)) (may_pass told now)
+    where
+      by : (x y : Bool) → up_by server (cond x (cond y (Reply d) Nothing) (Reply d)) ≡ []
+      by true true = refl
+      by true false = refl
+      by false y = refl
+
+  pub up-sifted : (server : Address) (gate told : RateGate) (relay : S) (events : List Event)
+      → up_for_all (rated m) server (record { gate = gate; told = told; relay = relay }) events ≡ up_for_all m server relay (passing gate events)
+  up-sifted server gate told relay [] = refl
+  up-sifted server gate told relay (Client d now ∷ es) =
+      up-client server (gate_after gate now) told relay d now es (may_pass gate now) (λ s. up-sifted server (gate_after gate now) told s es)
+  up-sifted server gate told relay (Server d now ∷ es) =
+      let out = (m.on_server relay d now).out in
+      ap (λ ds. ds ++ up_for_all (rated m) server (record { gate = gate; told = told_after told out now; relay = (m.on_server relay d now).state }) es) (up-let-on server told out now)
+      ∙ ap (λ ds. up_by server out ++ ds) (up-sifted server gate (told_after told out now) (m.on_server relay d now).state es)
+  up-sifted server gate told relay (Tick now ∷ es) = up-sifted server gate told (m.on_tick relay now).state es
 
 -- ---- how many pass
 
@@ -173,3 +194,62 @@ rates-kept rate second events rising =
         → length (filter (is_in second) (passing (new_gate rate) events)) ≤ rate
     all most true t = let few : count second (passing (new_gate rate) events) + 0 ≤ rate = most.present (eqb-true _ _ t) in omega (arith, few)
     all most false f = most.future (above 0 second (omega arith) (eqb-false second 0 f))
+
+-- ---- how many announcements go on
+
+-- each announcement as a datagram at a gate
+module _ {S : Type 0} (m : Machine S) where
+  abbrev said : S → List Event → List Event
+  said relay [] = []
+  said relay (Client d now ∷ es) = said (m.on_client relay d now).state es
+  said relay (Server d now ∷ es) =
+      cond (is_told (m.on_server relay d now).out) (Client d now ∷ said (m.on_server relay d now).state es) (said (m.on_server relay d now).state es)
+  said relay (Tick now ∷ es) = said (m.on_tick relay now).state es
+
+  said-rising : (last : ℕ) (relay : S) (events : List Event) → AreRising last events → AreRising last (said relay events)
+  said-rising last relay [] rising = tt
+  said-rising last relay (Client d now ∷ es) rising =
+      rising-from (now / 1000) last _ rising.0 (said-rising (now / 1000) (m.on_client relay d now).state es rising.1)
+  said-rising last relay (Server d now ∷ es) rising =
+      by (is_told (m.on_server relay d now).out) _ (said-rising (now / 1000) (m.on_server relay d now).state es rising.1)
+    where
+      by : (b : Bool) (rest : List Event) → AreRising (now / 1000) rest → AreRising last (cond b (Client d now ∷ rest) rest)
+      by true rest h = (rising.0, h)
+      by false rest h = rising-from (now / 1000) last rest rising.0 h
+  said-rising last relay (Tick now ∷ es) rising =
+      rising-from (now / 1000) last _ rising.0 (said-rising (now / 1000) (m.on_tick relay now).state es rising.1)
+
+  abbrev count-said : ℕ → List Event → ℕ
+  count-said second events = length (filter (is_said_in second) events)
+
+  same-count : (second : ℕ) (told : RateGate) (relay : S) (events : List Event)
+      → count-said second (going_on m told relay events) ≡ count second (passing told (said relay events))
+  same-count second told relay [] = refl
+  same-count second told relay (Client d now ∷ es) = same-count second told (m.on_client relay d now).state es
+  same-count second told relay (Tick now ∷ es) = same-count second told (m.on_tick relay now).state es
+  same-count second told relay (Server d now ∷ es) =
+      by (is_told (m.on_server relay d now).out) (λ gate. same-count second gate (m.on_server relay d now).state es)
+    where
+      one : (c : Bool) (xs ys : List Event) → count-said second xs ≡ count second ys
+          → length (cond c (Server d now ∷ filter (is_said_in second) xs) (filter (is_said_in second) xs))
+          ≡ length (cond c (Client d now ∷ filter (is_in second) ys) (filter (is_in second) ys))
+      one true xs ys h = ap suc h
+      one false xs ys h = h
+
+      passes : (b : Bool) (xs ys : List Event) → count-said second xs ≡ count second ys
+          → count-said second (cond b (Server d now ∷ xs) xs) ≡ count second (cond b (Client d now ∷ ys) ys)
+      passes true xs ys h = one (now / 1000 == second) xs ys h
+      passes false xs ys h = h
+
+      by : (b : Bool) → ((gate : RateGate) → count-said second (going_on m gate (m.on_server relay d now).state es)
+          ≡ count second (passing gate (said (m.on_server relay d now).state es)))
+          → count-said second (cond (b && may_pass told now) (Server d now ∷ going_on m (cond b (gate_after told now) told) (m.on_server relay d now).state es)
+          (going_on m (cond b (gate_after told now) told) (m.on_server relay d now).state es))
+          ≡ count second (passing told (cond b (Client d now ∷ said (m.on_server relay d now).state es) (said (m.on_server relay d now).state es)))
+      by true h = passes (may_pass told now) _ _ (h (gate_after told now))
+      by false h = h told
+
+  pub telling-kept : TellingIsKept m
+  telling-kept rate second relay events rising =
+      subst (λ n. n ≤ rate) (sym (same-count second (new_gate rate) relay events))
+      (rates-kept rate second (said relay events) (said-rising 0 relay events rising))

@@ -1,8 +1,8 @@
-//! What is counted of requests.
+//! What is counted of datagrams.
 ghost use Rattle.std.specs.Prelude.{◌≡◌, ◌^◌, ◌<◌};
 ghost use Rattle.relay_rates.specs.Rates.{may_pass, new_gate, gate_after};
 
-/// What a relay counts of the requests of its clients.
+/// What a relay counts of its clients' datagrams, or of the announcements that it passes on.
 #[derive(Clone, Copy, Debug)]
 pub struct RateGate {
     /// How many pass in a second of the relay's clock.
@@ -28,7 +28,7 @@ impl RateGate {
         }
     }
 
-    /// Whether a request passes that comes at this time, in milliseconds, and counts it. A second that is
+    /// Whether a datagram passes that comes at this time, in milliseconds, and counts it. A second that is
     /// smaller than the last one counts as that.
     pub fn passes(&mut self, now_ms: u64) -> bool
         ensures gives { result ≡ may_pass self.old now_ms }
