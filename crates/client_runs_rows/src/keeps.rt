@@ -81,7 +81,7 @@ struct Row {
 
 // Every word behind those of the nonce is 1000. So the first renewal comes 1,800,000 and 6,866 milliseconds
 // behind a grant, and what is asked anew 76 behind an invalid epoch.
-static ROWS: [Row; 11] = [
+static ROWS: [Row; 12] = [
     // Nothing answers: it asks at once, and after 3 seconds.
     Row {
         said: &[
@@ -126,7 +126,7 @@ static ROWS: [Row; 11] = [
         lines: "mapped 192.0.2.1 1024 3600 10\nlost\nmapped 192.0.2.1 1024 3600 3610\n",
         sent: 2,
     },
-    // The server lost its leases, and gives the same port again.
+    // The server lost its leases, and gives the same port again, which is told; its next renewal isn't.
     Row {
         said: &[
             (0, Said::Nothing),
@@ -135,9 +135,11 @@ static ROWS: [Row; 11] = [
             (60_095, Said::Nothing),
             (60_096, Said::Nothing),
             (60_110, Said::Grant(0)),
+            (1_866_976, Said::Nothing),
+            (1_866_990, Said::Grant(1_806)),
         ],
-        lines: "mapped 192.0.2.1 1024 3600 10\ninvalid\n",
-        sent: 2,
+        lines: "mapped 192.0.2.1 1024 3600 10\ninvalid\nmapped 192.0.2.1 1024 3600 0\n",
+        sent: 3,
     },
     // It gives another port.
     Row {
@@ -209,6 +211,17 @@ static ROWS: [Row; 11] = [
             (1_806_900, Said::OtherPort(5)),
         ],
         lines: "mapped 192.0.2.1 1024 3600 100\ninvalid\nmapped 192.0.2.1 1025 3600 5\n",
+        sent: 2,
+    },
+    // The same, of a response that grants the port of before.
+    Row {
+        said: &[
+            (0, Said::Nothing),
+            (20, Said::Grant(100)),
+            (1_806_886, Said::Nothing),
+            (1_806_900, Said::Grant(5)),
+        ],
+        lines: "mapped 192.0.2.1 1024 3600 100\ninvalid\nmapped 192.0.2.1 1024 3600 5\n",
         sent: 2,
     },
 ];

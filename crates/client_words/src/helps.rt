@@ -39,7 +39,7 @@ const KEEP: &str = "Asks a server for an external port, keeps it, and prints a l
 Usage: pcp keep --protocol <PROTOCOL> --port <N> [OPTIONS]
 
 The options are those of pcp map but --tries: pcp map --help tells them. The lines are:
-  mapped ADDRESS PORT LIFETIME EPOCH   The port: at first, another one, or again behind lost or refused
+  mapped ADDRESS PORT LIFETIME EPOCH   The port: at first, another one, or again behind the lines below
   refused CODE SECONDS                 The server refuses
   lost                                 The lease ended
   invalid                              The server lost its leases

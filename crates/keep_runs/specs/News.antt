@@ -1,6 +1,6 @@
 -- Which of what comes is told (our own): a mapping whose address, port or size is another than the one told last, or that is
--- the first behind a loss or a refusal; a refusal whose code isn't that of the line before; a lease that is lost; an
--- invalid epoch.
+-- the first behind a loss, a refusal or an invalid epoch; a refusal whose code isn't that of the line before; a lease that
+-- is lost; an invalid epoch.
 use Rattle.std.specs.Prelude.{ℕ, ◌==◌, ◌&&◌, not, bytes_eq, Bool, true, false, List, [], ◌∷◌, ◌++◌, is_some, is_none, Option, Some, None, codes, if◌then◌else◌}
 use Rattle.pcp_base.specs.Codes.{code_number}
 use Rattle.client_core.specs.declared.events.HeldLease.{HeldLease}
@@ -49,10 +49,11 @@ epoch_line Unread = []
 epoch_line Valid = []
 epoch_line Invalid = codes "invalid" ++ 10 ∷ []
 
+-- nobody knows what a server that lost its leases has given since
 abbrev pub told_with_epoch : EpochFound → Told → Told
 told_with_epoch Unread told = told
 told_with_epoch Valid told = told
-told_with_epoch Invalid told = record told { code = None }
+told_with_epoch Invalid told = nothing_told
 
 -- a lease that a tick drops
 abbrev pub is_lost : (before now : Option HeldLease) → Bool

@@ -8,7 +8,7 @@ use pcp_base::Memory;
 /// What was told last.
 #[derive(Clone, Copy)]
 pub(crate) struct Told {
-    /// The lease; none before the first, and behind a loss or a refusal.
+    /// The lease; none before the first, and behind a loss, a refusal or an invalid epoch.
     pub(crate) lease: Option<HeldLease>,
     /// The number of the code, where the last line told a refusal.
     pub(crate) code: Option<u8>,
@@ -32,7 +32,7 @@ impl Told {
         match found {
             EpochFound::Unread => self,
             EpochFound::Valid => self,
-            EpochFound::Invalid => Told { code: None, ..self },
+            EpochFound::Invalid => Told::nothing(),
         }
     }
 

@@ -99,7 +99,7 @@ fn keep<R: Wait, O: Outbox, I: Inbox, T: Clock, E: Entropy, W: Sink>(
 /// one piece:
 /// - `mapped ADDRESS PORT LIFETIME EPOCH`, with the size behind it where more ports than one are asked for:
 ///   at the first grant, at one of another address, port or size than was printed last, and at the first
-///   behind `lost` or `refused`;
+///   behind `lost`, `refused` or `invalid`;
 /// - `refused CODE SECONDS` where the code isn't that of the line before;
 /// - `lost` where the lease ended; `invalid` at an epoch by which the server lost its leases.
 ///
