@@ -167,7 +167,7 @@ module _ (v w : Text → Option Text) where
 -- ---- the options of each command
 
 abbrev target_needs : List (Bool × Text)
-target_needs = (true, codes "server") ∷ (true, codes "own") ∷ (false, codes "tries") ∷ []
+target_needs = (false, codes "server") ∷ (false, codes "own") ∷ (false, codes "tries") ∷ []
 
 abbrev mapping_needs : List (Bool × Text)
 mapping_needs = target_needs
@@ -189,17 +189,15 @@ abbrev peer_shape : Shape
 peer_shape = (built peer_app).top
 
 -- nothing is missing where these are given
-announce_has : (rows : List Row) → is_given (codes "server") rows ≡ true → is_given (codes "own") rows ≡ true → check_fault announce_shape rows false ≡ []
-announce_has rows a b = rw (a, b) refl
+announce_has : (rows : List Row) → check_fault announce_shape rows false ≡ []
+announce_has rows = refl
 
-map_has : (rows : List Row) → is_given (codes "server") rows ≡ true → is_given (codes "own") rows ≡ true → is_given (codes "protocol") rows ≡ true
-    → is_given (codes "port") rows ≡ true → check_fault map_shape rows false ≡ []
-map_has rows a b c d = rw (a, b, c, d) refl
+map_has : (rows : List Row) → is_given (codes "protocol") rows ≡ true → is_given (codes "port") rows ≡ true → check_fault map_shape rows false ≡ []
+map_has rows a b = rw (a, b) refl
 
-peer_has : (rows : List Row) → is_given (codes "server") rows ≡ true → is_given (codes "own") rows ≡ true → is_given (codes "protocol") rows ≡ true
-    → is_given (codes "port") rows ≡ true → is_given (codes "remote") rows ≡ true → is_given (codes "remote-port") rows ≡ true
-    → check_fault peer_shape rows false ≡ []
-peer_has rows a b c d e f = rw (a, b, c, d, e, f) refl
+peer_has : (rows : List Row) → is_given (codes "protocol") rows ≡ true → is_given (codes "port") rows ≡ true
+    → is_given (codes "remote") rows ≡ true → is_given (codes "remote-port") rows ≡ true → check_fault peer_shape rows false ≡ []
+peer_has rows a b c d = rw (a, b, c, d) refl
 
 -- ---- announce
 
@@ -208,9 +206,9 @@ announce_good : (gs : List Given) (words : List Text) (t : Target) → AreGiven 
 announce_good gs words t given is =
     let c = announce_shape.rules in
     all_good c target_options [] gs gs (All-from_recursion (IsAllowed c gs) target_options (
-      allowed c gs true (codes "server") refl refl refl refl (address_value _ _ is.server),
+      allowed c gs false (codes "server") refl refl refl refl (address_value _ _ is.server),
       (
-        allowed c gs true (codes "own") refl refl refl refl (address_value _ _ is.own),
+        allowed c gs false (codes "own") refl refl refl refl (address_value _ _ is.own),
         (
           allowed c gs false (codes "tries") refl refl refl refl (number_value tries_range _ _ (lit≤ tt) is.tries),
           tt,
@@ -225,7 +223,7 @@ announce_read gs words t given is =
     is_read announce_shape gs rows (announce_good gs words t given is) given.once
     (options_default_well target_needs (built_help ∷ []) rows ∙ help_defaults_well rows)
     (options_add_none target_needs (built_help ∷ []) rows ∙ help_adds_none rows)
-    (announce_has rows (rows_have gs (codes "server") ∙ address_there _ _ is.server) (rows_have gs (codes "own") ∙ address_there _ _ is.own))
+    (announce_has rows)
 
 pub announce_taken : (gs : List Given) (words : List Text) (t : Target) → AreGiven (codes "announce") target_options [] words gs
     → IsTarget (value_given gs) t → IsCommand words (Announce t)
@@ -244,9 +242,9 @@ module _ (gs : List Given) (words : List Text) (t : Target) (w : PeerWanted) (gi
       let c = peer_shape.rules in
       let mapping = wanted.mapping in
       all_good c peer_options [] gs gs (All-from_recursion (IsAllowed c gs) peer_options (
-        allowed c gs true (codes "server") refl refl refl refl (address_value _ _ target.server),
+        allowed c gs false (codes "server") refl refl refl refl (address_value _ _ target.server),
         (
-          allowed c gs true (codes "own") refl refl refl refl (address_value _ _ target.own),
+          allowed c gs false (codes "own") refl refl refl refl (address_value _ _ target.own),
           (
             allowed c gs false (codes "tries") refl refl refl refl (number_value tries_range _ _ (lit≤ tt) target.tries),
             (
@@ -278,8 +276,7 @@ module _ (gs : List Given) (words : List Text) (t : Target) (w : PeerWanted) (gi
       is_read peer_shape gs rows peer_good given.once
       (options_default_well peer_needs (built_help ∷ []) rows ∙ help_defaults_well rows)
       (options_add_none peer_needs (built_help ∷ []) rows ∙ help_adds_none rows)
-      (peer_has rows (rows_have gs (codes "server") ∙ address_there _ _ target.server) (rows_have gs (codes "own") ∙ address_there _ _ target.own)
-      (rows_have gs (codes "protocol") ∙ protocol_there _ _ wanted.mapping.protocol) (rows_have gs (codes "port") ∙ number_there port_range _ _ refl wanted.mapping.port)
+      (peer_has rows (rows_have gs (codes "protocol") ∙ protocol_there _ _ wanted.mapping.protocol) (rows_have gs (codes "port") ∙ number_there port_range _ _ refl wanted.mapping.port)
       (rows_have gs (codes "remote") ∙ address_there _ _ wanted.remote) (rows_have gs (codes "remote-port") ∙ number_there port_range _ _ refl wanted.remote_port))
 
   pub peer_taken : IsCommand words (Peer t w)
@@ -308,9 +305,9 @@ module _ (gs : List Given) (words : List Text) (t : Target) (w : MapWanted) (giv
       let c = map_shape.rules in
       let mapping = wanted.mapping in
       all_good c map_options map_flags gs gs (All-from_recursion (IsAllowed c gs) map_options (
-        allowed c gs true (codes "server") refl refl refl refl (address_value _ _ target.server),
+        allowed c gs false (codes "server") refl refl refl refl (address_value _ _ target.server),
         (
-          allowed c gs true (codes "own") refl refl refl refl (address_value _ _ target.own),
+          allowed c gs false (codes "own") refl refl refl refl (address_value _ _ target.own),
           (
             allowed c gs false (codes "tries") refl refl refl refl (number_value tries_range _ _ (lit≤ tt) target.tries),
             (
@@ -350,8 +347,7 @@ module _ (gs : List Given) (words : List Text) (t : Target) (w : MapWanted) (giv
       is_read map_shape gs map_rows map_good given.once
       (options_default_well map_needs (built_flag prefer ∷ built_help ∷ []) rows ∙ flag_defaults_well prefer rows)
       (options_add_none map_needs (built_flag prefer ∷ built_help ∷ []) rows ∙ flag_adds_one prefer rows)
-      (map_has map_rows (have (codes "server") refl ∙ address_there _ _ target.server) (have (codes "own") refl ∙ address_there _ _ target.own)
-      (have (codes "protocol") refl ∙ protocol_there _ _ wanted.mapping.protocol) (have (codes "port") refl ∙ number_there port_range _ _ refl wanted.mapping.port))
+      (map_has map_rows (have (codes "protocol") refl ∙ protocol_there _ _ wanted.mapping.protocol) (have (codes "port") refl ∙ number_there port_range _ _ refl wanted.mapping.port))
 
   pub map_taken : IsCommand words (Map t w)
   map_taken =

@@ -19,10 +19,11 @@ with_needed name app = with_rule app (option_rule true name)
 abbrev pub with_option : Text → App → App
 with_option name app = with_rule app (option_rule false name)
 
--- whom to ask, and how often
+-- Whom to ask, and how often. No words without the addresses are a command; but a program may find these itself, and so the
+-- parser, whose help people read, is told that they may lack.
 abbrev pub with_target : App → App
 with_target app =
-    with_option (codes "tries") (with_needed (codes "own") (with_needed (codes "server") app))
+    with_option (codes "tries") (with_option (codes "own") (with_option (codes "server") app))
 
 -- which internal port
 abbrev pub with_endpoint : App → App

@@ -50,7 +50,7 @@ fn with_needed<'a>(
     command.arg(option(alloc, true, name, value, help))
 }
 
-/// The command with one more option, which it has a default for.
+/// The command with one more option, which may lack.
 fn with_option<'a>(
     alloc: Global,
     command: Command<'a>,
@@ -77,18 +77,19 @@ fn with_flag<'a>(
     command.arg(flag(alloc, name, help))
 }
 
-/// The command with the options that say whom to ask.
+/// The command with the options that say whom to ask. The addresses may lack by `clap`, whose help then
+/// says so, since a program may find them itself; words without them are refused all the same.
 fn with_target<'a>(alloc: Global, command: Command<'a>) -> Result<Command<'a>, AllocError>
     ensures { IfOk result (λ r. app_of r ≡ with_target (app_of command.entry)) }
 {
-    let command = with_needed(
+    let command = with_option(
         alloc,
         command,
         "server",
         "ADDRESS",
         "Address of the server, such as 192.0.2.1 or 2001:db8::1",
     )?;
-    let command = with_needed(
+    let command = with_option(
         alloc,
         command,
         "own",

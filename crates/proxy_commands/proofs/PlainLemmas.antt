@@ -112,10 +112,6 @@ address_there : (given : Option Text) (a : Address) → IsAddressAt given a → 
 address_there None a is = absurd is
 address_there (Some text) a is = refl
 
-key_there : (given : Option Text) (key : List ℕ) → IsKeyAt given key → is_some given ≡ true
-key_there None key is = absurd is
-key_there (Some text) key is = refl
-
 port_there : (given : Option Text) (port : ℕ) → IsNumberAt port_range given port → is_some given ≡ true
 port_there None port is = absurd (cc)
 port_there (Some text) port is = refl
@@ -124,20 +120,20 @@ port_there (Some text) port is = refl
 
 -- an option of the command, and what is given for it
 abbrev IsAllowed : List Rule → List Given → Text → Type 0
-IsAllowed c all name = IsOption c true name × IfSome (value_given all name) IsValue
+IsAllowed c all name = (needed : Bool) × IsOption c needed name × IfSome (value_given all name) IsValue
 
-allowed : (c : List Rule) (all : List Given) (name : Text) → long_of (45 ∷ 45 ∷ name) ≡ Some (name, None)
-    → bytes_eq (45 ∷ 45 ∷ name) (45 ∷ 45 ∷ []) ≡ false → arg_by_long c name ≡ Some (built_option true name) → arg_by_id c name ≡ Some (built_option true name)
+allowed : (c : List Rule) (all : List Given) (needed : Bool) (name : Text) → long_of (45 ∷ 45 ∷ name) ≡ Some (name, None)
+    → bytes_eq (45 ∷ 45 ∷ name) (45 ∷ 45 ∷ []) ≡ false → arg_by_long c name ≡ Some (built_option needed name) → arg_by_id c name ≡ Some (built_option needed name)
     → IfSome (value_given all name) IsValue → IsAllowed c all name
-allowed c all name word more long id value =
-    (record { word = record { long = word; more = more; same = same_name name }; long = long; id = id }, value)
+allowed c all needed name word more long id value =
+    (needed, record { word = record { long = word; more = more; same = same_name name }; long = long; id = id }, value)
 
 all_good : (c : List Rule) (options : List Text) (all gs : List Given) → All (IsAllowed c all) options
     → All (IsOneOf options []) gs → AreFound all gs → AreGood c gs
 all_good c options all [] allow each found = tt
 all_good c options all (option name value ∷ gs) allow each found =
     let is = All-contains (IsAllowed c all) options name allow (All-head (IsOneOf options []) (option name value) gs each) in (
-      (true, is.0, subst (λ (o : Option Text). IfSome o IsValue) found.0 is.1),
+      (is.0, is.1, subst (λ (o : Option Text). IfSome o IsValue) found.0 is.2),
       all_good c options all gs allow (All-tail (IsOneOf options []) (option name value) gs each) found.1,
     )
 all_good c options all (flag name ∷ gs) allow each found =
@@ -146,7 +142,7 @@ all_good c options all (flag name ∷ gs) allow each found =
 -- ---- the options of each command
 
 abbrev proxy_needs : List (Bool × Text)
-proxy_needs = (true, codes "server") ∷ (true, codes "own") ∷ (true, codes "inner") ∷ (true, codes "key") ∷ []
+proxy_needs = (true, codes "server") ∷ (true, codes "own") ∷ (true, codes "inner") ∷ (false, codes "key") ∷ []
 
 abbrev cascade_needs : List (Bool × Text)
 cascade_needs = proxy_needs ++ (true, codes "low") ∷ (true, codes "high") ∷ []
@@ -159,13 +155,12 @@ cascade_shape = (built cascade_app).top
 
 -- nothing is missing where these are given
 proxy_has : (rows : List Row) → is_given (codes "server") rows ≡ true → is_given (codes "own") rows ≡ true → is_given (codes "inner") rows ≡ true
-    → is_given (codes "key") rows ≡ true → check_fault proxy_shape rows false ≡ []
-proxy_has rows a b c d = rw (a, b, c, d) refl
+    → check_fault proxy_shape rows false ≡ []
+proxy_has rows a b c = rw (a, b, c) refl
 
 cascade_has : (rows : List Row) → is_given (codes "server") rows ≡ true → is_given (codes "own") rows ≡ true → is_given (codes "inner") rows ≡ true
-    → is_given (codes "key") rows ≡ true → is_given (codes "low") rows ≡ true → is_given (codes "high") rows ≡ true
-    → check_fault cascade_shape rows false ≡ []
-cascade_has rows a b c d e f = rw (a, b, c, d, e, f) refl
+    → is_given (codes "low") rows ≡ true → is_given (codes "high") rows ≡ true → check_fault cascade_shape rows false ≡ []
+cascade_has rows a b c d e = rw (a, b, c, d, e) refl
 
 -- what the values say stays
 proxy_moves : (v w : Text → Option Text) (command : ProxyCommand) → v (codes "server") ≡ w (codes "server") → v (codes "own") ≡ w (codes "own")
@@ -180,12 +175,12 @@ module _ (gs : List Given) (words : List Text) (command : ProxyCommand) (given :
   proxy_good =
       let c = proxy_shape.rules in
       all_good c proxy_options gs gs (All-from_recursion (IsAllowed c gs) proxy_options (
-        allowed c gs (codes "server") refl refl refl refl (address_value _ _ is.server),
+        allowed c gs true (codes "server") refl refl refl refl (address_value _ _ is.server),
         (
-          allowed c gs (codes "own") refl refl refl refl (address_value _ _ is.own),
+          allowed c gs true (codes "own") refl refl refl refl (address_value _ _ is.own),
           (
-            allowed c gs (codes "inner") refl refl refl refl (address_value _ _ is.inner),
-            (allowed c gs (codes "key") refl refl refl refl (key_value _ _ is.key), tt),
+            allowed c gs true (codes "inner") refl refl refl refl (address_value _ _ is.inner),
+            (allowed c gs false (codes "key") refl refl refl refl (key_value _ _ is.key), tt),
           ),
         ),
       )) given.each (all_found gs given.once)
@@ -197,7 +192,7 @@ module _ (gs : List Given) (words : List Text) (command : ProxyCommand) (given :
       (options_default_well proxy_needs (built_help ∷ []) rows ∙ help_defaults_well rows)
       (options_add_none proxy_needs (built_help ∷ []) rows ∙ help_adds_none rows)
       (proxy_has rows (rows_have gs (codes "server") ∙ address_there _ _ is.server) (rows_have gs (codes "own") ∙ address_there _ _ is.own)
-      (rows_have gs (codes "inner") ∙ address_there _ _ is.inner) (rows_have gs (codes "key") ∙ key_there _ _ is.key))
+      (rows_have gs (codes "inner") ∙ address_there _ _ is.inner))
 
   proxy_taken : IsCommand words command
   proxy_taken =
@@ -216,16 +211,16 @@ module _ (gs : List Given) (words : List Text) (command : CascadeCommand) (given
   cascade_good =
       let c = cascade_shape.rules in
       all_good c cascade_options gs gs (All-from_recursion (IsAllowed c gs) cascade_options (
-        allowed c gs (codes "server") refl refl refl refl (address_value _ _ is.relay.server),
+        allowed c gs true (codes "server") refl refl refl refl (address_value _ _ is.relay.server),
         (
-          allowed c gs (codes "own") refl refl refl refl (address_value _ _ is.relay.own),
+          allowed c gs true (codes "own") refl refl refl refl (address_value _ _ is.relay.own),
           (
-            allowed c gs (codes "inner") refl refl refl refl (address_value _ _ is.relay.inner),
+            allowed c gs true (codes "inner") refl refl refl refl (address_value _ _ is.relay.inner),
             (
-              allowed c gs (codes "key") refl refl refl refl (key_value _ _ is.relay.key),
+              allowed c gs false (codes "key") refl refl refl refl (key_value _ _ is.relay.key),
               (
-                allowed c gs (codes "low") refl refl refl refl (port_value _ _ is.low),
-                (allowed c gs (codes "high") refl refl refl refl (port_value _ _ is.high), tt),
+                allowed c gs true (codes "low") refl refl refl refl (port_value _ _ is.low),
+                (allowed c gs true (codes "high") refl refl refl refl (port_value _ _ is.high), tt),
               ),
             ),
           ),
@@ -239,7 +234,7 @@ module _ (gs : List Given) (words : List Text) (command : CascadeCommand) (given
       (options_default_well cascade_needs (built_help ∷ []) rows ∙ help_defaults_well rows)
       (options_add_none cascade_needs (built_help ∷ []) rows ∙ help_adds_none rows)
       (cascade_has rows (rows_have gs (codes "server") ∙ address_there _ _ is.relay.server) (rows_have gs (codes "own") ∙ address_there _ _ is.relay.own)
-      (rows_have gs (codes "inner") ∙ address_there _ _ is.relay.inner) (rows_have gs (codes "key") ∙ key_there _ _ is.relay.key)
+      (rows_have gs (codes "inner") ∙ address_there _ _ is.relay.inner)
       (rows_have gs (codes "low") ∙ port_there _ _ is.low) (rows_have gs (codes "high") ∙ port_there _ _ is.high))
 
   cascade_taken : IsCascadeCommand words command

@@ -2,21 +2,22 @@
 use Rattle.std.specs.Prelude.{◌≤◌, List, Option, codes}
 use Rattle.clap.specs.Words.{App, Row, Text, new_app}
 use Rattle.client_commands.specs.Commands.{IsNamed, port_range, value_in}
-use Rattle.client_commands.specs.Options.{with_needed}
+use Rattle.client_commands.specs.Options.{with_needed, with_option}
 use Rattle.client_commands.specs.Parses.{Takes}
 use Rattle.client_commands.specs.Values.{IsAddressAt, IsNumberAt}
 use Rattle.proxy_commands.specs.declared.commands.CascadeCommand.{CascadeCommand}
 use Rattle.proxy_commands.specs.declared.commands.ProxyCommand.{ProxyCommand}
 use Rattle.proxy_commands.specs.Keys.{IsKeyAt}
 
--- the options, each of which a command needs
+-- the options
 abbrev pub with_addresses : App → App
 with_addresses app =
     with_needed (codes "inner") (with_needed (codes "own") (with_needed (codes "server") app))
 
--- of both commands
+-- Of both commands. No words without the key are a command; but a program may have it of a file, and so the parser, whose help
+-- people read, is told that it may lack.
 abbrev pub with_relay : App → App
-with_relay app = with_needed (codes "key") (with_addresses app)
+with_relay app = with_option (codes "key") (with_addresses app)
 
 abbrev pub with_range : App → App
 with_range app = with_needed (codes "high") (with_needed (codes "low") app)

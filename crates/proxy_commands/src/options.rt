@@ -14,16 +14,16 @@ fn named<'a>(alloc: Global, name: &'a str, about: &'a str, example: &'a str) -> 
     Command::new(alloc, name).about(about).after_help(example)
 }
 
-/// The option `--name VALUE`, which must be there.
-fn needed<'a>(alloc: Global, name: &'a str, value: &'a str, help: &'a str) -> Arg<'a>
-    ensures rule { rule_of result ≡ option_rule true name.entry.now }
+/// The option `--name VALUE`.
+fn option<'a>(alloc: Global, needed: bool, name: &'a str, value: &'a str, help: &'a str) -> Arg<'a>
+    ensures rule { rule_of result ≡ option_rule needed name.entry.now }
     ensures local { result.global ≡ false }
 {
     Arg::new(alloc, name)
         .long(name)
         .value_name(value)
         .help(help)
-        .required(true)
+        .required(needed)
 }
 
 /// The command with one more option, which it needs.
@@ -37,7 +37,21 @@ fn with_needed<'a>(
     ensures { IfOk result (λ r.
         app_of r ≡ with_rule (app_of command.entry) (option_rule true name.entry.now)) }
 {
-    command.arg(needed(alloc, name, value, help))
+    command.arg(option(alloc, true, name, value, help))
+}
+
+/// The command with one more option, which may lack.
+fn with_option<'a>(
+    alloc: Global,
+    command: Command<'a>,
+    name: &'a str,
+    value: &'a str,
+    help: &'a str,
+) -> Result<Command<'a>, AllocError>
+    ensures { IfOk result (λ r.
+        app_of r ≡ with_rule (app_of command.entry) (option_rule false name.entry.now)) }
+{
+    command.arg(option(alloc, false, name, value, help))
 }
 
 /// The command with the options that name addresses.
@@ -67,12 +81,13 @@ fn with_addresses<'a>(alloc: Global, command: Command<'a>) -> Result<Command<'a>
     )
 }
 
-/// The command with the options of both commands.
+/// The command with the options of both commands. The key may lack by `clap`, whose help then says so,
+/// since a program may have it of a file; words without it are refused all the same.
 fn with_relay<'a>(alloc: Global, command: Command<'a>) -> Result<Command<'a>, AllocError>
     ensures { IfOk result (λ r. app_of r ≡ with_relay (app_of command.entry)) }
 {
     let command = with_addresses(alloc, command)?;
-    with_needed(
+    with_option(
         alloc,
         command,
         "key",

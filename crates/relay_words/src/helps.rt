@@ -7,7 +7,7 @@ use std::alloc::Global;
 const MORE: &str = "
 Options of both relays, each with its value in the next word:
       --inner <ADDRESS>         Up to 16 times: clients ask at each, and are answered from there
-      --key-file <FILE>         A file with the key, in place of --key
+      --key-file <FILE>         A file with the key, in place of --key; one of the two must be given
       --rate <N>                Requests a second, 1 to 100000; more are dropped. 20 without it
 ";
 
