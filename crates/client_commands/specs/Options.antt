@@ -21,9 +21,11 @@ with_option name app = with_rule app (option_rule false name)
 
 -- Whom to ask, and how often. No words without the addresses are a command; but a program may find these itself, and so the
 -- parser, whose help people read, is told that they may lack.
+abbrev pub with_addresses : App → App
+with_addresses app = with_option (codes "own") (with_option (codes "server") app)
+
 abbrev pub with_target : App → App
-with_target app =
-    with_option (codes "tries") (with_option (codes "own") (with_option (codes "server") app))
+with_target app = with_option (codes "tries") (with_addresses app)
 
 -- which internal port
 abbrev pub with_endpoint : App → App
@@ -34,10 +36,13 @@ abbrev pub with_wanted : App → App
 with_wanted app =
     with_option (codes "external-port") (with_option (codes "lifetime") (with_endpoint app))
 
-abbrev pub map_app : App
-map_app = with_rule
-    (with_option (codes "size") (with_wanted (with_target (new_app (codes "pcp map")))))
+-- and `map` alone
+abbrev pub with_ports : App → App
+with_ports app = with_rule (with_option (codes "size") (with_wanted app))
     (flag_rule (codes "prefer-failure"))
+
+abbrev pub map_app : App
+map_app = with_ports (with_target (new_app (codes "pcp map")))
 
 abbrev pub peer_app : App
 peer_app = with_needed (codes "remote-port") (with_needed (codes "remote")

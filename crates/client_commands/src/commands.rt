@@ -5,7 +5,7 @@ ghost use Rattle.client_commands.specs.Commands.{IsAnnounceIn, IsCommand, IsMapI
 ghost use Rattle.client_commands.specs.Parts.{announce_with, map_wanted_of, map_with, mapping_of, peer_wanted_of, peer_with, target_of};
 ghost use Rattle.client_commands.specs.Options.{announce_app, map_app, peer_app};
 
-use crate::options::{announce_command, map_command, peer_command};
+use crate::options::{announce_command, keep_command, map_command, peer_command};
 use crate::parses::found_in;
 use crate::values::{
     address_at, external_at, flag_at, lifetime_at, port_at, protocol_at, size_at, tries_at,
@@ -102,7 +102,7 @@ fn first_is(words: &[String], name: &str) -> bool
     }
 }
 
-/// The text of a command's help, where the words are the name of one and `--help`.
+/// The text of a command's help, where the words are the name of one, or `keep`, and `--help`.
 pub fn help_of(alloc: Global, words: &[String]) -> Result<Option<String>, Memory> {
     let [name, help] = words else {
         return Ok(None);
@@ -111,6 +111,7 @@ pub fn help_of(alloc: Global, words: &[String]) -> Result<Option<String>, Memory
         return Ok(None);
     }
     match name.as_str() {
+        "keep" => told_by(keep_command(alloc)?),
         "map" => told_by(map_command(alloc)?),
         "peer" => told_by(peer_command(alloc)?),
         "announce" => told_by(announce_command(alloc)?),

@@ -1,10 +1,17 @@
 //! The options of each command, as `clap` is told them.
 ghost use Rattle.std.specs.Prelude.{◌≡◌, IfOk, codes, true, false};
 ghost use Rattle.clap.specs.Words.{app_of, new_app, rule_of, with_rule};
-ghost use Rattle.client_commands.specs.Options.{announce_app, flag_rule, map_app, option_rule, peer_app, with_endpoint, with_target, with_wanted};
+ghost use Rattle.client_commands.specs.Options.{announce_app, flag_rule, map_app, option_rule, peer_app, with_addresses, with_endpoint, with_ports, with_target, with_wanted};
 
 use clap::{Arg, ArgAction, Command};
 use std::alloc::{AllocError, Global};
+
+/// What `keep` prints.
+const KEEP_LINES: &str = "The lines are:
+  mapped ADDRESS PORT LIFETIME EPOCH   The port: at first, another one, or again behind the lines below
+  refused CODE SECONDS                 The server refuses
+  lost                                 The lease ended
+  invalid                              The server lost its leases";
 
 /// A command of this name and no option.
 fn named<'a>(alloc: Global, name: &'a str, about: &'a str, example: &'a str) -> Command<'a>
@@ -77,10 +84,10 @@ fn with_flag<'a>(
     command.arg(flag(alloc, name, help))
 }
 
-/// The command with the options that say whom to ask. The addresses may lack by `clap`, whose help then
-/// says so, since a program may find them itself; words without them are refused all the same.
-fn with_target<'a>(alloc: Global, command: Command<'a>) -> Result<Command<'a>, AllocError>
-    ensures { IfOk result (λ r. app_of r ≡ with_target (app_of command.entry)) }
+/// The command with the options that say whom to ask. They may lack by `clap`, whose help then says so,
+/// since a program may find the addresses itself; words without them are refused all the same.
+fn with_addresses<'a>(alloc: Global, command: Command<'a>) -> Result<Command<'a>, AllocError>
+    ensures { IfOk result (λ r. app_of r ≡ with_addresses (app_of command.entry)) }
 {
     let command = with_option(
         alloc,
@@ -89,13 +96,20 @@ fn with_target<'a>(alloc: Global, command: Command<'a>) -> Result<Command<'a>, A
         "ADDRESS",
         "Address of the server, such as 192.0.2.1 or 2001:db8::1",
     )?;
-    let command = with_option(
+    with_option(
         alloc,
         command,
         "own",
         "ADDRESS",
         "Own address, from which the server hears the request",
-    )?;
+    )
+}
+
+/// The command with the options that say whom to ask, and how often.
+fn with_target<'a>(alloc: Global, command: Command<'a>) -> Result<Command<'a>, AllocError>
+    ensures { IfOk result (λ r. app_of r ≡ with_target (app_of command.entry)) }
+{
+    let command = with_addresses(alloc, command)?;
     with_option(
         alloc,
         command,
@@ -134,17 +148,11 @@ fn with_wanted<'a>(alloc: Global, command: Command<'a>) -> Result<Command<'a>, A
     )
 }
 
-/// The command `map`.
-pub(crate) fn map_command<'a>(alloc: Global) -> Result<Command<'a>, AllocError>
-    ensures { IfOk result (λ r. app_of r ≡ map_app) }
+/// The command with the options that say which ports are asked for.
+fn with_ports<'a>(alloc: Global, command: Command<'a>) -> Result<Command<'a>, AllocError>
+    ensures { IfOk result (λ r. app_of r ≡ with_ports (app_of command.entry)) }
 {
-    let command = named(
-        alloc,
-        "pcp map",
-        "Asks a server for an external port, and prints what it grants: mapped ADDRESS PORT LIFETIME EPOCH",
-        "Example: pcp map --server 192.0.2.9 --own 10.0.0.5 --protocol udp --port 5000",
-    );
-    let command = with_wanted(alloc, with_target(alloc, command)?)?;
+    let command = with_wanted(alloc, command)?;
     let command = with_option(
         alloc,
         command,
@@ -158,6 +166,30 @@ pub(crate) fn map_command<'a>(alloc: Global) -> Result<Command<'a>, AllocError>
         "prefer-failure",
         "Rather nothing than another port than the one suggested",
     )
+}
+
+/// The command `map`.
+pub(crate) fn map_command<'a>(alloc: Global) -> Result<Command<'a>, AllocError>
+    ensures { IfOk result (λ r. app_of r ≡ map_app) }
+{
+    let command = named(
+        alloc,
+        "pcp map",
+        "Asks a server for an external port, and prints what it grants: mapped ADDRESS PORT LIFETIME EPOCH",
+        "Example: pcp map --server 192.0.2.9 --own 10.0.0.5 --protocol udp --port 5000",
+    );
+    with_ports(alloc, with_target(alloc, command)?)
+}
+
+/// The command `keep` for its help: its words are those of `map` but `--tries`.
+pub(crate) fn keep_command<'a>(alloc: Global) -> Result<Command<'a>, AllocError> {
+    let command = named(
+        alloc,
+        "pcp keep",
+        "Asks a server for an external port, keeps it, and prints a line at each change",
+        KEEP_LINES,
+    );
+    with_ports(alloc, with_addresses(alloc, command)?)
 }
 
 /// The command `peer`.

@@ -172,5 +172,12 @@ fn commands_have_help(rt: HostRuntime) -> Result<(), Fail> {
         };
         assert!(rt; help.as_str().contains("Example: pcp "), "{help}");
     }
+    let keep = help_of(rt.alloc(), &words_of(rt.alloc(), "keep", " --help")?)?;
+    let Some(keep) = keep else {
+        return Err("no help".into());
+    };
+    assert!(rt; keep.as_str().contains("--lifetime <N>"));
+    assert!(rt; keep.as_str().contains("--nonce-file <FILE>"));
+    assert!(rt; !keep.as_str().contains("--tries"));
     Ok(())
 }

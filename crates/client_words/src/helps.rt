@@ -20,8 +20,14 @@ Options of the mapping, each with its value in the next word:
 /// The one that a MAP alone may have.
 const FILTER: &str =
     "      --filter <PREFIX[,PORT]>  A remote peer that may send to it, up to 8 times
+";
 
+const MAP_EXAMPLE: &str = "
 Example: pcp map --protocol udp --port 5000 --nonce-file port-5000.nonce
+";
+
+const KEEP_EXAMPLE: &str = "
+Example: pcp keep --protocol tcp --port 443 --nonce-file port-443.nonce
 ";
 
 const UNMAP: &str = "Deletes a mapping, and prints: deleted EPOCH
@@ -34,19 +40,6 @@ the mapping was asked for. The lifetime doesn't count.
 Example: pcp unmap --protocol udp --port 5000 --nonce-file port-5000.nonce
 ";
 
-const KEEP: &str = "Asks a server for an external port, keeps it, and prints a line at each change
-
-Usage: pcp keep --protocol <PROTOCOL> --port <N> [OPTIONS]
-
-The options are those of pcp map but --tries: pcp map --help tells them. The lines are:
-  mapped ADDRESS PORT LIFETIME EPOCH   The port: at first, another one, or again behind the lines below
-  refused CODE SECONDS                 The server refuses
-  lost                                 The lease ended
-  invalid                              The server lost its leases
-
-Example: pcp keep --protocol tcp --port 443
-";
-
 /// The text of a command's help, where the words are the name of one and `--help`.
 pub fn help_of(alloc: Global, words: &[String]) -> Result<Option<String>, Memory> {
     let [name, help] = words else {
@@ -56,11 +49,11 @@ pub fn help_of(alloc: Global, words: &[String]) -> Result<Option<String>, Memory
         return Ok(None);
     }
     match name.as_str() {
-        "map" => with_text(alloc, words, &[ROUTER, MORE, FILTER]),
+        "map" => with_text(alloc, words, &[ROUTER, MORE, FILTER, MAP_EXAMPLE]),
+        "keep" => with_text(alloc, words, &[ROUTER, MORE, FILTER, KEEP_EXAMPLE]),
         "peer" => with_text(alloc, words, &[ROUTER, MORE]),
         "announce" => with_text(alloc, words, &[ROUTER]),
         "unmap" => told(alloc, UNMAP),
-        "keep" => told(alloc, KEEP),
         _ => Ok(None),
     }
 }
