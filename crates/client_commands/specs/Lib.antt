@@ -1,4 +1,5 @@
 pub mod Commands
+pub mod Helps
 pub mod Options
 pub mod Parses
 pub mod Parts

@@ -1,8 +1,9 @@
 //! The commands that the words are.
-ghost use Rattle.std.specs.Prelude.{◌≡◌, ◌↔◌, IsTrue, IfOk, map, option_map, string_bytes};
+ghost use Rattle.std.specs.Prelude.{◌≡◌, ◌↔◌, IsTrue, IfOk, is_some, map, option_map, string_bytes, true};
 ghost use Rattle.clap.specs.Words.{found_of, rows_of};
 ghost use Rattle.client_commands.specs.Commands.{IsAnnounceIn, IsCommand, IsMapIn, IsMapWanted, IsMapping, IsNamed, IsOnly, IsPeerIn, IsPeerWanted, IsTakenBy, IsTarget, value_in};
 ghost use Rattle.client_commands.specs.Parts.{announce_with, map_wanted_of, map_with, mapping_of, peer_wanted_of, peer_with, target_of};
+ghost use Rattle.client_commands.specs.Helps.{asks_help, has_text, is_help};
 ghost use Rattle.client_commands.specs.Options.{announce_app, map_app, peer_app};
 
 use crate::options::{announce_command, keep_command, map_command, peer_command};
@@ -102,24 +103,48 @@ fn first_is(words: &[String], name: &str) -> bool
     }
 }
 
-/// The text of a command's help, where the words are the name of one, or `keep`, and `--help`.
-pub fn help_of(alloc: Global, words: &[String]) -> Result<Option<String>, Memory> {
+/// Whether a word asks for help: `--help` or `-h`.
+pub fn is_help(word: &str) -> bool
+    ensures { result ≡ is_help word.now }
+{
+    word == "--help" || word == "-h"
+}
+
+/// The text of a command's help, where the words are the name of one, or `keep`, and [`is_help`].
+pub fn help_of(alloc: Global, words: &[String]) -> Result<Option<String>, Memory>
+    ensures { IfOk result (λ help. is_some help ≡ asks_help (map string_bytes words.now)) }
+{
     let [name, help] = words else {
         return Ok(None);
     };
-    if help.as_str() != "--help" {
+    if !is_help(help) {
         return Ok(None);
     }
-    match name.as_str() {
-        "keep" => told_by(keep_command(alloc)?),
-        "map" => told_by(map_command(alloc)?),
-        "peer" => told_by(peer_command(alloc)?),
-        "announce" => told_by(announce_command(alloc)?),
-        _ => Ok(None),
-    }
+    text_of(alloc, name)
 }
 
-fn told_by(command: Command<'static>) -> Result<Option<String>, Memory> {
+/// The text of the help of this command.
+fn text_of(alloc: Global, name: &str) -> Result<Option<String>, Memory>
+    ensures { IfOk result (λ help. is_some help ≡ has_text name.now) }
+{
+    if name == "keep" {
+        return told_by(keep_command(alloc)?);
+    }
+    if name == "map" {
+        return told_by(map_command(alloc)?);
+    }
+    if name == "peer" {
+        return told_by(peer_command(alloc)?);
+    }
+    if name == "announce" {
+        return told_by(announce_command(alloc)?);
+    }
+    Ok(None)
+}
+
+fn told_by(command: Command<'static>) -> Result<Option<String>, Memory>
+    ensures { IfOk result (λ help. is_some help ≡ true) }
+{
     let mut command = command;
     Ok(Some(command.render_help()?))
 }

@@ -9,6 +9,6 @@ mod values;
 
 pub use commands::{
     ClientCommand, DEFAULT_LIFETIME, DEFAULT_TRIES, MOST_TRIES, MapWanted, Mapping, PeerWanted,
-    Target, command_of, help_of,
+    Target, command_of, help_of, is_help,
 };
 pub use laws::plain_words_are_commands;

@@ -166,11 +166,13 @@ static HELPS: [&str; 5] = ["map", "peer", "announce", "unmap", "keep"];
 #[test]
 fn commands_have_help(rt: HostRuntime) -> Result<(), Fail> {
     for name in &HELPS {
-        let words = words_of(rt.alloc(), name, " --help")?;
-        let Some(help) = help_of(rt.alloc(), &words)? else {
+        let long = help_of(rt.alloc(), &words_of(rt.alloc(), name, " --help")?)?;
+        let short = help_of(rt.alloc(), &words_of(rt.alloc(), name, " -h")?)?;
+        let (Some(long), Some(short)) = (long, short) else {
             return Err("no help".into());
         };
-        assert!(rt; help.as_str().contains("Example: pcp "), "{help}");
+        assert!(rt; long.as_str().contains("Example: pcp "), "{long}");
+        assert!(rt; short.as_str() == long.as_str());
     }
     let keep = help_of(rt.alloc(), &words_of(rt.alloc(), "keep", " --help")?)?;
     let Some(keep) = keep else {

@@ -154,7 +154,7 @@ fn peers_are_read(rt: HostRuntime) -> Result<(), Fail> {
 }
 
 // Words, and what their help has.
-static HELPS: [(&str, &str); 5] = [
+static HELPS: [(&str, &str); 6] = [
     (
         "map --help",
         "Example: pcp map --server 192.0.2.9 --own 10.0.0.5 --protocol udp --port 5000",
@@ -168,10 +168,14 @@ static HELPS: [(&str, &str); 5] = [
         "Example: pcp announce --server 192.0.2.9 --own 10.0.0.5",
     ),
     (
-        "map --help",
+        "map -h",
         "Usage: pcp map [OPTIONS] --protocol <PROTOCOL> --port <N>",
     ),
-    ("announce --help", "Usage: pcp announce [OPTIONS]\n"),
+    (
+        "keep -h",
+        "Usage: pcp keep [OPTIONS] --protocol <PROTOCOL> --port <N>",
+    ),
+    ("announce -h", "Usage: pcp announce [OPTIONS]\n"),
 ];
 
 #[test]

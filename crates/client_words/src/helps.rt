@@ -1,5 +1,9 @@
 //! The help of each command.
+ghost use Rattle.std.specs.Prelude.{◌≡◌, IfOk, is_some, map, string_bytes};
+ghost use Rattle.client_commands.specs.Helps.{asks_help as older_help};
+ghost use Rattle.client_words.specs.Helps.{asks_help};
 
+use client_commands::is_help;
 use pcp_base::Memory;
 use std::alloc::Global;
 
@@ -40,36 +44,51 @@ the mapping was asked for. The lifetime doesn't count.
 Example: pcp unmap --protocol udp --port 5000 --nonce-file port-5000.nonce
 ";
 
-/// The text of a command's help, where the words are the name of one and `--help`.
-pub fn help_of(alloc: Global, words: &[String]) -> Result<Option<String>, Memory> {
+/// The text of a command's help, where the words are the name of one and `--help` or `-h`.
+pub fn help_of(alloc: Global, words: &[String]) -> Result<Option<String>, Memory>
+    ensures { IfOk result (λ help. is_some help ≡ asks_help (map string_bytes words.now)) }
+{
     let [name, help] = words else {
         return Ok(None);
     };
-    if help.as_str() != "--help" {
+    if !is_help(help) {
         return Ok(None);
     }
-    match name.as_str() {
-        "map" => with_text(alloc, words, &[ROUTER, MORE, FILTER, MAP_EXAMPLE]),
-        "keep" => with_text(alloc, words, &[ROUTER, MORE, FILTER, KEEP_EXAMPLE]),
-        "peer" => with_text(alloc, words, &[ROUTER, MORE]),
-        "announce" => with_text(alloc, words, &[ROUTER]),
-        "unmap" => told(alloc, UNMAP),
-        _ => Ok(None),
+    if name.as_str() == "unmap" {
+        return Ok(Some(String::from_str(alloc, UNMAP)?));
     }
+    with_more(alloc, words)
 }
 
-fn told(alloc: Global, text: &str) -> Result<Option<String>, Memory> {
-    Ok(Some(String::from_str(alloc, text)?))
-}
-
-/// The text of an older command's help, and more behind it.
-fn with_text(alloc: Global, words: &[String], more: &[&str]) -> Result<Option<String>, Memory> {
+/// The text of the help of a command that `clap` knows, and more behind it.
+fn with_more(alloc: Global, words: &[String]) -> Result<Option<String>, Memory>
+    ensures { IfOk result (λ help. is_some help ≡ older_help (map string_bytes words.now)) }
+{
     let Some(help) = client_commands::help_of(alloc, words)? else {
         return Ok(None);
     };
     let mut text = help;
-    for piece in more {
+    push_more(&mut text, words)?;
+    Ok(Some(text))
+}
+
+/// Appends the options that may stand among those of the command, and an example with one.
+fn push_more(text: &mut String, words: &[String]) -> Result<(), Memory> {
+    let [name, ..] = words else {
+        return Ok(());
+    };
+    text.push_str(ROUTER)?;
+    match name.as_str() {
+        "map" => push_all(text, &[MORE, FILTER, MAP_EXAMPLE]),
+        "keep" => push_all(text, &[MORE, FILTER, KEEP_EXAMPLE]),
+        "peer" => push_all(text, &[MORE]),
+        _ => Ok(()),
+    }
+}
+
+fn push_all(text: &mut String, pieces: &[&str]) -> Result<(), Memory> {
+    for piece in pieces {
         text.push_str(piece)?;
     }
-    Ok(Some(text))
+    Ok(())
 }

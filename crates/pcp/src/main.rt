@@ -19,6 +19,7 @@ use crate::relays::{may_relay, relay_over};
 use crate::serve::{Served, externals_in, serve_over};
 use crate::tools::{ask_by, may_ask, means_of, tell_now};
 use crate::watches::watch;
+use client_commands::is_help;
 use client_words::help_of;
 use config_source::config_of;
 use journal_dump::Looked;
@@ -60,7 +61,7 @@ const USAGE: &str = "usage: pcp serve CONFIG JOURNALS PORT LANEPORT
        pcp proxy OPTIONS..
        pcp cascade OPTIONS..
        pcp keep --help (or map, unmap, peer, announce, proxy, cascade)
-       pcp --help
+       pcp --help (or -h)
        pcp --version
 
 CONFIG is a file with the configuration, in TOML. JOURNALS is a folder that is
@@ -303,11 +304,9 @@ fn run<R: Threads + Wait + Sync>(
     explains: bool,
 ) -> Ended {
     match words {
-        [word] if word.as_str() == "--help" => Ended::with(rt, tell(rt, USAGE)),
+        [word] if is_help(word) => Ended::with(rt, tell(rt, USAGE)),
         [word] if word.as_str() == "--version" => Ended::with(rt, tell(rt, VERSION)),
-        [_, word] if word.as_str() == "--help" && may_order(words) => {
-            Ended::with(rt, tell(rt, USAGE))
-        }
+        [_, word] if is_help(word) && may_order(words) => Ended::with(rt, tell(rt, USAGE)),
         _ if may_order(words) => order(rt, words, explains),
         _ if may_ask(words) => ask(threads, rt, words, explains),
         _ if may_watch(words) => watch(rt, words, explains),

@@ -1,14 +1,16 @@
 //! The commands that the words are.
-ghost use Rattle.std.specs.Prelude.{◌≡◌, ◌↔◌, IsTrue, IfOk, map, option_map, string_bytes};
+ghost use Rattle.std.specs.Prelude.{◌≡◌, ◌↔◌, IsTrue, IfOk, is_some, map, option_map, string_bytes, true};
 ghost use Rattle.clap.specs.Words.{found_of, rows_of};
 ghost use Rattle.client_commands.specs.Commands.{IsNamed, IsOnly, value_in};
 ghost use Rattle.proxy_commands.specs.Commands.{IsCascadeCommand, IsCascadeIn, IsCommand, IsProxyIn, IsTakenBy, cascade_app, proxy_app};
+ghost use Rattle.proxy_commands.specs.Helps.{asks_help, has_text};
 ghost use Rattle.proxy_commands.specs.Parts.{cascade_with, proxy_with};
 
 use crate::options::{cascade_command, proxy_command};
 use crate::parses::found_in;
 use crate::values::{address_at, key_at, port_at};
 use clap::{ArgMatches, Command};
+use client_commands::is_help;
 use pcp_base::{Address, Memory};
 use std::alloc::Global;
 
@@ -69,22 +71,35 @@ fn first_is(words: &[String], name: &str) -> bool
     }
 }
 
-/// The text of a command's help, where the words are the name of one and `--help`.
-pub fn help_of(alloc: Global, words: &[String]) -> Result<Option<String>, Memory> {
+/// The text of a command's help, where the words are the name of one and `--help` or `-h`.
+pub fn help_of(alloc: Global, words: &[String]) -> Result<Option<String>, Memory>
+    ensures { IfOk result (λ help. is_some help ≡ asks_help (map string_bytes words.now)) }
+{
     let [name, help] = words else {
         return Ok(None);
     };
-    if help.as_str() != "--help" {
+    if !is_help(help) {
         return Ok(None);
     }
-    match name.as_str() {
-        "proxy" => told_by(proxy_command(alloc)?),
-        "cascade" => told_by(cascade_command(alloc)?),
-        _ => Ok(None),
-    }
+    text_of(alloc, name)
 }
 
-fn told_by(command: Command<'static>) -> Result<Option<String>, Memory> {
+/// The text of the help of this command.
+fn text_of(alloc: Global, name: &str) -> Result<Option<String>, Memory>
+    ensures { IfOk result (λ help. is_some help ≡ has_text name.now) }
+{
+    if name == "proxy" {
+        return told_by(proxy_command(alloc)?);
+    }
+    if name == "cascade" {
+        return told_by(cascade_command(alloc)?);
+    }
+    Ok(None)
+}
+
+fn told_by(command: Command<'static>) -> Result<Option<String>, Memory>
+    ensures { IfOk result (λ help. is_some help ≡ true) }
+{
     let mut command = command;
     Ok(Some(command.render_help()?))
 }
