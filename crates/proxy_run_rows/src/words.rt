@@ -159,8 +159,14 @@ fn help_has_an_example(rt: HostRuntime) -> Result<(), Fail> {
             "Example: pcp cascade --server 192.0.2.9"
         )?
     );
-    assert!(rt; helps(alloc, "proxy -h", "Usage: pcp proxy [OPTIONS] --server <ADDRESS>")?);
-    assert!(rt; helps(alloc, "cascade -h", "Example: pcp cascade")?);
+    assert!(rt;
+        helps(
+            alloc,
+            "proxy -h",
+            "Usage: pcp proxy [OPTIONS] --server <ADDRESS>"
+        )?
+    );
+    assert!(rt; helps(alloc, "cascade -h", "of all clients together")?);
     assert!(rt; help_of(alloc, &words_of(alloc, "proxy")?)?.is_none());
     Ok(())
 }

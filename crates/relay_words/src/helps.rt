@@ -10,7 +10,7 @@ const MORE: &str = "
 Options of both relays, each with its value in the next word:
       --inner <ADDRESS>         Up to 16 times: clients ask at each, and are answered from there
       --key-file <FILE>         A file with the key, in place of --key; one of the two must be given
-      --rate <N>                Requests a second, 1 to 100000; more are dropped. 20 without it
+      --rate <N>                Requests a second of all clients together, 1 to 100000, else 20; more are dropped
 ";
 
 /// The one that a relay alone has that isn't beside a translator of its own.
