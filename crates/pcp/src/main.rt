@@ -164,6 +164,11 @@ and which journals serve, play and load found blank or damaged.
 
 const VERSION: &str = "pcp 0.1.0\n";
 
+/// The commands whose words the usage tells whole: they have no options.
+const IN_USAGE: [&str; 8] = [
+    "serve", "play", "dump", "load", "watch", "stop", "lose", "status",
+];
+
 /// The status of a command, of the server's or of a tool's.
 #[derive(Clone, Copy)]
 enum EndStatus {
@@ -296,6 +301,11 @@ fn explains(rt: &HostRuntime) -> bool {
     }
 }
 
+/// Whether it is the name of a command whose words the usage tells whole.
+fn is_in_usage(name: &str) -> bool {
+    IN_USAGE.contains(&name)
+}
+
 /// Runs the command that the words are.
 fn run<R: Threads + Wait + Sync>(
     threads: &R,
@@ -306,7 +316,7 @@ fn run<R: Threads + Wait + Sync>(
     match words {
         [word] if is_help(word) => Ended::with(rt, tell(rt, USAGE)),
         [word] if word.as_str() == "--version" => Ended::with(rt, tell(rt, VERSION)),
-        [_, word] if is_help(word) && may_order(words) => Ended::with(rt, tell(rt, USAGE)),
+        [name, word] if is_help(word) && is_in_usage(name) => Ended::with(rt, tell(rt, USAGE)),
         _ if may_order(words) => order(rt, words, explains),
         _ if may_ask(words) => ask(threads, rt, words, explains),
         _ if may_watch(words) => watch(rt, words, explains),
