@@ -3,7 +3,6 @@ use crate::tools::tell_now;
 use pcp_base::Memory;
 use program_texts::{key_cause, path_cause, read_short_file};
 use relay_words::key_file_of;
-use std::io::{self, ErrorKind};
 use tool_commands::ToolStatus;
 
 /// The text of some key, by which words are tried before a file is read.
@@ -21,14 +20,10 @@ pub(crate) fn filed_key(
         return Ok(Ok(None));
     };
     let (status, cause) = match read_short_file(rt, path) {
-        Ok(Some(octets)) => match key_text(octets.as_slice()) {
+        Ok(octets) => match key_text(octets.as_slice()) {
             Some(text) => return Ok(Ok(Some(String::from_str(alloc, text)?))),
             None => (ToolStatus::WordsRefused, key_cause(alloc, path)?),
         },
-        Ok(None) => (
-            ToolStatus::LinkFault,
-            path_cause(alloc, path, io::Error::from(ErrorKind::NotFound))?,
-        ),
         Err(error) => (ToolStatus::LinkFault, path_cause(alloc, path, error)?),
     };
     tell_now(rt, &[cause], explains);

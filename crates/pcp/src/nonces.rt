@@ -33,9 +33,10 @@ pub(crate) fn filed_nonce(
         return Ok(Ok(None));
     };
     match read_short_file(rt, path) {
-        Ok(Some(octets)) => Ok(Ok(Some(octets))),
-        Ok(None) if !may_delete(words) => new_nonce(rt, path, causes),
-        Ok(None) => unread(rt, path, io::Error::from(ErrorKind::NotFound), causes),
+        Ok(octets) => Ok(Ok(Some(octets))),
+        Err(error) if error.kind() == ErrorKind::NotFound && !may_delete(words) => {
+            new_nonce(rt, path, causes)
+        }
         Err(error) => unread(rt, path, error, causes),
     }
 }
@@ -73,7 +74,7 @@ fn new_nonce(
     match make_nonce_file(rt, path, &text) {
         Ok(()) => Ok(Ok(Some(text))),
         Err(error) if error.kind() == ErrorKind::AlreadyExists => match read_short_file(rt, path) {
-            Ok(octets) => Ok(Ok(octets)),
+            Ok(octets) => Ok(Ok(Some(octets))),
             Err(error) => unread(rt, path, error, causes),
         },
         Err(error) => {

@@ -8,13 +8,9 @@ use std::path::Path;
 /// The most octets that are read of a file: more than the text of a nonce or a key has.
 const MOST_OCTETS: usize = 128;
 
-/// What the file has, at most its first 128 octets; none where there is no such file.
-pub fn read_short_file(rt: &HostRuntime, path: &str) -> io::Result<Option<Vec<u8>>> {
-    match File::open(rt, path) {
-        Ok(mut file) => Ok(Some(first_octets(rt.alloc(), &mut file)?)),
-        Err(error) if error.kind() == ErrorKind::NotFound => Ok(None),
-        Err(error) => Err(error),
-    }
+/// What the file has, at most its first 128 octets.
+pub fn read_short_file(rt: &HostRuntime, path: &str) -> io::Result<Vec<u8>> {
+    first_octets(rt.alloc(), &mut File::open(rt, path)?)
 }
 
 /// The first octets of a file.
