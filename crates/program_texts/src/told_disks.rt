@@ -82,7 +82,10 @@ impl<'a> ToldDisk<'a> {
     /// Tells an operator why a call failed. Without memory for it nothing is told.
     fn tell(&self) {
         if let Ok(Some(cause)) = self.disk.cause(self.rt.alloc()) {
-            let _ = eprintln!(self.rt; "pcp: disk of external address {}: {cause}", self.place);
+            let place = self.place;
+            let _ = eprintln!(self.rt;
+                "pcp: disk of shard {place} (external address {place}): {cause}"
+            );
         }
     }
 }
